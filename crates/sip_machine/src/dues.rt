@@ -76,6 +76,7 @@ impl Dues {
     }
 
     /// Keeps the first `rows` rows, and drops those after them.
+    #[tactic(auto, using(crate::proofs::debts::DueLemmas::take_none))]
     pub(crate) fn truncate(&mut self, rows: usize)
         ensures { self.new ≡ take rows self.old }
     {
@@ -86,6 +87,7 @@ impl Dues {
     }
 
     /// Drops the first `rows` rows.
+    #[tactic(auto, using(crate::proofs::debts::DueLemmas::drop_none))]
     pub(crate) fn drop_first(&mut self, rows: usize)
         requires { rows ≤ length self.old }
         ensures { self.new ≡ drop rows self.old }
@@ -181,6 +183,7 @@ impl Dues {
     }
 
     /// Lets the row owe nothing.
+    #[tactic(auto, using(crate::proofs::debts::DueLemmas::set_none))]
     pub(crate) fn clear(&mut self, row: usize)
         requires { row < length self.old }
         ensures { self.new ≡ set self.old row [] }

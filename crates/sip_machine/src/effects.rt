@@ -33,6 +33,7 @@ pub(crate) enum Rest {
 
 /// Drops what has expired of what the state owes, and does to the rest what the row does. On an error all is as before.
 #[inline(always)]
+#[tactic(auto, using(crate::proofs::debts::DueLemmas::set_again))]
 pub(crate) fn lead(
     alloc: Global,
     params: &Params,

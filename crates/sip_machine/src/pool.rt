@@ -117,6 +117,7 @@ impl<P: Phase> Pool<P> {
     }
 
     /// Puts a state of this phase that owes nothing after the others. On an error all is as before.
+    #[tactic(auto, using(crate::proofs::pools::PoolLemmas::beside_push))]
     pub fn push(&mut self, phase: P) -> Result<(), AllocError>
         ensures ok { OnOk result (self.new ≡ self.old ++ at_rest phase ∷ []) }
         ensures err { OnErr result (self.new ≡ self.old) }

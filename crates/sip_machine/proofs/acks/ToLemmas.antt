@@ -4,6 +4,7 @@ use Rattle.std.specs.Prelude.{◌≡◌, ◌≢◌, ◌<◌, ◌≤◌, ◌↔�
 use Rattle.std.specs.List.{items_where_true}
 use Rattle.std.specs.Cmp.Lexicographic.{bytes_decides}
 use Rattle.std.proofs.Common.{Result, Ok, Err, OnOk, is_err, true≢false, inl, inr, refl, sym, ◌∙◌, ap, ap₂, subst, arith, get_or}
+use Rattle.std.proofs.lemmas.Bool.Decides.{nat_tests}
 use Rattle.std.proofs.Math.Bool.{and-false}
 use Rattle.std.proofs.lemmas.Bool.{cases_lt, eq-eqb, ne_eqb}
 use Rattle.std.proofs.lemmas.Grind.{get_or_picked}
@@ -66,10 +67,7 @@ AreTos-only texts numbers book up kept tos new all left = record {
 
 -- where the list has a text as the To of a number, it is the To of the message with that number
 pub to_of : (texts : Texts) (tos : List To) (number : ℕ) (text : List ℕ) → AreTos texts tos → Contains tos (record { number = number; text = text }) → IsToOf (text_of texts number) text
-to_of texts tos number text all has =
-    let to : To = record { number = number; text = text } in
-    let is : IsTo texts to = All-contains (IsTo texts) tos to all.each has in
-    is.text
+to_of texts tos number text all has = grind (arith, nat_tests, All-contains)
 
 -- What follows is of the Tos in their list.
 
@@ -139,9 +137,7 @@ front_below (t ∷ ts) number last up is same = λ k d low.
 
 -- what holds of all elements of a list holds of those that are picked
 pub All-picked : {X : Type 0} (P : X → Type 0) (bs : List Bool) (xs : List X) → All P xs → All P (items_where_true bs xs)
-All-picked P bs xs all = λ k d low.
-    let (j, j_low, at) = (get_or_picked bs xs k d low).1 in
-    subst P (sym at) (all j d j_low)
+All-picked P bs xs all = grind (arith, get_or_picked)
 
 -- what relates each pair of a list, in order, relates each pair of those that are picked
 pub AllPairs-picked : {X : Type 0} (R : X → X → Type 0) (bs : List Bool) (xs : List X) → AllPairs R xs → AllPairs R (items_where_true bs xs)
@@ -163,13 +159,7 @@ left_over bs tos left numbers is among = λ k d low.
 
 -- what relates each pair of a list, in order, relates each pair of its first elements
 pub AllPairs-take : {X : Type 0} (R : X → X → Type 0) (n : ℕ) (xs : List X) → AllPairs R xs → AllPairs R (take n xs)
-AllPairs-take R n xs up = λ i j d lt low. elim (cases_lt (length xs) n) [
-  | inl over ↦ rw (take_all n xs (omega (arith, over))) (up i j d lt (rw (take_all n xs (omega (arith, over))) at low))
-  | inr within ↦
-      let size = length-take-le n xs within in
-      let below : j < n = omega (arith, size, low) in
-      rw (get_or-take n xs i d (omega (arith, lt, below)), get_or-take n xs j d below) (up i j d lt (omega (arith, below, within)))
-]
+AllPairs-take R n xs up = grind (arith, nat_tests, cases_lt, take_all, length-take-le, get_or-take)
 
 -- What follows is of the numbers that stand under the hash of a To.
 

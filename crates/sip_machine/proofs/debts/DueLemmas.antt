@@ -53,8 +53,7 @@ module _ (message t : ℕ) where
   -- where a send can pay one of the debts, it takes the first that it can pay out of them
   pub pays-some : (debts : List Debt) → list_any (is_payable message t) debts ≡ true → IsWithoutFirst Pays debts (paid_by message t debts)
   pays-some [] any = absurd (true≢false (sym any))
-  pays-some (debt ∷ debts) any =
-      some-step debt debts (is_payable message t debt) refl any (pays-some debts)
+  pays-some (debt ∷ debts) any = some-step debt debts (is_payable message t debt) refl any (pays-some debts)
 
   -- where a send can pay neither a debt nor one of those after it, it can pay none of all
   none-step : (debt : Debt) (debts : List Debt) (b : Bool) → is_payable message t debt ≡ b → (b || list_any (is_payable message t) debts) ≡ false →
@@ -81,28 +80,27 @@ blank-rows [] none = refl
 blank-rows (row ∷ rows) none = ap₂ (λ r rs. r ∷ rs) (none 0 (omega arith)) (blank-rows rows (λ k low. none (suc k) (omega (arith, low))))
 
 -- where a row that owes nothing is put in the place of one, rows without accounts stay as they are
-pub set-none : (count row : ℕ) (debts : List Debt) → debts ≡ [] → rows_in count None ≡ set (rows_in count None) row debts
-set-none count row debts is =
-    sym (set-get_or (rows_in count None) row []) ∙ ap (set (rows_in count None) row) (owed-none count row ∙ sym is)
+pub set_none : (count row : ℕ) (debts : List Debt) → debts ≡ [] → rows_in count None ≡ set (rows_in count None) row debts
+set_none count row debts is = sym (set-get_or (rows_in count None) row []) ∙ ap (set (rows_in count None) row) (owed-none count row ∙ sym is)
 
 -- without accounts, the first n rows owe nothing
-pub take-none : (count n : ℕ) → rows_in (min count n) None ≡ take n (rows_in count None)
-take-none zero zero = let e : min 0 0 ≡ 0 = omega arith in ap (λ k. rows_in k None) e
-take-none zero (suc n) = let e : min 0 (suc n) ≡ 0 = omega arith in ap (λ k. rows_in k None) e
-take-none (suc count) zero = let e : min (suc count) 0 ≡ 0 = omega arith in ap (λ k. rows_in k None) e
-take-none (suc count) (suc n) =
-    let e : min (suc count) (suc n) ≡ suc (min count n) = omega arith in ap (λ k. rows_in k None) e ∙ ap (λ rows. [] ∷ rows) (take-none count n)
+pub take_none : (count n : ℕ) → rows_in (min count n) None ≡ take n (rows_in count None)
+take_none zero zero = let e : min 0 0 ≡ 0 = omega arith in ap (λ k. rows_in k None) e
+take_none zero (suc n) = let e : min 0 (suc n) ≡ 0 = omega arith in ap (λ k. rows_in k None) e
+take_none (suc count) zero = let e : min (suc count) 0 ≡ 0 = omega arith in ap (λ k. rows_in k None) e
+take_none (suc count) (suc n) =
+    let e : min (suc count) (suc n) ≡ suc (min count n) = omega arith in ap (λ k. rows_in k None) e ∙ ap (λ rows. [] ∷ rows) (take_none count n)
 
 -- without accounts, the rows after the first n owe nothing
-pub drop-none : (count n : ℕ) → n ≤ count → rows_in (count - n) None ≡ drop n (rows_in count None)
-drop-none count zero le = let e : count - 0 ≡ count = omega arith in ap (λ k. rows_in k None) e
-drop-none zero (suc n) le = absurd (omega (arith, le))
-drop-none (suc count) (suc n) le = let e : suc count - suc n ≡ count - n = omega arith in ap (λ k. rows_in k None) e ∙ drop-none count n (omega (arith, le))
+pub drop_none : (count n : ℕ) → n ≤ count → rows_in (count - n) None ≡ drop n (rows_in count None)
+drop_none count zero le = let e : count - 0 ≡ count = omega arith in ap (λ k. rows_in k None) e
+drop_none zero (suc n) le = absurd (omega (arith, le))
+drop_none (suc count) (suc n) le = let e : suc count - suc n ≡ count - n = omega arith in ap (λ k. rows_in k None) e ∙ drop_none count n (omega (arith, le))
 
 -- a row that is changed and then changed again is as if it was changed once, to what the second change makes of the first
-pub set-again : (rows : List (List Debt)) (row : ℕ) (debts : List Debt) (f : List Debt → List Debt) → row < length rows →
+pub set_again : (rows : List (List Debt)) (row : ℕ) (debts : List Debt) (f : List Debt → List Debt) → row < length rows →
     set (set rows row debts) row (f (owed_in (set rows row debts) row)) ≡ set rows row (f debts)
-set-again rows row debts f low = ap (λ x. set (set rows row debts) row (f x)) (get_or-set_same rows row debts [] low) ∙ set-twice rows row debts (f debts)
+set_again rows row debts f low = ap (λ x. set (set rows row debts) row (f x)) (get_or-set_same rows row debts [] low) ∙ set-twice rows row debts (f debts)
   where
     set-twice : (rows : List (List Debt)) (row : ℕ) (x y : List Debt) → set (set rows row x) row y ≡ set rows row y
     set-twice [] row x y = refl
@@ -111,6 +109,4 @@ set-again rows row debts f low = ap (λ x. set (set rows row debts) row (f x)) (
 
 -- a debt that is gained counts at its own moment, so that dropping what has expired before or after comes to the same
 pub counted-gain : (t : ℕ) (owes : List Debt) (debt : Debt) → t ≤ debt.deadline → filter (counts_at t) (owes ++ debt ∷ []) ≡ filter (counts_at t) owes ++ debt ∷ []
-counted-gain t owes debt now =
-    let counts : counts_at t debt ≡ true = grind (arith, nat_tests) in
-    filter-append (counts_at t) owes (debt ∷ []) ∙ ap (λ b. filter (counts_at t) owes ++ cond b (debt ∷ []) []) counts
+counted-gain t owes debt now = grind (arith, filter-append)

@@ -5,7 +5,7 @@ use Rattle.std.specs.List.{list_any}
 use Rattle.std.proofs.Common.{refl, sym, ◌∙◌, ap, ap₂, arith, cond, append-nil}
 use Rattle.std.proofs.lemmas.List.{get_or_default, replicate-append-replicate}
 use Rattle.sip_ledger.specs.declared.debt.Debt.{Debt}
-use Rattle.sip_ledger.specs.Accounts.{debts_print, paid_rows}
+use Rattle.sip_ledger.specs.Accounts.{paid_rows}
 use Rattle.sip_ledger.specs.Debts.{counts_at, is_payable, is_timely, paid_by}
 use Rattle.sip_ledger.specs.Lists.{from_to}
 use Rattle.sip_machine.specs.inner.Dues.{rows_in}
@@ -20,25 +20,6 @@ mapped-twice f g h is zero [] = refl
 mapped-twice f g h is zero (owes ∷ rows) = ap₂ (λ row more. row ∷ more) (is owes) (mapped-twice f g h is zero rows)
 mapped-twice f g h is (suc from) [] = refl
 mapped-twice f g h is (suc from) (owes ∷ rows) = ap (λ more. owes ∷ more) (mapped-twice f g h is from rows)
-
--- the rows before those that are changed stay as they are
-pub mapped-front : (f : List Debt → List Debt) (from : ℕ) (rows : List (List Debt)) → take from (take from rows ++ map f (drop from rows)) ≡ take from rows
-mapped-front f zero rows = refl
-mapped-front f (suc from) [] = refl
-mapped-front f (suc from) (owes ∷ rows) = ap (λ more. owes ∷ more) (mapped-front f from rows)
-
--- numbers for what each row owes are prints
-pub prints-are : (rows : List (List Debt)) (from : ℕ) (prints : List ℕ) → from ≤ length rows → length prints ≡ length rows - from →
-    ((k : ℕ) → from + k < length rows → get_or prints k 0 ≡ debts_print (owed_in rows (from + k))) → ArePrints rows from prints
-prints-are rows from prints low long each = record {
-  long = omega (arith, low, long);
-  same = λ i k x after_i within_i after_k within_k is.
-      let at_i : from + (i - from) ≡ i = omega (arith, after_i) in
-      let at_k : from + (k - from) ≡ k = omega (arith, after_k) in
-      each (i - from) (omega (arith, at_i, within_i)) ∙ ap (λ n. debts_print (owed_in rows n)) at_i
-      ∙ ap debts_print (get_or_default rows i [] x within_i ∙ is ∙ sym (get_or_default rows k [] x within_k))
-      ∙ sym (each (k - from) (omega (arith, at_k, within_k)) ∙ ap (λ n. debts_print (owed_in rows n)) at_k);
-}
 
 -- What follows is of rows that owe nothing.
 
@@ -74,16 +55,11 @@ passing-no p (suc n) is = ap (λ b. cond b ([] ∷ filter p (rows_in n None)) (f
 -- of rows that owe nothing, copies of all from one index up to another come after the others: all are timely
 pub timely-none : (t count from to : ℕ) → to ≤ count →
     rows_in (count + (to - from)) None ≡ rows_in count None ++ filter (is_timely t) (from_to from to (rows_in count None))
-timely-none t count from to le =
-    sym (replicate-append-replicate count (to - from) [])
-    ∙ ap (λ more. rows_in count None ++ more) (sym (passing-all (is_timely t) (to - from) refl) ∙ ap (filter (is_timely t)) (sym (some-none count from to le)))
+timely-none t count from to le = grind (arith, replicate-append-replicate, passing-all, some-none)
 
 -- of rows that owe nothing, none pays
 pub paid-none : (message t count from to : ℕ) → to ≤ count → rows_in count None ≡ rows_in count None ++ paid_rows message t (from_to from to (rows_in count None))
-paid-none message t count from to le =
-    let can = λ (owes : List Debt). list_any (is_payable message t) owes && is_timely t owes in
-    let none : filter can (from_to from to (rows_in count None)) ≡ [] = ap (filter can) (some-none count from to le) ∙ passing-no can (to - from) refl in
-    sym (ap (λ some. rows_in count None ++ map (λ owes. filter (counts_at t) (paid_by message t owes)) some) none ∙ append-nil (rows_in count None))
+paid-none message t count from to le = grind (arith, nat_tests, some-none, passing-no, append-nil)
 
 -- of rows that owe nothing, those at some indices owe nothing
 pub kept-none : (count : ℕ) (kept : List ℕ) → rows_in (length kept) None ≡ map (owed_in (rows_in count None)) kept

@@ -91,6 +91,4 @@ none-of-all P t n debts None is few none =
 
 -- a send of a message with this To pays only debts of messages that have it
 pub pays-to : (texts : Texts) (to : List ℕ) (t message : ℕ) → IsToOf (text_of texts message) to → (debt : Debt) → IsTrue (is_payable message t debt) → HasTo texts to t debt
-pays-to texts to t message its debt pays =
-    let parts = payable-parts message t debt pays in
-    (subst (λ n. IsToOf (text_of texts n) to) (sym parts.0) its, parts.1)
+pays-to texts to t message its debt pays = grind (arith, payable-parts)

@@ -2,7 +2,6 @@
 use Prim.Native.Nat.{suc, zero}
 use Rattle.std.specs.Prelude.{◌≡◌, ◌||◌, ◌<◌, ◌≤◌, ◌==◌, ℕ, Bool, true, false, None, List, [], ◌∷◌, ◌++◌, All, Contains, flat_map, length, take}
 use Rattle.std.proofs.Common.{refl, sym, ◌∙◌, ap, subst, inl, inr, arith, append-nil, append_assoc, take-append-drop, true≢false}
-use Rattle.std.proofs.Math.Seq.{take-append_seam}
 use Rattle.std.proofs.lemmas.Bool.{cases_eq, eq-eqb, ne_eqb, or_left, or_right}
 use Rattle.std.proofs.lemmas.List.{length-drop, length-take-le, take-take}
 use Rattle.std.proofs.lemmas.List.Concat.{flat_map-append}
@@ -64,10 +63,6 @@ none-named (suc count) = none-named count
 pub none-appends : (count : ℕ) (old : List ℕ) → AppendsAll (flat_map owes_names (rows_in count None)) old old
 none-appends count old =
     ([], sym (append-nil old), λ m. (λ there. absurd (Contains-nil m there), λ there. absurd (Contains-nil m (subst (λ ns. Contains ns m) (none-named count) there))))
-
--- what was there stands before what is appended
-pub appended-front : (old added new : List ℕ) → new ≡ old ++ added → take (length old) new ≡ old
-appended-front old added new is = ap (take (length old)) is ∙ take-append_seam old added
 
 module _ {S : Type 0} (names : S → List ℕ) where
   -- what a state's phase names

@@ -2,6 +2,7 @@
 use Prim.Native.Nat.{suc, zero}
 use Rattle.std.specs.Prelude.{◌≡◌, ◌≤◌, ◌<◌, ◌+◌, ◌-◌, ◌↔◌, ◌⊎◌, ℕ, Bool, true, false, Option, Some, None, List, [], ◌∷◌, ◌++◌, All, drop, filter, get_or, length, map, option_to_list, take}
 use Rattle.std.proofs.Common.{Result, Ok, Err, OnOk, OnErr, inl, inr, refl, sym, ◌∙◌, ap, subst, cond, arith, append-nil, append_assoc, length-append}
+use Rattle.std.proofs.lemmas.Bool.Decides.{nat_tests}
 use Rattle.std.proofs.Math.Seq.{take-append_seam}
 use Rattle.std.proofs.lemmas.List.{get_or-drop, get_or-take, get_or_append_left, length-drop, length-take-le, map-append, take-append-le, take_all}
 use Rattle.std.proofs.lemmas.List.Elements.{All-append, All-drop, All-get_or, All-head, All-nil, All-tail, All-take, Contains-append_cases, Contains-append_left, Contains-append_right}
@@ -70,19 +71,11 @@ module _ {X S : Type 0} (names : S → List ℕ) (InRange : S → Type 0) (seen 
 
   -- where P holds of nothing, no states cover it
   pub Covers-none : (P : X → Type 0) → ((y : X) → ¬ (P y)) → Cover P []
-  Covers-none P none = record {
-    members = λ y. (λ has. absurd (Contains-nil y has), λ p. absurd (none y p));
-    known = All-nil (Knows names texts);
-    in_range = All-nil InRange;
-  }
+  Covers-none P none = grind (arith, nat_tests, Contains-nil, All-nil)
 
   -- where P and Q hold of the same, states that cover P cover Q
   pub Covers-same : (P Q : X → Type 0) → ((y : X) → P y ↔ Q y) → (xs : List S) → Cover P xs → Cover Q xs
-  Covers-same P Q same xs c = record {
-    members = λ y. (λ has. (same y).0 ((c.members y).0 has), λ q. (c.members y).1 ((same y).1 q));
-    known = c.known;
-    in_range = c.in_range;
-  }
+  Covers-same P Q same xs c = grind (arith, nat_tests)
 
   -- two lists cover what either covers
   pub Covers-both : (P Q : X → Type 0) (xs ys : List S) → Cover P xs → Cover Q ys → Cover (λ y. P y ⊎ Q y) (xs ++ ys)
@@ -176,9 +169,7 @@ module _ {S : Type 0} where
 
   -- the state at index k of a list is the one at k - from of those from `from` on
   pub slice-get : (from to k : ℕ) (xs : List S) (d : S) → from ≤ k → k < to → get_or (from_to from to xs) (k - from) d ≡ get_or xs k d
-  slice-get from to k xs d le low =
-      let here : from + (k - from) ≡ k = omega (arith, le) in
-      get_or-drop from (take to xs) (k - from) d ∙ ap (λ n. get_or (take to xs) n d) here ∙ get_or-take to xs k d low
+  slice-get from to k xs d le low = grind (arith, get_or-drop, get_or-take)
 
   -- the states up to `to` are those up to `at` and those from there up to `to`
   pub take-slice : (at to : ℕ) (xs : List S) → at ≤ to → take to xs ≡ take at xs ++ from_to at to xs
@@ -196,11 +187,7 @@ module _ {S : Type 0} where
   -- what holds of the old states from one index up to another holds of the state at an index between, when others are put after the old ones
   pub slice-at : (P : S → Type 0) (from to k : ℕ) (old found new : List S) (d : S) → new ≡ old ++ found → from ≤ k → k < to → to ≤ length old →
       All P (from_to from to old) → P (get_or new k d)
-  slice-at P from to k old found new d is after low le all =
-      let here : get_or new k d ≡ get_or (from_to from to old) (k - from) d
-      = ap (λ ys. get_or ys k d) is ∙ get_or_append_left old found d k (omega (arith, low, le)) ∙ sym (slice-get from to k old d after low) in
-      let size : length (from_to from to old) ≡ to - from = length-drop from (take to old) ∙ ap (λ n. n - from) (length-take-le to old le) in
-      subst P (sym here) (All-get_or P (from_to from to old) (k - from) d (omega (arith, size, after, low)) all)
+  slice-at P from to k old found new d is after low le all = grind (arith, nat_tests, get_or_append_left, slice-get, length-drop, length-take-le, All-get_or)
 
   -- whether states were put after the old ones or, on an error, none were, the old ones are as they were
   pub before-either : {T E : Type 0} (r : Result T E) (old added new : List S) → OnOk r (new ≡ old ++ added) → OnErr r (new ≡ old) → take (length old) new ≡ old

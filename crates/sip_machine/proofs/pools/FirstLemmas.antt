@@ -2,7 +2,8 @@
 use Prim.Native.Nat.{suc, zero}
 use Rattle.std.specs.Prelude.{◌≡◌, ◌≢◌, ◌<◌, ◌≤◌, ◌+◌, ◌-◌, ℕ, List, [], ◌∷◌, ◌++◌, All, AllPairs, bit_xor, drop, get_or, length, map, take}
 use Rattle.std.specs.List.{Any}
-use Rattle.std.proofs.Common.{inl, inr, refl, sym, ◌∙◌, ap, ap₂, subst, arith}
+use Rattle.std.proofs.Common.{inl, inr, sym, ◌∙◌, ap, ap₂, subst, arith}
+use Rattle.std.proofs.lemmas.Bool.Decides.{nat_tests}
 use Rattle.std.proofs.lemmas.Bool.{cases_lt}
 use Rattle.std.proofs.lemmas.List.{get_or_append_left, get_or_default, get_or-drop, get_or-map, get_or-take, length-drop, length-map, length-take-le, map-append, same_lists, take_more}
 use Rattle.std.proofs.lemmas.List.Elements.{All-push, All-weaker}
@@ -100,11 +101,10 @@ run-of rows rising some near =
 pub run-picked : {X : Type 0} (xs : List X) (rows : List ℕ) (first : ℕ) (x : X) → IsRun first rows → All (λ row. row < length xs) rows →
     take (length rows) (drop first xs) ≡ picked xs x rows
 run-picked xs rows first x run within =
-    let some = run.some in
-    let last = within (length rows - 1) 0 (omega (arith, some)) in
-    let end = run.each (length rows - 1) (omega (arith, some)) in
+    let last = within (length rows - 1) 0 (omega (arith, run.some)) in
+    let end = run.each (length rows - 1) (omega (arith, run.some)) in
     let behind = length-drop first xs in
-    let room : length rows ≤ length (drop first xs) = omega (arith, some, last, end, behind) in
+    let room : length rows ≤ length (drop first xs) = omega (arith, run.some, last, end, behind) in
     let size : length (take (length rows) (drop first xs)) ≡ length rows = length-take-le (length rows) (drop first xs) room in
     let count : length (picked xs x rows) ≡ length rows = length-map rows (λ row. get_or xs row x) in
     same_lists (take (length rows) (drop first xs)) (picked xs x rows) (size ∙ sym count)
@@ -149,26 +149,15 @@ module _ {S : Type 0} (input : S → List (List ℕ)) (phases : List S) (from : 
   -- where the prints of neighbours of one phase are mixed with its hash as well, those before `to` are mixed
   pub mixed-run : (new after : List ℕ) (at to hash : ℕ) (p : S) → AreMixed input phases from old new at → AreMixedWith hash at to new after → hash ≡ hash_by (input p) → at ≤ to →
       ((k : ℕ) (q : S) → at ≤ k → k < to → from + k < length phases → get_or phases (from + k) q ≡ p) → AreMixed input phases from old after to
-  mixed-run new after at to hash p mixing run is order alike = record {
-    long = run.long ∙ mixing.long;
-    mixed = λ k q low within. elim (cases_lt k at) [
-      | inl before ↦ run.before k before ∙ mixing.mixed k q before within
-      | inr behind ↦
-          run.mixed k behind low
-          ∙ ap₂ (λ n h. bit_xor n h) (mixing.rest k behind) (is ∙ ap (λ h. hash_by (input h)) (sym (alike k q behind low within)))
-    ];
-    rest = λ k le. run.behind k le ∙ mixing.rest k (omega (arith, le, order));
-  }
+  mixed-run new after at to hash p mixing run is order alike = grind (arith, nat_tests, cases_lt)
 
   -- where the prints of all states are mixed with the hashes of their phases, they are prints of the states
   pub mixed-all : (rows : List (List Debt)) (xs : List (CodeOwing S)) (new : List ℕ) (at : ℕ) → beside phases rows ≡ xs → length rows ≡ length phases → ArePrints rows from old →
       AreMixed input phases from old new at → length phases ≤ from + at → ArePrints xs from new
   mixed-all rows xs new at is long prints mixing all =
       let size : length xs ≡ length phases = ap length (sym is) ∙ beside-length phases rows in
-      let count = prints.long in
-      let even = mixing.long in
       record {
-        long = omega (arith, size, long, count, even);
+        long = omega (arith, size, long, prints.long, mixing.long);
         same = λ i k x above_i low_i above_k low_k e.
             let p = x.phase in
             let alike = sym (state-at phases rows xs i p x is low_i) ∙ e ∙ state-at phases rows xs k p x is low_k in

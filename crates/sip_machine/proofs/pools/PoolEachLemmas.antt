@@ -4,10 +4,9 @@ use Rattle.std.specs.Prelude.{◌≡◌, ◌<◌, ◌≤◌, ◌+◌, ◌-◌, �
 use Rattle.std.proofs.Common.{refl, sym, ◌∙◌, ap, ap₂, subst, arith, length-append}
 use Rattle.std.proofs.Math.Seq.{drop-append_seam, take-append_seam}
 use Rattle.std.proofs.lemmas.List.{get_or-drop, get_or-take, length-drop, length-take-le, take_more}
-use Rattle.std.proofs.lemmas.List.Elements.{All-head, All-nil, All-push, All-tail}
+use Rattle.std.proofs.lemmas.List.Elements.{All-head, All-push, All-tail}
 use Rattle.sip_ledger.specs.declared.debt.Debt.{Debt}
 use Rattle.sip_ledger.specs.Lists.{from_to}
-use Rattle.sip_ledger.proofs.lists.EachLemmas.{from_to-none}
 use Rattle.sip_machine.specs.Owing.{CodeOwing}
 use Rattle.sip_machine.specs.inner.DebtLaws.{filter-map}
 use Rattle.sip_machine.specs.Owes.{owed_in}
@@ -26,11 +25,6 @@ module _ {X : Type 0} where
   -- the elements up to one place further have the element there at their end
   pub from_to-more : (from k : ℕ) (xs : List X) (d : X) → from ≤ k → k < length xs → from_to from (k + 1) xs ≡ from_to from k xs ++ get_or xs k d ∷ []
   from_to-more from k xs d le low = let next : k + 1 ≡ suc k = omega arith in ap (λ n. from_to from n xs) next ∙ from_to-next from k xs d le low
-
-  -- what holds of the element at `at` holds of all elements from `at` up to the next index
-  pub some-first : (P : X → Type 0) (at : ℕ) (xs : List X) (d : X) → at < length xs → P (get_or xs at d) → All P (from_to at (at + 1) xs)
-  some-first P at xs d low p =
-      rw (from_to-more at at xs d (omega arith) low, from_to-none at at xs (omega arith)) (All-push P [] (get_or xs at d) (All-nil P) p)
 
   -- what holds up to a place, and of the element there, holds up to one place further
   pub some-more : (P : X → Type 0) (at k : ℕ) (xs : List X) (d : X) → at ≤ k → k < length xs → All P (from_to at k xs) → P (get_or xs k d) → All P (from_to at (k + 1) xs)
@@ -113,9 +107,7 @@ module _ {S : Type 0} where
 -- where g changes each row after the first n of the new ones, the rows after the old ones are changed
 pub mapped-behind : (g : List Debt → List Debt) (rows more new after : List (List Debt)) (n : ℕ) → new ≡ rows ++ more → n ≡ length rows →
     after ≡ take n new ++ map g (drop n new) → after ≡ rows ++ map g more
-mapped-behind g rows more new after n is at changed =
-    changed ∙ ap₂ (λ (xs : List (List Debt)) k. take k xs ++ map g (drop k xs)) is at
-    ∙ ap₂ (λ xs ys. xs ++ map g ys) (take-append_seam rows more) (drop-append_seam rows more)
+mapped-behind g rows more new after n is at changed = grind (arith, take-append_seam, drop-append_seam)
 
 -- how many rows stand after the old ones is how many were put there
 pub behind-size : (rows more new : List (List Debt)) (n : ℕ) → new ≡ rows ++ more → n ≡ length new → n - length rows ≡ length more

@@ -33,12 +33,12 @@ module _ {S : Type 0} where
   beside-at (phase ∷ phases) (row ∷ rows) (suc k) p x low = beside-at phases rows k p x (omega (arith, low))
 
   -- where a phase and a row are put after the others, the state of these comes after the others
-  pub beside-push : (phases : List S) (rows : List (List Debt)) (phase : S) (row : List Debt) → length rows ≡ length phases →
+  pub beside_push : (phases : List S) (rows : List (List Debt)) (phase : S) (row : List Debt) → length rows ≡ length phases →
       beside (phases ++ phase ∷ []) (rows ++ row ∷ []) ≡ beside phases rows ++ record { phase = phase; owes = row } ∷ []
-  beside-push [] [] phase row long = refl
-  beside-push [] (r ∷ rows) phase row long = absurd (omega (arith, long))
-  beside-push (p ∷ phases) [] phase row long = absurd (omega (arith, long))
-  beside-push (p ∷ phases) (r ∷ rows) phase row long = ap (λ xs. record { phase = p; owes = r } ∷ xs) (beside-push phases rows phase row (omega (arith, long)))
+  beside_push [] [] phase row long = refl
+  beside_push [] (r ∷ rows) phase row long = absurd (omega (arith, long))
+  beside_push (p ∷ phases) [] phase row long = absurd (omega (arith, long))
+  beside_push (p ∷ phases) (r ∷ rows) phase row long = ap (λ xs. record { phase = p; owes = r } ∷ xs) (beside_push phases rows phase row (omega (arith, long)))
 
   -- the first n phases beside the first n rows are the first n states
   pub beside-take : (phases : List S) (rows : List (List Debt)) (n : ℕ) → length rows ≡ length phases → beside (take n phases) (take n rows) ≡ take n (beside phases rows)
@@ -146,9 +146,7 @@ module _ {X : Type 0} where
 
   -- where x was put after the old elements, and the last one is then changed by f, the list is the old elements and f x
   pub set-last : (old more new : List X) (x d : X) (last : ℕ) (f : X → X) → more ≡ old ++ x ∷ [] → last ≡ length old → new ≡ set more last (f (get_or more last d)) → new ≡ old ++ f x ∷ []
-  set-last old more new x d last f is at changed =
-      let here : get_or more last d ≡ x = ap₂ (λ xs k. get_or xs k d) is at ∙ get_or-append_seam old x [] d in
-      changed ∙ ap (λ y. set more last (f y)) here ∙ ap₂ (λ xs k. set xs k (f x)) is at ∙ set-end old x (f x)
+  set-last old more new x d last f is at changed = grind (arith, get_or-append_seam, set-end)
 
   -- where elements were put after the old ones, the first as many as there were are the old ones
   pub take-old : (old added new : List X) (n : ℕ) → new ≡ old ++ added → n ≡ length old → take n new ≡ old

@@ -1,8 +1,9 @@
 -- The rows of the machines of RFC 3261, as those of RFC 6026 give them.
 use Rattle.std.specs.Prelude.{◌≡◌, ◌↔◌, ◌++◌, ℕ, Bool, Option, Some, None, List, [], ◌∷◌, map}
-use Rattle.std.specs.List.{filter_map, cons_option}
+use Rattle.std.specs.List.{filter_map}
 use Rattle.std.specs.Option.{option_map}
-use Rattle.std.proofs.Common.{inl, inr, refl, ap, sym, subst, ◌∙◌, arith}
+use Rattle.std.proofs.Common.{inl, inr, refl, ap, ◌∙◌, arith}
+use Rattle.std.proofs.lemmas.Bool.Decides.{nat_tests}
 use Rattle.std.proofs.lemmas.List.{map-append, append-nil}
 use Rattle.std.proofs.lemmas.List.Elements.{filter_map-append}
 use Rattle.sip_standard.specs.declared.kind.Kind.{Kind}
@@ -16,9 +17,8 @@ use Rattle.sip_standard.specs.MachineEvent.{MachineEvent}
 use Rattle.sip_standard.specs.Kind.{IsSuccess}
 use Rattle.sip_machine.specs.Told.{field_message, field_of_code}
 use Rattle.sip_machine.specs.FigureRules.{After}
-use Rattle.sip_standard.specs.Figure.{drops}
 use Rattle.sip_standard.specs.InviteClient as client
-use Rattle.sip_standard.specs.InviteClient.{InviteClientPhase, Ended, Calling, Proceeding}
+use Rattle.sip_standard.specs.InviteClient.{InviteClientPhase, Calling, Proceeding}
 use Rattle.sip_standard.specs.InviteClient3261 as client_3261
 use Rattle.sip_standard.specs.InviteServer as server
 use Rattle.sip_standard.specs.InviteServer.{InviteServerPhase}
@@ -30,21 +30,6 @@ use Rattle.sip_machine.specs.Owing.{turn_seen, turn_names, TurnInRange}
 use Rattle.sip_machine.specs.inner.Single.{AnswersOne}
 use Rattle.sip_machine.specs.inner.InviteClient3261.Laws.{IsEndedBy}
 use Rattle.sip_machine.specs.inner.InviteServer3261.Laws.{turn_within}
-
--- a 2xx ends a client of RFC 3261 that waits for a final response, and nothing is owed any more
-pub ended_row : (p : Times) (x : InviteClientPhase) (k : Kind) (e : MachineEvent) (y : After InviteClientPhase) → IsEndedBy x k → client_3261.Receives p x k e y ↔ (y ≡ (Ended, drops))
-ended_row p (Calling w) (Response code) e y success = (
-  λ h. elim h [
-    | inl provisional ↦ absurd (omega (arith, provisional.0.1, success.0))
-    | inr final ↦ elim final [ inl row ↦ row.1 | inr other ↦ absurd (omega (arith, other.0.0, success.1)) ]
-  ],
-  λ same. inr (inl (success, same)),
-)
-ended_row p (Proceeding reliable request cancel) (Response code) e y success = (
-  λ h. elim h [ inl row ↦ row.1 | inr other ↦ absurd (omega (arith, other.0.0, success.1)) ],
-  λ same. inl (success, same),
-)
-ended_row p x k e y success = absurd success
 
 -- any other message has the rows of RFC 6026 in a client of RFC 3261
 pub other_row : (p : Times) (x : InviteClientPhase) (k : Kind) (e : MachineEvent) (y : After InviteClientPhase) → ¬ (IsEndedBy x k) → client.Receives p x k e y ↔ client_3261.Receives p x k e y
@@ -96,21 +81,9 @@ pub sent-within : (p : Times) (texts : Texts) (x : CodePhase) (again : Bool) (co
     AnswersOne (turn_names invite_server_names) (TurnInRange InviteServerInRange) (turn_seen invite_server_seen) texts (server.Sends p (invite_server_seen texts x) k e) answer →
     AnswersOne (turn_names invite_server_3261_names) (TurnInRange InviteServer3261InRange) (turn_seen invite_server_3261_seen) texts
     (server_3261.Sends p (In (invite_server_seen texts x) again) k e) (option_map (turn_within again) answer)
-sent-within p texts x again code k e answer is other one =
-    let Row = server.Sends p (invite_server_seen texts x) (Response code) e in
-    let here = subst (λ j. AnswersOne (turn_names invite_server_names) (TurnInRange InviteServerInRange) (turn_seen invite_server_seen) texts
-    (server.Sends p (invite_server_seen texts x) j e) answer) (sym is) one in
-    subst (λ j. AnswersOne (turn_names invite_server_3261_names) (TurnInRange InviteServer3261InRange) (turn_seen invite_server_3261_seen) texts
-    (server_3261.Sends p (In (invite_server_seen texts x) again) j e) (option_map (turn_within again) answer)) is
-    (AnswersOne-same (turn_names invite_server_3261_names) (TurnInRange InviteServer3261InRange) (turn_seen invite_server_3261_seen) texts (Within Row again)
-    (server_3261.Sends p (In (invite_server_seen texts x) again) (Response code) e) (λ y. response_row p (invite_server_seen texts x) again code e y other)
-    (option_map (turn_within again) answer) (within-one texts Row again answer here))
+sent-within p texts x again code k e answer is other one = grind (arith, nat_tests, AnswersOne-same, response_row, within-one)
 
 -- a field that names no message, put after others, leaves the messages of the fields as they are
 pub messages-behind : (fields : List CodeField) (field : CodeField) → field_message (field_of_code field) ≡ None →
     filter_map field_message (map field_of_code (fields ++ field ∷ [])) ≡ filter_map field_message (map field_of_code fields)
-messages-behind fields field silent =
-    ap (filter_map field_message) (map-append field_of_code fields (field ∷ []))
-    ∙ filter_map-append field_message (map field_of_code fields) (field_of_code field ∷ [])
-    ∙ ap (λ o. filter_map field_message (map field_of_code fields) ++ cons_option o []) silent
-    ∙ append-nil (filter_map field_message (map field_of_code fields))
+messages-behind fields field silent = grind (arith, nat_tests, map-append, filter_map-append, append-nil)

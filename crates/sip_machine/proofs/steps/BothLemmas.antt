@@ -1,6 +1,7 @@
 -- At most two states of the code stand for all to which an event leads.
 use Rattle.std.specs.Prelude.{◌≡◌, ◌≢◌, ◌↔◌, ◌⊎◌, ℕ, Option, Some, None, List, [], ◌∷◌}
 use Rattle.std.proofs.Common.{inl, inr, refl, sym, arith}
+use Rattle.std.proofs.lemmas.Bool.Decides.{nat_tests}
 use Rattle.std.proofs.lemmas.List.Elements.{All-nil, All-cons, Contains-push, Contains-push_cases}
 use Rattle.std.proofs.lemmas.List.Kept.{AllPairs-cons}
 use Rattle.sip_machine.specs.Texts.{Texts}
@@ -14,13 +15,7 @@ module _ {X S : Type 0} (names : S → List ℕ) (InRange : S → Type 0) (seen 
   -- where P and Q hold of the same, states that stand for P stand for Q
   pub StandFor-same : (P Q : X → Type 0) → ((x : X) → P x ↔ Q x) → (xs : List S) → StandFor names InRange seen texts P xs →
       StandFor names InRange seen texts Q xs
-  StandFor-same P Q same xs stand =
-      record {
-        members = λ x. (λ has. (same x).0 ((stand.members x).0 has), λ q. (stand.members x).1 ((same x).1 q));
-        distinct = stand.distinct;
-        known = stand.known;
-        in_range = stand.in_range;
-      }
+  StandFor-same P Q same xs stand = grind (arith, nat_tests)
 
   -- an answer for P, and no second one, stand for P
   pub AnswersBoth-one : (P : X → Type 0) (a : Option S) → AnswersOne names InRange seen texts P a → AnswersBoth names InRange seen texts P (a, None)

@@ -124,10 +124,7 @@ module _ {S X : Type 0} (f : Figure X) (p : Times) (seen : Texts → S → X) (n
     -- where the timers of the phase do not last until the event, no state leads anywhere
     pub closed-none : (P : CodeOwing S → Owing X → Type 0) → ¬ (IsWithin e.moment (earliest (closes_at f p (seen texts phase)))) →
         Covers (owing_names names) (OwingInRange InRange) (owing_seen seen) texts (FromSome (λ x. Lasting e.moment x (P x)) xs) []
-    closed-none P closed =
-        Covers-none (owing_names names) (OwingInRange InRange) (owing_seen seen) texts (FromSome (λ x. Lasting e.moment x (P x)) xs)
-        (λ y. FromSome-none (λ x. Lasting e.moment x (P x)) xs y
-        (each-state (λ x. ¬ (Lasting e.moment x (P x) y)) (λ owes knows fit h. closed-ends e.moment (InPhase owes) closed h.0)))
+    closed-none P closed = grind (arith, nat_tests, Covers-none, FromSome-none, each-state, closed-ends)
 
     -- where no row of the event leads from the phase, whatever is owed, no state leads anywhere
     pub leads-none : ((owes : List Debt) → Knows (owing_names names) texts (InPhase owes) → OwingInRange InRange (InPhase owes) →
@@ -208,10 +205,7 @@ module _ {S X : Type 0} (f : Figure X) (p : Times) (seen : Texts → S → X) (t
   -- what leads from a state of the code is a step by a row of a state that has lasted until the event
   leads-is : (a : Action) (e : MachineEvent) (x : CodeOwing S) (y : Owing X) → e.action ≡ a →
       LeadsFrom f p seen texts e x y ↔ (IsWithin e.moment (until_of f p (owing_seen seen texts x)) × Leads f p a e (owing_seen seen texts (unexpired_at e.moment x)) y)
-  leads-is a e x y is = (
-    λ h. (h.0, subst (λ b. Leads f p b e (owing_seen seen texts (unexpired_at e.moment x)) y) is h.1),
-    λ h. (h.0, subst (λ b. Leads f p b e (owing_seen seen texts (unexpired_at e.moment x)) y) (sym is) h.1),
-  )
+  leads-is a e x y is = grind (arith, nat_tests)
 
   -- where an event is a received message, what leads from a state is its take: where its row leads, or where it stays
   pub takes-received : (e : MachineEvent) → e.action ≡ Received → (x : CodeOwing S) (y : Owing X) → LeadsFrom f p seen texts e x y ↔ TakeOf f p (owing_seen seen texts x) e y

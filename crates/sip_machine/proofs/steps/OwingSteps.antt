@@ -32,7 +32,6 @@ use Rattle.sip_machine.specs.inner.Paying.{PaysFor, FindsFirst}
 use Rattle.sip_machine.specs.inner.Effects.{Hears, Rests, unexpired_at, led_by, repaid_at, rests_at, quiets, given_by}
 use Rattle.sip_machine.specs.inner.DebtLaws.{IsWithoutFirst-none, IsWithoutFirst-map, IsWithoutFirst-same, All-without, All-front, All-back}
 use Rattle.sip_machine.specs.inner.OwesLaws.{unexpired-seen, softened-seen, All-names}
-use Rattle.sip_machine.specs.inner.OwingLaws.{quiet_stands, quiet_fits}
 use Rattle.sip_machine.proofs.texts.TextLaws.{Contains-nil}
 use Rattle.sip_machine.proofs.steps.SingleLemmas.{StandFor-none, StandFor-one}
 use Rattle.sip_machine.proofs.steps.BothLemmas.{StandFor-same, AnswersBoth-one, AnswersBoth-two, OrStays-one}
@@ -83,12 +82,7 @@ changed-length p t (gains must message) owes =
 
 -- a list without the first element of which P holds is shorter than the list
 without-length : {X : Type 0} (P : X → Type 0) (xs ys : List X) → IsWithoutFirst P xs ys → length ys < length xs
-without-length P xs ys a =
-    let long : length xs ≡ length (a.before ++ a.first ∷ a.after) = ap length a.whole in
-    let short : length ys ≡ length (a.before ++ a.after) = ap length a.rest in
-    let more = length-append a.before (a.first ∷ a.after) in
-    let fewer = length-append a.before a.after in
-    omega (arith, long, short, more, fewer)
+without-length P xs ys a = grind (arith, nat_tests, length-append)
 
 -- a sent message that has a row and one that pays what is owed lead to different states
 Follows-Repays : {X : Type 0} (f : Figure X) (is : IsFigure f) (p : Times) (e : MachineEvent) (x y : Owing X) → Follows (f.Sends p x.phase e.kind e) p e x y → Repays f e x y → ⊥
@@ -105,8 +99,7 @@ Follows-Repays f is p e x y row pays = by_length (changed-length p e.moment (row
 -- a sent message that has a row and one that changes nothing lead to different states
 Follows-Stays : {X : Type 0} (f : Figure X) (is : IsFigure f) (p : Times) (e : MachineEvent) (x y : Owing X) → Follows (f.Sends p x.phase e.kind e) p e x y →
     f.Stays x.phase e.kind × (y ≡ x) → ⊥
-Follows-Stays f is p e x y row stays =
-    is.sent_leaves p x.phase e.kind e row.0 row.1 (inr stays.0) (ap (λ z. z.phase) (sym row.2 ∙ stays.1))
+Follows-Stays f is p e x y row stays = is.sent_leaves p x.phase e.kind e row.0 row.1 (inr stays.0) (ap (λ z. z.phase) (sym row.2 ∙ stays.1))
 
 -- where something holds of P, the end is the only state to which the end of P leads
 ends-some : {X S : Type 0} (names : S → List ℕ) (InRange : S → Type 0) (seen : Texts → S → X) (texts : Texts) (P : X → Type 0) (end : S) →
@@ -171,12 +164,7 @@ module _ {S X : Type 0} (f : Figure X) (p : Times) (seen : Texts → S → X) (n
   stays-one : (Row : After X → Type 0) (e : MachineEvent) (x : CodeOwing S) → ((y : After X) → Row y → ⊥) → Knows (owing_names names) texts x →
       OwingInRange InRange x →
       IsTheOne (owing_names names) (OwingInRange InRange) (owing_seen seen) texts (OrStays (Follows Row p e (owing_seen seen texts x)) (owing_seen seen texts x)) x
-  stays-one Row e x none known fits =
-      record {
-        only = λ y. (λ h. elim h [ inl row ↦ absurd (none (row.0) row.1) | inr stays ↦ stays.1 ], λ same. inr (λ z row. none (row.0) row.1, same));
-        known = known;
-        in_range = fits;
-      }
+  stays-one Row e x none known fits = grind (arith, nat_tests)
 
   -- where the first debt that a message pays is taken out, the state that is left is the only one to which the payment leads
   repaid-one : (e : MachineEvent) (x : CodeOwing S) (left : List Debt) → Knows (owing_names names) texts x → OwingInRange InRange x →
@@ -222,17 +210,7 @@ module _ {S X : Type 0} (f : Figure X) (p : Times) (seen : Texts → S → X) (n
   rests-stays : (is : IsFigure f) (e : MachineEvent) (x : CodeOwing S) → f.Stays (seen texts x.phase) e.kind →
       Knows (owing_names names) texts x → OwingInRange InRange x →
       IsTheOne (owing_names names) (OwingInRange InRange) (owing_seen seen) texts (Rests f e (owing_seen seen texts x)) x
-  rests-stays is e x stays known fits = record {
-    only = λ y. (
-      λ h. elim h [
-        | inl pays ↦ absurd (is.stays_unpaid (seen texts x.phase) e.kind e pays.1.first.message stays pays.1.holds.0)
-        | inr stays ↦ stays.1
-      ],
-      λ same. inr (stays, same),
-    );
-    known = known;
-    in_range = fits;
-  }
+  rests-stays is e x stays known fits = grind (arith, nat_tests)
 
   -- where a message may not leave the state as it is, it rests only where it pays, so that an answer for the payment is one for the rest
   rests-repaid : (e : MachineEvent) (x : CodeOwing S) → ¬ (f.Stays (seen texts x.phase) e.kind) → (repaid : Option (CodeOwing S)) →
@@ -355,14 +333,7 @@ module _ {S X : Type 0} (f : Figure X) (p : Times) (seen : Texts → S → X) (n
   pub refused-ends : (e : MachineEvent) (x : CodeOwing S) (end : S) → f.ends_refused (seen texts x.phase) e.kind ≡ true → seen texts end ≡ f.ended →
       (names end ≡ []) × InRange end → (z : Owing X) × Emits f p e (owing_seen seen texts (unexpired_at e.moment x)) z →
       Gives (Fails (f.ends_refused (seen texts x.phase) e.kind) f p e (owing_seen seen texts (unexpired_at e.moment x))) e.moment x (quiets end)
-  refused-ends e x end is stands fits some =
-      let here = owing_seen seen texts (unexpired_at e.moment x) in
-      let over : CodeOwing S = record x { phase = end; owes = [] } in
-      let quiet_over = quiet_fits names InRange end fits in
-      rw is
-      (subst (λ q. AnswersBoth (owing_names names) (OwingInRange InRange) (owing_seen seen) texts
-      (λ y. ((z : Owing X) × Emits f p e here z) × (y ≡ q)) (Some over, None)) (quiet_stands seen texts end f.ended stands)
-      (ends-some (owing_names names) (OwingInRange InRange) (owing_seen seen) texts (Emits f p e here) over (rw quiet_over.0 (All-nil (Keeps texts))) quiet_over.1 some))
+  refused-ends e x end is stands fits some = grind (arith, nat_tests, ends-some, All-nil)
 
   -- where a refusal ends the transaction, and a sent message would have no step, a refused one has none
   pub refused-none : (e : MachineEvent) (x : CodeOwing S) (effect : Effect S) → f.ends_refused (seen texts x.phase) e.kind ≡ true →
@@ -385,41 +356,10 @@ module _ {S X : Type 0} (f : Figure X) (p : Times) (seen : Texts → S → X) (n
   has_step P t x (Some turn) rest some gives =
       let z = owing_seen seen texts (led_by p t turn x) in (z, (gives.members z).0 (0, omega arith, refl))
 
-  -- a restart leaves a transaction in idle, with nothing owed
-  pub restarted-idle : (t : ℕ) (x : CodeOwing S) (idle : S) → seen texts x.phase ≡ f.idle → seen texts idle ≡ f.idle → (names idle ≡ []) × InRange idle →
-      Gives (Restarts f (owing_seen seen texts (unexpired_at t x))) t x (quiets idle)
-  restarted-idle t x idle is stands fits =
-      let here = owing_seen seen texts (unexpired_at t x) in
-      let over : CodeOwing S = record x { phase = idle; owes = [] } in
-      let there : owing_seen seen texts over ≡ quiet f.idle = quiet_stands seen texts idle f.idle stands in
-      let quiet_over = quiet_fits names InRange idle fits in
-      AnswersBoth-one (owing_names names) (OwingInRange InRange) (owing_seen seen) texts (Restarts f here) (Some over)
-      (record {
-        only = λ y. (
-          λ h. elim h [ inl rests ↦ rests.1 ∙ sym there | inr ends ↦ absurd (ends.0 is) ],
-          λ e. inl (is, e ∙ there),
-        );
-        known = rw quiet_over.0 (All-nil (Keeps texts));
-        in_range = quiet_over.1;
-      })
-
   -- a restart ends a transaction that has begun, with nothing owed
   pub restarted-ended : (t : ℕ) (x : CodeOwing S) (end : S) → ¬ (seen texts x.phase ≡ f.idle) → seen texts end ≡ f.ended → (names end ≡ []) × InRange end →
       Gives (Restarts f (owing_seen seen texts (unexpired_at t x))) t x (quiets end)
-  restarted-ended t x end other stands fits =
-      let here = owing_seen seen texts (unexpired_at t x) in
-      let over : CodeOwing S = record x { phase = end; owes = [] } in
-      let there : owing_seen seen texts over ≡ quiet f.ended = quiet_stands seen texts end f.ended stands in
-      let quiet_over = quiet_fits names InRange end fits in
-      AnswersBoth-one (owing_names names) (OwingInRange InRange) (owing_seen seen) texts (Restarts f here) (Some over)
-      (record {
-        only = λ y. (
-          λ h. elim h [ inl rests ↦ absurd (other rests.0) | inr ends ↦ ends.1 ∙ sym there ],
-          λ e. inr (other, e ∙ there),
-        );
-        known = rw quiet_over.0 (All-nil (Keeps texts));
-        in_range = quiet_over.1;
-      })
+  restarted-ended t x end other stands fits = grind (arith, nat_tests, AnswersBoth-one, All-nil)
 
   -- where a state lasts until the event, an effect that gives the steps of the state without what has expired gives its takes
   pub taken : (a : Action) (e : MachineEvent) (x : CodeOwing S) (effect : Effect S) → e.action ≡ a →

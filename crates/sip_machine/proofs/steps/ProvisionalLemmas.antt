@@ -24,13 +24,7 @@ use Rattle.sip_standard.specs.Says.{Says}
 
 -- a status line is that of a 100 exactly if its code is 100
 pub IsStatus100-code : (start : StartLine) (code : ℕ) (reason : List ℕ) → start ≡ status code reason → IsTrue (code == 100) ↔ IsStatus100 start
-IsStatus100-code start code reason e = (
-  λ same. let is : code ≡ 100 = grind (arith, nat_tests) in (reason, e ∙ ap (λ n. status n reason) is),
-  λ is.
-      let lines : status code reason ≡ status 100 is.0 = sym e ∙ is.1 in
-      let same : code ≡ 100 = cc in
-      eq-eqb code 100 same,
-)
+IsStatus100-code start code reason e = grind (arith, nat_tests, eq-eqb)
 
 -- bytes that are read as a message spell a 100 exactly if it begins as one does
 pub Is100-read : (bytes : List ℕ) (r : Reading) → Reads bytes r → IsStatus100 r.message.start ↔ Is100 bytes

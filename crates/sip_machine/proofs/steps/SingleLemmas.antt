@@ -1,5 +1,6 @@
 -- No state of the code, or one alone, stands for all to which an event leads.
 use Rattle.std.proofs.Common.{◌≡◌, inl, inr, ℕ, List, [], ◌∷◌, refl, arith}
+use Rattle.std.proofs.lemmas.Bool.Decides.{nat_tests}
 use Rattle.std.proofs.lemmas.List.Elements.{All-nil, All-cons, Contains-push, Contains-push_cases}
 use Rattle.sip_machine.specs.Texts.{Texts}
 use Rattle.sip_machine.proofs.texts.TextLaws.{Contains-nil}
@@ -10,13 +11,7 @@ use Rattle.sip_machine.specs.inner.Single.{IsTheOne}
 pub StandFor-none : {X S : Type 0} (names : S → List ℕ) (InRange : S → Type 0) (seen : Texts → S → X)
     (texts : Texts) (P : X → Type 0) →
     ((x : X) → P x → ⊥) → StandFor names InRange seen texts P []
-StandFor-none {X} {S} names InRange seen texts P none =
-    record {
-      members = λ x. (λ h. absurd (Contains-nil x h), λ h. absurd (none x h));
-      distinct = λ i j d low high. absurd (omega arith);
-      known = All-nil (Knows names texts);
-      in_range = All-nil InRange;
-    }
+StandFor-none {X} {S} names InRange seen texts P none = grind (arith, nat_tests, Contains-nil, All-nil)
 
 -- a state of the code that stands for the only one of which P holds stands for P by itself
 pub StandFor-one : {X S : Type 0} (names : S → List ℕ) (InRange : S → Type 0) (seen : Texts → S → X)

@@ -14,12 +14,7 @@ use Rattle.sip_machine.proofs.texts.TextLaws.{Contains-nil, Contains-cons_cases}
 
 -- where the values that f gives rise along a list, they never fall
 pub rises_weakly : {X : Type 0} (f : X → ℕ) (xs : List X) → AllPairs (λ a b. f a < f b) xs → IsNonDecreasingBy f xs
-rises_weakly f xs up = λ i j d le low. elim (cases_lt i j) [
-  | inl less ↦ (let lt = up i j d less low in omega (arith, lt))
-  | inr from ↦
-      let same : i ≡ j = omega (arith, le, from) in
-      subst (λ k. f (get_or xs i d) ≤ f (get_or xs k d)) same (omega arith)
-]
+rises_weakly f xs up = grind (arith, nat_tests, cases_lt)
 
 -- where the values of a mapped list rise, those of the list rise
 pub AllPairs-of_map : {X Y : Type 0} (f : X → Y) (g : Y → ℕ) (xs : List X) → AllPairs (λ a b. g a < g b) (map f xs) → AllPairs (λ a b. g (f a) < g (f b)) xs

@@ -2,6 +2,7 @@
 use Rattle.std.specs.Prelude.{◌≡◌, ◌≢◌, ◌<◌, ◌+◌, ◌-◌, ◌⊎◌, ℕ, Bool, true, false, Option, Some, None, is_some, List, [], ◌∷◌, ◌++◌, All, AllPairs, map, length, take}
 use Rattle.std.specs.List.{insert, filter_map}
 use Rattle.std.proofs.Common.{inl, inr, refl, sym, ◌∙◌, ap, subst, arith, get_or}
+use Rattle.std.proofs.lemmas.Bool.Decides.{nat_tests}
 use Rattle.std.proofs.lemmas.Bool.{false≢true}
 use Rattle.std.proofs.Math.Seq.{take-append_seam}
 use Rattle.std.proofs.lemmas.List.{get_or_default, map-append, get_or_append_left, get_or-append-add, length-append, length-map, length-take-le, get_or-take, take_all, take_more, take-map}
@@ -16,7 +17,7 @@ use Rattle.sip_machine.specs.declared.tos.To.{To}
 use Rattle.sip_machine.specs.inner.Order.{texts_of, placed, bytes_at, hash_of, places_of, index_of, IsOrder, IsInRuns, IsGap, IsInside, IsLoose, StandInRuns}
 use Rattle.sip_machine.specs.inner.Retain.{moved}
 use Rattle.sip_machine.specs.inner.Tos.{AreTos, IsTo, IsToOf}
-use Rattle.sip_machine.proofs.acks.ToLemmas.{AllPairs-take, AreTos-grow}
+use Rattle.sip_machine.proofs.acks.ToLemmas.{AreTos-grow}
 use Rattle.sip_machine.proofs.texts.TextLaws.{Contains-nil, Keeps-grow, Keeps-grow_cases, Keeps-added, Keeps-at, text_of-at, text_of-added, text_of-grow, text_of-none, IsBook-grow}
 use Rattle.sip_machine.proofs.texts.OrderLaws.{none_in_gap, IsOrder-grow}
 use Rattle.sip_machine.proofs.texts.RetainLemmas.{kept_place, IsOrder-only}
@@ -101,18 +102,10 @@ pub texts_split : (kept others : List KeptMessage) (newest : KeptMessage) → ke
 texts_split kept others newest is = ap texts_of is ∙ map-append (λ k. (k.number, k.bytes.items)) others (newest ∷ [])
 
 module _ (kept others : List KeptMessage) (newest : KeptMessage) (is : kept ≡ others ++ newest ∷ []) where
-  -- the messages that have a place are all but the newest
-  pub placed_others : placed true (texts_of kept) ≡ texts_of others
-  placed_others = ap (placed true) (texts_split kept others newest is) ∙ placed_front (texts_of others) (newest.number, newest.bytes.items)
-
   -- no message that has a place has the bytes of the newest
   pub never_found : IsBook (texts_of kept) → (position : ℕ) → position < length others → bytes_at (texts_of others) position ≡ newest.bytes.items → ⊥
   never_found book position low same =
       none_found (texts_of others) newest.number newest.bytes.items (subst IsBook (texts_split kept others newest is) book) position (rw length-map low) same
-
-  -- where all messages but the newest stand in the runs, the others do
-  pub others_stand : (loose : Bool) (runs : List PlaceRun) → loose ≡ true → IsInRuns (placed loose (texts_of kept)) runs → IsInRuns (texts_of others) runs
-  others_stand loose runs true_is order = subst (λ ts. IsInRuns ts runs) (ap (λ b. placed b (texts_of kept)) true_is ∙ placed_others) order
 
 -- where the newest stands in no run yet, all that have a place do
 pub stand_placed : (texts : Texts) (runs : List PlaceRun) (loose : Option Loose) → StandInRuns texts runs loose → IsInRuns (placed (is_some loose) texts) runs
@@ -171,10 +164,7 @@ module _ (texts : Texts) (number : ℕ) (bytes : List ℕ) (book : IsBook (texts
 
   -- the number at a place among those without the last is the one there, and one stands after it
   at_earlier : (k d : ℕ) → k < length earlier → (k + 1 < length numbers) × (get_or earlier k d ≡ get_or numbers k d)
-  at_earlier k d low =
-      let size : length earlier ≡ length numbers - 1 = length-take-le (length numbers - 1) numbers (omega arith) in
-      let under : k < length numbers - 1 = omega (arith, low, size) in
-      (omega (arith, under), get_or-take (length numbers - 1) numbers k d under)
+  at_earlier k d low = grind (arith, nat_tests, length-take-le, get_or-take)
 
   -- each number that stays, without the last, is of a message before the newest
   earlier_kept : All (Keeps texts) earlier
@@ -189,11 +179,7 @@ module _ (texts : Texts) (number : ℕ) (bytes : List ℕ) (book : IsBook (texts
 
   -- the numbers without the last rise
   earlier_up : AllPairs (λ a b. a < b) earlier
-  earlier_up i j d lt low =
-      let (under, is) = at_earlier j d low in
-      let (below, was) = at_earlier i d (omega (arith, lt, low)) in
-      let less = up i j d lt (omega (arith, under)) in
-      omega (arith, is, was, less)
+  earlier_up i j d lt low = grind (arith, nat_tests, at_earlier)
 
   -- the messages with numbers before the newest are the same with it and without it
   only_grown : (ns : List ℕ) → All (Keeps texts) ns → only ns (texts ++ (number, bytes) ∷ []) ≡ only ns texts
@@ -216,14 +202,7 @@ module _ (texts : Texts) (number : ℕ) (bytes : List ℕ) (book : IsBook (texts
 
 -- a book that has messages is those without the newest, and the newest
 split_last : (texts : Texts) (last : ℕ) → length texts ≡ last + 1 → texts ≡ placed true texts ++ get_or texts last (0, []) ∷ []
-split_last texts last size =
-    let before : last ≡ length texts - 1 = omega (arith, size) in
-    sym (take_all (last + 1) texts (omega (arith, size))) ∙ take_more texts last (0, []) (omega (arith, size)) ∙ ap (λ n. take n texts ++ get_or texts last (0, []) ∷ []) before
-
--- numbers that rise do so without the last
-pub placed_up : (loose : Bool) (numbers : List ℕ) → AllPairs (λ a b. a < b) numbers → AllPairs (λ a b. a < b) (placed loose numbers)
-placed_up false numbers up = up
-placed_up true numbers up = AllPairs-take (λ a b. a < b) (length numbers - 1) numbers up
+split_last texts last size = grind (arith, take_all, take_more)
 
 -- the messages of the code whose places stand in the order
 pub placed_texts : (loose : Bool) (kept : List KeptMessage) → texts_of (placed loose kept) ≡ placed loose (texts_of kept)

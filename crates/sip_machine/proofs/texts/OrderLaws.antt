@@ -77,8 +77,7 @@ then-equal Greater b e = absurd (omega (arith, ap ordering_index e))
 
 -- two messages that compare as equal have the same bytes
 pub same_bytes : (a b : ℕ × List ℕ) → compare a b ≡ Equal → a.1 ≡ b.1
-same_bytes a b e =
-    (bytes_eq-Decides a.1 b.1).0 (sym (is_eq-slice_cmp a.1 b.1) ∙ ap is_eq (then-equal (nat_cmp a.0 b.0) (slice_cmp nat_cmp a.1 b.1) e))
+same_bytes a b e = (bytes_eq-Decides a.1 b.1).0 (sym (is_eq-slice_cmp a.1 b.1) ∙ ap is_eq (then-equal (nat_cmp a.0 b.0) (slice_cmp nat_cmp a.1 b.1) e))
 
 -- the bytes of a message stay when another one is added
 bytes_at-grow : (texts : Texts) (text : ℕ × List ℕ) (position : ℕ) → position < length texts →
@@ -184,13 +183,7 @@ numbers_searchable kept number rising =
 -- where all messages before a point have a lower number, and all from there on a higher one, none has the number
 pub no_number : (kept : List KeptMessage) (number i : ℕ) →
     IsPartitionPoint (λ k. nat_cmp k.number number ≡ Less) (λ k. nat_cmp k.number number ≡ Greater) kept i → All (λ k. k.number ≢ number) kept
-no_number kept number i parted =
-    All-from_all_within (λ k. k.number ≢ number) kept (λ k d low high same.
-    let equal : nat_cmp (get_or kept k d).number number ≡ Equal = rw same (tied_itself nat_cmp_total number) in
-    never-equal (nat_cmp (get_or kept k d).number number) equal (elim (cases_lt k i) [
-      | inl below ↦ inl (parted.0 k d (omega arith) below)
-      | inr from ↦ inr (parted.1 k d from high)
-    ]))
+no_number kept number i parted = grind (arith, nat_tests, All-from_all_within, tied_itself, nat_cmp_total, never-equal, cases_lt)
 
 -- the bytes at a position of the code's messages are those of the message there
 pub bytes_at-kept : (kept : List KeptMessage) (position : ℕ) (k : KeptMessage) → position < length kept → k ≡ get_or kept position k →

@@ -50,8 +50,7 @@ only_rest t ts (n ∷ ns) others =
 
 -- a number that a book keeps, and that is not that of its first message, is kept by the rest
 keeps_rest : (t : ℕ × List ℕ) (ts : Texts) (n : ℕ) → t.0 ≢ n → Keeps (t ∷ ts) n → Keeps ts n
-keeps_rest t ts n other keeps =
-    elim (Contains-cons_cases t.0 (map (λ k. k.0) ts) n keeps) [ inl same ↦ absurd (other same) | inr rest ↦ rest ]
+keeps_rest t ts n other keeps = elim (Contains-cons_cases t.0 (map (λ k. k.0) ts) n keeps) [ inl same ↦ absurd (other same) | inr rest ↦ rest ]
 
 -- where numbers rise and are kept, going through numbers and messages together gives the messages with these numbers
 pub merged_is : (numbers : List ℕ) (texts : Texts) → AllPairs (λ a b. a < b) numbers → AllPairs (λ a b. a.0 < b.0) texts → All (Keeps texts) numbers →
@@ -198,28 +197,11 @@ module _ {X : Type 0} (f : X → Option X) (old now : List X) (left i : ℕ) (mo
 
   -- where f gives y of the element at i, and y is written after what was kept, one element more was read
   pub moves_some : (y : X) → f x ≡ Some y → MovesInPlace f old (set now left y) (left + 1) (i + 1)
-  moves_some y gives = record {
-    front = take_more_set now left y (let behind = moves.behind in omega arith) ∙ ap (λ xs. xs ++ y ∷ []) moves.front
-        ∙ ap (λ o. filter_map f (take i old) ++ cons_option o []) (sym gives) ∙ sym one_more;
-    rest = drop-set-lt (i + 1) now left y (let behind = moves.behind in omega arith) ∙ still_rest old now i moves.rest;
-    behind = (let behind = moves.behind in omega arith);
-    within = (let inside = inside in omega arith);
-    long = length-set now left y ∙ moves.long;
-  }
+  moves_some y gives = grind (arith, nat_tests, take_more_set, one_more, drop-set-lt, still_rest, length-set)
 
   -- where f gives nothing of the element at i, one element more was read
   pub moves_none : f x ≡ None → MovesInPlace f old now left (i + 1)
-  moves_none gives = record {
-    front = moves.front ∙ sym (one_more ∙ ap (λ o. filter_map f (take i old) ++ cons_option o []) gives ∙ append-nil (filter_map f (take i old)));
-    rest = still_rest old now i moves.rest;
-    behind = (let behind = moves.behind in omega arith);
-    within = (let inside = inside in omega arith);
-    long = moves.long;
-  }
-
--- where all elements were moved, those that are kept stand in front
-pub moves_all : {X : Type 0} (f : X → Option X) (old now : List X) (left i : ℕ) → MovesInPlace f old now left i → length old ≤ i → take left now ≡ filter_map f old
-moves_all f old now left i moves end = moves.front ∙ ap (filter_map f) (take_all i old end)
+  moves_none gives = grind (arith, nat_tests, one_more, append-nil, still_rest)
 
 -- What follows is of a loop that keeps the messages with numbers that rise.
 
@@ -239,15 +221,7 @@ pub record KeepsInPlace {K : Type 0} (text : K → ℕ × List ℕ) (numbers : L
 -- where no number is left, a message more is read, and goes
 pub keeps_end : {K : Type 0} (text : K → ℕ × List ℕ) (numbers : List ℕ) (old now : List K) (left i : ℕ) → KeepsInPlace text numbers old now left i → i < length now → length numbers ≤ left
     → KeepsInPlace text numbers old now left (i + 1)
-keeps_end text numbers old now left i keeps low end =
-    let none : (ts : Texts) → merged (drop left numbers) ts ≡ [] = λ ts. ap (λ ns. merged ns ts) (drop_all left numbers end) ∙ merged_none ts in
-    record {
-      front = ap (λ ts. map text (take left now) ++ ts) (none (map text (drop (i + 1) old)) ∙ sym (none (map text (drop i old)))) ∙ keeps.front;
-      rest = still_rest old now i keeps.rest;
-      behind = (let behind = keeps.behind in omega arith);
-      within = (let long = keeps.long in omega arith);
-      long = keeps.long;
-    }
+keeps_end text numbers old now left i keeps low end = grind (arith, nat_tests, drop_all, merged_none, still_rest)
 
 module _ {K : Type 0} (text : K → ℕ × List ℕ) (numbers : List ℕ) (old now : List K) (left i : ℕ) (keeps : KeepsInPlace text numbers old now left i) (x : K) (low : i < length now) (read : x ≡ get_or now i x) where
   there : get_or old i x ≡ x
@@ -261,73 +235,24 @@ module _ {K : Type 0} (text : K → ℕ × List ℕ) (numbers : List ℕ) (old n
 
   -- where the message at i is not the next that is kept, a message more is read, and goes
   pub keeps_other : merged (drop left numbers) (text x ∷ map text (drop (i + 1) old)) ≡ merged (drop left numbers) (map text (drop (i + 1) old)) → KeepsInPlace text numbers old now left (i + 1)
-  keeps_other skips = record {
-    front = ap (λ ts. map text (take left now) ++ ts) (sym skips ∙ ap (merged (drop left numbers)) (sym rest_is)) ∙ keeps.front;
-    rest = still_rest old now i keeps.rest;
-    behind = (let behind = keeps.behind in omega arith);
-    within = (let inside = behind_it in omega arith);
-    long = keeps.long;
-  }
+  keeps_other skips = grind (arith, nat_tests, rest_is, still_rest, behind_it)
 
   -- where the next number is not that of the message at i, a message more is read, and goes
   pub keeps_less : left < length numbers → (text x).0 ≢ get_or numbers left 0 → KeepsInPlace text numbers old now left (i + 1)
-  keeps_less some differs =
-      let n = get_or numbers left 0 in
-      let next : drop left numbers ≡ n ∷ drop (left + 1) numbers = drop_more numbers left 0 some in
-      keeps_other (ap (λ ns. merged ns (text x ∷ map text (drop (i + 1) old))) next
-      ∙ cond-false (nat_eq (text x).0 n) (text x ∷ merged (drop (left + 1) numbers) (map text (drop (i + 1) old))) (merged (n ∷ drop (left + 1) numbers) (map text (drop (i + 1) old))) (grind (arith, nat_tests))
-      ∙ ap (λ ns. merged ns (map text (drop (i + 1) old))) (sym next))
+  keeps_less some differs = grind (arith, nat_tests, drop_more, keeps_other, cond-false)
 
   -- where the messages at `left` and at i changed places, the first `left + 1` are those that were kept and the one at i
   swapped_front : (new : List K) → SwappedAt now new left i → take (left + 1) new ≡ take left now ++ x ∷ []
-  swapped_front new swapped =
-      elim (cases_lt left i) [
-        | inl under ↦
-            ap (take (left + 1)) (swapped.3 x) ∙ take-set-le (left + 1) (set now left (get_or now i x)) i (get_or now left x) (omega arith)
-            ∙ take_more_set now left (get_or now i x) (omega arith) ∙ ap (λ y. take left now ++ y ∷ []) (sym read)
-        | inr at ↦
-            let same : left ≡ i = (let behind = keeps.behind in omega arith) in
-            ap (take (left + 1)) (swapped.3 x ∙ ap (λ k. set (set now left (get_or now i x)) k (get_or now left x)) (sym same) ∙ set-set now left (get_or now i x) (get_or now left x)
-            ∙ ap (set now left) (ap (λ k. get_or now k x) same ∙ sym read))
-            ∙ take_more_set now left x (omega (arith, same))
-      ]
+  swapped_front new swapped = grind (arith, nat_tests, cases_lt, take-set-le, take_more_set, set-set)
 
   -- where the messages at `left` and at i changed places, those after i are as they were
   swapped_rest : (new : List K) → SwappedAt now new left i → drop (i + 1) new ≡ drop (i + 1) now
-  swapped_rest new swapped =
-      ap (drop (i + 1)) (swapped.3 x) ∙ drop-set-lt (i + 1) (set now left (get_or now i x)) i (get_or now left x) (omega arith)
-      ∙ drop-set-lt (i + 1) now left (get_or now i x) (let behind = keeps.behind in omega arith)
+  swapped_rest new swapped = grind (arith, drop-set-lt)
 
   -- where the next number is that of the message at i, and it is swapped after those that were kept, one message more was read and kept
   pub keeps_more : left < length numbers → (text x).0 ≡ get_or numbers left 0 → (new : List K) → SwappedAt now new left i
       → KeepsInPlace text numbers old new (left + 1) (i + 1)
-  keeps_more some same new swapped =
-      let n = get_or numbers left 0 in
-      let next : drop left numbers ≡ n ∷ drop (left + 1) numbers = drop_more numbers left 0 some in
-      let takes : merged (drop left numbers) (map text (drop i old)) ≡ text x ∷ merged (drop (left + 1) numbers) (map text (drop (i + 1) old)) =
-      ap (merged (drop left numbers)) rest_is ∙ ap (λ ns. merged ns (text x ∷ map text (drop (i + 1) old))) next
-      ∙ cond-true (nat_eq (text x).0 n) (text x ∷ merged (drop (left + 1) numbers) (map text (drop (i + 1) old))) (merged (n ∷ drop (left + 1) numbers) (map text (drop (i + 1) old))) (grind (arith, nat_tests)) in
-      record {
-        front = ap (λ xs. map text xs ++ merged (drop (left + 1) numbers) (map text (drop (i + 1) old))) (swapped_front new swapped)
-            ∙ ap (λ ts. ts ++ merged (drop (left + 1) numbers) (map text (drop (i + 1) old))) (map-append text (take left now) (x ∷ []))
-            ∙ append_assoc (map text (take left now)) (text x ∷ []) (merged (drop (left + 1) numbers) (map text (drop (i + 1) old)))
-            ∙ ap (λ ts. map text (take left now) ++ ts) (sym takes) ∙ keeps.front;
-        rest = swapped_rest new swapped ∙ still_rest old now i keeps.rest;
-        behind = (let behind = keeps.behind in omega arith);
-        within = (let inside = behind_it in omega arith);
-        long = ap length (swapped.3 x) ∙ length-set (set now left (get_or now i x)) i (get_or now left x) ∙ length-set now left (get_or now i x) ∙ keeps.long;
-      }
-
--- without texts nothing is merged
-merged_end : (numbers : List ℕ) → merged numbers [] ≡ []
-merged_end [] = refl
-merged_end (n ∷ ns) = refl
-
--- where all messages were read, the first `left` are those with these numbers
-pub keeps_all : {K : Type 0} (text : K → ℕ × List ℕ) (numbers : List ℕ) (old now : List K) (left i : ℕ) → KeepsInPlace text numbers old now left i → length old ≤ i
-    → map text (take left now) ≡ merged numbers (map text old)
-keeps_all text numbers old now left i keeps end =
-    sym (append-nil (map text (take left now))) ∙ ap (λ ts. map text (take left now) ++ ts) (sym (ap (λ xs. merged (drop left numbers) (map text xs)) (drop_all i old end) ∙ merged_end (drop left numbers))) ∙ keeps.front
+  keeps_more some same new swapped = grind (arith, nat_tests, drop_more, rest_is, cond-true, swapped_front, map-append, append_assoc, swapped_rest, still_rest, behind_it, length-set)
 
 -- What follows is of the runs, one after another.
 
@@ -343,10 +268,6 @@ pub record MovesRuns (f : Place → Option Place) (most : ℕ) (old now : List P
   pub short : All (λ run. length run.places.items ≤ most) now
   pub within : i ≤ length old
   pub long : length now ≡ length old
-
--- before any run is moved, all stand where they stood
-pub moves_start : (f : Place → Option Place) (most : ℕ) (old : List PlaceRun) → All (λ run. length run.places.items ≤ most) old → MovesRuns f most old old 0
-moves_start f most old short = record { places = refl; rest = refl; led = All-nil (λ run. 0 < length run.places.items → IsLed run); short = short; within = omega arith; long = refl }
 
 -- the places of the first i + 1 runs are those of the first i and those of run i
 places_more : (runs : List PlaceRun) (i : ℕ) (d : PlaceRun) → i < length runs → places_of (take (i + 1) runs) ≡ places_of (take i runs) ++ items (get_or runs i d)

@@ -5,11 +5,11 @@ use Rattle.std.specs.List.Sorted.{IsNonDecreasingBy, IsPartitionedBy, IsPartitio
 use Rattle.std.specs.declared.cmp.Ordering.{Ordering}
 use Rattle.std.specs.declared.cmp.Ordering.TheVariants.{Less, Equal, Greater}
 use Rattle.std.specs.Ordering.{ordering_index, is_le}
-use Rattle.std.proofs.Common.{Result, Ok, Err, OnErr, refl, sym, ◌∙◌, ap, subst, arith, get_or, set, drop, suc, inl, inr, append_assoc}
+use Rattle.std.proofs.Common.{Result, Ok, Err, OnErr, refl, sym, ◌∙◌, ap, subst, arith, get_or, set, drop, inl, inr, append_assoc}
+use Rattle.std.proofs.lemmas.Bool.Decides.{nat_tests, eqb_tells}
 use Rattle.std.proofs.Math.Seq.{take-append-add, drop-append-add}
 use mathlib.Core.Bool.{false≢true}
 use Rattle.std.proofs.lemmas.Bool.{cases_lt}
-use Rattle.std.proofs.lemmas.Bool.Decides.{eqb_tells}
 use Rattle.std.proofs.lemmas.List.{append-nil, take-append-drop, take-append-le, drop-append-le, drop_more, set_split, take_more_set, drop-set-lt, take_more, take_all, take-take, get_or-take, length-take-le, length-drop, length-append, get_or_default}
 use Rattle.std.proofs.lemmas.List.Concat.{flat_map-append, get_or-flat_map}
 use Rattle.std.proofs.lemmas.List.Folds.{length-flat_map-take}
@@ -28,9 +28,7 @@ items run = run.places.items
 -- an insert at place i of the second of three lists is an insert into all three, i places after the first
 insert-within : {X : Type 0} (a b c : List X) (i : ℕ) (y : X) → i ≤ length b →
     insert (a ++ (b ++ c)) (length a + i) y ≡ a ++ (insert b i y ++ c)
-insert-within a b c i y low =
-    rw (take-append-add a (b ++ c) i, drop-append-add a (b ++ c) i, take-append-le i b c low, drop-append-le i b c low)
-    (append_assoc a (take i b) (y ∷ (drop i b ++ c)) ∙ ap (λ rest. a ++ rest) (sym (append_assoc (take i b) (y ∷ drop i b) c)))
+insert-within a b c i y low = grind (arith, take-append-add, drop-append-add, take-append-le, drop-append-le, append_assoc)
 
 -- all places are those of the runs before run r, those of run r, and those of the runs after it
 places-around : (runs : List PlaceRun) (r : ℕ) (d : PlaceRun) → r < length runs →
@@ -42,10 +40,7 @@ places-around runs r d low =
 -- where run r is replaced, all places are those of the runs before it, those of the new run, and those of the runs after it
 places-set : (runs : List PlaceRun) (r : ℕ) (run : PlaceRun) → r < length runs →
     places_of (set runs r run) ≡ places_of (take r runs) ++ (items run ++ places_of (drop (r + 1) runs))
-places-set runs r run low =
-    let next : suc r ≡ r + 1 = omega arith in
-    ap places_of (set_split runs r run low) ∙ flat_map-append items (take r runs) (run ∷ drop (suc r) runs)
-    ∙ ap (λ n. places_of (take r runs) ++ (items run ++ places_of (drop n runs))) next
+places-set runs r run low = grind (arith, nat_tests, set_split, flat_map-append)
 
 -- where run r is replaced by one with the same places, all places stay
 pub places-kept : (runs : List PlaceRun) (r : ℕ) (d run : PlaceRun) → r < length runs → items run ≡ items (get_or runs r d) →
@@ -135,8 +130,7 @@ rank_of_later Greater later = omega arith
 -- a run begins by a key exactly if the first of its places does
 begins : (texts : Texts) (key : ℕ × List ℕ) (run : PlaceRun) → IsLed run →
     begins_by texts key run ≡ is_le (compare (key_of texts (get_or (items run) 0 first)) key)
-begins texts key run led =
-    ap (λ place. is_le (compare (key_of texts place) key)) (led.first ∙ get_or_default (items run) 0 run.first first led.filled)
+begins texts key run led = ap (λ place. is_le (compare (key_of texts place) key)) (led.first ∙ get_or_default (items run) 0 run.first first led.filled)
 
 -- where a run is replaced by its two halves, each with its first place told, all runs tell their first place
 pub led_halved : (runs : List PlaceRun) (r n : ℕ) (d head tail : PlaceRun) → r < length runs → All IsLed runs → 0 < n → n < length (items (get_or runs r d)) →

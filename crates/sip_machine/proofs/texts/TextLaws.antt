@@ -2,8 +2,8 @@
 use Prim.Native.Nat.{zero, suc}
 use Rattle.std.specs.Prelude.{◌≡◌, ◌≢◌, ◌<◌, ◌⊎◌, ℕ, List, [], ◌∷◌, ◌++◌, All, AllPairs, Contains, map, length}
 use Rattle.std.proofs.Common.{inl, inr, refl, sym, ◌∙◌, ap, arith, get_or, eq-eqb}
+use Rattle.std.proofs.lemmas.Bool.Decides.{nat_tests, eqb_tells}
 use Rattle.std.proofs.lemmas.Bool.{ne_eqb}
-use Rattle.std.proofs.lemmas.Bool.Decides.{eqb_tells}
 use Rattle.std.proofs.lemmas.List.{map-append, get_or-map, length-map}
 use Rattle.std.proofs.lemmas.List.Elements.{All-head, All-tail, Contains-append_left, Contains-append_right, Contains-append_cases, Contains-push, Contains-push_cases, Contains-get_or, All-contains, All-map}
 use Rattle.std.proofs.lemmas.List.Quantifiers.{all_pairs_push}
@@ -15,11 +15,7 @@ Contains-nil x h = omega arith
 
 -- an element is the first one or one of the rest
 pub Contains-cons_cases : {X : Type 0} (y : X) (xs : List X) (x : X) → Contains (y ∷ xs) x → (y ≡ x) ⊎ Contains xs x
-Contains-cons_cases y xs x h =
-    elim (Contains-append_cases (y ∷ []) xs x h) [
-      | inl one ↦ elim (Contains-push_cases [] y x one) [ inl none ↦ absurd (Contains-nil x none) | inr e ↦ inl e ]
-      | inr rest ↦ inr rest
-    ]
+Contains-cons_cases y xs x h = grind (arith, nat_tests, Contains-append_cases, Contains-push_cases, Contains-nil)
 
 -- where the first message has the number, its bytes are those of the number
 pub text_of-same : (number : ℕ) (bytes : List ℕ) (texts : Texts) (n : ℕ) → number ≡ n →
@@ -43,8 +39,7 @@ text_of-at (kept ∷ texts) (suc i) x rising low e =
 
 -- the number of a message at an index is kept
 pub Keeps-at : (texts : Texts) (i : ℕ) (x : ℕ × List ℕ) → i < length texts → x ≡ get_or texts i x → Keeps texts x.0
-Keeps-at texts i x low e =
-    (i, rw length-map low, get_or-map (λ kept. kept.0) texts i x x.0 low ∙ ap (λ k. k.0) (sym e))
+Keeps-at texts i x low e = (i, rw length-map low, get_or-map (λ kept. kept.0) texts i x x.0 low ∙ ap (λ k. k.0) (sym e))
 
 -- where no message has the bytes, no number stands for them
 pub text_of-none : (texts : Texts) (bytes : List ℕ) → All (λ kept. kept.1 ≢ bytes) texts → (n : ℕ) → Keeps texts n →

@@ -1,14 +1,7 @@
-use Rattle.std.proofs.lemmas.List.Elements.{All-nil}
-use Rattle.std.proofs.Common.{◌∙◌, arith, sym, subst}
+use Rattle.std.proofs.Common.{◌∙◌, arith, sym}
 use Rattle.sip_machine.specs.inner.Order.{texts_of}
-use Rattle.sip_machine.specs.inner.Tos.{IsTo, AreTos}
 use Rattle.sip_machine.proofs.texts.TextLaws.{text_of-kept}
 use Rattle.sip_machine.proofs.book.tos_of.Goals as goal
-
-pub loop-at-init : goal.loop-at-init
-loop-at-init c =
-    let texts = texts_of c.args.kept.now in
-    subst (AreTos texts) (sym c.new-tos.ensures) (record { each = All-nil (IsTo texts) })
 
 pub loop-at-preserved : goal.loop-at-preserved
 loop-at-preserved c =

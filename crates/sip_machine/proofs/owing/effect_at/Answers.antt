@@ -1,11 +1,7 @@
-use Rattle.std.specs.Prelude.{◌<◌, IfOk}
-use Rattle.std.proofs.Common.{sym, subst}
-use Rattle.sip_machine.specs.NumberedEvent.{event_in}
+use Rattle.std.specs.Prelude.{◌<◌}
+use Rattle.std.proofs.Common.{sym, subst, arith}
 use Rattle.sip_machine.specs.Rules.{Knows}
-use Rattle.sip_machine.specs.FigureRules.{TakeOf}
-use Rattle.sip_machine.specs.Owing.{owing_seen, owing_names, OwingInRange}
-use Rattle.sip_machine.specs.inner.Both.{AnswersBoth}
-use Rattle.sip_machine.specs.inner.Effects.{given_by}
+use Rattle.sip_machine.specs.Owing.{owing_names, OwingInRange}
 use Rattle.sip_machine.proofs.pools.PoolLemmas.{holds-here, in-phases, in-rows, state-here}
 use Rattle.sip_machine.proofs.owing.effect_at.Goals as goal
 
@@ -25,12 +21,4 @@ effect_of-requires-clause-in_range g c =
     holds-here (OwingInRange g.M.Phases.in_range) c.pool.inside.phases.items c.pool.inside.dues c.args.pool.now c.args.at c.index.result.now c.pool.view_is c.requires.at c.index.ensures c.requires.in_range
 
 pub returns-clause-gives : goal.returns-clause-gives
-returns-clause-gives g c = λ d.
-    let m = g.M.Phases in
-    let p = m.times c.args.machine.now in
-    let texts = c.args.book.now in
-    let e = c.args.event.now in
-    subst
-    (λ x. IfOk c.effect_of.result (λ effect. AnswersBoth (owing_names m.names) (OwingInRange m.in_range) (owing_seen m.seen) texts
-    (TakeOf m.figure p (owing_seen m.seen texts x) (event_in texts e)) (given_by p e.moment x effect)))
-    (state-here c.pool.inside.phases.items c.pool.inside.dues c.args.pool.now c.args.at c.index.result.now d c.pool.view_is c.requires.at c.index.ensures) c.effect_of.ensures.gives
+returns-clause-gives g c = grind (arith, state-here)

@@ -12,8 +12,7 @@ use Rattle.sip_machine.proofs.steps.OwingSteps.{taken}
 use Rattle.sip_machine.proofs.owing.effect_of.Goals as goal
 
 pub restarts-requires : goal.restarts-requires
-restarts-requires g c =
-    All-front (Keeps c.args.book.now) (g.M.Phases.names c.args.phase.now) (owes_names (owed_in c.args.dues.now c.args.row)) c.requires.known
+restarts-requires g c = All-front (Keeps c.args.book.now) (g.M.Phases.names c.args.phase.now) (owes_names (owed_in c.args.dues.now c.args.row)) c.requires.known
 
 pub returns-in-Received-clause-gives : goal.returns-in-Received-clause-gives
 returns-in-Received-clause-gives g c =

@@ -1,19 +1,10 @@
-use Rattle.std.specs.Prelude.{◌≡◌, ◌≤◌, ◌++◌, [], flat_map, get_or, length, option_to_list, take}
-use Rattle.std.proofs.Common.{sym, ap, subst, ◌∙◌, append-nil, arith}
+use Rattle.std.specs.Prelude.{◌≡◌, ◌≤◌, ◌++◌, flat_map, get_or, length, option_to_list}
+use Rattle.std.proofs.Common.{ap, subst, ◌∙◌, arith}
 use Rattle.std.proofs.lemmas.List.{take_all}
-use Rattle.sip_machine.proofs.texts.RunLaws.{always_err}
 use Rattle.sip_machine.specs.Naming.{AppendsAll}
-use Rattle.sip_machine.proofs.debts.NamesLemmas.{appended-front, run-appends}
+use Rattle.sip_machine.proofs.debts.NamesLemmas.{run-appends}
 use Rattle.sip_machine.proofs.pools.PoolLemmas.{some-at}
 use Rattle.sip_machine.proofs.owing.name_phases.Goals as goal
-
-pub loop-at-init : goal.loop-at-init
-loop-at-init g c = (omega arith, ([], sym (append-nil c.args.out.now.items), λ n. (λ h. h, λ h. h)))
-
-pub returns-in_err-push_some-clause-err : goal.returns-in_err-push_some-clause-err
-returns-in_err-push_some-clause-err g c =
-    let old = c.args.out.now.items in
-    always_err c.from_residual.result _ (ap (take (length old)) c.in_err-push_some.ensures.err ∙ appended-front old c.loop-at.invariant.1.0 c.loop-at.out.items c.loop-at.invariant.1.1)
 
 pub loop-at-preserved : goal.loop-at-preserved
 loop-at-preserved g c =
@@ -33,6 +24,5 @@ loop-at-preserved g c =
 
 pub returns-clause-ok : goal.returns-clause-ok
 returns-clause-ok g c =
-    let xs = c.args.pool.now in
-    let all = take_all c.loop-at.at xs (omega arith) in
+    let all = take_all c.loop-at.at c.args.pool.now (omega arith) in
     subst (λ ys. AppendsAll (flat_map (λ x. g.M.Phases.names x.phase) ys) c.args.out.now.items c.loop-at.out.items) all c.loop-at.invariant.1

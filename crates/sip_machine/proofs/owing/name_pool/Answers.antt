@@ -1,16 +1,9 @@
-use Rattle.std.specs.Prelude.{flat_map, length, take}
-use Rattle.std.proofs.Common.{sym, ap, subst, ◌∙◌}
-use Rattle.sip_machine.proofs.texts.RunLaws.{always_err}
+use Rattle.std.specs.Prelude.{flat_map}
+use Rattle.std.proofs.Common.{sym, subst}
 use Rattle.sip_machine.specs.Naming.{AppendsAll}
 use Rattle.sip_machine.specs.Owing.{owing_names}
-use Rattle.sip_machine.proofs.debts.NamesLemmas.{appended-front, pool-appends}
+use Rattle.sip_machine.proofs.debts.NamesLemmas.{pool-appends}
 use Rattle.sip_machine.proofs.owing.name_pool.Goals as goal
-
-pub returns-in_err-names_all-clause-err : goal.returns-in_err-names_all-clause-err
-returns-in_err-names_all-clause-err g c =
-    let old = c.args.out.now.items in
-    always_err c.from_residual-in_err-names_all.result _
-    (ap (take (length old)) c.in_err-names_all.ensures.err ∙ appended-front old c.in_ok-name_phases.ensures.ok.0 c.name_phases.new.out.items c.in_ok-name_phases.ensures.ok.1)
 
 pub returns-clause-ok : goal.returns-clause-ok
 returns-clause-ok g c =

@@ -1,25 +1,10 @@
 use Rattle.std.specs.Prelude.{◌≡◌, [], ◌∷◌}
-use Rattle.std.proofs.Common.{sym, ap, ◌∙◌, true≢false}
+use Rattle.std.proofs.Common.{sym, ◌∙◌, true≢false}
 use Rattle.std.proofs.lemmas.List.Elements.{All-nil}
 use Rattle.sip_machine.specs.Texts.{Keeps}
 use Rattle.sip_machine.specs.Owing.{state_in}
-use Rattle.sip_machine.proofs.steps.OwingSteps.{restarted-idle, restarted-ended}
+use Rattle.sip_machine.proofs.steps.OwingSteps.{restarted-ended}
 use Rattle.sip_machine.proofs.owing.restarts.Goals as goal
-
-pub returns-then-eq : goal.returns-then-eq
-returns-then-eq g c =
-    λ t owes.
-    let m = g.M.Phases in
-    let machine = c.args.machine.now in
-    let texts = c.args.book.now in
-    let state = state_in c.args.phase.now (owes ∷ []) 0 in
-    let idle = m.idle machine in
-    let equal = rw c.idle.ensures at c.if-eq.ensures in
-    let same : state.phase ≡ idle = g.met.M.Phase.Phase.exact state.phase idle (sym equal) in
-    let stands = g.met.M.Phases.idle_stands machine texts in
-    rw (c.quiets.ensures, c.idle-then-eq.ensures)
-    (restarted-idle m.figure (m.times machine) m.seen m.names m.in_range texts t state idle (ap (m.seen texts) same ∙ stands) stands
-    (g.met.M.Phases.idle_fits machine))
 
 pub returns : goal.returns
 returns g c =
@@ -30,10 +15,9 @@ returns g c =
     let state = state_in c.args.phase.now (owes ∷ []) 0 in
     let idle = m.idle machine in
     let fits = g.met.M.Phases.idle_fits machine in
-    let known = c.requires in
     let differ = rw c.idle.ensures at c.if-eq.ensures in
     let other = λ (is : m.seen texts state.phase ≡ m.figure.idle).
-    let same : state.phase ≡ idle = g.met.M.Phases.apart texts state.phase idle c.known.ensures known (rw fits.0 (All-nil (Keeps texts))) (is ∙ sym (g.met.M.Phases.idle_stands machine texts)) in
+    let same : state.phase ≡ idle = g.met.M.Phases.apart texts state.phase idle c.known.ensures c.requires (rw fits.0 (All-nil (Keeps texts))) (is ∙ sym (g.met.M.Phases.idle_stands machine texts)) in
     true≢false (sym (rw same at differ ∙ (g.met.M.Phase.Eq.laws).refl idle)) in
     rw (c.quiets-2.ensures, c.ended.ensures)
     (restarted-ended m.figure (m.times machine) m.seen m.names m.in_range texts t state (m.ended machine) other (g.met.M.Phases.ended_stands machine texts)

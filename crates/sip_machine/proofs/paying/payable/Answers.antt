@@ -1,12 +1,7 @@
 use Rattle.std.proofs.Common.{sym, ◌∙◌}
 use Rattle.sip_machine.specs.Owes.{owed_in}
-use Rattle.sip_machine.proofs.debts.DueLemmas.{pays-some, pays-none}
+use Rattle.sip_machine.proofs.debts.DueLemmas.{pays-some}
 use Rattle.sip_machine.proofs.paying.payable.Goals as goal
 
 pub returns-then-can_pay-clause-finds : goal.returns-then-can_pay-clause-finds
-returns-then-can_pay-clause-finds c =
-    pays-some c.args.number c.args.moment (owed_in c.args.dues.now c.args.row) (sym c.can_pay.ensures.can ∙ c.if-can_pay.true)
-
-pub returns-else-can_pay-clause-finds : goal.returns-else-can_pay-clause-finds
-returns-else-can_pay-clause-finds c =
-    pays-none c.args.number c.args.moment (owed_in c.args.dues.now c.args.row) (sym c.can_pay.ensures.can ∙ c.if-can_pay.false)
+returns-then-can_pay-clause-finds c = pays-some c.args.number c.args.moment (owed_in c.args.dues.now c.args.row) (sym c.can_pay.ensures.can ∙ c.if-can_pay.true)

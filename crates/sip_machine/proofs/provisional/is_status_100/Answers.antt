@@ -4,5 +4,4 @@ use Rattle.sip_machine.proofs.steps.ProvisionalLemmas.{IsStatus100-code}
 use Rattle.sip_machine.proofs.provisional.is_status_100.Goals as goal
 
 pub returns-in-Status : goal.returns-in-Status
-returns-in-Status c =
-    IsStatus100-code (start_parts c.args.start) c.in-Status.code c.in-Status.reason.now (rw c.in-Status.is refl)
+returns-in-Status c = IsStatus100-code (start_parts c.args.start) c.in-Status.code c.in-Status.reason.now (rw c.in-Status.is refl)

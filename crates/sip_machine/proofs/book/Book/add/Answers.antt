@@ -1,4 +1,4 @@
-use Rattle.std.proofs.Common.{◌≡◌, ◌∙◌, ◌++◌, ◌∷◌, [], List, ap, sym}
+use Rattle.std.proofs.Common.{◌∙◌, ◌++◌, ◌∷◌, [], ap, sym}
 use Rattle.sip_machine.specs.declared.book.KeptMessage.{KeptMessage}
 use Rattle.sip_machine.specs.declared.book.Loose.{Loose}
 use Rattle.sip_machine.specs.inner.Order.{texts_of}

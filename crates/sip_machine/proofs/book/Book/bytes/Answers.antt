@@ -9,9 +9,8 @@ use Rattle.sip_machine.proofs.book.Book.bytes.Goals as goal
 
 pub returns-in-Ok : goal.returns-in-Ok
 returns-in-Ok c =
-    let number = c.args.number in
     let at = c.in-Ok.ensures.position (λ k. k.number) (answers_always _ _ _ (λ f a r g called. search rules)) in
-    let same = ranked c.index.result.now.number number Equal (sym (rw (c.deref.ensures.value, ← c.index.ensures) at (at c.index.result.now))) in
+    let same = ranked c.index.result.now.number c.args.number Equal (sym (rw (c.deref.ensures.value, ← c.index.ensures) at (at c.index.result.now))) in
     let found = text_of-kept (λ k. (k.number, k.bytes.items)) c.self.inside.kept.items c.in-Ok.position c.index.result.now c.self.invariant.0.rising
     (rw c.deref.ensures.value at c.in-Ok.ensures.bound) c.index.ensures in
     let here = rw same at found in

@@ -7,14 +7,8 @@ use Rattle.sip_machine.specs.inner.Retain.{moved}
 use Rattle.sip_machine.specs.inner.Tos.{AreTos}
 use Rattle.sip_machine.proofs.acks.ToLemmas.{AreTos-only}
 use Rattle.sip_machine.proofs.texts.RetainLemmas.{merged_is, IsBook-only}
-use Rattle.sip_machine.proofs.texts.NewestLaws.{placed_texts, placed_up, stand_placed, retained_order}
+use Rattle.sip_machine.proofs.texts.NewestLaws.{placed_texts, stand_placed, retained_order}
 use Rattle.sip_machine.proofs.book.Book.retain_only.Goals as goal
-
-pub move_all-requires-clause-rising : goal.move_all-requires-clause-rising
-move_all-requires-clause-rising c = rw c.placed.ensures (placed_up c.is_some-is_loose.result c.args.numbers.now c.requires.rising)
-
-pub move_all-requires-clause-short : goal.move_all-requires-clause-short
-move_all-requires-clause-short c = (stand_placed (texts_of c.self.inside.kept.items) c.self.inside.order.items c.self.inside.loose c.self.invariant.1).short
 
 pub loosened-self-inside-requires-clause-book : goal.loosened-self-inside-requires-clause-book
 loosened-self-inside-requires-clause-book c =

@@ -1,7 +1,6 @@
-use Rattle.std.proofs.Common.{◌∙◌, ◌<◌, ℕ, List, ap, length, arith}
+use Rattle.std.proofs.Common.{◌<◌, ℕ, List, length, arith}
 use Rattle.sip_machine.specs.declared.book.KeptMessage.{KeptMessage}
-use Rattle.sip_machine.specs.inner.Order.{texts_of}
-use Rattle.sip_machine.proofs.texts.RetainLemmas.{keeps_more, keeps_less, keeps_end, keeps_all}
+use Rattle.sip_machine.proofs.texts.RetainLemmas.{keeps_more, keeps_less, keeps_end}
 use Rattle.sip_machine.proofs.book.retain.keep_only.Goals as goal
 use Rattle.sip_machine.proofs.book.retain.keep_only.Goals.{then-left-numbers+then-index-numbers, else-left-numbers, else-left-numbers-via-then-left-numbers+else-index-numbers, else-left-numbers-via-else-left-numbers}
 
@@ -27,8 +26,3 @@ loop-i-preserved c =
             keeps_end text numbers old now left i c.loop-i.invariant low u.if-left-numbers.false
       ])
     ]
-
-pub returns : goal.returns
-returns c =
-    ap (λ ks. texts_of ks) (c.truncate.ensures.items ∙ c.set_aside.ensures)
-    ∙ keeps_all text c.args.numbers.now c.args.kept.now.items c.loop-i.kept.items c.loop-i.left c.loop-i.i c.loop-i.invariant (omega arith)

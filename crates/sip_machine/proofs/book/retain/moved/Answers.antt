@@ -8,21 +8,15 @@ use Rattle.sip_machine.proofs.texts.RetainLemmas.{place_at, place_none, never_fa
 use Rattle.sip_machine.proofs.book.retain.moved.Goals as goal
 
 pub returns-in-Ok : goal.returns-in-Ok
-returns-in-Ok c =
-    let numbers = c.args.numbers.now in
-    let i = c.in-Ok.position in
-    let found = rw c.in-Ok.is at (searched numbers c.number_at-number.result c.binary_search.result c.binary_search.ensures.position (never_falls numbers c.requires)) in
-    sym (ap (option_map (λ k. record { hash = c.args.place.hash; position = k }))
-    (ap (place_among numbers) (sym c.number_at-number.ensures ∙ sym found.1) ∙ place_at numbers i 0 c.requires found.0))
+returns-in-Ok c = grind (arith, searched, never_falls, place_at)
 
 pub returns-in-Err : goal.returns-in-Err
 returns-in-Err c =
     let numbers = c.args.numbers.now in
     let n = c.number_at-number.result in
-    let i = c.in-Err.field-0 in
     let found = rw c.in-Err.is at (searched numbers n c.binary_search.result c.binary_search.ensures.position (never_falls numbers c.requires)) in
     sym (ap (option_map (λ k. record { hash = c.args.place.hash; position = k })) (ap (place_among numbers) (sym c.number_at-number.ensures)
-    ∙ place_none numbers n (All-from_get_or (λ m. m ≢ n) numbers 0 (λ k low same. elim (cases_lt k i) [
+    ∙ place_none numbers n (All-from_get_or (λ m. m ≢ n) numbers 0 (λ k low same. elim (cases_lt k c.in-Err.field-0) [
       | inl below ↦ (let less = found.1 k below in omega arith)
       | inr from ↦ (let more = found.2 k from low in omega arith)
     ]))))

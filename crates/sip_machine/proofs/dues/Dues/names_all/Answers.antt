@@ -1,5 +1,5 @@
 use Rattle.std.specs.Prelude.{◌≡◌, None, flat_map}
-use Rattle.std.proofs.Common.{subst, ◌∙◌}
+use Rattle.std.proofs.Common.{subst, arith}
 use Rattle.sip_machine.specs.Naming.{AppendsAll}
 use Rattle.sip_machine.specs.Owes.{owes_names}
 use Rattle.sip_machine.specs.inner.Dues.{rows_in}
@@ -7,13 +7,7 @@ use Rattle.sip_machine.proofs.debts.NamesLemmas.{none-appends, owed-appends}
 use Rattle.sip_machine.proofs.dues.Dues.names_all.Goals as goal
 
 pub returns-in_ok-all_names-clause-ok : goal.returns-in_ok-all_names-clause-ok
-returns-in_ok-all_names-clause-ok c =
-    let rows = c.deref.result.now in
-    let held : c.in-Some.accounts.value ≡ c.args.self.now = rw c.in-Some.is at c.self.view_is in
-    let is : rows ≡ c.args.self.now = c.deref.ensures ∙ held in
-    let old = c.args.numbers.now.items in
-    let new = c.all_names.new.numbers.items in
-    subst (λ rs. AppendsAll (flat_map owes_names rs) old new) is (owed-appends rows old new c.in_ok-all_names.ensures.ok)
+returns-in_ok-all_names-clause-ok c = grind (arith, owed-appends)
 
 pub returns-in_default-clause-ok : goal.returns-in_default-clause-ok
 returns-in_default-clause-ok c =

@@ -1,16 +1,11 @@
 use Rattle.std.specs.Prelude.{get_or}
 use Rattle.std.proofs.Common.{refl, true≢false, sym, ◌∙◌, arith}
 use Rattle.std.proofs.lemmas.List.{take_all}
-use Rattle.std.proofs.lemmas.List.Elements.{All-more, All-get_or}
-use Rattle.sip_machine.specs.Texts.{Keeps}
+use Rattle.std.proofs.lemmas.List.Elements.{All-more}
 use Rattle.sip_machine.specs.inner.Acks.{HasTo}
 use Rattle.sip_machine.proofs.debts.LookLemmas.{no_debt, first-at, payable-now, pays-to}
 use Rattle.sip_machine.proofs.invite_client.acks.first_of.Goals as goal
 use Rattle.sip_machine.proofs.invite_client.acks.first_of.Goals.{else-moment-debt-via-then-moment-debt+in_ok-has_to+else-branch, else-moment-debt-via-else-moment-debt}
-
-pub has_to-requires : goal.has_to-requires
-has_to-requires c =
-    All-get_or (λ debt. Keeps c.args.book.now debt.message) c.args.debts.now c.loop-debt.debt-index no_debt c.loop-debt-test.true c.requires
 
 pub returns-then-branch : goal.returns-then-branch
 returns-then-branch c =

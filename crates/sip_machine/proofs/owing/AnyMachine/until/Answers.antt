@@ -1,7 +1,6 @@
-use Rattle.std.specs.Prelude.{◌<◌, []}
-use Rattle.std.proofs.Common.{◌∙◌, ap, sym, subst}
-use Rattle.sip_machine.specs.FigureRules.{until_of}
-use Rattle.sip_machine.specs.Owing.{owing_seen, OwingInRange}
+use Rattle.std.specs.Prelude.{◌<◌}
+use Rattle.std.proofs.Common.{sym, subst, arith}
+use Rattle.sip_machine.specs.Owing.{OwingInRange}
 use Rattle.sip_machine.proofs.pools.PoolLemmas.{holds-here, in-phases, in-rows, state-here}
 use Rattle.sip_machine.proofs.owing.AnyMachine.until.Goals as goal
 
@@ -17,8 +16,4 @@ until-requires-clause-in_range g c =
     holds-here (OwingInRange g.M.Phases.in_range) c.pool.inside.phases.items c.pool.inside.dues c.args.pool.now c.args.at c.index.result.now c.pool.view_is c.requires.at c.index.ensures c.requires.in_range
 
 pub returns : goal.returns
-returns g c = λ d.
-    let m = g.M.Phases in
-    c.until.ensures []
-    ∙ ap (λ x. until_of m.figure (m.times c.args.self.now) (owing_seen m.seen [] x))
-    (state-here c.pool.inside.phases.items c.pool.inside.dues c.args.pool.now c.args.at c.index.result.now d c.pool.view_is c.requires.at c.index.ensures)
+returns g c = grind (arith, state-here)

@@ -36,9 +36,8 @@ loop-at-preserved g c =
     let P = LeadsFrom m.figure (m.times c.args.machine.now) m.seen texts e in
     let (at_le, has) = c.loop-at.invariant in
     let order = c.run_end-end.ensures.order in
-    let within = order.1 in
     let le = c.requires.count in (
       order.1,
       found-run (owing_names m.names) (OwingInRange m.in_range) (owing_seen m.seen) texts P c.loop-at.at c.run_end-end.result c.args.pool.now c.loop-at.pool c.leads_run.new.pool order.0
-          (omega (arith, within, le)) has c.in_ok-leads_run.ensures.gives,
+          (omega (arith, order.1, le)) has c.in_ok-leads_run.ensures.gives,
     )

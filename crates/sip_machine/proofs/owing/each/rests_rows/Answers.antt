@@ -17,10 +17,9 @@ loop-at-init g c =
     let m = g.M.Phases in
     let texts = c.args.book.now in
     let e = event_in texts c.args.event.now in
-    let order = c.requires.from in
     let P = RestsFrom m.figure (m.times c.args.machine.now) m.seen texts e in (
       omega arith,
-      omega (arith, order),
+      omega (arith, c.requires.from),
       subst (λ xs. HasFound (owing_names m.names) (OwingInRange m.in_range) (owing_seen m.seen) texts P xs c.args.pool.now c.args.pool.now) (sym (from_to-none c.args.from c.args.from c.args.pool.now (omega arith)))
           (found-none (owing_names m.names) (OwingInRange m.in_range) (owing_seen m.seen) texts P c.args.pool.now),
     )
@@ -34,8 +33,7 @@ rests_row-requires-clause-known g c = λ d.
 pub rests_row-requires-clause-in_range : goal.rests_row-requires-clause-in_range
 rests_row-requires-clause-in_range g c = λ d.
     let (from_le, to_le, (found, is, covers)) = c.loop-at.invariant in
-    let below = c.loop-at-test.true in
-    slice-at (OwingInRange g.M.Phases.in_range) c.args.from c.args.to c.loop-at.at c.args.pool.now found c.loop-at.pool d is from_le below c.requires.to c.requires.in_range
+    slice-at (OwingInRange g.M.Phases.in_range) c.args.from c.args.to c.loop-at.at c.args.pool.now found c.loop-at.pool d is from_le c.loop-at-test.true c.requires.to c.requires.in_range
 
 pub returns-in_err-rests_row-clause-before : goal.returns-in_err-rests_row-clause-before
 returns-in_err-rests_row-clause-before g c =

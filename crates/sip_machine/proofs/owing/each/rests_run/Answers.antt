@@ -1,4 +1,4 @@
-use Rattle.std.specs.Prelude.{◌≡◌, ◌<◌, ◌&&◌, ◌++◌, [], filter, length, map}
+use Rattle.std.specs.Prelude.{◌≡◌, ◌<◌, ◌&&◌, ◌++◌, [], filter, map}
 use Rattle.std.specs.List.{list_any}
 use Rattle.std.proofs.Common.{sym, ◌∙◌, subst, arith, append-nil, true≢false}
 use Rattle.std.proofs.lemmas.Result.{on_ok_weaker}
@@ -13,10 +13,8 @@ use Rattle.sip_machine.proofs.owing.each.rests_run.Goals as goal
 
 pub index-requires : goal.index-requires
 index-requires g c =
-    let order = c.requires.from in
-    let le = c.requires.to in
     subst (λ n. c.args.from < n) (sym c.pool.inside.phases.ok.0)
-    (in-phases c.pool.inside.phases.items c.pool.inside.dues c.args.pool.now c.args.from c.pool.view_is (omega (arith, order, le)))
+    (in-phases c.pool.inside.phases.items c.pool.inside.dues c.args.pool.now c.args.from c.pool.view_is (omega (arith, c.requires.from, c.requires.to)))
 
 pub closes-requires : goal.closes-requires
 closes-requires g c =
@@ -37,14 +35,13 @@ returns-then-is_past-clause-gives g c =
     let e = event_in texts c.args.event.now in
     let xs = c.args.pool.now in
     let some = from_to c.args.from c.args.to xs in
-    let q = c.index.result.now in
     let p = m.times c.args.machine.now in
     let run = in-run m.names m.in_range c.args.book.now c.pool.inside.phases.items c.pool.inside.dues c.args.pool.now c.args.from c.args.to c.index.result.now c.pool.view_is c.index.ensures
     c.requires.from c.requires.to c.requires.known c.requires.in_range c.requires.same in
     let closed = rw (c.moment.ensures, c.closes.ensures texts) at c.if-is_past.ensures in (
       [],
       sym (append-nil xs),
-      closed-none m.figure p m.seen m.names m.in_range texts e q some run.same c.requires.known c.requires.in_range
+      closed-none m.figure p m.seen m.names m.in_range texts e c.index.result.now some run.same c.requires.known c.requires.in_range
           (λ x. Rests m.figure e (owing_seen m.seen texts (unexpired_at e.moment x))) closed,
     )
 

@@ -37,11 +37,10 @@ loop-at-preserved g c =
     let P = λ (x : CodeOwing g.row.M-Phase.Denot). TakeOf m.figure (m.times c.args.machine.now) (owing_seen m.seen texts x) e in
     let (at_le, has) = c.loop-at.invariant in
     let order = c.run_end-end.ensures.order in
-    let within = order.1 in
     let le = c.requires.count in (
       order.1,
       found-run (owing_names m.names) (OwingInRange m.in_range) (owing_seen m.seen) texts P c.loop-at.at c.run_end-end.result c.args.pool.now c.loop-at.pool c.sends_run.new.pool order.0
-          (omega (arith, within, le)) has c.in_ok-sends_run.ensures.gives,
+          (omega (arith, order.1, le)) has c.in_ok-sends_run.ensures.gives,
     )
 
 pub returns-clause-gives : goal.returns-clause-gives

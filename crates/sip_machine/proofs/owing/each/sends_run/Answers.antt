@@ -7,7 +7,7 @@ use Rattle.sip_machine.specs.Rules.{Covers, FromSome, Knows}
 use Rattle.sip_machine.specs.FigureRules.{TakeOf}
 use Rattle.sip_machine.specs.Owing.{owing_seen, owing_names, OwingInRange}
 use Rattle.sip_machine.specs.inner.Effects.{LeadsFrom, RestsFrom}
-use Rattle.sip_machine.proofs.pools.CoversLemmas.{HasFound, FromSome-same, FromSome-either, Covers-same, Covers-both, slice-old, before-more}
+use Rattle.sip_machine.proofs.pools.CoversLemmas.{HasFound, FromSome-same, FromSome-either, Covers-same, Covers-both, slice-old}
 use Rattle.sip_machine.proofs.steps.OwingEachLemmas.{takes-sent}
 use Rattle.sip_machine.proofs.owing.each.sends_run.Goals as goal
 
@@ -49,8 +49,3 @@ returns-clause-gives g c =
           (Covers-both (owing_names m.names) (OwingInRange m.in_range) (owing_seen m.seen) texts (FromSome P some) (FromSome Q some) added more covers rests_old),
     ))
     c.rests_run.ensures.gives
-
-pub returns-clause-before : goal.returns-clause-before
-returns-clause-before g c =
-    let (added, mid_is, covers) = c.in_ok-leads_run.ensures.gives in
-    before-more c.args.pool.now c.leads_run.new.pool c.rests_run.new.pool added mid_is c.rests_run.ensures.before

@@ -7,25 +7,6 @@ use Rattle.sip_machine.proofs.pools.FirstLemmas.{first-more, first-again, Any-he
 use Rattle.sip_machine.proofs.pool.Pool.first_of_many.Goals as goal
 use Rattle.sip_machine.proofs.pool.Pool.first_of_many.Goals.{then-not-is_repeat+in_ok-push+in_ok-push-2, else-not-is_repeat}
 
-pub is_repeat-requires-clause-prints : goal.is_repeat-requires-clause-prints
-is_repeat-requires-clause-prints g c = rw c.deref.ensures.value (λ k x low same.
-    let xs = c.args.self.now in
-    let at = c.loop-at.at in
-    let from = c.args.from in
-    let rows = c.loop-at.rows.items in
-    let prints = c.in_ok-prints.prints.items in
-    let row = get_or rows k 0 in
-    let at_from = c.loop-at.auto.at in
-    let within : at < length xs = omega arith in
-    let inside = c.loop-at.invariant.0.within k 0 low in
-    let from_row = inside.0 in
-    let row_at = inside.1 in
-    let low_row : row < length xs = omega (arith, row_at, within) in
-    let equal = c.in_ok-prints.ensures.same row at x from_row low_row (omega (arith, at_from)) within same in
-    let long = c.in_ok-prints.ensures.long in
-    let low_at : at - from < length prints = omega (arith, within, long) in
-    c.loop-at.invariant.2 k low ∙ equal ∙ get_or_default prints (at - from) 0 c.index-print.result.now low_at ∙ sym c.index-print.ensures)
-
 pub loop-at-preserved : goal.loop-at-preserved
 loop-at-preserved g c =
     let xs = c.args.self.now in
@@ -41,8 +22,7 @@ loop-at-preserved g c =
     elim c.if-not-is_repeat.branch [
       | then-not-is_repeat+in_ok-push+in_ok-push-2 w ↦
           let within : at < length xs = omega arith in
-          let all = c.in_ok-prints.ensures.long in
-          let low_at : at - from < length prints = omega (arith, within, all, at_from) in
+          let low_at : at - from < length prints = omega (arith, within, c.in_ok-prints.ensures.long, at_from) in
           let here : get_or prints (at - from) 0 ≡ print = get_or_default prints (at - from) 0 print low_at ∙ sym c.index-print.ensures in
           let more_rows = length_push rows at in
           let more_kept = length_push kept print in

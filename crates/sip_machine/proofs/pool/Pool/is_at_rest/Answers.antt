@@ -1,7 +1,5 @@
 use Rattle.std.specs.Prelude.{◌<◌, ◌≡◌, get_or}
-use Rattle.std.proofs.Common.{subst, ◌∙◌, sym, ap, true≢false}
-use Rattle.sip_machine.specs.Owes.{owed_in}
-use Rattle.sip_machine.specs.Owing.{at_rest}
+use Rattle.std.proofs.Common.{subst, ◌∙◌, sym, ap, true≢false, arith}
 use Rattle.sip_machine.proofs.pools.PoolLemmas.{in-phases, in-rows, state-at, same-state}
 use Rattle.sip_machine.proofs.pool.Pool.is_at_rest.Goals as goal
 
@@ -12,13 +10,7 @@ pub owes_nothing-requires : goal.owes_nothing-requires
 owes_nothing-requires g c = in-rows c.self.inside.phases.items c.self.inside.dues c.args.self.now c.args.at c.self.view_is c.self.invariant c.requires
 
 pub returns-then-eq : goal.returns-then-eq
-returns-then-eq g c = λ d.
-    let p = c.index.result.now in
-    let x = get_or c.args.self.now c.args.at d in
-    let is = state-at c.self.inside.phases.items c.self.inside.dues c.args.self.now c.args.at p d c.self.view_is c.requires in
-    let phase : x.phase ≡ c.args.phase = ap (λ y. y.phase) is ∙ sym c.index.ensures ∙ g.met.P.Phase.exact p c.args.phase (sym c.if-eq.ensures) in
-    let owes : x.owes ≡ owed_in c.self.inside.dues c.args.at = ap (λ y. y.owes) is in
-    (λ nothing. same-state x (at_rest c.args.phase) phase (owes ∙ c.owes_nothing.ensures.0 nothing), λ rests. c.owes_nothing.ensures.1 (sym owes ∙ ap (λ y. y.owes) rests))
+returns-then-eq g c = grind (arith, state-at, same-state)
 
 pub returns-else-eq : goal.returns-else-eq
 returns-else-eq g c = λ d.

@@ -1,5 +1,5 @@
-use Rattle.std.specs.Prelude.{◌<◌, ◌≡◌, get_or}
-use Rattle.std.proofs.Common.{subst, ◌∙◌, sym, ap, true≢false}
+use Rattle.std.specs.Prelude.{◌<◌, ◌≡◌}
+use Rattle.std.proofs.Common.{subst, ◌∙◌, sym, ap, true≢false, arith}
 use Rattle.sip_machine.proofs.pools.PoolLemmas.{in-phases, in-rows, state-at, same-state}
 use Rattle.sip_machine.proofs.pool.Pool.is_same.Goals as goal
 
@@ -16,18 +16,7 @@ pub same-requires-clause-other : goal.same-requires-clause-other
 same-requires-clause-other g c = in-rows c.self.inside.phases.items c.self.inside.dues c.args.self.now c.args.other c.self.view_is c.self.invariant c.requires.other
 
 pub returns-then-eq : goal.returns-then-eq
-returns-then-eq g c = λ d.
-    let p = c.index.result.now in
-    let q = c.index-2.result.now in
-    let x = get_or c.args.self.now c.args.at d in
-    let y = get_or c.args.self.now c.args.other d in
-    let is_x = state-at c.self.inside.phases.items c.self.inside.dues c.args.self.now c.args.at p d c.self.view_is c.requires.at in
-    let is_y = state-at c.self.inside.phases.items c.self.inside.dues c.args.self.now c.args.other q d c.self.view_is c.requires.other in
-    let phase : x.phase ≡ y.phase =
-    ap (λ z. z.phase) is_x ∙ sym c.index.ensures ∙ g.met.P.Phase.exact p q (sym c.if-eq.ensures) ∙ c.index-2.ensures ∙ sym (ap (λ z. z.phase) is_y) in (
-      λ same. same-state x y phase (ap (λ z. z.owes) is_x ∙ c.same.ensures.0 same ∙ sym (ap (λ z. z.owes) is_y)),
-      λ equal. c.same.ensures.1 (sym (ap (λ z. z.owes) is_x) ∙ ap (λ z. z.owes) equal ∙ ap (λ z. z.owes) is_y),
-    )
+returns-then-eq g c = grind (arith, state-at, same-state)
 
 pub returns-else-eq : goal.returns-else-eq
 returns-else-eq g c = λ d.

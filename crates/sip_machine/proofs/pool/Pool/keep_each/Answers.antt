@@ -1,7 +1,5 @@
 use Rattle.std.specs.Prelude.{◌<◌, All, length}
-use Rattle.std.proofs.Common.{◌∙◌, ap, ap₂, sym, arith}
-use Rattle.std.proofs.lemmas.List.{length-map}
-use Rattle.sip_machine.specs.Owes.{owed_in}
+use Rattle.std.proofs.Common.{◌∙◌, ap, ap₂, arith}
 use Rattle.sip_machine.specs.Pools.{picked}
 use Rattle.sip_machine.specs.inner.Pools.{beside}
 use Rattle.sip_machine.proofs.pools.PoolLemmas.{beside-length}
@@ -9,22 +7,10 @@ use Rattle.sip_machine.proofs.pools.PoolEachLemmas.{beside-picked}
 use Rattle.sip_machine.proofs.pool.Pool.keep_each.Goals as goal
 
 pub keep_phases-requires-clause-within : goal.keep_phases-requires-clause-within
-keep_phases-requires-clause-within g c = λ k d low.
-    let size = beside-length c.self.inside.phases.items c.self.inside.dues in
-    let view = ap length c.self.view_is in
-    let within = c.requires.within k d low in
-    omega (arith, size, view, within)
+keep_phases-requires-clause-within g c = grind (arith, beside-length)
 
 pub keep-requires-clause-within : goal.keep-requires-clause-within
-keep-requires-clause-within g c = λ k d low.
-    let size = beside-length c.self.inside.phases.items c.self.inside.dues in
-    let view = ap length c.self.view_is in
-    let long = c.self.invariant in
-    let within = c.requires.within k d low in
-    omega (arith, size, view, long, within)
-
-pub invariant_of-self : goal.invariant_of-self
-invariant_of-self g c = ap length c.keep.ensures ∙ length-map c.args.rows.now (owed_in c.self.inside.dues) ∙ sym c.keep_phases.ensures.long
+keep-requires-clause-within g c = grind (arith, beside-length)
 
 pub returns : goal.returns
 returns g c = λ x.

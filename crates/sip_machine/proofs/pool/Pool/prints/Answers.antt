@@ -8,12 +8,7 @@ use Rattle.sip_machine.proofs.pools.PoolEachLemmas.{some-at}
 use Rattle.sip_machine.proofs.pool.Pool.prints.Goals as goal
 
 pub prints-requires : goal.prints-requires
-prints-requires g c =
-    let size = beside-length c.self.inside.phases.items c.self.inside.dues in
-    let same = ap length c.self.view_is in
-    let even = c.self.invariant in
-    let low = c.requires in
-    omega (arith, size, same, even, low)
+prints-requires g c = grind (arith, beside-length)
 
 pub index-requires : goal.index-requires
 index-requires g c =
@@ -21,15 +16,7 @@ index-requires g c =
     (in-phases c.self.inside.phases.items c.self.inside.dues c.args.self.now c.loop-at.at c.self.view_is (omega arith))
 
 pub mix-requires-clause-within : goal.mix-requires-clause-within
-mix-requires-clause-within g c =
-    let size = beside-length c.self.inside.phases.items c.self.inside.dues in
-    let same = ap length c.self.view_is in
-    let even = c.self.invariant in
-    let long = c.in_ok-prints.ensures.long in
-    let (from, within, mixing) = c.loop-at.invariant in
-    let kept = mixing.long in
-    let order = c.run_end-end.ensures.order in
-    omega (arith, size, same, even, long, kept, order, from, within)
+mix-requires-clause-within g c = grind (arith, beside-length)
 
 pub loop-at-preserved : goal.loop-at-preserved
 loop-at-preserved g c =
@@ -39,20 +26,19 @@ loop-at-preserved g c =
     let old = c.in_ok-prints.prints.items in
     let (from, within, mixing) = c.loop-at.invariant in
     let order = c.run_end-end.ensures.order in
-    let low = order.0 in
     let high = order.1 in
     let at = c.loop-at.at in
     let to = c.run_end-end.result in
     let p = c.index.result.now in (
-      omega (arith, from, low),
+      omega (arith, from, order.0),
       omega (arith, high),
       rw (with_items_is c.loop-at.prints c.mix.new.prints (c.mix.auto.prints ∙ c.deref_mut.ensures.len)) (
           mixed-run g.P.Hash.hash_input phases c.args.from old c.loop-at.prints.items c.mix.new.prints (at - c.args.from) (to - c.args.from) c.hash_of.result p mixing (rw c.deref_mut.ensures.value at c.mix.ensures) c.hash_of.ensures
-          (omega (arith, low))
+          (omega (arith, order.0))
           (λ k q above below inside.
           let x : CodeOwing g.row.P.Denot = record { phase = q; owes = [] } in
           let there : c.args.from + k < length xs = omega (arith, below, high) in
-          let here : at < length xs = omega (arith, low, high) in
+          let here : at < length xs = omega (arith, order.0, high) in
           sym (ap (λ z. z.phase) (state-at phases rows xs (c.args.from + k) q x c.self.view_is there))
           ∙ some-at (λ z. z.phase ≡ (get_or xs at x).phase) at to (c.args.from + k) xs x (omega (arith, high)) (omega (arith, above)) (omega (arith, below)) (c.run_end-end.ensures.same x)
           ∙ ap (λ z. z.phase) (state-at phases rows xs at p x c.self.view_is here) ∙ sym c.index.ensures)),

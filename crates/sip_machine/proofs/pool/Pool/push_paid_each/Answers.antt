@@ -1,4 +1,4 @@
-use Rattle.std.specs.Prelude.{◌≡◌, ◌<◌, ◌&&◌, ◌++◌, Bool, List, All, filter, get_or, length, map}
+use Rattle.std.specs.Prelude.{◌≡◌, ◌<◌, ◌&&◌, ◌++◌, Bool, List, All, filter, get_or, map}
 use Rattle.std.specs.List.{list_any}
 use Rattle.std.proofs.Common.{subst, ◌∙◌, sym, ap, ap₂, arith}
 use Rattle.std.proofs.lemmas.List.Elements.{All-filter, All-weaker}
@@ -19,12 +19,7 @@ index-phase-requires g c =
     (in-phases c.self.inside.phases.items c.self.inside.dues c.args.self.now c.args.from c.self.view_is c.requires.from)
 
 pub push_paid-requires : goal.push_paid-requires
-push_paid-requires g c =
-    let phases = c.self.inside.phases.items in
-    let rows = c.self.inside.dues in
-    let size : length rows ≡ length c.args.self.now = c.self.invariant ∙ sym (beside-length phases rows) ∙ ap length c.self.view_is in
-    let le = c.requires.to in
-    omega (arith, size, le)
+push_paid-requires g c = grind (arith, beside-length)
 
 pub returns-clause-ok : goal.returns-clause-ok
 returns-clause-ok g c =
@@ -42,7 +37,6 @@ returns-clause-ok g c =
     let some = filter can (from_to from to rows) in
     let dues_is : c.push_paid.new.self ≡ rows ++ map pays some = c.in_ok-push_paid.ensures.ok in
     let count = behind-size rows (map pays some) c.push_paid.new.self c.len.result dues_is c.len.ensures in
-    let before = c.len-before.ensures in
     let phases_is = on_ok c.push_phases.result _ (rw c.is_err.ensures.value at c.if-is_err.false) c.push_phases.ensures.ok in
     let phase : (get_or xs from d).phase ≡ q
     = ap (λ z. z.phase) (state-at phases rows xs from q d c.self.view_is c.requires.from) ∙ sym c.index-phase.ensures in
@@ -51,6 +45,6 @@ returns-clause-ok g c =
     (All-weaker (λ x. x.phase ≡ (get_or xs from d).phase) (λ x. record { phase = q; owes = pays x.owes } ≡ repaid_at t message x)
     (λ x same. ap (λ p. record { phase = p; owes = pays x.owes }) (sym phase ∙ sym same)) (from_to from to xs) (c.requires.same d)) in
     ap₂ beside phases_is dues_is
-    ∙ pushed-is q pays can phases rows from to _ c.self.invariant (omega (arith, count, before))
+    ∙ pushed-is q pays can phases rows from to _ c.self.invariant (omega (arith, count, c.len-before.ensures))
     ∙ ap (λ ys. ys ++ map (λ (x : CodeOwing g.row.P.Denot). record { phase = q; owes = pays x.owes }) (filter (λ x. can x.owes) (from_to from to ys))) c.self.view_is
     ∙ ap (λ ys. xs ++ ys) (map-same (λ (x : CodeOwing g.row.P.Denot). record { phase = q; owes = pays x.owes }) (repaid_at t message) (filter (λ x. can x.owes) (from_to from to xs)) each)

@@ -1,29 +1,18 @@
 use Rattle.std.specs.Prelude.{◌<◌, ◌≡◌, get_or, length}
-use Rattle.std.proofs.Common.{subst, ◌∙◌, sym, ap, arith, refl}
+use Rattle.std.proofs.Common.{subst, ◌∙◌, sym, ap, arith}
 use Rattle.sip_machine.proofs.pools.PoolLemmas.{in-phases, state-at}
-use Rattle.sip_machine.proofs.pools.PoolEachLemmas.{some-first, some-more}
+use Rattle.sip_machine.proofs.pools.PoolEachLemmas.{some-more}
 use Rattle.sip_machine.proofs.pool.Pool.run_end.Goals as goal
 
 pub index-requires : goal.index-requires
 index-requires g c =
-    let at = c.requires.at in
-    let limit = c.requires.limit in
     subst (λ n. c.args.at < n) (sym c.self.inside.phases.ok.0)
-    (in-phases c.self.inside.phases.items c.self.inside.dues c.args.self.now c.args.at c.self.view_is (omega (arith, at, limit)))
-
-pub loop-end-init : goal.loop-end-init
-loop-end-init g c =
-    let xs = c.args.self.now in
-    let at = c.requires.at in
-    let limit = c.requires.limit in
-    (omega arith, omega (arith, at), λ d. some-first (λ x. x.phase ≡ (get_or xs c.args.at d).phase) c.args.at xs d (omega (arith, at, limit)) refl)
+    (in-phases c.self.inside.phases.items c.self.inside.dues c.args.self.now c.args.at c.self.view_is (omega (arith, c.requires.at, c.requires.limit)))
 
 pub index-requires-in-loop-end : goal.index-requires-in-loop-end
 index-requires-in-loop-end g c =
-    let below = c.loop-end-test.true in
-    let limit = c.requires.limit in
     subst (λ n. c.loop-end.end < n) (sym c.self.inside.phases.ok.0)
-    (in-phases c.self.inside.phases.items c.self.inside.dues c.args.self.now c.loop-end.end c.self.view_is (omega (arith, below, limit)))
+    (in-phases c.self.inside.phases.items c.self.inside.dues c.args.self.now c.loop-end.end c.self.view_is (omega (arith, c.loop-end-test.true, c.requires.limit)))
 
 pub loop-end-preserved : goal.loop-end-preserved
 loop-end-preserved g c =

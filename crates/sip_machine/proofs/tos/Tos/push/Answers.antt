@@ -3,23 +3,12 @@ use Rattle.std.proofs.lemmas.List.Elements.{All-push}
 use Rattle.std.proofs.lemmas.List.Quantifiers.{all_pairs_push}
 use Rattle.sip_machine.specs.declared.tos.To.{To}
 use Rattle.sip_machine.specs.inner.Order.{hash_of}
-use Rattle.sip_machine.specs.inner.Tos.{AreUnder, IsUnder}
+use Rattle.sip_machine.specs.inner.Tos.{IsUnder}
 use Rattle.sip_machine.proofs.acks.ToLemmas.{put-here, put-keeps}
 use Rattle.sip_machine.proofs.tos.Tos.push.Goals as goal
 
 abbrev below : To → To → Type 0
 below a b = a.number < b.number
-
-pub invariant_of-self : goal.invariant_of-self
-invariant_of-self c = (c.self.invariant.0, subst (λ hashes. AreUnder hashes c.self.inside.list.items) (sym c.in_err-note.ensures.err) c.self.invariant.1)
-
-pub invariant_of-self-in_err-push : goal.invariant_of-self-in_err-push
-invariant_of-self-in_err-push c =
-    let tos = c.self.inside.list.items in
-    let noted = rw c.hash.ensures at c.in_ok-note.ensures.ok in
-    let under : AreUnder c.note.new.hashes tos = λ k d low.
-    put-keeps (hash_of c.args.text) c.args.number c.self.inside.hashes c.note.new.hashes noted (hash_of (get_or tos k d).text) (get_or tos k d).number (c.self.invariant.1 k d low) in
-    (subst (AllPairs below) (sym c.in_err-push.ensures.items) c.self.invariant.0, subst (AreUnder c.note.new.hashes) (sym c.in_err-push.ensures.items) under)
 
 pub invariant_of-self-2 : goal.invariant_of-self-2
 invariant_of-self-2 c =

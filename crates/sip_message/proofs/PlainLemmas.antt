@@ -1,32 +1,29 @@
 -- Plain parts of values, and the texts of the grammar that they are.
-use Rattle.std.proofs.Common.{◌≡◌, ℕ, suc, ◌+◌, ◌-◌, ◌<◌, ◌≤◌, true, false, not, ◌&&◌, ◌||◌, List, [], ◌∷◌, ◌++◌, Option, None, Some, length, take, drop, get_or, refl, sym, ap, ap₂, ◌∙◌, subst, inl, inr, arith}
+use Rattle.std.proofs.Common.{◌≡◌, ℕ, suc, ◌+◌, ◌-◌, ◌<◌, ◌≤◌, true, false, ◌&&◌, ◌||◌, List, [], ◌∷◌, ◌++◌, Option, None, Some, length, take, drop, get_or, refl, sym, ap, ap₂, ◌∙◌, subst, inl, inr, arith}
 use Rattle.std.specs.Prelude.{codes}
 use Rattle.std.specs.Char.{is_ascii_alphanumeric}
 use Rattle.std.specs.List.{AllByRecursion, prefix_len}
 use Rattle.std.proofs.Math.Seq.{drop-cons, take-add}
-use Rattle.std.proofs.lemmas.Bool.{agree_below_at, and_parts, or_cases, cases_lt, lt-ltb, ne_eqb}
-use Rattle.std.proofs.lemmas.List.{drop-drop, get_or-take, get_or-drop, append_assoc, append-nil, length-append, length-drop, length-take-le}
+use Rattle.std.proofs.lemmas.Bool.{agree_below_at, and_parts, or_cases}
+use Rattle.std.proofs.lemmas.List.{drop-drop, append_assoc, append-nil, length-append, length-drop, length-take-le}
 use Rattle.sip_standard.specs.Text.{One, Exactly, ◌then◌, ◌or◌}
 use Rattle.sip_standard.specs.Chars.{is_among}
-use Rattle.sip_standard.specs.Field.{is_lws_byte}
 use Rattle.sip_standard.specs.Profile.{Token, Sws, Blanks, Hostname, Ipv4, Bracketed, User, Port}
 use Rattle.sip_text.specs.Bytes.{at_sign, colon, equals, semicolon, space, Byte}
 use Rattle.sip_text.specs.Host.{HostParts, HostText, name, v4, v6, host_text}
 use Rattle.sip_text.specs.Uri.{SipParts, SipFits, sip, hostport_text, sip_text}
 use Rattle.sip_text.specs.inner.Class.{is_unreserved, is_user_unreserved}
 use Rattle.sip_text.specs.inner.Pieces.{Escaped}
-use Rattle.sip_text.proofs.texts.ManyLemmas.{many-nil, many-push}
+use Rattle.sip_text.proofs.texts.ManyLemmas.{many-nil, many-push, append_cancel_both}
 use Rattle.sip_text.proofs.uris.UriCharLemmas.{some-map}
 use Rattle.sip_masks.specs.Marks.{is_plain}
 use Rattle.sip_message.specs.Params.{OpensSolid, ParamsText, ParamsPart, BehindBlanks}
 use Rattle.sip_message.specs.inner.Marks.{left_angle, right_angle, Mark}
 use Rattle.sip_message.specs.Address.{AddressParts, AddressFits, DisplayName, name_addr}
 use Rattle.sip_message.specs.inner.AddressFronts.{Words}
-use Rattle.sip_message.specs.inner.Values.{is_solid}
 use Rattle.sip_message.specs.inner.Plain.{segment, LiesWithin, PlainRun, HostPort, SomeUri, Opening, PlainParam, SomeParams, SomeAddress}
 use Rattle.sip_message.proofs.QuickLemmas.{low-one, plain-token}
 use Rattle.sip_message.proofs.lemmas.front.Prefix.{prefix-at, all-some}
-use Rattle.sip_message.proofs.lemmas.text.Cuts.{same_by_front}
 use Rattle.sip_message.proofs.lemmas.params.Closed.{blanks-space}
 
 -- a segment is its part up to a place within it and its part from there on
@@ -42,26 +39,6 @@ pub segment-none : (text : List ℕ) (at : ℕ) → segment at at text ≡ []
 segment-none text at =
     let none : at - at ≡ 0 = omega arith in
     ap (λ n. take n (drop at text)) none
-
--- a byte above SP is none of a blank run
-above-blanks : (b : ℕ) → 32 < b → is_lws_byte b ≡ false
-above-blanks b above =
-    ap₂ (λ x y. x || y) (ap₂ (λ x y. x || y) (ne_eqb b 32 (λ is. omega (arith, above, is))) (ne_eqb b 9 (λ is. omega (arith, above, is))))
-    (ap₂ (λ x y. x || y) (ne_eqb b 13 (λ is. omega (arith, above, is))) (ne_eqb b 10 (λ is. omega (arith, above, is))))
-
--- a segment whose first byte and whose last one are above SP is solid
-pub segment-solid : (text : List ℕ) (at end : ℕ) → at < end → end ≤ length text → 32 < get_or text at 0 → 32 < get_or text (end - 1) 0 → is_solid (segment at end text) ≡ true
-segment-solid text at end some within first last =
-    let s = segment at end text in
-    let long : length s ≡ end - at = length-take-le (end - at) (drop at text) (omega (arith, length-drop at text, within)) in
-    let from : at + 0 ≡ at = omega arith in
-    let to : at + (end - at - 1) ≡ end - 1 = omega (arith, some) in
-    let front : get_or s 0 0 ≡ get_or text at 0 = get_or-take (end - at) (drop at text) 0 0 (omega (arith, some)) ∙ get_or-drop at text 0 0 ∙ ap (λ k. get_or text k 0) from in
-    let back : get_or s (length s - 1) 0 ≡ get_or text (end - 1) 0 =
-    ap (λ n. get_or s (n - 1) 0) long ∙ get_or-take (end - at) (drop at text) (end - at - 1) 0 (omega (arith, some)) ∙ get_or-drop at text (end - at - 1) 0 ∙ ap (λ k. get_or text k 0) to in
-    ap₂ (λ x y. x && y)
-    (ap₂ (λ x y. x && y) (lt-ltb 0 (length s) (omega (arith, long, some))) (ap not (ap is_lws_byte front ∙ above-blanks (get_or text at 0) first)))
-    (ap not (ap is_lws_byte back ∙ above-blanks (get_or text (end - 1) 0) last))
 
 -- a segment that begins with a SP is the SP and the segment behind it
 pub segment-space : (text : List ℕ) (at end : ℕ) → at < end → end ≤ length text → get_or text at 0 ≡ space → segment at end text ≡ space ∷ segment (at + 1) end text
@@ -82,21 +59,6 @@ stands-as P Q text at end to turn p = (p.0, p.1, turn (segment at to text) p.2)
 -- where the segment up to the end is of P, a text of P lies up to the end
 pub whole-stands : (P : List ℕ → Type 0) (text : List ℕ) (at end : ℕ) → at ≤ end → P (segment at end text) → LiesWithin P text at end end
 whole-stands P text at end within p = (within, omega arith, p)
-
--- a segment that has a byte ends after the place at which it begins
-pub part-longer : (text rest : List ℕ) (at to b : ℕ) → segment at to text ≡ b ∷ rest → at < to
-part-longer text rest at to b is = elim (cases_lt at to) [
-  | inl less ↦ less
-  | inr more ↦
-      let none : to - at ≡ 0 = omega (arith, more) in
-      absurd (omega (arith, ap length (sym (ap (λ n. take n (drop at text)) none) ∙ is)))
-]
-
--- a parameter ends after the place at which it begins
-pub param-longer : (p : List ℕ × Option (List ℕ)) (text : List ℕ) (at end to : ℕ) → LiesWithin (PlainParam p) text at end to → at < to
-param-longer p text at end to param =
-    let w = param.2 in
-    part-longer text w.1 at to semicolon (w.4 ∙ ap (λ t. t ++ w.1) w.2)
 
 -- where some plain bytes stand from a place on, a run of plain bytes lies there
 pub run-stands : (text : List ℕ) (at end n : ℕ) → at < end → end ≤ length text → n ≡ prefix_len is_plain (drop at text) → 0 < n → n ≤ end - at → LiesWithin PlainRun text at end (at + n)
@@ -197,7 +159,7 @@ front-cut text u rest at end before within is =
     let most : at + n ≤ end = omega (arith, before, sym long ∙ ap length is ∙ length-append u rest) in
     let count : at + n - at ≡ n = omega arith in
     let len : length (segment at (at + n) text) ≡ n = length-take-le (at + n - at) (drop at text) (omega (arith, length-drop at text, most, within)) ∙ count in
-    let same = same_by_front (segment at (at + n) text) (segment (at + n) end text) u rest len (sym (segment-cut text at (at + n) end (omega arith) most) ∙ is) in
+    let same = append_cancel_both (segment at (at + n) text) (segment (at + n) end text) u rest len (sym (segment-cut text at (at + n) end (omega arith) most) ∙ is) in
     (most, same.0, same.1)
 
 -- where a text of P stands first in a segment, a text of P lies from the start of the segment up to its own end
@@ -205,10 +167,6 @@ pub front-stands : (P : List ℕ → Type 0) (text u rest : List ℕ) (at end : 
 front-stands P text u rest at end before within p is =
     let cut = front-cut text u rest at end before within is in
     (omega arith, cut.0, subst P (sym cut.1) p)
-
--- "<" alone opens a URI in angles, without a display name
-pub opening-none : (u : List ℕ) → Byte left_angle u → Opening u
-opening-none u is = (None, tt, is)
 
 pub opening-some : (u : List ℕ) → (DisplayName then Sws then Byte left_angle) u → Opening u
 opening-some u w = (Some w.0, w.2, (w.0, w.1, refl, w.3, w.4))
@@ -247,10 +205,6 @@ params-part p ps text at end to param later =
 
 pub params-behind : (p : List ℕ × Option (List ℕ)) (text : List ℕ) (at end to : ℕ) → LiesWithin (PlainParam p) text at end to → SomeParams (segment to end text) → SomeParams (segment at end text)
 params-behind p text at end to param later = (p ∷ later.0, params-part p later.0 text at end to param later.1)
-
--- the empty segment is parameters: none
-pub params-none : (text : List ℕ) (end : ℕ) → SomeParams (segment end end text)
-params-none text end = ([], (subst OpensSolid (sym (segment-none text end)) tt, segment-none text end))
 
 -- a part without blanks before it is a part that may have blanks before it
 pub behind-self : (u : List ℕ) → BehindBlanks u u

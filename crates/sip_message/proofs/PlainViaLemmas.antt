@@ -1,5 +1,5 @@
 -- Plain elements of Via.
-use Rattle.std.proofs.Common.{◌≡◌, ℕ, ◌≤◌, List, [], ◌∷◌, Option, None, Some, refl, sym, ap, subst, inl, arith}
+use Rattle.std.proofs.Common.{◌≡◌, ℕ, List, [], ◌∷◌, Option, None, Some, refl, sym, ap, subst, inl}
 use Rattle.std.specs.Prelude.{IfSome}
 use Rattle.std.specs.Option.{option_or}
 use Rattle.std.proofs.lemmas.List.{append-nil}
@@ -41,10 +41,6 @@ port-led text at end port to mark is =
     let led : LiesWithin (Mark colon then Exactly p) text at end to =
     then-stands (Mark colon) (Exactly p) text at end port to (stands-as (Byte colon) (Mark colon) text at end port (λ u byte. subst (Mark colon) (sym byte) (mark-alone colon)) mark) (is.0, is.1, refl) in
     (led.0, led.1, (led.2, is.2))
-
--- where no port lies, an optional port is missing there
-pub port-none : (text : List ℕ) (at end : ℕ) → at ≤ end → LiesWithin (λ u. ColonPort None u × IfSome None Port) text at end at
-port-none text at end within = (omega arith, within, (segment-none text at, tt))
 
 -- a run of plain bytes that lies between two places is spelled as the segment between them
 spelled : (text : List ℕ) (at end to : ℕ) → LiesWithin PlainRun text at end to → LiesWithin (Exactly (segment at to text)) text at end to

@@ -203,9 +203,6 @@ pub record LinesSoFar (text : List ℕ) (from at : ℕ) (fields : List Field) : 
   pub are_open : AllByRecursion IsOpen lines
   pub are : FieldsText lines fields
 
-pub so_far-none : (text : List ℕ) (from : ℕ) → from ≤ length text → LinesSoFar text from from []
-so_far-none text from within = record { lines = []; within = within; whole = refl; are_open = tt; are = refl }
-
 -- where the text up to a place is lines without controls, and a further one ends with a CRLF, the text up to the end of that is lines with it
 pub so_far-more : (text : List ℕ) (from at end : ℕ) (fields : List Field) (f : Field) → LinesSoFar text from at fields → end + 2 ≤ length text → IsOpen (take (end - at) (drop at text))
     → drop at text ≡ with_end (take (end - at) (drop at text)) ++ drop (end + 2) text → FieldText (take (end - at) (drop at text)) f → LinesSoFar text from (end + 2) (fields ++ f ∷ [])
@@ -219,20 +216,6 @@ so_far-more text from at end fields f so room clear is field =
           ∙ ap (λ t. t ++ drop (end + 2) text) (sym (flat_map-append with_end so.lines (line ∷ []) ∙ ap (λ t. flat_map with_end so.lines ++ t) one));
       are_open = AllByRecursion-append IsOpen so.lines (line ∷ []) so.are_open (clear, tt);
       are = fields-push so.lines fields line f so.are field;
-    }
-
--- where an empty line stands after lines that are fields, the fields of the head are those
-pub so_far-all : (text : List ℕ) (from at end : ℕ) (fields : List Field) → LinesSoFar text from at fields → end ≡ at → end + 2 ≤ length text
-    → drop at text ≡ with_end (take (end - at) (drop at text)) ++ drop (end + 2) text → AreOrdinary text from at fields
-so_far-all text from at end fields so empty room is =
-    let none : end - at ≡ 0 = omega (arith, empty) in
-    record {
-      lines = so.lines;
-      within = omega (arith, room, empty);
-      whole = so.whole;
-      ends = is ∙ ap₂ (λ k e. with_end (take k (drop at text)) ++ drop (e + 2) text) none empty;
-      are_open = so.are_open;
-      are = so.are;
     }
 
 -- a text whose first bytes are a front is the front and what follows it

@@ -18,6 +18,8 @@ use Rattle.sip_message.proofs.lemmas.text.Ends.{firm-then_right, end-firm, end-m
 use Rattle.sip_message.proofs.lemmas.params.Closed.{some-run, firm-token}
 use Rattle.sip_message.proofs.lemmas.front.Cuts.{ReadAs, NotRead, token-cut, same-behind, longest-behind, longest-blanks_front}
 use Rattle.sip_message.proofs.lemmas.front.OneWay.{AtMostOne, read-one}
+use Rattle.sip_message.proofs.lemmas.value.Trimmed.{length-none}
+use Rattle.sip_message.proofs.lemmas.params.Value.{no-token-stops}
 
 -- a piece of words: a byte of a token, or a blank
 abbrev WordItem : List ℕ → Type 0
@@ -104,17 +106,7 @@ one-words text (w, r) (x, s) (w_is, (stop, (stop_blank, (k, y, k_is, y_is, r_is)
 
 -- after the longest token at the front of a text stands no byte of a token
 pub longest-stops : (text : List ℕ) (n : ℕ) → IsLongestFront Token text n → Stops is_token_byte (drop n text)
-longest-stops text zero longest = at text longest
-  where
-    at : (t : List ℕ) → IsLongestFront Token t 0 → Stops is_token_byte t
-    at [] none = tt
-    at (b ∷ t) none = go (is_token_byte b) refl
-      where
-        go : (x : Bool) → is_token_byte b ≡ x → is_token_byte b ≡ false
-        go false is = is
-        go true is =
-            let one : HasFront Token (b ∷ t) 1 = (b ∷ [], t, (b ∷ [], [], (b, is, refl), many-nil (One is_token_byte), refl), refl, refl) in
-            absurd (omega (arith, none.longest 1 one))
+longest-stops text zero longest = no-token-stops text longest
 longest-stops text (suc n) longest = (token-cut text (suc n) longest (λ none. absurd (omega (arith, none)))).1
 
 -- the bytes before the index are words, and no byte of a token stands after them
@@ -183,11 +175,7 @@ words-all text rest stop at b w rest_is stop_is so blanks token none =
 pub no-words : (text : List ℕ) (n : ℕ) → IsLongestFront Token text n → n ≡ 0 → NotRead (WordsFront text)
 no-words text n longest none (w, r) ((t, more, token, many, w_is), no_word, whole) =
     let low = longest.longest (length t) (t, more ++ r, token, whole ∙ ap (λ x. x ++ r) w_is ∙ append_assoc t more r, refl) in
-    some-run is_token_byte t token (at t (omega (arith, low, none)))
-  where
-    at : (u : List ℕ) → length u ≡ 0 → u ≡ []
-    at [] is = refl
-    at (b ∷ u) is = absurd (omega (arith, is))
+    some-run is_token_byte t token (length-none t (omega (arith, low, none)))
 
 -- where one SP stands at the front of a text, and no blank after it, the text after the SP is the one rest after the blanks
 pub one-blank : (text rest : List ℕ) → text ≡ space ∷ rest → StopsBlank rest → IsOnlyBehind text rest

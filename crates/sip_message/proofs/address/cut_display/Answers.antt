@@ -1,11 +1,8 @@
 use Rattle.std.proofs.Common.{sym, subst}
 use Rattle.sip_text.specs.Parts.{IsOnlyValue}
 use Rattle.sip_message.specs.inner.AddressFronts.{DisplayFront, display_parts}
-use Rattle.sip_message.proofs.lemmas.address.Reading.{display-none, display-some, display-no_name, display-no_angle}
+use Rattle.sip_message.proofs.lemmas.address.Reading.{display-some, display-no_name, display-no_angle}
 use Rattle.sip_message.proofs.address.cut_display.Goals as goal
-
-pub returns-in-Some : goal.returns-in-Some
-returns-in-Some c = display-none c.args.text.now c.in-Some.inner.now (sym c.in-Some.ensures)
 
 pub returns-in_err-name : goal.returns-in_err-name
 returns-in_err-name c =

@@ -3,14 +3,11 @@ use Rattle.sip_standard.specs.Canonical.{unfolded}
 use Rattle.sip_message.specs.inner.Canon.{Appends}
 use Rattle.sip_message.proofs.lemmas.canon.Spelling.{unfolded-same}
 use Rattle.sip_message.proofs.lemmas.lines.HeadEnd.{inner-none}
-use Rattle.sip_message.proofs.lemmas.canon.Unfolding.{unfold-start, unfold-blank, unfold-solid, unfold-part, part-more}
+use Rattle.sip_message.proofs.lemmas.canon.Unfolding.{unfold-blank, unfold-solid, unfold-part, part-more}
 use Rattle.sip_message.proofs.canon.append_unfolded.Goals as goal
 
 pub returns-in_default : goal.returns-in_default
 returns-in_default c = subst (λ t. Appends c.args.out.now.items c.append.new.out.items t c.append.result) (sym (unfolded-same c.args.text.now (inner-none c.args.text.now c.in_default.ensures))) c.append.ensures
-
-pub bytes-init : goal.bytes-init
-bytes-init c = unfold-start c.args.out.now.items c.args.text.now
 
 pub bytes-preserved-then-is_blank : goal.bytes-preserved-then-is_blank
 bytes-preserved-then-is_blank c =

@@ -1,6 +1,6 @@
-use Rattle.std.proofs.Common.{◌∙◌, sym, arith}
-use Rattle.sip_message.proofs.lemmas.via.Elements.{values-found, values-passed, values-end}
-use Rattle.sip_message.proofs.lemmas.field.Named.{found-here, found-passed, found-end}
+use Rattle.std.proofs.Common.{◌∙◌, sym}
+use Rattle.sip_message.proofs.lemmas.via.Elements.{values-found, values-passed}
+use Rattle.sip_message.proofs.lemmas.field.Named.{found-here, found-passed}
 use Rattle.sip_message.proofs.field.cut_value.Goals as goal
 
 pub returns-then-is-clause-values : goal.returns-then-is-clause-values
@@ -14,9 +14,3 @@ loop-at-preserved c = record {
   values = c.loop-at.invariant.values ∙ values-passed c.args.name _ c.loop-at.at _ c.loop-at-test.true (sym c.is.ensures ∙ c.if-is.false);
   found = c.loop-at.invariant.found ∙ found-passed c.args.name _ c.loop-at.at _ c.loop-at-test.true (sym c.is.ensures ∙ c.if-is.false);
 }
-
-pub returns-clause-values : goal.returns-clause-values
-returns-clause-values c = c.loop-at.invariant.values ∙ values-end c.args.name _ c.loop-at.at (λ below. absurd (omega (arith, below)))
-
-pub returns-clause-found : goal.returns-clause-found
-returns-clause-found c = c.loop-at.invariant.found ∙ found-end c.args.name _ c.loop-at.at (λ below. absurd (omega (arith, below)))

@@ -26,7 +26,7 @@ use Rattle.sip_message.proofs.lemmas.text.Cuts.{All, same_front}
 use Rattle.sip_message.proofs.lemmas.text.Each.{each-one, each-many, blank_is}
 use Rattle.sip_message.proofs.lemmas.field.OneWay.{each-token}
 use Rattle.sip_message.proofs.lemmas.text.Solid.{solid-uri}
-use Rattle.sip_message.proofs.lemmas.via.Transport.{Fails, fail-then, fail-blanks, fail-mark}
+use Rattle.sip_message.proofs.lemmas.via.Transport.{Fails, fail-then, fail-blanks, fail-mark, fails-append}
 use Rattle.sip_message.proofs.lemmas.params.Closed.{some-run}
 use Rattle.sip_message.proofs.lemmas.front.Cuts.{ReadAs, NotRead, token-cut, stops-byte, same-behind}
 use Rattle.sip_message.proofs.lemmas.front.Prefix.{prefix-at, all-run}
@@ -78,22 +78,18 @@ is_scheme_front b = is_token_byte b || nat_eq b colon
 blank-front : (b : ℕ) → is_lws_byte b ≡ true → is_scheme_front b ≡ false
 blank-front = blank_is (λ b. is_scheme_front b ≡ false) refl refl refl refl
 
-fails-more : (test : ℕ → Bool) (u v : List ℕ) → Fails test u → Fails test (u ++ v)
-fails-more test [] v fails = absurd fails
-fails-more test (b ∷ u) v fails = fails
-
 -- where "<" follows words after blanks, what follows a word begins with no byte of a token and no colon
 after-word : (more rest inner : List ℕ) → Many (Blanks then Token) more → Behind rest (left_angle ∷ inner) → Fails is_scheme_front (more ++ rest)
 after-word more rest inner many (stops, (k, y, sws, y_is, r_is)) = elim (some-many (Blanks then Token) more many) [
   | inl none ↦ subst (Fails is_scheme_front) (sym (ap (λ t. t ++ rest) none ∙ r_is ∙ ap (λ t. k ++ t) y_is)) (at sws)
   | inr some ↦
       subst (λ t. Fails is_scheme_front (t ++ rest)) (sym some.4)
-      (fails-more is_scheme_front (some.0 ++ some.1) rest (fails-more is_scheme_front some.0 some.1 (fail-then is_scheme_front Blanks Token (fail-blanks is_scheme_front blank-front) some.0 some.2)))
+      (fails-append is_scheme_front (some.0 ++ some.1) rest (fails-append is_scheme_front some.0 some.1 (fail-then is_scheme_front Blanks Token (fail-blanks is_scheme_front blank-front) some.0 some.2)))
 ]
   where
     at : Sws k → Fails is_scheme_front (k ++ (left_angle ∷ inner))
     at (inl none) = subst (λ t. Fails is_scheme_front (t ++ (left_angle ∷ inner))) (sym none) refl
-    at (inr blanks) = fails-more is_scheme_front k (left_angle ∷ inner) (fail-blanks is_scheme_front blank-front k blanks)
+    at (inr blanks) = fails-append is_scheme_front k (left_angle ∷ inner) (fail-blanks is_scheme_front blank-front k blanks)
 
 fails-token : (u : List ℕ) → Fails is_scheme_front u → Stops is_token_byte u
 fails-token [] fails = absurd fails
@@ -146,10 +142,6 @@ one-display text (Some m, i) (Some n, j) (r, name, behind) (s, name_too, behind_
     let angles : left_angle ∷ i ≡ left_angle ∷ j = same-behind s (left_angle ∷ i) (left_angle ∷ j) (subst (λ t. Behind t (left_angle ∷ i)) (ap (λ x. x.1) same) behind) behind_too in
     let inner : i ≡ j = cc in
     ap (λ x. (Some (x.0), i)) same ∙ ap (λ x. (Some n, x)) inner
-
--- a text that begins with "<" is read as no display name and what follows "<"
-pub display-none : (text inner : List ℕ) → past left_angle text ≡ Some inner → ReadAs (DisplayFront text) (None, inner)
-display-none text inner found = read-one (DisplayFront text) (None, inner) (one-display text) (past-some left_angle text inner found)
 
 -- a text that begins with a display name, and with "<" after the blanks that follow, is read as that name and what follows "<"
 pub display-some : (text name rest stop inner : List ℕ) → ReadAs (NameFront text) (name, rest) → IsOnlyBehind rest stop → past left_angle stop ≡ Some inner → ReadAs (DisplayFront text) (Some name, inner)
@@ -318,7 +310,7 @@ tail-stops text (b ∷ params) ((k, y, sws, y_is, whole), (p ∷ ps, (opens, par
 
     at : Sws k → Fails is_unmarked_byte (k ++ (b ∷ params))
     at (inl none) = subst (λ t. Fails is_unmarked_byte (t ++ (b ∷ params))) (sym none) begins
-    at (inr blanks) = fails-more is_unmarked_byte k (b ∷ params) (fail-blanks is_unmarked_byte not-plain k blanks)
+    at (inr blanks) = fails-append is_unmarked_byte k (b ∷ params) (fail-blanks is_unmarked_byte not-plain k blanks)
 
 -- an address of the grammar is what the steps of the reader read
 pub address-steps : (text : List ℕ) (a : AddressParts) → AddressText text a → AddressSteps text (text, a)

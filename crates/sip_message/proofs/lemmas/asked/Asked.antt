@@ -24,6 +24,7 @@ use Rattle.sip_message.specs.ValueParts.{cseq_parts}
 use Rattle.sip_message.specs.inner.ElementFronts.{FirstVia}
 use Rattle.sip_message.specs.inner.Asked.{OnceSays, FirstSays, Itself, AsksMore}
 use Rattle.sip_message.proofs.lemmas.asked.Parts.{row-of, first-value}
+use Rattle.sip_message.proofs.lemmas.asked.Kept.{map-or}
 
 -- the fields of a name that are found among some fields and a further one are those among the former, and the further one if it has the name
 found-more : (n : ℕ) (k : Known) (fields : List Field) (f : Field) → (line : ℕ) × (found_from n k (fields ++ f ∷ []) ≡ found_from n k fields ++ found_from line k (f ∷ []))
@@ -79,15 +80,6 @@ asks-other f a (via, from, to, call_id, cseq, content_length) fields of = record
   cseq = once-passed CSeqValue known_name.CSeq fields f (option_map cseq_parts a.cseq) cseq of.cseq;
   content_length = once-passed Itself known_name.ContentLength fields f (option_copied a.content_length) content_length of.content_length;
 }
-
-map-or : {A X : Type 0} (parts : A → X) (o p : Option A) → option_map parts (option_or o p) ≡ option_or (option_map parts o) (option_map parts p)
-map-or parts None p = refl
-map-or parts (Some a) p = refl
-
--- a value that is there stays where a second one is offered only if none is there
-pub or-kept : {X : Type 0} (o p : Option X) → is_some o ≡ true → o ≡ option_or o p
-or-kept None p some = absurd (false≢true some)
-or-kept (Some x) p some = refl
 
 pub or-none : {X : Type 0} (o p : Option X) → is_some o ≡ false → p ≡ option_or o p
 or-none None p none = refl

@@ -21,6 +21,7 @@ use Rattle.sip_message.specs.inner.ElementFronts.{FirstVia}
 use Rattle.sip_message.specs.inner.Kept.{SaysFirst, KeptOf, KeepsMore}
 use Rattle.sip_message.proofs.lemmas.via.Value.{first-none}
 use Rattle.sip_standard.specs.Says.{IsFirstOf}
+use Rattle.std.proofs.lemmas.Option.{same_Some}
 
 -- the values of a name in some fields and a further one are those in the former, and the value of the further one if it has the name
 values-more : (k : Known) (fields : List Field) (f : Field) → values k (fields ++ f ∷ []) ≡ values k fields ++ values k (f ∷ [])
@@ -46,7 +47,7 @@ says-found {X = X} R k fields f old new x named said is says =
     at [] o none new_is = (x, said, new_is ∙ ap (λ p. option_or p (Some x)) none)
     at (v ∷ vs) o (y, says_y, o_is) new_is = (y, says_y, new_is ∙ ap (λ p. option_or p (Some x)) o_is)
 
-map-or : {A X : Type 0} (parts : A → X) (o p : Option A) → option_map parts (option_or o p) ≡ option_or (option_map parts o) (option_map parts p)
+pub map-or : {A X : Type 0} (parts : A → X) (o p : Option A) → option_map parts (option_or o p) ≡ option_or (option_map parts o) (option_map parts p)
 map-or parts None p = refl
 map-or parts (Some a) p = refl
 
@@ -99,10 +100,7 @@ is-some parts (Some a) x is = refl
 some-is : {A X : Type 0} (R : X → Type 0) (parts : A → X) (o : Option A) (a : A) (x : X) → o ≡ Some a → option_map parts o ≡ Some x → R x → R (parts a)
 some-is R parts o a x o_is is said =
     let same : Some x ≡ Some (parts a) = sym is ∙ ap (option_map parts) o_is in
-    subst R (some-same x (parts a) same) said
-  where
-    some-same : {X : Type 0} (x y : X) → Some x ≡ Some y → x ≡ y
-    some-same x y same = cc
+    subst R (same_Some x (parts a) same) said
 
 -- where the fields have a Via, an element of it is kept
 pub via-some : (fields : List Field) (kept : Kept) (text : List ℕ) → KeptOf fields kept → IsFirstOf (values known_name.Via fields) text → IsSome kept.via

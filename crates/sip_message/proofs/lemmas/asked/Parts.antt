@@ -14,28 +14,13 @@ use Rattle.sip_message.specs.Message.{Message}
 use Rattle.sip_message.specs.inner.MessageText.{found_from, IsFirstFound, MessageText}
 use Rattle.sip_message.specs.Elements.{Element, MoreElements, ElementsText, AreElements, values}
 use Rattle.sip_message.specs.Reading.{Parts, HasParts}
-use Rattle.sip_message.proofs.lemmas.canon.Law.{fields-rows}
+use Rattle.sip_message.proofs.lemmas.canon.Law.{fields-rows, name-known}
 use Rattle.sip_message.proofs.lemmas.says.Values.{cseq-said}
 use Rattle.sip_standard.specs.Says.{IsFirstOf}
 
--- a name is the one that its long form spells
-spelled-known : (k : Known) → name_of (long_name k) ≡ known k
-spelled-known known_name.Via = refl
-spelled-known known_name.From = refl
-spelled-known known_name.To = refl
-spelled-known known_name.CallId = refl
-spelled-known known_name.CSeq = refl
-spelled-known known_name.ContentLength = refl
-spelled-known known_name.Contact = refl
-spelled-known known_name.ContentEncoding = refl
-spelled-known known_name.ContentType = refl
-spelled-known known_name.Subject = refl
-spelled-known known_name.Supported = refl
-spelled-known known_name.Route = refl
-
 -- a field name that is this known one is it
 pub named-known : (k : Known) (n : FieldName) → is_name_of k n ≡ true → n ≡ known k
-named-known k (known j) is = sym (spelled-known j) ∙ ap name_of (sym ((bytes_eq-Decides (long_name k) (long_name j)).0 is)) ∙ spelled-known k
+named-known k (known j) is = sym (name-known j) ∙ ap name_of (sym ((bytes_eq-Decides (long_name k) (long_name j)).0 is)) ∙ name-known k
 named-known k (other text) is = absurd (both_ways false refl is)
 
 -- where each field is of its row, the values of a name are of the row of the name

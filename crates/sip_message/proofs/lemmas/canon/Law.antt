@@ -38,15 +38,16 @@ use Rattle.sip_message.specs.Message.{Message}
 use Rattle.sip_message.specs.inner.MessageText.{found_from, found, HasField, IsNotTwice, IsStream, MethodFits, is_stream, content_length, IsEnough, IsNoMore, MessageFits, MessageText, unfolded_field, message_of, Spells}
 use Rattle.sip_message.proofs.lemmas.text.Cuts.{All, all_both}
 use Rattle.sip_message.proofs.lemmas.text.Each.{each-many, each-one, each-between, is_solid, solid_class, wsp-blank}
-use Rattle.sip_message.proofs.lemmas.field.OneWay.{each-token, blank-token}
+use Rattle.sip_message.proofs.lemmas.field.OneWay.{each-token, blank-token, ends_blank}
 use Rattle.sip_message.proofs.lemmas.text.Solid.{solid-token, solid-uri, solid-digits}
-use Rattle.sip_message.proofs.lemmas.text.Closed.{Closed, closed-unfolded, solid_is}
+use Rattle.sip_message.proofs.lemmas.text.Closed.{Closed, closed-unfolded, solid_is, ends-right}
 use Rattle.sip_message.proofs.lemmas.params.Closed.{blanks-space, some-run}
 use Rattle.sip_message.proofs.lemmas.via.Transport.{same_transport}
 use Rattle.sip_message.proofs.lemmas.via.Closed.{unfolded-via}
 use Rattle.sip_message.proofs.RowLemmas.{unfolded-solid, unfolded-cseq, unfolded-row}
 use Rattle.sip_message.proofs.lemmas.canon.Spelling.{Inner, AreInner, unfolded-inner, unfolded-twice, solid-inner, lines-head, inner-folds, inner-no_bare}
 use Rattle.sip_message.proofs.lemmas.message.Faults.{same_message}
+use Rattle.sip_message.proofs.lemmas.text.Ends.{ends-onto}
 
 -- a text without blanks has no CR and no LF
 solid-inners : (text : List ℕ) → All is_solid text → Inner text
@@ -57,38 +58,19 @@ solid-inners (b ∷ text) all = (solid-inner b (solid_is b all.0), solid-inners 
 abbrev Trimmed : List ℕ → Type 0
 Trimmed text = OpensSolid text × EndsSolid text
 
--- where a text does not end with a blank, no text that ends with it does
-ends-append : (u : List ℕ) (b : ℕ) (z : List ℕ) → EndsSolid (b ∷ z) → EndsSolid (u ++ b ∷ z)
-ends-append [] b z ends = ends
-ends-append (a ∷ []) b z ends = ends
-ends-append (a ∷ c ∷ u) b z ends = ends-append (c ∷ u) b z ends
-
--- where a text does not end with a blank, none of its ends that is not empty does
-ends-part : (u : List ℕ) (b : ℕ) (z : List ℕ) → EndsSolid (u ++ b ∷ z) → EndsSolid (b ∷ z)
-ends-part [] b z ends = ends
-ends-part (a ∷ []) b z ends = ends
-ends-part (a ∷ c ∷ u) b z ends = ends-part (c ∷ u) b z ends
-
--- a text that does not end with a blank does not end with blanks
-ends_no_blank : (u : List ℕ) (b : ℕ) (z : List ℕ) → EndsSolid (u ++ b ∷ z) → All is_lws_byte (b ∷ z) → ⊥
-ends_no_blank [] b [] ends all = both_ways (is_lws_byte b) ends all.0
-ends_no_blank [] b (c ∷ z) ends all = ends_no_blank [] c z ends all.1
-ends_no_blank (a ∷ []) b z ends all = ends_no_blank [] b z ends all
-ends_no_blank (a ∷ c ∷ u) b z ends all = ends_no_blank (c ∷ u) b z ends all
-
 -- the set of texts that neither begin nor end with a blank is closed under making one SP of a blank run
 closed-trimmed : Closed Trimmed
 closed-trimmed [] v b w ends opens blanks is = absurd (both_ways (is_lws_byte b) is.0 blanks.0)
 closed-trimmed (a ∷ u) [] b w ends opens blanks is =
-    absurd (ends_no_blank (a ∷ u) b w (subst EndsSolid (ap (λ t. a ∷ (u ++ t)) (append-nil (b ∷ w))) is.1) blanks)
+    absurd (ends_blank (a ∷ u) b w (subst EndsSolid (ap (λ t. a ∷ (u ++ t)) (append-nil (b ∷ w))) is.1) blanks)
 closed-trimmed (a ∷ u) (c ∷ v) b w ends opens blanks is =
-    (is.0, ends-append (a ∷ u) space (c ∷ v) (tail (subst EndsSolid (sym (append_assoc (a ∷ u) (b ∷ w) (c ∷ v))) is.1)))
+    (is.0, ends-onto (a ∷ u) space (c ∷ v) (tail (subst EndsSolid (sym (append_assoc (a ∷ u) (b ∷ w) (c ∷ v))) is.1)))
   where
     tail : EndsSolid (((a ∷ u) ++ (b ∷ w)) ++ c ∷ v) → EndsSolid (space ∷ c ∷ v)
-    tail e = ends-part ((a ∷ u) ++ (b ∷ w)) c v e
+    tail e = ends-right ((a ∷ u) ++ (b ∷ w)) c v e
 
 -- the long form of a known name spells that name
-name-known : (k : Known) → name_of (long_name k) ≡ known k
+pub name-known : (k : Known) → name_of (long_name k) ≡ known k
 name-known known_name.Via = refl
 name-known known_name.From = refl
 name-known known_name.To = refl

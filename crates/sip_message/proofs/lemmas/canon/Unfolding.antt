@@ -3,7 +3,7 @@ use Rattle.std.proofs.Common.{◌≡◌, ℕ, ◌+◌, ◌-◌, ◌/◌, ◌%◌
 use Rattle.std.specs.Prelude.{decimal, Result, Ok, Err, IsErr}
 use Rattle.std.specs.Char.{is_ascii_digit}
 use Rattle.std.proofs.lemmas.Bool.{both_ways, and_from, le-leb}
-use Rattle.std.proofs.lemmas.List.{append-nil, append_assoc, drop_more, length-drop, take_more, get_or-drop}
+use Rattle.std.proofs.lemmas.List.{append_assoc, drop_more, length-drop, take_more, get_or-drop}
 use Rattle.std.proofs.lemmas.Str.{digit_value_digit}
 use Rattle.sip_standard.specs.Field.{is_lws_byte}
 use Rattle.sip_standard.specs.Canonical.{unfolded_run, unfolded_from, unfolded}
@@ -17,10 +17,6 @@ pub record Unfolding (old text : List ℕ) (from at : ℕ) (out : List ℕ) : Ty
   pub appended : out ≡ old ++ done
   pub within : from ≤ at
   pub rest : done ++ unfolded_from (take (at - from) (drop from text)) (drop at text) ≡ unfolded text
-
--- at the start, where nothing is written, nothing was done
-pub unfold-start : (old text : List ℕ) → Unfolding old text 0 0 old
-unfold-start old text = record { done = []; appended = sym (append-nil old); within = omega arith; rest = refl }
 
 -- the run up to the place after a byte is the run up to the byte, and the byte
 run-more : (text : List ℕ) (from at : ℕ) → from ≤ at → at < length text → take (at + 1 - from) (drop from text) ≡ take (at - from) (drop from text) ++ get_or text at 0 ∷ []

@@ -37,17 +37,6 @@ pub found-passed : (known : Known) (xs : List Code) (i : ℕ) (d : Code) → i <
 found-passed known xs i d below is =
     found-at known xs i d below ∙ ap (λ z. cond z ((i + 1, (slice_index_or xs i d).value.now) ∷ found_from (i + 1 + 1) known (drop (i + 1) (map field_parts xs))) (found_from (i + 1 + 1) known (drop (i + 1) (map field_parts xs)))) is
 
--- from the end of the fields on there is no field of the name
-found-past : (known : Known) (xs : List Code) (n i : ℕ) → (i < length xs → ⊥) → found_from n known (drop i (map field_parts xs)) ≡ []
-found-past known [] n zero past = refl
-found-past known [] n (suc i) past = refl
-found-past known (x ∷ xs) n zero past = absurd (past (omega arith))
-found-past known (x ∷ xs) n (suc i) past = found-past known xs n i (λ below. past (omega (arith, below)))
-
--- from the end of the fields on no field of a name is found, whatever the number of the line
-pub found-end : (known : Known) (xs : List Code) (i : ℕ) → (i < length xs → ⊥) → found_from (i + 1) known (drop i (map field_parts xs)) ≡ []
-found-end known xs i past = found-past known xs (i + 1) i past
-
 -- the one field of a name is its first
 pub once-first : (name : Known) (fields : List Field) (one : ℕ × List ℕ) → OneOf (found name fields) (gives one) → IsFirstFound name fields one
 once-first name fields one is = (given-then is).2

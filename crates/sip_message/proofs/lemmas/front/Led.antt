@@ -13,10 +13,6 @@ use Rattle.sip_message.proofs.lemmas.front.Cuts.{ReadAs, NotRead, mark-parts, sa
 use Rattle.sip_message.proofs.lemmas.via.Elements.{no_mark-nil}
 use Rattle.sip_message.proofs.lemmas.front.OneWay.{AtMostOne, read-one, one-led}
 
--- where the mark does not stand at the front of a text, an optional part is read as missing
-pub led-none : (mark : ℕ) (Part : List ℕ → List ℕ × List ℕ → Type 0) (text : List ℕ) → is_lws_byte mark ≡ false → ((t : List ℕ) → AtMostOne (Part t)) → NotRead (MarkFront mark text) → ReadAs (LedFront mark Part text) (None, text)
-led-none mark Part text solid one none = read-one (LedFront mark Part text) (None, text) (one-led mark Part text solid one) (none, refl)
-
 -- where the mark stands at the front of a text, and a part after it, an optional part is read as that part
 pub led-some : (mark : ℕ) (Part : List ℕ → List ℕ × List ℕ → Type 0) (text inner part rest : List ℕ) → is_lws_byte mark ≡ false → ((t : List ℕ) → AtMostOne (Part t)) → ReadAs (MarkFront mark text) inner → Part inner (part, rest) → ReadAs (LedFront mark Part text) (Some part, rest)
 led-some mark Part text inner part rest solid one found is =

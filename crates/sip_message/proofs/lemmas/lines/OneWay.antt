@@ -7,12 +7,13 @@ use Rattle.sip_text.specs.Bytes.{crlf, carriage_return, line_feed}
 use Rattle.sip_text.specs.inner.Blanks.{is_wsp}
 use Rattle.sip_standard.specs.Lines.{CutSays, OpensBlank, LinesSay}
 use Rattle.sip_message.specs.inner.Lines.{IsFolded, with_end}
-use Rattle.sip_message.proofs.lemmas.text.Cuts.{Cuts, first_longer, same_length, second_longer, two_cuts, same_by_front}
+use Rattle.sip_message.proofs.lemmas.text.Cuts.{Cuts, first_longer, same_length, second_longer, two_cuts}
+use Rattle.sip_text.proofs.texts.ManyLemmas.{append_cancel_both}
 
 -- bytes have at most one head
 pub same_head : (bytes h b i c : List ℕ) → CutSays bytes (h, b) → CutSays bytes (i, c) → (h ≡ i) × (b ≡ c)
 same_head bytes h b i c one other =
-    let fronts = same_by_front one.front _ other.front _
+    let fronts = append_cancel_both one.front _ other.front _
     (omega (arith, one.first other.front c other.whole, other.first one.front b one.whole)) (sym one.whole ∙ other.whole) in
     let bodies : carriage_return ∷ line_feed ∷ carriage_return ∷ line_feed ∷ b ≡ carriage_return ∷ line_feed ∷ carriage_return ∷ line_feed ∷ c = fronts.1 in
     (one.head_is ∙ ap (λ t. t ++ crlf) fronts.0 ∙ sym other.head_is, cc)

@@ -51,10 +51,6 @@ keeps-to {m = m} {p = p} k = subst (λ x. AddressValue x p.to) (same-value known
 pub keeps-cseq : {m : Message} {p : Parts} {v f t i c : List ℕ} → Keeps m p v f t i c → CSeqValue c p.cseq
 keeps-cseq {m = m} {p = p} {c = c} k = said-value c p.cseq (subst (λ x. CSeqSays p.cseq x) (same-value known_name.CSeq m.fields k.parts.is.cseq.1 k.cseq) k.parts.is.cseq.2)
 
--- the value of the first Call-ID is that of the message
-pub keeps-call_id : {m : Message} {p : Parts} {v f t i c : List ℕ} → Keeps m p v f t i c → i ≡ p.call_id
-keeps-call_id {m = m} k = same-value known_name.CallId m.fields k.call_id k.parts.is.call_id
-
 -- the top Via of the message stands at the front of the value of the first Via
 pub keeps-via : {m : Message} {p : Parts} {v f t i c : List ℕ} → Keeps m p v f t i c → (rest : List ℕ) × ViaFront v (p.via, rest)
 keeps-via {p = p} {v = v} k = first-front v k.via.0 p.via p.others (subst (λ x. AreElements x (p.via ∷ p.others)) k.via.1 k.parts.is.vias)

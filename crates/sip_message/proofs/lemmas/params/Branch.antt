@@ -50,10 +50,6 @@ After first rest (branch, left) = (later : Option (List ℕ)) × BranchFront res
 abbrev pub Decides : List ℕ → List ℕ → Option (List ℕ) → Type 0
 Decides text rest first = (x : Option (List ℕ) × List ℕ) → BranchFront text x ↔ After first rest x
 
--- at the start, where nothing was read, the branch of the text is that of all that is still to be read
-pub decides-none : (text : List ℕ) → Decides text text None
-decides-none text (b, r) = ((λ is. (b, is, refl)), (λ after. subst (λ x. BranchFront text (x, r)) (sym after.2) after.1))
-
 pub or-assoc : (a b c : Option (List ℕ)) → option_or a (option_or b c) ≡ option_or (option_or a b) c
 or-assoc None b c = refl
 or-assoc (Some v) b c = refl

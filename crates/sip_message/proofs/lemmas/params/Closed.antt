@@ -19,6 +19,7 @@ use Rattle.sip_message.proofs.lemmas.text.Solid.{solid-token, solid-v6, solid-v6
 use Rattle.sip_message.proofs.lemmas.text.Closed.{Closed, closed-solid, closed-blank, closed-then, closed-many, solid_is}
 use Rattle.sip_message.proofs.lemmas.text.Items.{lws-space, closed-contents}
 use Rattle.sip_message.proofs.lemmas.text.Ends.{Firm, AllFirm, AllEnd, AllOpen, firm-then_right, end-firm, end-many, ends-solid, opens-solid, seam-left, seam-right, opens-then}
+use Rattle.sip_text.proofs.texts.GroupLemmas.{length-ones}
 
 -- one SP is a blank run
 pub blanks-space : Blanks (space ∷ [])
@@ -81,11 +82,6 @@ firm-token = firm-solid Token solid-token (some-run is_token_byte)
 -- a token begins without a blank
 pub open-token : AllOpen Token
 open-token = open-solid Token solid-token (some-run is_token_byte)
-
--- pieces of one byte are as many as their bytes
-pub length-ones : (class : ℕ → Bool) (us : List (List ℕ)) → AllByRecursion (One class) us → length (concat us) ≡ length us
-length-ones class [] all = refl
-length-ones class (u ∷ us) all = omega (arith, length-ones class us all.1, ap length all.0.2, length-append u (concat us))
 
 -- a repetition of one or more is not empty
 pub some-between : (class : ℕ → Bool) (low high : ℕ) (u : List ℕ) → 1 ≤ low → Between low high (One class) u → u ≡ [] → ⊥
@@ -236,7 +232,7 @@ TailSet Ok text =
     (part : List ℕ) × (ps : List (List ℕ × Option (List ℕ))) × ParamsPart part ps × AllOk Ok ps × BehindBlanks part text
 
 -- blanks before a text, where both together begin with no blank, are none
-no_blanks : (u v : List ℕ) → All is_lws_byte u → OpensSolid (u ++ v) → u ≡ []
+pub no_blanks : (u v : List ℕ) → All is_lws_byte u → OpensSolid (u ++ v) → u ≡ []
 no_blanks [] v all opens = refl
 no_blanks (b ∷ u) v all opens = absurd (both_ways (is_lws_byte b) opens all.0)
 

@@ -1,6 +1,6 @@
 -- How a parameter's value, and what else stands at the front of a text, is cut off.
-use Rattle.std.proofs.Common.{◌≡◌, ℕ, zero, suc, ◌-◌, ◌≤◌, ◌<◌, ◌⊎◌, Bool, true, false, nat_eq, cond, List, [], ◌∷◌, ◌++◌, Option, Some, None, length, take, drop, refl, sym, ap, ◌∙◌, subst, inl, inr, arith}
-use Rattle.std.proofs.lemmas.Bool.{both_ways, eq-eqb, or_from}
+use Rattle.std.proofs.Common.{◌≡◌, ℕ, zero, suc, ◌-◌, ◌≤◌, Bool, true, false, nat_eq, cond, List, [], ◌∷◌, ◌++◌, Option, Some, None, length, take, drop, refl, sym, ap, ◌∙◌, subst, inl, inr, arith}
+use Rattle.std.proofs.lemmas.Bool.{both_ways, or_from}
 use Rattle.std.proofs.lemmas.Option.{none-some}
 use Rattle.std.proofs.lemmas.List.{append_assoc, append-nil, length-append}
 use Rattle.std.proofs.Math.Seq.{take-append_seam}
@@ -11,7 +11,7 @@ use Rattle.sip_text.specs.Parts.{led, HasFront, IsLongestFront, IsOnlyFront, IsO
 use Rattle.sip_text.specs.Host.{HostParts, HostText, name, v4, v6}
 use Rattle.sip_text.specs.inner.Cut.{past, before, behind}
 use Rattle.sip_text.proofs.cuts.CutLemmas.{past-some, cut-whole, lacks-before, behind-led}
-use Rattle.sip_text.proofs.texts.ManyLemmas.{front-rest}
+use Rattle.sip_text.proofs.texts.ManyLemmas.{front-rest, front-whole}
 use Rattle.sip_standard.specs.Field.{is_lws_byte}
 use Rattle.sip_message.specs.inner.Fronts.{Stops, TokenFront}
 use Rattle.sip_message.specs.inner.ParamFronts.{is_bare_byte, PastRun, BareFront, QuotedFront, BracketFront, ReferenceFront, ValueFront}
@@ -19,7 +19,8 @@ use Rattle.sip_message.proofs.lemmas.text.Cuts.{All, all_both, same_front}
 use Rattle.sip_message.proofs.lemmas.text.Each.{each-sws}
 use Rattle.sip_message.proofs.lemmas.field.OneWay.{each-token}
 use Rattle.sip_message.proofs.lemmas.front.Cuts.{ReadAs, NotRead, token-cut}
-use Rattle.sip_message.proofs.lemmas.front.OneWay.{read-one, bare-all, each-bare, each-hostname, each-v4, one-bare, one-quoted, one-bracket, one-reference, one-value, quoted-whole, reference-bracket}
+use Rattle.sip_message.proofs.lemmas.front.OneWay.{read-one, bare-all, each-bare, each-hostname, each-v4, one-bare, one-quoted, one-bracket, one-reference, one-value, reference-bracket}
+use Rattle.sip_message.proofs.lemmas.value.Trimmed.{length-none}
 
 -- where a text is u and r, it is u without its last `length r` bytes
 pub front-is : (text u r : List ℕ) → text ≡ u ++ r → take (length text - length r) text ≡ u
@@ -34,7 +35,7 @@ pub rest-short : (text u r : List ℕ) → text ≡ u ++ r → length r ≤ leng
 rest-short text u r whole = omega (arith, ap length whole, length-append u r)
 
 -- where the longest token at the front of a text is empty, the text begins with no byte of a token
-no-token-stops : (text : List ℕ) → IsLongestFront Token text 0 → Stops is_token_byte text
+pub no-token-stops : (text : List ℕ) → IsLongestFront Token text 0 → Stops is_token_byte text
 no-token-stops [] longest = tt
 no-token-stops (b ∷ text) longest = at (is_token_byte b) refl
   where
@@ -58,10 +59,6 @@ past-token text n longest = at n refl
 abbrev pub BareSoFar : List ℕ → List ℕ → Type 0
 BareSoFar text rest = Stops is_token_byte rest × ((run : List ℕ) × All is_bare_byte run × (text ≡ run ++ rest))
 
--- what stands after the bytes of tokens at the front stands after bytes of tokens and colons
-pub bare-none : (text rest : List ℕ) → PastRun is_token_byte text rest → BareSoFar text rest
-bare-none text rest (stops, (run, all, whole)) = (stops, (run, bare-all run all, whole))
-
 -- where a colon follows, and then bytes of tokens, what stands after these stands after bytes of tokens and colons
 pub bare-more : (text rest more next : List ℕ) → BareSoFar text rest → past colon rest ≡ Some more → PastRun is_token_byte more next → BareSoFar text next
 bare-more text rest more next (s, (run, all, whole)) found (stops, (token, token_all, more_is)) = (
@@ -73,11 +70,6 @@ bare-more text rest more next (s, (run, all, whole)) found (stops, (token, token
   ),
 )
 
--- what stands after a colon and the bytes of tokens that follow it is shorter
-pub bare-smaller : (rest more next : List ℕ) → past colon rest ≡ Some more → PastRun is_token_byte more next → length next < length rest
-bare-smaller rest more next found (stops, (token, all, whole)) =
-    omega (arith, ap length (past-some colon rest more found), ap length whole, length-append token next)
-
 -- a text that begins neither with a byte of a token nor with a colon does not begin with a bare byte
 stops-bare : (rest : List ℕ) → Stops is_token_byte rest → past colon rest ≡ None → Stops is_bare_byte rest
 stops-bare [] stops none = tt
@@ -86,10 +78,6 @@ stops-bare (b ∷ rest) stops none = at (nat_eq b colon) refl
     at : (x : Bool) → nat_eq b colon ≡ x → is_bare_byte b ≡ false
     at false other = or_from (is_token_byte b) (nat_eq b colon) stops other
     at true same = absurd (none-some rest (sym none ∙ ap (λ x. cond x (Some rest) None) same))
-
--- where the rest begins with no colon, it stands after all bare bytes at the front
-pub bare-end : (text rest : List ℕ) → BareSoFar text rest → past colon rest ≡ None → PastRun is_bare_byte text rest
-bare-end text rest (stops, run) none = (stops-bare rest stops none, run)
 
 -- where no colon follows the token at the front of a text, the text is read as that token as a bare value
 pub bare-token_front : (text token rest : List ℕ) → ReadAs (TokenFront text) (token, rest) → past colon rest ≡ None → ReadAs (BareFront text) (token, rest)
@@ -111,38 +99,20 @@ bare-missing text rest value (stops, (run, all, whole)) is other (v, r) (kind, v
 
 -- a text as long as its longest token is one
 pub token-whole : (text : List ℕ) (n : ℕ) → IsLongestFront Token text n → (text ≡ [] → ⊥) → n ≡ length text → Token text
-token-whole text n longest some all = at longest.front
-  where
-    at : (n ≡ 0) ⊎ HasFront Token text n → Token text
-    at (inl none) = absurd (some (empty text (omega (arith, none, all))))
-      where
-        empty : (t : List ℕ) → length t ≡ 0 → t ≡ []
-        empty [] is = refl
-        empty (b ∷ t) is = absurd (omega (arith, is))
-    at (inr front) = whole front.1 front.2 front.3 front.4
-      where
-        whole : (v : List ℕ) → Token front.0 → text ≡ front.0 ++ v → n ≡ length front.0 → Token text
-        whole [] token is len = subst Token (sym (is ∙ append-nil front.0)) token
-        whole (b ∷ v) token is len = absurd (omega (arith, ap length is, length-append front.0 (b ∷ v), len, all))
+token-whole text n longest some all = elim longest.front [
+  | inl none ↦ absurd (some (length-none text (omega (arith, none, all))))
+  | inr front ↦ front-whole Token text n front all
+]
 
 -- the longest token at the front of a token is all of it
 pub whole-token : (text : List ℕ) (n : ℕ) → IsLongestFront Token text n → n ≤ length text → Token text → n ≡ length text
 whole-token text n longest within token =
     omega (arith, longest.longest (length text) (text, [], token, sym (append-nil text), refl))
 
--- the text past a mark at the front of the mark and a rest is the rest
-past-here : (mark : ℕ) (rest : List ℕ) → past mark (mark ∷ rest) ≡ Some rest
-past-here mark rest = ap (λ same. cond same (Some rest) None) (eq-eqb mark mark refl)
-
 -- what stands in brackets at the front of a text is "[", bytes without "]", "]" and what is left
 bracket-whole : (text : List ℕ) (x : List ℕ × List ℕ) → (b : BracketFront text x) → text ≡ left_bracket ∷ (b.0 ++ right_bracket ∷ (x.1))
 bracket-whole text (v, r) (i, lacks, v_is, whole) =
     whole ∙ ap (λ x. x ++ r) v_is ∙ ap (λ x. left_bracket ∷ x) (append_assoc i (right_bracket ∷ []) r)
-
--- where a text does not begin with "[", nothing in brackets is read
-pub no-bracket : (text : List ℕ) → past left_bracket text ≡ None → NotRead (BracketFront text)
-no-bracket text none x bracket =
-    none-some (bracket.0 ++ right_bracket ∷ (x.1)) (sym none ∙ ap (past left_bracket) (bracket-whole text x bracket) ∙ past-here left_bracket _)
 
 -- where a text begins with "[", and no "]" follows, nothing in brackets is read
 pub no-close : (text inner : List ℕ) → past left_bracket text ≡ Some inner → behind right_bracket inner ≡ None → NotRead (BracketFront text)
@@ -190,11 +160,6 @@ no-host_reference text part rest bracket none x reference =
     let same : x ≡ (part, rest) = bracket.1 x (reference-bracket text x reference) in
     let is : Bracketed part = subst Bracketed (ap (λ y. y.0) same) reference.0 in
     none (v6 part) (is, refl)
-
--- where a text does not begin with a quote, no quoted string is read
-pub no-open : (text : List ℕ) → past dquote text ≡ None → NotRead (QuotedFront text)
-no-open text none (v, r) (q, whole) =
-    none-some (q.3.0 ++ dquote ∷ r) (sym none ∙ ap (past dquote) (whole ∙ quoted-whole v r q) ∙ past-here dquote _)
 
 quoted-string : (text : List ℕ) (x : List ℕ × List ℕ) → QuotedFront text x → HasFront (Sws then Quoted) text (length (x.0))
 quoted-string text (v, r) (q, whole) = (v, r, ([], v, inl refl, q, refl), whole, refl)

@@ -3,7 +3,7 @@ use Rattle.std.proofs.Common.{◌≡◌, ℕ, Bool, true, false, cond, ◌||◌,
 use Rattle.std.specs.Bool.{Decides}
 use Rattle.std.specs.Prelude.{bytes_eq, codes}
 use Rattle.std.specs.List.{AllByRecursion}
-use Rattle.std.proofs.lemmas.Bool.{both_ways, cond-false}
+use Rattle.std.proofs.lemmas.Bool.{both_ways, cond-false, or_from}
 use Rattle.std.proofs.lemmas.Slice.Eq.{bytes_eq-Decides}
 use Rattle.sip_standard.specs.Case.{folded}
 use Rattle.sip_message.specs.declared.name.Known.{Known}
@@ -36,9 +36,6 @@ miss f s differs = at (bytes_eq f s) (bytes_eq-Decides f s)
     at true is = absurd (differs (is.0 refl))
     at false is = refl
 
-neither : (a b : Bool) → a ≡ false → b ≡ false → (a || b) ≡ false
-neither a b a_is b_is = ap (λ z. z || b) a_is ∙ b_is
-
 -- A gives B, and B gives A
 abbrev Ways : Type 0 → Type 0 → Type 0
 Ways A B = (A → B) × (B → A)
@@ -61,7 +58,7 @@ foreign-name f (via, (v, (from, (f_, (to, (t, (call_id, (i, (cseq, (content_leng
 foreign-row : (f v : List ℕ) → IsForeign f → Ways (Row (other f) v) (RowSays f v)
 foreign-row f value (via, (v, (from, (f_, (to, (t, (call_id, (i, (cseq, (content_length, (l, (contact, (m, (content_encoding, (e, (content_type, (c, (subject, (s, (supported, (k, (route, end)))))))))))))))))))))) =
     let one = skips (bytes_eq f (codes "via")) _ _ (miss f _ via) in
-    let two = skips (bytes_eq f (codes "from") || bytes_eq f (codes "to")) _ _ (neither _ _ (miss f _ from) (miss f _ to)) in
+    let two = skips (bytes_eq f (codes "from") || bytes_eq f (codes "to")) _ _ (or_from _ _ (miss f _ from) (miss f _ to)) in
     let three = skips (bytes_eq f (codes "call-id")) _ _ (miss f _ call_id) in
     let four = skips (bytes_eq f (codes "cseq")) _ _ (miss f _ cseq) in
     let five = skips (bytes_eq f (codes "content-length")) _ _ (miss f _ content_length) in

@@ -1,5 +1,5 @@
 -- What start lines, addresses and CSeq say by the definitions is what the readers read of them.
-use Rattle.std.proofs.Common.{ℕ, List, [], ◌∷◌, ◌++◌, Option, None, Some, IfSome, inl, inr, refl, sym, ap, ◌∙◌, subst}
+use Rattle.std.proofs.Common.{ℕ, List, [], ◌++◌, Option, None, Some, IfSome, inl, inr, refl, sym, ap, ◌∙◌, subst}
 use Rattle.std.specs.Prelude.{⊤, not}
 use Rattle.std.specs.Str.Parse.{digits_value}
 use Rattle.std.proofs.lemmas.List.{append-nil}
@@ -17,7 +17,8 @@ use Rattle.sip_standard.specs.StartLine.{StartLine, request, status, StartSays}
 use Rattle.sip_message.specs.inner.StartLine.{is_reason_byte, StartText}
 use Rattle.sip_message.specs.inner.Values.{Digits, CSeqText, CSeqValue}
 use Rattle.sip_standard.specs.Values.{Address, CSeqSays}
-use Rattle.sip_message.proofs.lemmas.params.Closed.{ParamSet, AllOk, TailSet, tail-set, set-tail}
+use Rattle.sip_message.proofs.lemmas.params.Closed.{ParamSet, TailSet, tail-set, set-tail}
+use Rattle.sip_message.proofs.RowLemmas.{any-ok, Any}
 
 -- a start line of the readers is one of the definitions
 pub start-said : (line : List ℕ) (start : StartLine) → StartText line start → StartSays line start
@@ -32,14 +33,6 @@ said-start line (request m u) (a, w1, (token, m_is), (s1, w2, s1_is, (b, w3, (ur
     (subst Token (sym m_is) token, uri-parts u (subst profile.Uri (sym u_is) uri), (a, w1, sym m_is, (s1, w2, s1_is, (b, w3, sym u_is, (s2, v, s2_is, version, w3_is), w2_is), w1_is), whole))
 said-start line (status code why) (v, w1, version, (s1, w2, s1_is, (c, w3, (digits, code_is, low, high), (s2, r, s2_is, (bytes, r_is), w3_is), w2_is), w1_is), whole) =
     (subst (Many (One is_reason_byte)) (sym r_is) bytes, (v, w1, version, (s1, w2, s1_is, (c, w3, record { digits = digits; code_is = code_is; low = low; high = high }, (s2, r, s2_is, sym r_is, w3_is), w2_is), w1_is), whole))
-
--- each parameter may have each value
-abbrev Any : List ℕ → Option (List ℕ) → Type 0
-Any name value = ⊤
-
-any-params : (ps : List (List ℕ × Option (List ℕ))) → AllOk Any ps
-any-params [] = tt
-any-params (p ∷ ps) = (tt, any-params ps)
 
 abbrev Generic : List ℕ → Type 0
 Generic = Token then Optional (Mark equals then GenValue)
@@ -92,7 +85,7 @@ address-said text a (name_addr fits (b, w1, before, (u, w2, u_is, (g, t, angle, 
       b,
       w1,
       before-uri a.display b fits.display before,
-      (u, w2, subst profile.Uri (sym u_is) (parts-uri a.uri_text a.uri fits.uri), (g, t, angle, params-of t (a.params, fits.params.0, fits.params.1, any-params fits.params.0, tail), w2_is), w1_is),
+      (u, w2, subst profile.Uri (sym u_is) (parts-uri a.uri_text a.uri fits.uri), (g, t, angle, params-of t (a.params, fits.params.0, fits.params.1, any-ok fits.params.0, tail), w2_is), w1_is),
       whole,
     )
 address-said text a (addr_spec fits none bare (u, t, u_is, tail, whole)) =
@@ -100,7 +93,7 @@ address-said text a (addr_spec fits none bare (u, t, u_is, tail, whole)) =
       u,
       t,
       (subst profile.Uri (sym u_is) (parts-uri a.uri_text a.uri fits.uri), subst Bare (sym u_is) bare),
-      params-of t (a.params, fits.params.0, fits.params.1, any-params fits.params.0, tail),
+      params-of t (a.params, fits.params.0, fits.params.1, any-ok fits.params.0, tail),
       whole,
     )
 

@@ -1,7 +1,6 @@
 -- What the values of Via say by the definitions is what the readers read of them.
 use Rattle.std.proofs.Common.{◌≡◌, ℕ, List, [], ◌∷◌, ◌++◌, length, map, Option, None, Some, IfSome, inl, inr, refl, sym, ap, ◌∙◌, subst, arith}
 use Rattle.std.specs.Prelude.{codes}
-use Rattle.std.proofs.lemmas.Bool.{both_ways}
 use Rattle.std.proofs.lemmas.List.{append-nil, append_assoc}
 use Rattle.sip_standard.specs.Text.{◌then◌}
 use Rattle.sip_standard.specs.Case.{folded}
@@ -13,24 +12,18 @@ use Rattle.sip_text.specs.Host.{host_text}
 use Rattle.sip_standard.specs.Profile as profile
 use Rattle.sip_text.proofs.hosts.ProfileLemmas.{host-parts, parts-host}
 use Rattle.sip_message.specs.Params.{OpensSolid, ParamText, ParamsText, ParamsPart, BehindBlanks}
-use Rattle.sip_standard.specs.Field.{is_lws_byte}
 use Rattle.sip_message.specs.Via.{ViaParts, IsBranch, ColonPort, ViaText}
 use Rattle.sip_message.specs.inner.ElementFronts.{MoreVias, ViasText}
 use Rattle.sip_message.specs.Elements.{Element, MoreElements, ElementsText, AreElements}
 use Rattle.sip_standard.specs.Via.{SaidVia, PortSays, ParamSays, first_some, ViaSays, ViasSay, GenValue}
 use Rattle.sip_standard.specs.Says.{ViasTell}
 use Rattle.sip_message.specs.SaidOf.{said_via}
-use Rattle.sip_message.proofs.lemmas.text.Cuts.{All}
 use Rattle.sip_message.proofs.lemmas.text.Each.{each-sws}
 use Rattle.sip_message.proofs.lemmas.asked.Parts.{more-elements}
+use Rattle.sip_message.proofs.lemmas.params.Closed.{no_blanks}
 
 abbrev Params : Type 0
 Params = List (List ℕ × Option (List ℕ))
-
--- blanks before a text, where both together begin with no blank, are none
-no-blanks : (u v : List ℕ) → All is_lws_byte u → OpensSolid (u ++ v) → u ≡ []
-no-blanks [] v all opens = refl
-no-blanks (b ∷ u) v all opens = absurd (both_ways (is_lws_byte b) opens all.0)
 
 -- parameters with blanks before them are parameters: the blanks are those of the first mark
 tail-params : (text part : List ℕ) (ps : Params) → ParamsPart part ps → BehindBlanks part text → ParamsText text ps
@@ -43,7 +36,7 @@ tail-params text (b ∷ rest) (p ∷ ps) (opens, (m, t, (blanks, c, is_blanks, m
     flat = whole ∙ ap (λ x. x ++ t) m_is ∙ append_assoc blanks c t
 
     none : blanks ≡ []
-    none = no-blanks blanks (c ++ t) (each-sws blanks is_blanks) (subst OpensSolid flat opens)
+    none = no_blanks blanks (c ++ t) (each-sws blanks is_blanks) (subst OpensSolid flat opens)
 
 -- parameters are blanks, and parameters that begin with no blank
 params-tail : (text : List ℕ) (ps : Params) → ParamsText text ps → (part : List ℕ) × ParamsPart part ps × BehindBlanks part text

@@ -10,8 +10,9 @@ use Rattle.sip_standard.specs.Case.{folded}
 use Rattle.sip_text.specs.Bytes.{space, is_token_byte}
 use Rattle.sip_standard.specs.StartLine.{StartLine, request, status}
 use Rattle.sip_message.specs.inner.StartLine.{Version, CodeText, StartText}
-use Rattle.sip_message.proofs.lemmas.text.Cuts.{same_front, same_by_front, same_by_end, All}
+use Rattle.sip_message.proofs.lemmas.text.Cuts.{same_front, same_by_end, All}
 use Rattle.sip_message.proofs.lemmas.field.OneWay.{each-token}
+use Rattle.sip_text.proofs.texts.ManyLemmas.{append_cancel_both}
 
 -- a text in lower case is as long as the text
 pub length-folded : (text : List ℕ) → length (folded text) ≡ length text
@@ -115,10 +116,10 @@ same_start line (status c r) (request m u) one other = absurd (no_both line m u 
 same_start line (status c r) (status d s) one other =
     let p = status_parts line c r one in
     let q = status_parts line d s other in
-    let versions = same_by_front p.version _ q.version _ (length-version _ p.is_version ∙ sym (length-version _ q.is_version)) (sym p.whole ∙ q.whole) in
+    let versions = append_cancel_both p.version _ q.version _ (length-version _ p.is_version ∙ sym (length-version _ q.is_version)) (sym p.whole ∙ q.whole) in
     let tails : space ∷ (p.digits ++ space ∷ r) ≡ space ∷ (q.digits ++ space ∷ s) = versions.1 in
     let inner : p.digits ++ space ∷ r ≡ q.digits ++ space ∷ s = cc in
-    let codes = same_by_front p.digits _ q.digits _ (length-code _ c p.is_code ∙ sym (length-code _ d q.is_code)) inner in
+    let codes = append_cancel_both p.digits _ q.digits _ (length-code _ c p.is_code ∙ sym (length-code _ d q.is_code)) inner in
     let ends : space ∷ r ≡ space ∷ s = codes.1 in
     let reasons : r ≡ s = cc in
     ap (λ x. status x r) (p.is_code.code_is ∙ ap (digits_value 10) codes.0 ∙ sym q.is_code.code_is) ∙ ap (λ x. status d x) reasons

@@ -15,14 +15,14 @@ use Rattle.sip_text.specs.Bytes.{space}
 use Rattle.sip_text.specs.inner.Case.{SameText}
 use Rattle.sip_text.specs.Uri.{UriParts, UriText}
 use Rattle.sip_text.specs.inner.Cut.{past}
-use Rattle.sip_text.proofs.texts.ManyLemmas.{many-some}
+use Rattle.sip_text.proofs.texts.ManyLemmas.{many-some, append_cancel_both}
 use Rattle.sip_message.specs.inner.Values.{Digits}
 use Rattle.sip_text.proofs.cuts.CutLemmas.{past-some}
 use Rattle.sip_text.proofs.texts.RunLemmas.{run-list_all, list_all-run}
 use Rattle.sip_standard.specs.StartLine.{StartLine, request, status}
 use Rattle.sip_message.specs.inner.StartLine.{Version, CodeText, is_reason_byte, StartText, RequestLine, StatusLine, CodeFront}
 use Rattle.sip_message.specs.inner.Fronts.{TokenFront}
-use Rattle.sip_message.proofs.lemmas.text.Cuts.{same_by_front, same_by_end}
+use Rattle.sip_message.proofs.lemmas.text.Cuts.{same_by_end}
 use Rattle.sip_message.proofs.lemmas.front.Cuts.{ReadAs, NotRead}
 use Rattle.sip_message.proofs.lemmas.start_line.OneWay.{length-version, length-digits, length-code, RequestParts, request_parts, status_parts, same_start}
 
@@ -157,7 +157,7 @@ code-digits d n is = at is.digits.0 is.digits.1 is.digits.2 is.digits.3
 code-front : (text : List ℕ) (code : ℕ) (reason : List ℕ) → CodeFront text (code, reason) → CodeText (take 3 text) code × (drop 3 text ≡ space ∷ reason)
 code-front text code reason (d, t, is, (s, r, s_is, r_is, t_is), whole) =
     let flat : text ≡ d ++ space ∷ reason = whole ∙ ap (λ x. d ++ x) (t_is ∙ ap (λ x. x ++ r) s_is ∙ ap (λ x. space ∷ x) r_is) in
-    let same = same_by_front (take 3 text) (drop 3 text) d (space ∷ reason) (omega (arith, length-code d code is, ap length flat, length-append d (space ∷ reason), length-take-le 3 text (omega (arith, length-code d code is, ap length flat, length-append d (space ∷ reason))))) (take-append-drop 3 text ∙ flat) in
+    let same = append_cancel_both (take 3 text) (drop 3 text) d (space ∷ reason) (omega (arith, length-code d code is, ap length flat, length-append d (space ∷ reason), length-take-le 3 text (omega (arith, length-code d code is, ap length flat, length-append d (space ∷ reason))))) (take-append-drop 3 text ∙ flat) in
     (subst (λ x. CodeText x code) (sym same.0) is, same.1)
 
 -- a text of fewer than three bytes has no status code at its front
@@ -223,15 +223,11 @@ status-line line code reason is =
     let whole : line ≡ (p.version ++ space ∷ []) ++ (p.digits ++ space ∷ reason) = p.whole ∙ sym (append_assoc p.version (space ∷ []) (p.digits ++ space ∷ reason)) in
     let len : length (p.version ++ space ∷ []) ≡ 8 = omega (arith, length-append p.version (space ∷ []), size) in
     let long : 8 ≤ length line = omega (arith, ap length whole, length-append (p.version ++ space ∷ []) (p.digits ++ space ∷ reason), len) in
-    let same = same_by_front (take 8 line) (drop 8 line) (p.version ++ space ∷ []) (p.digits ++ space ∷ reason) (omega (arith, len, length-take-le 8 line long)) (take-append-drop 8 line ∙ whole) in (
+    let same = append_cancel_both (take 8 line) (drop 8 line) (p.version ++ space ∷ []) (p.digits ++ space ∷ reason) (omega (arith, len, length-take-le 8 line long)) (take-append-drop 8 line ∙ whole) in (
       subst (λ t. SameText t (codes "SIP/2.0 ")) (sym same.0) (map-append to_ascii_lowercase p.version (space ∷ []) ∙ ap (λ t. t ++ space ∷ []) p.is_version),
       subst (λ t. CodeFront t (code, reason)) (sym same.1) (p.digits, space ∷ reason, p.is_code, (space ∷ [], reason, refl, refl, refl), refl),
       long,
     )
-
--- a line of fewer than eight bytes is no status line
-pub status-short : (line : List ℕ) → length line < 8 → NotRead (StatusLine line)
-status-short line short (code, reason) is = absurd (omega (arith, short, (status-line line code reason is).2))
 
 -- a line that does not begin with the version is no status line
 pub status-no_version : (line : List ℕ) → (SameText (take 8 line) (codes "SIP/2.0 ") → ⊥) → NotRead (StatusLine line)

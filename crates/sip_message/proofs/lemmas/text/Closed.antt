@@ -2,7 +2,7 @@
 -- of sets is such a set where they are, and where no run of blanks crosses the seams between them.
 use Rattle.std.proofs.Common.{◌≡◌, ℕ, ◌⊎◌, Bool, true, false, not, List, [], ◌∷◌, ◌++◌, cond, refl, sym, ap, ◌∙◌, subst, inl, inr}
 use Rattle.std.specs.List.{AllByRecursion, concat, list_any}
-use Rattle.std.proofs.lemmas.Bool.{both_ways}
+use Rattle.std.proofs.lemmas.Bool.{both_ways, not-true}
 use Rattle.std.proofs.lemmas.List.{append_assoc, append-nil}
 use Rattle.sip_standard.specs.Text.{◌then◌, ◌or◌, Many, Exactly}
 use Rattle.sip_text.specs.Bytes.{space}
@@ -25,11 +25,7 @@ not_both b solid blank = both_ways true (sym solid ∙ ap not blank) refl
 
 -- a solid byte is no blank
 pub solid_is : (b : ℕ) → is_solid b ≡ true → is_lws_byte b ≡ false
-solid_is b solid = at (is_lws_byte b) solid
-  where
-    at : (x : Bool) → not x ≡ true → x ≡ false
-    at false is = refl
-    at true is = absurd (both_ways true (sym is) refl)
+solid_is b solid = not-true (is_lws_byte b) solid
 
 -- a set whose texts have no blanks is closed: they have no run
 pub closed-solid : (P : List ℕ → Type 0) → Each is_solid P → Closed P

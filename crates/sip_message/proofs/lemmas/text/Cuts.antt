@@ -4,6 +4,7 @@ use Rattle.std.specs.Prelude.{⊤}
 use Rattle.std.specs.List.{AllByRecursion}
 use Rattle.std.proofs.lemmas.List.{length-append}
 use Rattle.std.proofs.lemmas.Bool.{both_ways}
+use Rattle.sip_text.proofs.texts.ManyLemmas.{append_cancel_both}
 
 -- of the fronts u and x of one text, the one is the other, or begins it
 pub data Cuts (u v x y : List ℕ) : Type 0 where
@@ -64,16 +65,7 @@ same_front test u v x y us xs v_stops y_stops same = at (two_cuts u v x y same)
     at (second_longer b z longer is) =
         absurd (both_ways (test b) (subst (Stops test) is v_stops) (all_right test u (b ∷ z) (subst (All test) longer xs)).0)
 
--- where u and v make the same text as x and y, and u is as long as x, u is x and v is y
-pub same_by_front : (u v x y : List ℕ) → length u ≡ length x → u ++ v ≡ x ++ y → (u ≡ x) × (v ≡ y)
-same_by_front u v x y lens same = at (two_cuts u v x y same)
-  where
-    at : Cuts u v x y → (u ≡ x) × (v ≡ y)
-    at (same_length left right) = (left, right)
-    at (first_longer b z longer is) = absurd (omega (arith, ap length longer, length-append x (b ∷ z), lens))
-    at (second_longer b z longer is) = absurd (omega (arith, ap length longer, length-append u (b ∷ z), lens))
-
 -- where u and v make the same text as x and y, and v is as long as y, u is x and v is y
 pub same_by_end : (u v x y : List ℕ) → length v ≡ length y → u ++ v ≡ x ++ y → (u ≡ x) × (v ≡ y)
 same_by_end u v x y lens same =
-    same_by_front u v x y (omega (arith, ap length same, length-append u v, length-append x y, lens)) same
+    append_cancel_both u v x y (omega (arith, ap length same, length-append u v, length-append x y, lens)) same

@@ -1,7 +1,7 @@
 -- Sets all of whose bytes pass a test. A set that is made of sets is such a set if they are.
-use Rattle.std.proofs.Common.{◌≡◌, ℕ, ◌⊎◌, Bool, true, false, not, nat_eq, ◌||◌, List, [], ◌∷◌, refl, sym, ap, subst, inl, inr}
+use Rattle.std.proofs.Common.{◌≡◌, ℕ, Bool, true, false, not, nat_eq, List, [], ◌∷◌, refl, sym, subst, inl, inr}
 use Rattle.std.specs.List.{AllByRecursion, concat}
-use Rattle.std.proofs.lemmas.Bool.{both_ways, eqb-true}
+use Rattle.std.proofs.lemmas.Bool.{both_ways, eqb-true, or_left, or_cases}
 use Rattle.sip_standard.specs.Text.{One, Exactly, ◌then◌, ◌or◌, Optional, Many, OneOrMore, Between}
 use Rattle.sip_standard.specs.Profile.{Lws, Blanks, Sws}
 use Rattle.sip_text.specs.Bytes.{space, tab, carriage_return, line_feed, crlf}
@@ -53,24 +53,15 @@ each-some test P each = each-then test P (Many P) each (each-many test P each)
 pub each-between : (test : ℕ → Bool) (low high : ℕ) (P : List ℕ → Type 0) → Each test P → Each test (Between low high P)
 each-between test low high P each u many = subst (All test) (sym many.2) (each-concat test P many.0 each many.1)
 
--- what passes the first of two tests passes one of them
-or_left : (a b : Bool) → a ≡ true → (a || b) ≡ true
-or_left a b is = ap (λ x. x || b) is
-
--- what passes one of two tests passes the first or the second
-pub or_case : (a b : Bool) → (a || b) ≡ true → (a ≡ true) ⊎ (b ≡ true)
-or_case true b is = inl refl
-or_case false b is = inr is
-
 -- a byte of a blank run is SP, HTAB, CR or LF
 pub blank_is : (P : ℕ → Type 0) → P space → P tab → P carriage_return → P line_feed → (b : ℕ) → is_lws_byte b ≡ true → P b
 blank_is P sp ht cr lf b is =
-    elim (or_case (is_wsp b) _ is) [
-      | inl wsp ↦ elim (or_case (nat_eq b space) _ wsp) [
+    elim (or_cases (is_wsp b) _ is) [
+      | inl wsp ↦ elim (or_cases (nat_eq b space) _ wsp) [
         | inl e ↦ subst P (sym (eqb-true b space e)) sp
         | inr e ↦ subst P (sym (eqb-true b tab e)) ht
       ]
-      | inr end ↦ elim (or_case (nat_eq b carriage_return) _ end) [
+      | inr end ↦ elim (or_cases (nat_eq b carriage_return) _ end) [
         | inl e ↦ subst P (sym (eqb-true b carriage_return e)) cr
         | inr e ↦ subst P (sym (eqb-true b line_feed e)) lf
       ]

@@ -15,7 +15,7 @@ Firm [] = ⊥
 Firm (b ∷ text) = EndsSolid (b ∷ text)
 
 -- where b and z do not end with a blank, no text that ends with b and z does
-ends-onto : (u : List ℕ) (b : ℕ) (z : List ℕ) → EndsSolid (b ∷ z) → EndsSolid (u ++ b ∷ z)
+pub ends-onto : (u : List ℕ) (b : ℕ) (z : List ℕ) → EndsSolid (b ∷ z) → EndsSolid (u ++ b ∷ z)
 ends-onto [] b z ends = ends
 ends-onto (a ∷ []) b z ends = ends
 ends-onto (a ∷ c ∷ u) b z ends = ends-onto (c ∷ u) b z ends

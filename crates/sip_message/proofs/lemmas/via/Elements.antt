@@ -39,20 +39,13 @@ values-found known xs i d below is = values-at known xs i d below ∙ cond-true 
 pub values-passed : (known : Known) (xs : List Code) (i : ℕ) (d : Code) → i < length xs → is_name_of known (name_parts (slice_index_or xs i d).name) ≡ false → values known (drop i (map field_parts xs)) ≡ values known (drop (i + 1) (map field_parts xs))
 values-passed known xs i d below is = values-at known xs i d below ∙ cond-false _ _ _ is
 
--- from the end of the fields on there is no value of the name
-pub values-end : (known : Known) (xs : List Code) (i : ℕ) → (i < length xs → ⊥) → values known (drop i (map field_parts xs)) ≡ []
-values-end known [] zero past = refl
-values-end known [] (suc i) past = refl
-values-end known (x ∷ xs) zero past = absurd (past (omega arith))
-values-end known (x ∷ xs) (suc i) past = values-end known xs i (λ below. past (omega (arith, below)))
-
 -- a value of which R holds is the one value of which it holds
 pub One-is : {X : Type 0} → Coded X → (R : X → Type 0) (o : ExactlyOne R) (x : X) → R x → the o ≡ x
 unfolding the
 One-is c R o x is = ∥∥₁_elim o.1 (Coded-set c o.0 x) (λ p. sym (p.only x is))
 
 -- an element begins with no blank
-element-stops : (text rest : List ℕ) (v : ViaParts) → ViaText text v → StopsBlank (text ++ rest)
+pub element-stops : (text rest : List ℕ) (v : ViaParts) → ViaText text v → StopsBlank (text ++ rest)
 element-stops text rest v is =
     subst StopsBlank (sym (ap (λ t. t ++ rest) (is.1.4 ∙ ap (λ t. t ++ is.1.1) is.1.2) ∙ append_assoc v.protocol is.1.1 rest)) (token-stops v.protocol (is.1.1 ++ rest) is.0.protocol)
 

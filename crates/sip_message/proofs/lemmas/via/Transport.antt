@@ -1,6 +1,6 @@
 -- A value of Via has one transport of its first element.
 use Rattle.std.proofs.Common.{◌≡◌, ℕ, Bool, true, false, ◌||◌, nat_eq, List, [], ◌∷◌, ◌++◌, length, refl, sym, ap, ◌∙◌, subst, inl, inr, arith}
-use Rattle.std.proofs.lemmas.Bool.{both_ways, eqb-true}
+use Rattle.std.proofs.lemmas.Bool.{both_ways, eqb-true, or_right}
 use Rattle.std.proofs.lemmas.List.{append_assoc, length-append}
 use Rattle.sip_standard.specs.Text.{One, Exactly, ◌then◌, Many, OneOrMore}
 use Rattle.sip_standard.specs.Profile.{Token, Blanks, Sws}
@@ -22,7 +22,7 @@ abbrev pub AllFail : (ℕ → Bool) → (List ℕ → Type 0) → Type 0
 AllFail test P = (u : List ℕ) → P u → Fails test u
 
 -- a text whose first byte does not pass has such a first byte whatever follows it
-fails-append : (test : ℕ → Bool) (u v : List ℕ) → Fails test u → Fails test (u ++ v)
+pub fails-append : (test : ℕ → Bool) (u v : List ℕ) → Fails test u → Fails test (u ++ v)
 fails-append test [] v fails = absurd fails
 fails-append test (b ∷ u) v fails = fails
 
@@ -77,10 +77,6 @@ each-mark mark is =
     each-then (is_mark_byte mark) _ _ blanks
     (each-then (is_mark_byte mark) _ _ (λ u byte. subst (All (is_mark_byte mark)) (sym byte) (or_right (is_lws_byte mark) _ is, tt)) blanks)
   where
-    or_right : (a b : Bool) → b ≡ true → (a || b) ≡ true
-    or_right true b e = refl
-    or_right false b e = e
-
     wider : (u : List ℕ) → All is_lws_byte u → All (is_mark_byte mark) u
     wider [] all = tt
     wider (b ∷ u) all = (ap (λ x. x || nat_eq b mark) all.0, wider u all.1)

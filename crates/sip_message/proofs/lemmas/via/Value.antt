@@ -1,30 +1,21 @@
 -- The elements of a Via value, read one after another.
-use Rattle.std.proofs.Common.{◌≡◌, ◌↔◌, ℕ, ◌<◌, List, [], ◌∷◌, ◌++◌, length, refl, sym, ap, ◌∙◌, subst, inl, inr, arith}
-use Rattle.std.proofs.lemmas.List.{append_assoc, length-append}
+use Rattle.std.proofs.Common.{◌≡◌, ◌↔◌, ℕ, List, [], ◌∷◌, refl, sym, ap, subst, inl, inr}
 use Rattle.sip_message.specs.inner.Marks.{comma}
-use Rattle.sip_message.specs.Via.{ViaParts, ViaText}
+use Rattle.sip_message.specs.Via.{ViaParts}
 use Rattle.sip_message.specs.inner.ElementFronts.{MoreVias, ViasText, EndsElement, ViaFront, FirstVia}
 use Rattle.sip_message.specs.inner.Fronts.{StopsBlank, MarkFront}
 use Rattle.sip_message.specs.Elements.{Element}
 use Rattle.sip_message.proofs.lemmas.front.Cuts.{ReadAs, NotRead}
-use Rattle.sip_message.proofs.lemmas.via.Protocol.{token-stops}
-use Rattle.sip_message.proofs.lemmas.via.Elements.{no_mark-nil}
-use Rattle.sip_message.proofs.lemmas.front.Led.{mark-shorter}
+use Rattle.sip_message.proofs.lemmas.via.Elements.{no_mark-nil, element-stops}
 
 -- the text is elements of Via
 abbrev pub AreVias : List ℕ → Type 0
 AreVias text = (v : ViaParts) × (vias : List ViaParts) × ViasText text v vias
 
--- an element of Via does not begin with a blank
-via-stops : (text rest : List ℕ) (v : ViaParts) → ViaText text v → StopsBlank (text ++ rest)
-via-stops text rest v (fits, (a, w, a_is, more, whole)) =
-    subst (λ t. StopsBlank (t ++ rest)) (sym (whole ∙ ap (λ x. x ++ w) a_is))
-    (subst StopsBlank (sym (append_assoc v.protocol w rest)) (token-stops v.protocol (w ++ rest) fits.protocol))
-
 -- further elements, at least one, begin with a comma, and elements stand after it
 more-comma : (v : ViaParts) (vias : List ViaParts) (text : List ℕ) → MoreVias (v ∷ vias) text → (next : List ℕ) × MarkFront comma text next × ViasText next v vias
 more-comma v vias text (m, next, mark, (x, y, via, more, next_is), whole) =
-    (next, (subst StopsBlank (sym next_is) (via-stops x y v via), (m, next, mark, refl, whole)), (x, y, via, more, next_is))
+    (next, (subst StopsBlank (sym next_is) (element-stops x y v via), (m, next, mark, refl, whole)), (x, y, via, more, next_is))
 
 -- where further elements or nothing follow an element, it ends there
 more-ends : (vias : List ViaParts) (text : List ℕ) → MoreVias vias text → EndsElement text
@@ -75,11 +66,6 @@ more-none rest none = (to, λ is. ([], is))
     to : AreMore rest → rest ≡ []
     to ([], is) = is
     to (v ∷ vias, is) = let found = more-comma v vias rest is in absurd (none found.0 found.1)
-
--- what is left after a comma and an element is shorter than the text
-pub more-shorter : (rest next more : List ℕ) (e : Element) → ReadAs (MarkFront comma rest) next → ReadAs (ViaFront next) (e, more) → length more < length rest
-more-shorter rest next more e comma_read read =
-    omega (arith, mark-shorter comma rest next refl comma_read.0, ap length read.0.1, length-append (e.0) more)
 
 -- where an element is read at the front of a text that is elements, it is the first of them, and read as that alone
 pub first-is : (text more : List ℕ) (e : Element) → ReadAs (ViaFront text) (e, more) → AreVias text → ReadAs (FirstVia text) e

@@ -1,12 +1,7 @@
 use Rattle.std.proofs.Common.{refl}
 use Rattle.std.proofs.lemmas.Bool.{both_ways}
-use Rattle.sip_message.proofs.lemmas.params.Value.{bare-found, bare-missing, rest-short}
+use Rattle.sip_message.proofs.lemmas.params.Value.{bare-found, bare-missing}
 use Rattle.sip_message.proofs.params.cut_bare_run.Goals as goal
-
-pub slice_bounds-value-count : goal.slice_bounds-value-count
-slice_bounds-value-count c =
-    let run = c.past_bare-rest.ensures.1 in
-    rest-short c.args.text.now run.0 c.past_bare-rest.result.now run.2
 
 pub returns-then-is_bare : goal.returns-then-is_bare
 returns-then-is_bare c =

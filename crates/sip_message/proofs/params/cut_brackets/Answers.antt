@@ -2,13 +2,8 @@ use Rattle.std.proofs.Common.{option_copied, sym, ap, subst, ◌∙◌}
 use Rattle.sip_text.specs.Parts.{IsOnlyValue}
 use Rattle.sip_message.specs.inner.Fronts.{pair_parts}
 use Rattle.sip_message.specs.inner.ParamFronts.{BracketFront}
-use Rattle.sip_message.proofs.lemmas.params.Value.{no-bracket, no-close, one-closed, closed-short}
+use Rattle.sip_message.proofs.lemmas.params.Value.{no-close, one-closed, closed-short}
 use Rattle.sip_message.proofs.params.cut_brackets.Goals as goal
-
-pub returns-in_err-past : goal.returns-in_err-past
-returns-in_err-past c =
-    subst (IsOnlyValue BracketFront pair_parts c.args.text.now) (sym c.from_residual.ensures)
-    (no-bracket c.args.text.now (sym c.in_err-past.ensures))
 
 pub returns-in_err-rest : goal.returns-in_err-rest
 returns-in_err-rest c =

@@ -3,11 +3,8 @@ use Rattle.sip_text.specs.Bytes.{equals}
 use Rattle.sip_text.specs.Parts.{IsOnlyValue}
 use Rattle.sip_message.specs.inner.ParamFronts.{ValueFront, LedFront, led_parts}
 use Rattle.sip_message.proofs.lemmas.front.OneWay.{one-value}
-use Rattle.sip_message.proofs.lemmas.front.Led.{no-led, led-none, led-some}
+use Rattle.sip_message.proofs.lemmas.front.Led.{no-led, led-some}
 use Rattle.sip_message.proofs.params.cut_led_value.Goals as goal
-
-pub returns-in_default : goal.returns-in_default
-returns-in_default c = led-none equals ValueFront c.args.text.now refl one-value c.in_default.ensures
 
 pub returns-in_err-value : goal.returns-in_err-value
 returns-in_err-value c =

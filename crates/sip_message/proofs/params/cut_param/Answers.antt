@@ -4,10 +4,6 @@ use Rattle.sip_message.specs.inner.ParamFronts.{ParamFront, param_parts}
 use Rattle.sip_message.proofs.lemmas.front.Cuts.{stop, go-stop, go, last}
 use Rattle.sip_message.proofs.params.cut_param.Goals as goal
 
-pub returns-in_err-past_mark : goal.returns-in_err-past_mark
-returns-in_err-past_mark c =
-    subst (IsOnlyValue ParamFront param_parts c.args.text.now) (sym c.from_residual.ensures) (stop c.in_err-past_mark.ensures)
-
 pub returns-in_err-name : goal.returns-in_err-name
 returns-in_err-name c =
     subst (IsOnlyValue ParamFront param_parts c.args.text.now) (sym c.from_residual-in_err-name.ensures)

@@ -4,13 +4,8 @@ use Rattle.sip_text.specs.Parts.{IsOnlyValue}
 use Rattle.sip_message.specs.inner.Fronts.{pair_parts}
 use Rattle.sip_message.specs.inner.ParamFronts.{QuotedFront}
 use Rattle.sip_message.proofs.lemmas.front.Cuts.{ReadAs}
-use Rattle.sip_message.proofs.lemmas.params.Value.{no-open, no-quoted, one-quoted_string}
+use Rattle.sip_message.proofs.lemmas.params.Value.{no-quoted, one-quoted_string}
 use Rattle.sip_message.proofs.params.cut_quoted.Goals as goal
-
-pub returns-in_err-past : goal.returns-in_err-past
-returns-in_err-past c =
-    subst (IsOnlyValue QuotedFront pair_parts c.args.text.now) (sym c.from_residual.ensures)
-    (no-open c.args.text.now (sym c.in_err-past.ensures))
 
 pub returns-in_err-len : goal.returns-in_err-len
 returns-in_err-len c =

@@ -1,10 +1,7 @@
-use Rattle.std.proofs.Common.{[], ◌∷◌, ◌++◌, option_copied, refl}
+use Rattle.std.proofs.Common.{[], ◌∷◌, ◌++◌, option_copied}
 use Rattle.sip_message.specs.inner.ParamFronts.{Param}
 use Rattle.sip_message.proofs.lemmas.params.Reading.{params-more, param-shorter}
 use Rattle.sip_message.proofs.params.past_params.Goals as goal
-
-pub params-init : goal.params-init
-params-init c = ([], refl)
 
 pub params-preserved : goal.params-preserved
 params-preserved c =
@@ -14,6 +11,3 @@ params-preserved c =
 pub params-smaller : goal.params-smaller
 params-smaller c =
     param-shorter c.params.rest.now (c.in-Some.field-0-0.now, option_copied c.in-Some.field-0-1) c.in-Some.more.now c.in-Some.ensures.0
-
-pub returns : goal.returns
-returns c = (c.params.invariant.0, (c.params.invariant.1, c.in_default.ensures))

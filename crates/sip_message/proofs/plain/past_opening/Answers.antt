@@ -5,11 +5,8 @@ use Rattle.sip_text.specs.Bytes.{Byte}
 use Rattle.sip_message.specs.inner.Marks.{left_angle}
 use Rattle.sip_message.specs.Address.{DisplayName}
 use Rattle.sip_message.specs.inner.Plain.{Opening}
-use Rattle.sip_message.proofs.PlainLemmas.{stands-as, then-stands, opening-none, opening-some}
+use Rattle.sip_message.proofs.PlainLemmas.{stands-as, then-stands, opening-some}
 use Rattle.sip_message.proofs.plain.past_opening.Goals as goal
-
-pub returns-in-Some : goal.returns-in-Some
-returns-in-Some c = stands-as (Byte left_angle) Opening c.args.masks.now c.args.at c.args.end c.in-Some.inner opening-none c.in-Some.ensures
 
 pub returns : goal.returns
 returns c =

@@ -1,17 +1,12 @@
-use Rattle.std.proofs.Common.{[], arith}
 use Rattle.sip_standard.specs.Text.{◌then◌}
 use Rattle.sip_text.specs.Bytes.{space, Byte}
 use Rattle.sip_message.specs.inner.AddressFronts.{Words}
 use Rattle.sip_message.specs.inner.Plain.{PlainRun}
-use Rattle.sip_message.proofs.PlainLemmas.{stands-as, then-stands, words-one, words-more, part-longer}
+use Rattle.sip_message.proofs.PlainLemmas.{stands-as, then-stands, words-one, words-more}
 use Rattle.sip_message.proofs.plain.past_words.Goals as goal
 
 pub words-init : goal.words-init
 words-init c = stands-as PlainRun Words c.args.masks.now c.args.at c.args.end c.in_ok-to.to words-one c.in_ok-to.ensures
-
-pub words-smaller : goal.words-smaller
-words-smaller c =
-    omega (arith, part-longer c.args.masks.now [] c.words.to c.in-Some.word space c.in-Some.ensures.2, c.in-Some-past_run.ensures.0, c.in-Some-past_run.ensures.1)
 
 pub words-preserved : goal.words-preserved
 words-preserved c =

@@ -1,6 +1,3 @@
-use Rattle.std.proofs.Common.{subst}
-use Rattle.sip_text.specs.Parts.{IsOnlyValue}
-use Rattle.sip_message.specs.inner.Values.{CSeqValue}
 use Rattle.sip_message.specs.ValueParts.{cseq_parts}
 use Rattle.sip_message.specs.inner.Plain.{segment}
 use Rattle.sip_message.proofs.lemmas.value.CSeq.{same-cseq}
@@ -10,7 +7,3 @@ pub returns-in-Some : goal.returns-in-Some
 returns-in-Some c =
     let is = c.in-Some.ensures in
     (is, (λ x other. same-cseq (segment c.args.at c.args.end c.args.masks.now) x (cseq_parts c.in-Some.cseq) other is))
-
-pub returns-in-None : goal.returns-in-None
-returns-in-None c =
-    subst (λ t. IsOnlyValue CSeqValue cseq_parts (segment c.args.at c.args.end t) c.read_cseq.result) c.text.ensures c.read_cseq.ensures

@@ -3,11 +3,8 @@ use Rattle.std.specs.Prelude.{IfSome}
 use Rattle.sip_standard.specs.Profile.{Port}
 use Rattle.sip_message.specs.Via.{ColonPort}
 use Rattle.sip_message.specs.inner.Plain.{segment, LiesWithin}
-use Rattle.sip_message.proofs.PlainViaLemmas.{port-led, port-none}
+use Rattle.sip_message.proofs.PlainViaLemmas.{port-led}
 use Rattle.sip_message.proofs.plain_via.past_led_port.Goals as goal
-
-pub returns-in_default : goal.returns-in_default
-returns-in_default c = port-none c.args.masks.now c.args.at c.args.end c.requires.0
 
 pub returns : goal.returns
 returns c =

@@ -3,18 +3,9 @@ use Rattle.std.specs.Option.{option_or}
 use Rattle.sip_message.specs.Via.{ViaParams}
 use Rattle.sip_message.specs.inner.ParamFronts.{Param}
 use Rattle.sip_message.specs.inner.Plain.{segment}
-use Rattle.sip_message.proofs.PlainLemmas.{param-longer}
 use Rattle.sip_message.proofs.PlainViaLemmas.{branch-behind, branch-none, or-none}
 use Rattle.sip_message.proofs.lemmas.params.Branch.{copied-or, or-assoc}
 use Rattle.sip_message.proofs.plain_via.plain_branch.Goals as goal
-
-pub params-init : goal.params-init
-params-init c = (c.requires.0, λ later params. params)
-
-pub params-smaller : goal.params-smaller
-params-smaller c =
-    let p : Param = (c.in-Some.name.now, option_copied c.in-Some.value) in
-    omega (arith, param-longer p c.args.masks.now c.params.from c.args.end c.in-Some.to c.in-Some.ensures.param, c.in-Some.ensures.param.1)
 
 pub params-preserved : goal.params-preserved
 params-preserved c =

@@ -1,20 +1,12 @@
-use Rattle.std.proofs.Common.{rules, ◌≡◌, false, refl, sym, ap, ◌∙◌, subst}
+use Rattle.std.proofs.Common.{rules, ◌≡◌, false, ap, ◌∙◌}
 use Rattle.sip_message.specs.declared.name.Known.TheVariants as known_name
 use Rattle.sip_message.specs.Name.{known, is_name_of}
-use Rattle.sip_message.specs.inner.FieldText.{Row}
-use Rattle.sip_message.specs.inner.Values.{Digits, OtherText}
+use Rattle.sip_message.specs.inner.Values.{OtherText}
 use Rattle.sip_message.specs.inner.Views.{name_parts}
 use Rattle.sip_message.specs.inner.Plain.{segment}
 use Rattle.sip_message.proofs.QuickLemmas.{open-other}
 use Rattle.sip_message.proofs.lemmas.asked.Asked.{asks-via, asks-from, asks-to, asks-call_id, asks-cseq, asks-content_length, asks-other}
-use Rattle.sip_message.proofs.lemmas.asked.Kept.{via-row, cseq-row}
 use Rattle.sip_message.proofs.quick.is_value_at.Goals as goal
-
-pub returns-in-Known-Via-clause-row : goal.returns-in-Known-Via-clause-row
-returns-in-Known-Via-clause-row c = λ so.
-    let value = segment c.args.at c.args.end c.args.masks.now in
-    let named : name_parts c.args.name ≡ known known_name.Via = ap name_parts c.in-Known-Via.is ∙ ap known (rw c.in-Known-Via.is at c.in-Known-Via.field-0-is) in
-    subst (λ n. Row n value) (sym named) (let kept = c.keep_via.ensures in (via-row value kept.0 c.keep_via.result kept.2 kept.1).0 so)
 
 pub returns-in-Known-Via-clause-asked : goal.returns-in-Known-Via-clause-asked
 returns-in-Known-Via-clause-asked c =
@@ -22,21 +14,11 @@ returns-in-Known-Via-clause-asked c =
     let kept = c.keep_via.ensures in
     asks-via _ _ kept.0 _ c.keep_via.result named kept.2 kept.1 kept.3
 
-pub returns-in-Known-From-clause-row : goal.returns-in-Known-From-clause-row
-returns-in-Known-From-clause-row c = λ so.
-    let named : name_parts c.args.name ≡ known known_name.From = ap name_parts c.in-Known-From.is ∙ ap known (rw c.in-Known-From.is at c.in-Known-From.field-0-is) in
-    subst (λ n. Row n (segment c.args.at c.args.end c.args.masks.now)) (sym named) (c.is_address_at.ensures (c.keep_once.ensures.is so))
-
 pub returns-in-Known-From-clause-asked : goal.returns-in-Known-From-clause-asked
 returns-in-Known-From-clause-asked c = λ so.
     let named : name_parts c.args.name ≡ known known_name.From = ap name_parts c.in-Known-From.is ∙ ap known (rw c.in-Known-From.is at c.in-Known-From.field-0-is) in
     let kept = c.keep_once.ensures.kept so in
     asks-from _ _ _ _ (ap (segment c.args.at c.args.end) c.text.ensures) kept.1 named kept.0
-
-pub returns-in-Known-To-clause-row : goal.returns-in-Known-To-clause-row
-returns-in-Known-To-clause-row c = λ so.
-    let named : name_parts c.args.name ≡ known known_name.To = ap name_parts c.in-Known-To.is ∙ ap known (rw c.in-Known-To.is at c.in-Known-To.field-0-is) in
-    subst (λ n. Row n (segment c.args.at c.args.end c.args.masks.now)) (sym named) (c.is_address_at-in-Known-To.ensures (c.keep_once-in-Known-To.ensures.is so))
 
 pub returns-in-Known-To-clause-asked : goal.returns-in-Known-To-clause-asked
 returns-in-Known-To-clause-asked c = λ so.
@@ -44,33 +26,16 @@ returns-in-Known-To-clause-asked c = λ so.
     let kept = c.keep_once-in-Known-To.ensures.kept so in
     asks-to _ _ _ _ (ap (segment c.args.at c.args.end) c.text.ensures) kept.1 named kept.0
 
-pub returns-in-Known-CallId-clause-row : goal.returns-in-Known-CallId-clause-row
-returns-in-Known-CallId-clause-row c = λ so.
-    let named : name_parts c.args.name ≡ known known_name.CallId = ap name_parts c.in-Known-CallId.is ∙ ap known (rw c.in-Known-CallId.is at c.in-Known-CallId.field-0-is) in
-    subst (λ n. Row n (segment c.args.at c.args.end c.args.masks.now)) (sym named) (c.is_call_id_at.ensures (c.keep_once-in-Known-CallId.ensures.is so))
-
 pub returns-in-Known-CallId-clause-asked : goal.returns-in-Known-CallId-clause-asked
 returns-in-Known-CallId-clause-asked c = λ so.
     let named : name_parts c.args.name ≡ known known_name.CallId = ap name_parts c.in-Known-CallId.is ∙ ap known (rw c.in-Known-CallId.is at c.in-Known-CallId.field-0-is) in
     let kept = c.keep_once-in-Known-CallId.ensures.kept so in
     asks-call_id _ _ _ _ (ap (segment c.args.at c.args.end) c.text.ensures) kept.1 named kept.0
 
-pub returns-in-Known-CSeq-clause-row : goal.returns-in-Known-CSeq-clause-row
-returns-in-Known-CSeq-clause-row c = λ so.
-    let value = segment c.args.at c.args.end c.args.masks.now in
-    let named : name_parts c.args.name ≡ known known_name.CSeq = ap name_parts c.in-Known-CSeq.is ∙ ap known (rw c.in-Known-CSeq.is at c.in-Known-CSeq.field-0-is) in
-    subst (λ n. Row n value) (sym named) ((cseq-row value c.cseq_at.result _ refl c.cseq_at.ensures).0 (c.keep_one.ensures.says so))
-
 pub returns-in-Known-CSeq-clause-asked : goal.returns-in-Known-CSeq-clause-asked
 returns-in-Known-CSeq-clause-asked c = λ so.
     let named : name_parts c.args.name ≡ known known_name.CSeq = ap name_parts c.in-Known-CSeq.is ∙ ap known (rw c.in-Known-CSeq.is at c.in-Known-CSeq.field-0-is) in
     asks-cseq _ _ c.cseq_at.result _ named (c.keep_one.ensures.says so) c.cseq_at.ensures (c.keep_one.ensures.kept so)
-
-pub returns-in-Known-ContentLength-clause-row : goal.returns-in-Known-ContentLength-clause-row
-returns-in-Known-ContentLength-clause-row c = λ so.
-    let named : name_parts c.args.name ≡ known known_name.ContentLength = ap name_parts c.in-Known-ContentLength.is ∙ ap known (rw c.in-Known-ContentLength.is at c.in-Known-ContentLength.field-0-is) in
-    let digits = subst (λ t. Digits (segment c.args.at c.args.end t)) c.text.ensures (c.is_length.ensures.0 (c.keep_once-in-Known-ContentLength.ensures.is so)) in
-    subst (λ n. Row n (segment c.args.at c.args.end c.args.masks.now)) (sym named) digits
 
 pub returns-in-Known-ContentLength-clause-asked : goal.returns-in-Known-ContentLength-clause-asked
 returns-in-Known-ContentLength-clause-asked c = λ so.

@@ -1,7 +1,6 @@
-use Rattle.std.proofs.Common.{rules, ◌≡◌, Some, false, refl, subst}
+use Rattle.std.proofs.Common.{rules, ◌≡◌, Some, false, refl}
 use Rattle.std.specs.Prelude.{is_some}
 use Rattle.sip_message.specs.ViaParts.{element}
-use Rattle.sip_message.specs.inner.Asked.{KeepsVia}
 use Rattle.sip_message.specs.inner.Plain.{segment}
 use Rattle.sip_message.proofs.PlainViaLemmas.{via-only}
 use Rattle.sip_message.proofs.lemmas.asked.Asked.{or-none}

@@ -5,11 +5,8 @@ use Rattle.sip_text.specs.Parts.{IsOnlyValue}
 use Rattle.sip_text.specs.inner.Case.{SameText}
 use Rattle.sip_message.specs.inner.StartLine.{StatusLine, CodeFront, status_parts}
 use Rattle.sip_message.proofs.lemmas.front.Cuts.{ReadAs, NotRead}
-use Rattle.sip_message.proofs.lemmas.start_line.Reading.{status-short, status-no_version, status-no_code, status-no_reason, status-read}
+use Rattle.sip_message.proofs.lemmas.start_line.Reading.{status-no_version, status-no_code, status-no_reason, status-read}
 use Rattle.sip_message.proofs.start_line.read_status.Goals as goal
-
-pub returns-then-line-lt8 : goal.returns-then-line-lt8
-returns-then-line-lt8 c = status-short c.args.line.now c.if-line-lt8.true
 
 pub returns-then-not-same_text : goal.returns-then-not-same_text
 returns-then-not-same_text c =

@@ -1,6 +1,4 @@
 use Rattle.std.proofs.Common.{◌+◌, ◌*◌, ◌<◌, sym, ap, ◌∙◌, arith}
-use Rattle.std.specs.Str.Parse.{digits_value}
-use Rattle.std.proofs.lemmas.List.{take_all}
 use Rattle.sip_message.proofs.lemmas.value.Number.{digits-at, number-more, number-large}
 use Rattle.sip_message.proofs.values.number_at_most.Goals as goal
 use Rattle.sip_message.proofs.values.number_at_most.Goals.{then-digit-most-via-then-digit-most, then-digit-most-via-else-digit-most+then-number-most}
@@ -24,7 +22,3 @@ pub loop-byte-preserved : goal.loop-byte-preserved
 loop-byte-preserved c =
     let more = number-more c.args.text.now c.loop-byte.byte-index c.loop-byte.number c.args.most c.loop-byte-test.true c.loop-byte.invariant (sym c.is_ascii_digit.ensures.value ∙ c.if-not-is_ascii_digit.false) in
     record { value = ap (λ d. c.loop-byte.number * 10 + d) c.from-digit.ensures ∙ more; small = omega arith }
-
-pub returns : goal.returns
-returns c =
-    (c.loop-byte.invariant.value ∙ ap (digits_value 10) (take_all c.loop-byte.byte-index c.args.text.now c.loop-byte-test.false), c.loop-byte.invariant.small)

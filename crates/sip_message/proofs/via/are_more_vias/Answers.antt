@@ -2,7 +2,7 @@ use Rattle.std.proofs.Common.{length, sym, ap, ◌∙◌}
 use Rattle.std.proofs.lemmas.Bool.{false≢true, eqb-true, eq-eqb}
 use Rattle.std.proofs.lemmas.List.{nil_from_length}
 use Rattle.sip_message.specs.ViaParts.{element}
-use Rattle.sip_message.proofs.lemmas.via.Value.{vias-none, vias-behind, more-behind, more-none, more-shorter}
+use Rattle.sip_message.proofs.lemmas.via.Value.{vias-none, vias-behind, more-behind, more-none}
 use Rattle.sip_message.proofs.via.are_more_vias.Goals as goal
 
 pub returns-in_default-read_via : goal.returns-in_default-read_via
@@ -10,10 +10,6 @@ returns-in_default-read_via c = (
   λ is. absurd (false≢true is),
   λ are. absurd (vias-none c.in-Some.next.now c.in_default-read_via.ensures ((more-behind c.elements.rest.now c.in-Some.next.now c.in-Some.ensures).0 (c.elements.invariant.1 are))),
 )
-
-pub elements-smaller : goal.elements-smaller
-elements-smaller c =
-    more-shorter c.elements.rest.now c.in-Some.next.now c.in-Some-read_via.more.now (element c.in-Some-read_via.field-0-0) c.in-Some.ensures c.in-Some-read_via.ensures
 
 pub elements-preserved : goal.elements-preserved
 elements-preserved c =

@@ -3,11 +3,8 @@ use Rattle.sip_text.specs.Parts.{IsOnlyValue}
 use Rattle.sip_message.specs.inner.ParamFronts.{Param, led_parts}
 use Rattle.sip_message.specs.inner.ViaFronts.{BranchFront}
 use Rattle.sip_message.proofs.lemmas.params.Reading.{param-shorter}
-use Rattle.sip_message.proofs.lemmas.params.Branch.{Decides, copied-or, decides-none, decides-more, decides-not, decides-all}
+use Rattle.sip_message.proofs.lemmas.params.Branch.{Decides, copied-or, decides-more, decides-not, decides-all}
 use Rattle.sip_message.proofs.via.cut_branch.Goals as goal
-
-pub params-init : goal.params-init
-params-init c = decides-none c.args.text.now
 
 pub params-preserved : goal.params-preserved
 params-preserved c =

@@ -4,11 +4,8 @@ use Rattle.sip_text.specs.Parts.{IsOnlyValue}
 use Rattle.sip_message.specs.inner.ParamFronts.{LedFront, led_parts}
 use Rattle.sip_message.specs.inner.ViaFronts.{PortFront}
 use Rattle.sip_message.proofs.lemmas.via.Host.{one-port}
-use Rattle.sip_message.proofs.lemmas.front.Led.{no-led, led-none, led-some}
+use Rattle.sip_message.proofs.lemmas.front.Led.{no-led, led-some}
 use Rattle.sip_message.proofs.via.cut_led_port.Goals as goal
-
-pub returns-in_default : goal.returns-in_default
-returns-in_default c = led-none colon PortFront c.args.text.now refl one-port c.in_default.ensures
 
 pub returns-in_err-port : goal.returns-in_err-port
 returns-in_err-port c =

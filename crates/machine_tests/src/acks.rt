@@ -243,6 +243,28 @@ fn acks_of_equal_tos_pay_the_oldest_first(rt: HostRuntime) -> Result<(), Fail> {
     Ok(())
 }
 
+/// A refusal that was acknowledged and came again is owed after those that came since. So the next ACK for its To pays the other refusal with
+/// this To.
+#[test]
+fn a_refusal_that_came_again_is_paid_after_the_others(rt: HostRuntime) -> Result<(), Fail> {
+    let book = book_with_tos(rt.alloc(), &pairs(rt.alloc())?, 1000)?;
+    let mut entries = Vec::new(rt.alloc());
+    entries.push((0, Action::Sent, 1))?;
+    for number in 0..MANY {
+        entries.push((100, Action::Received, refusal(number)))?;
+    }
+    entries.push((110, Action::Sent, 1000 + MANY / 2 - 1))?;
+    entries.push((110, Action::Received, refusal(MANY - 2)))?;
+    entries.push((110, Action::Sent, 1000 + MANY / 2 - 1))?;
+    let client = InviteClient::new(params(500)?);
+    let pool = run(rt.alloc(), &client, &book, &entries)?;
+    let states = states_of(rt.alloc(), &pool)?;
+    assert!(rt; states.len() == 1);
+    let owed = states[0].owes.iter().map(|run| run.debt.message);
+    assert!(rt; owed.eq((0..MANY - 1).map(refusal)));
+    Ok(())
+}
+
 /// The number of the last of the refusals.
 const LAST: u64 = 521;
 

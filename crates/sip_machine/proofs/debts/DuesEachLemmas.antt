@@ -1,16 +1,16 @@
 -- What many states owe, changed at once.
 use Prim.Native.Nat.{suc, zero}
-use Rattle.std.specs.Prelude.{◌≡◌, ◌<◌, ◌≤◌, ◌+◌, ◌-◌, ◌&&◌, ℕ, Bool, true, false, None, List, [], ◌∷◌, ◌++◌, drop, filter, get_or, length, map, take}
+use Rattle.std.specs.Prelude.{◌≡◌, ◌<◌, ◌≤◌, ◌+◌, ◌-◌, ◌&&◌, ℕ, Bool, true, false, None, List, [], ◌∷◌, ◌++◌, drop, filter, length, map, take}
 use Rattle.std.specs.List.{list_any}
 use Rattle.std.proofs.Common.{refl, sym, ◌∙◌, ap, ap₂, arith, cond, append-nil}
-use Rattle.std.proofs.lemmas.List.{get_or_default, replicate-append-replicate}
+use Rattle.std.proofs.lemmas.Bool.Decides.{nat_tests}
+use Rattle.std.proofs.lemmas.List.{replicate-append-replicate}
 use Rattle.sip_ledger.specs.declared.debt.Debt.{Debt}
 use Rattle.sip_ledger.specs.Accounts.{paid_rows}
 use Rattle.sip_ledger.specs.Debts.{counts_at, is_payable, is_timely, paid_by}
 use Rattle.sip_ledger.specs.Lists.{from_to}
 use Rattle.sip_machine.specs.inner.Dues.{rows_in}
 use Rattle.sip_machine.specs.Owes.{owed_in}
-use Rattle.sip_machine.specs.Prints.{ArePrints}
 use Rattle.sip_machine.proofs.debts.DueLemmas.{owed-none}
 
 -- where each row from one on is changed by f and then by g, and both together change as h does, it is changed as by h

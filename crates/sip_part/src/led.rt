@@ -7,6 +7,7 @@ use sip_text::token_len;
 
 /// The branch of the top Via, where the field is spelled `Via:` or `v:` and the branch stands plainly in it. A message whose branch is not so
 /// plain may still have one.
+#[inline(always)]
 pub fn led_branch(text: &[u8]) -> Option<&[u8]>
     ensures { option_copied result ≡ led_branch text.now }
 {

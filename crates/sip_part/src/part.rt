@@ -49,6 +49,7 @@ impl Part {
 
     /// Whether a message falls into the part, by the branch of its top Via. A message with a fault falls by the branch that stands plainly in
     /// its first line that begins as a Via does, or as a message without a branch.
+    #[inline(always)]
     pub fn has_message(&self, alloc: Global, bytes: &[u8]) -> Result<bool, AllocError>
         ensures { IfOk result (λ falls. (branch : List ℕ) × TellsBranch bytes.now branch × (falls ≡ falls_into self.now branch)) }
     {

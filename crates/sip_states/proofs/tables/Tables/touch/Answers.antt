@@ -1,5 +1,6 @@
-use Rattle.std.proofs.Common.{◌≡◌, ◌<◌, ◌≤◌, ◌+◌, ◌∙◌, ◌++◌, ◌∷◌, [], None, false, ap, length, sym, subst, arith}
+use Rattle.std.proofs.Common.{◌≡◌, ◌<◌, ◌≤◌, ◌+◌, ◌∙◌, ◌++◌, ◌∷◌, [], None, false, ap, length, take, sym, subst, arith}
 use Rattle.std.specs.Map.{values_of}
+use Rattle.std.proofs.Math.Seq.{take-append_seam}
 use Rattle.std.proofs.lemmas.List.{length-append, map-append}
 use Rattle.std.proofs.lemmas.Map.Entries.{length-values_of, length-keys_of}
 use Rattle.indexmap.specs.IndexMap.{keys, values, index_map_len}
@@ -34,3 +35,16 @@ invariant_of-self-2 g c =
       within = within_push t.marks t.moved (inv.2 ∙ sym inv.4) inv.5.within;
     }) in
     (omega (arith, size, room, many), omega (arith, size, agenda, inv.1), omega (arith, size, marks, inv.2), marked, omega (arith, size, moved, inv.4), moves)
+
+pub invariant_of-self-in-Err : goal.invariant_of-self-in-Err
+invariant_of-self-in-Err g c =
+    let t = c.self.inside in
+    let sets = t.sets in
+    let set = start_of t.params c.args.key in
+    let high : length sets.entries ≤ c.in_ok-index.index = omega (arith, c.if-index-count.false, c.len-count.ensures.len) in
+    let entries = (fresh-index t.params c.args.key c.in_ok-index.index sets.entries c.find_or_start.new.sets.entries c.in_ok-index.ensures.ok high).2 in
+    let back : c.truncate.new.self.entries ≡ sets.entries
+    = c.truncate.ensures.entries ∙ ap (λ n. take n c.find_or_start.new.sets.entries) c.len-count.ensures.len ∙ ap (take (length sets.entries)) entries ∙ take-append_seam sets.entries ((c.args.key, set) ∷ []) in
+    let size : index_map_len c.truncate.new.self ≡ index_map_len sets = ap length back in
+    let after : values c.truncate.new.self ≡ values sets = ap values_of back in
+    rw (c.in-Err.ensures.err.0, c.in-Err.ensures.err.1, c.in-Err.ensures.err.2, size, after) c.self.invariant

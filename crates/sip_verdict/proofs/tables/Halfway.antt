@@ -116,7 +116,7 @@ module _ (texts : Texts) (p : Times) (es : List (Observation KeyParts)) (e : Obs
     before : (concerns mine.0 e ≡ true) × IsReady k es (mine.0, own.before)
     before = h.waiting place mine.0 own.before mine.1 own.was (among_first (place + 1) number ns next)
 
-    -- the event leaves `one` of the runs of the key
+    -- the outcome `one` says what the event leaves of the runs of the key
     left : IsPassed p k es e (mine.0, own.after) one
     left =
         own_passed p k es e (mine.0, own.after) before.0 one

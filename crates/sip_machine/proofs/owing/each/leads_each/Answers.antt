@@ -28,6 +28,7 @@ returns-in_err-leads_run-clause-before g c =
     let (at_le, (found, is, covers)) = c.loop-at.invariant in
     before-more c.args.pool.now c.loop-at.pool c.leads_run.new.pool found is c.leads_run.ensures.before
 
+-- one more run of states of one phase was asked, and what they lead to stands in the pool too
 pub loop-at-preserved : goal.loop-at-preserved
 loop-at-preserved g c =
     let m = g.M.Phases in

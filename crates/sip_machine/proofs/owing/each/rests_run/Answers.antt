@@ -28,6 +28,7 @@ pays-requires-clause-known g c =
     (in-run m.names m.in_range c.args.book.now c.pool.inside.phases.items c.pool.inside.dues c.args.pool.now c.args.from c.args.to c.index.result.now c.pool.view_is c.index.ensures
     c.requires.from c.requires.to c.requires.known c.requires.in_range c.requires.same).known
 
+-- where the phase has closed before the moment, no state is left, and the pool is as before
 pub returns-then-is_past-clause-gives : goal.returns-then-is_past-clause-gives
 returns-then-is_past-clause-gives g c =
     let m = g.M.Phases in

@@ -188,7 +188,7 @@ pub(crate) fn find(
     None
 }
 
-/// The first place whose debt a send of a message at the moment pays that stands under the key. The messages that stand there and are left
+/// The first place whose debt a send of one of the messages under the key pays at the moment. The messages that stand there and are left
 /// are gone through from the least on, until what is found stands before all greater ones. Where that takes more than `most` steps, the
 /// answer is None.
 pub(crate) fn find_under(

@@ -29,6 +29,7 @@ returns-in_err-early c =
     (λ p is within.
     c.in_err-early.ensures _ _ (tolerances-after c.args.format c.args.line.now p is t1.0 _ t1.1 t2.0 _ t2.1 t4.0 _ t4.1))
 
+-- where t1, t2, t4 and the tolerances were read, the line tells the times that have these
 pub returns : goal.returns
 returns c =
     let format = c.args.format in

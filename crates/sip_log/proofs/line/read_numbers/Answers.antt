@@ -33,6 +33,7 @@ returns-in_err-len c =
     let same : is.len_text ≡ c.in_ok-rest.rest.now = cc in
     c.in_err-len.ensures len (subst (λ t. IsNumber t len) same is.len_is))
 
+-- the moment, a blank and the length are the whole line
 pub returns : goal.returns
 returns c =
     let text = c.args.text.now in

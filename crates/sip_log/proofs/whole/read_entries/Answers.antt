@@ -6,6 +6,7 @@ use Rattle.sip_log.specs.Reading.{ReaderState, beside_source}
 use Rattle.sip_log.proofs.answers.CallerLemmas.{Stands, Stands-gives, Stands-fault, Nexts-counted, Nexts-fine}
 use Rattle.sip_log.proofs.whole.read_entries.Goals as goal
 
+-- after one entry more, the list has all entries that were read, in their order
 pub loop-entry-preserved : goal.loop-entry-preserved
 loop-entry-preserved g c =
     let l = c.loop-entry in

@@ -6,6 +6,7 @@ use Rattle.sip_machine.proofs.debts.NamesLemmas.{run-appends}
 use Rattle.sip_machine.proofs.pools.PoolLemmas.{some-at}
 use Rattle.sip_machine.proofs.owing.name_phases.Goals as goal
 
+-- after one more run of states of one phase, what the phases up to its end name is appended
 pub loop-at-preserved : goal.loop-at-preserved
 loop-at-preserved g c =
     let xs = c.args.pool.now in

@@ -20,6 +20,7 @@ pub returns-then-second-eq-D : goal.returns-then-second-eq-D
 returns-then-second-eq-D c =
     halved-known c.args.text.now SUPPORTE D known_name.Supported c.type_inv.text c.requires.token c.requires.length.1 (sym c.if-first-eq-SUPPORTE.true ∙ c.requires.first) (sym c.if-second-eq-D.true ∙ c.requires.second) refl refl
 
+-- where the two halves are those of none of the four names of this length, the name is another one
 pub returns-else-first-eq-SUPPORTE : goal.returns-else-first-eq-SUPPORTE
 returns-else-first-eq-SUPPORTE c =
     halved-other c.args.text.now c.type_inv.text c.requires.length.0 (

@@ -26,6 +26,7 @@ is_value_at-requires-clause-clear c =
     value-open (segment (c.args.at + n + 1) end m) (segment c.in-Some.from end m) (behind-open m c.args.at n end less c.requires.within.1 mark c.requires.clear)
     (subst (λ t. ValueText (segment (c.args.at + n + 1) end t) (segment c.in-Some.from end t)) c.text-text.ensures c.in-Some.ensures.value)
 
+-- a plain name, a colon and a value that its row allows are the field that was pushed
 pub returns : goal.returns
 returns c = λ _.
     let m = c.args.masks.now in

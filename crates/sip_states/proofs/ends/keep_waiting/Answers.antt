@@ -27,6 +27,7 @@ copy-requires-clause-to g c =
 pub overflow_add-kept : goal.overflow_add-kept
 overflow_add-kept g c = let behind = c.loop-at.invariant.filters.behind in omega (arith, behind)
 
+-- of the states up to here, those that can wait until the moment stand at the front, in their order
 pub loop-at-preserved : goal.loop-at-preserved
 loop-at-preserved g c =
     let m = c.args.machine.now in

@@ -17,6 +17,7 @@ step_each-requires-clause-known g c = All-take (Knows g.M.Machine.names c.args.b
 pub step_each-requires-clause-in_range : goal.step_each-requires-clause-in_range
 step_each-requires-clause-in_range g c = All-take g.M.Machine.in_range c.len-count.result c.args.pool.now c.requires.in_range
 
+-- where no state can end before the event, what the event gives is found from the states themselves
 pub returns-then-not-some_can_end-clause-gives : goal.returns-then-not-some_can_end-clause-gives
 returns-then-not-some_can_end-clause-gives g c =
     let texts = c.args.book.now in
@@ -78,6 +79,7 @@ returns-clause-within g c =
     let first = c.len-first.ensures in
     omega (arith, one, two, first)
 
+-- where some state can end before the event, what it gives to ended is found too
 pub returns-clause-gives : goal.returns-clause-gives
 returns-clause-gives g c =
     let texts = c.args.book.now in

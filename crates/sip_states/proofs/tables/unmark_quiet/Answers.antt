@@ -32,6 +32,7 @@ unmark-requires-then-is_quiet g c =
     let low = slice_get_within moved index true mark in
     omega (arith, low, c.loop-place.invariant.long, c.loop-place.invariant.as_long, c.requires.long.0, c.requires.long.1)
 
+-- where the set at the index is quiet, both its marks go, and the marks stay right
 pub loop-place-preserved-then-is_quiet : goal.loop-place-preserved-then-is_quiet
 loop-place-preserved-then-is_quiet g c =
     let moved = c.loop-place.moved in

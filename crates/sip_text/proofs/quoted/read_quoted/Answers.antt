@@ -17,6 +17,7 @@ returns-in_err-inner-clause-reads c =
     subst (IsOnlyFront (Sws then Quoted) text) (sym c.from_residual.ensures)
     (none-opens text n blanks.0 blanks.1 (ap (past dquote) (sym (take_rest text n)) ∙ sym c.in_err-inner.ensures))
 
+-- where no quote ends the string, no quoted string stands at the front
 pub returns-in_err-past-clause-reads : goal.returns-in_err-past-clause-reads
 returns-in_err-past-clause-reads c =
     let text = c.args.text.now in

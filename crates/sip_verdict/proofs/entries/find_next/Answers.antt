@@ -44,6 +44,7 @@ returns-clause-watched g c =
     let swept = c.in_ok-sweep.ensures in
     record { long = h.long ∙ ap length (sym swept.keys); recorded = swept.recorded; silent = λ n is. ap (λ rs. slice_get rs n) swept.records ∙ h.silent n is }
 
+-- what was found at the entry is still right after the sweep, and the tables that are left track one entry more
 pub returns-clause-found : goal.returns-clause-found
 returns-clause-found g c = λ es surveyed counts late.
     let mid = c.find.new.standing in

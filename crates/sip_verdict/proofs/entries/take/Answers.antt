@@ -130,6 +130,7 @@ returns-in_ok-pass_each-in-Restart-clause-taken g c = λ es fresh tracks late.
     restart_taken s.book c.observe.new.book e.number e.bytes.items (inl same) (item e) e.moment refl s.tables c.pass_each-in-Restart.new.tables c.args.troubled.now c.pass_each-in-Restart.new.troubled
     c.requires.watched.long c.requires.may.passes.long fresh c.in_ok-pass_each-in-Restart.ensures.keys c.restart-event.result c.restart-event.ensures (λ n keeps. c.requires.may.some n (subst (λ b. Keeps b n) same keeps)) (rw c.in-Restart.is at c.in_ok-told.ensures.observed) c.in_ok-pass_each-in-Restart.ensures.passed es tracks late
 
+-- after transactions heard the message, and it was dropped if no state names it, the next entry may be taken
 pub returns-in_ok-pass_each-in-Heard-clause-may : goal.returns-in_ok-pass_each-in-Heard-clause-may
 returns-in_ok-pass_each-in-Heard-clause-may g c =
     let s = c.args.standing.now in
@@ -149,6 +150,7 @@ pub returns-in_ok-pass_each-in-Heard-clause-watched : goal.returns-in_ok-pass_ea
 returns-in_ok-pass_each-in-Heard-clause-watched g c =
     subst (λ x. AreWatched [] x c.pass_each-in-Heard.new.troubled) (sym c.drop_unnamed.ensures.tables) c.in_ok-pass_each-in-Heard.ensures.watched
 
+-- an entry whose message transactions hear is taken: the tables track it too, also where the message was dropped since no state names it
 pub returns-in_ok-pass_each-in-Heard-clause-taken : goal.returns-in_ok-pass_each-in-Heard-clause-taken
 returns-in_ok-pass_each-in-Heard-clause-taken g c = λ es fresh tracks late.
     let s = c.args.standing.now in

@@ -33,6 +33,7 @@ sweep-requires-clause-recorded g c =
     let long = ap length c.as_slice-flags.ensures.value ∙ c.in_ok-flags.ensures.long in
     subst AllAreOnRecord (sym c.in_ok-keep.ensures.ok) (recorded_kept flags s.tables long c.known.ensures.unique c.in_ok-wait.ensures.recorded)
 
+-- after all sets have waited, some were forgotten and the book was swept, the next entry may be taken
 pub returns-clause-may : goal.returns-clause-may
 returns-clause-may g c =
     let old = c.args.standing.now in
@@ -72,6 +73,7 @@ returns-clause-left g c =
 pub returns-clause-fewer : goal.returns-clause-fewer
 returns-clause-fewer g c = subst (λ b. All (Contains b) c.sweep.new.self.book) c.in_ok-wait.ensures.book c.in_ok-sweep.ensures.fewer
 
+-- exactly what is over was forgotten, and what is left tracks the entries as they are remembered
 pub returns-clause-forgets : goal.returns-clause-forgets
 returns-clause-forgets g c = λ es surveyed told newest.
     let old = c.args.standing.now in

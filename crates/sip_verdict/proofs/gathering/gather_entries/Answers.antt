@@ -26,6 +26,7 @@ entry-requires g c = λ goes_on.
     let low = moves.4 in
     record { next = omega (arith, number, counts); order = omega (arith, newest, order); limit = moves.1.moment_high; room = (omega (arith, counts, low), omega (arith, room, low)) }
 
+-- after one entry more the findings are those of all entries that were read, and the survey stands after these
 pub loop-found-preserved : goal.loop-found-preserved
 loop-found-preserved g c =
     let l = c.loop-found in

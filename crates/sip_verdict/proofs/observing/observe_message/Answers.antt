@@ -59,6 +59,7 @@ returns-clause-heard c =
     let fits = event_fits (item c.args.entry.now) c.in-Ok.message c.add.new.self c.of-event.result c.in_ok-number.number c.of-event.ensures c.in_ok-number.ensures.ok.0 c.requires.limit in
     rw c.keep_to.ensures (fits.0, fits.1, c.in-Ok-keys_of.ensures.2, c.in-Ok-keys_of.ensures.3)
 
+-- the event goes where the action says and concerns some transaction, and the book has the bytes of its message under its number
 pub returns-clause-kept : goal.returns-clause-kept
 returns-clause-kept c =
     let i = item c.args.entry.now in

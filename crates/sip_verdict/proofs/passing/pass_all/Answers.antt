@@ -40,6 +40,7 @@ returns-clause-recorded g c =
     heard_recorded c.args.book.now h.event heard.1.0 t c.hear_each.new.tables c.overdue-overdue.result outcome hearers.given
     (recorded_more (each h.concerned) heard.1.0 t hearers.named (rw c.in-Some.is at c.requires.recorded)) heard.1.2) c.hear_each.ensures.heard
 
+-- the outcome is the first transaction in trouble, of those that hear the event and those whose time is over
 pub returns-clause-outcome : goal.returns-clause-outcome
 returns-clause-outcome g c =
     let h = c.in-Some.hearing.now in

@@ -58,6 +58,7 @@ returns-in_ok-hear_or_release-in-OwnAndCancelled-clause-watched g c =
     on_ok_weaker c.hear_or_release-in-OwnAndCancelled-2.result
     (λ watched h. watched [] (c.in_ok-hear_or_release-in-OwnAndCancelled.ensures.watched (c.in-OwnAndCancelled.cancelled ∷ []) (rw c.in-OwnAndCancelled.is at h))) c.hear_or_release-in-OwnAndCancelled-2.ensures.watched
 
+-- where the event concerns its own transaction and the cancelled one, each hears it or is released, the own one first
 pub returns-in_ok-hear_or_release-in-OwnAndCancelled-clause-heard : goal.returns-in_ok-hear_or_release-in-OwnAndCancelled-clause-heard
 returns-in_ok-hear_or_release-in-OwnAndCancelled-clause-heard g c =
     let t = c.args.tables.now in

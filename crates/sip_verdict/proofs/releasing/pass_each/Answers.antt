@@ -51,6 +51,7 @@ pub returns-clause-watched : goal.returns-clause-watched
 returns-clause-watched g c =
     on_ok_weaker c.hear_each.result (λ watched. watched (c.in_ok-release_overdue.ensures.watched (each c.in-Some.hearing.now.concerned) (rw c.in-Some.is at c.requires.watched))) c.hear_each.ensures.watched
 
+-- first the transactions whose time is over are released, then the others hear the event: so all have passed the entry
 pub returns-clause-passed : goal.returns-clause-passed
 returns-clause-passed g c =
     let released = c.in_ok-release_overdue.ensures in

@@ -10,6 +10,7 @@ use Rattle.sip_verdict.proofs.surveys.written.Remembering.{all_told_forgetting, 
 use Rattle.sip_verdict.proofs.surveys.written.Writing.{still_fine, summed}
 use Rattle.sip_verdict.proofs.remembering.survey_forgetting.Goals as goal
 
+-- after the header nothing was read or forgotten; from there on the loop tells the survey of the whole log
 pub returns-in-Ok-clause-surveyed : goal.returns-in-Ok-clause-surveyed
 returns-in-Ok-clause-surveyed g c =
     let part = option_copied c.args.part in

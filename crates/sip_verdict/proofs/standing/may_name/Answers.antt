@@ -47,6 +47,7 @@ returns-then-may_name-clause-may g c =
 pub set-requires-else-may_name : goal.set-requires-else-may_name
 set-requires-else-may_name g c = (rw c.in-OwnAndCancelled.is at c.requires) 1 0 (omega arith)
 
+-- where the own transaction cannot name the message, some set may name it exactly if the cancelled one may
 pub returns-else-may_name-clause-may : goal.returns-else-may_name-clause-may
 returns-else-may_name-clause-may g c =
     let t = c.args.tables.now in

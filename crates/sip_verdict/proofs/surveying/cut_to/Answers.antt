@@ -10,6 +10,7 @@ use Rattle.sip_verdict.specs.SurveyParts.{IsTaken}
 use Rattle.sip_verdict.proofs.surveys.parts.Taking.{mark_of, part_item}
 use Rattle.sip_verdict.proofs.surveying.cut_to.Goals as goal
 
+-- an entry whose branch falls into another part becomes a mark at its moment
 pub returns-then-not-branch-clause-cut : goal.returns-then-not-branch-clause-cut
 returns-then-not-branch-clause-cut c =
     let e = c.args.entry.now in

@@ -13,6 +13,7 @@ returns-then-account-place-clause-none c = λ k owed.
     let within = owed-within c.args.gains.now c.args.strikes.now c.args.account k owed in
     none-pays_to c.args.gains.now c.args.strikes.now c.args.account c.args.message c.args.moment c.loop-place.from c.in-Some.place c.loop-place.invariant.1 c.in-Some.ensures.next.before k (omega (arith, within)) owed
 
+-- where the place is struck, nothing up to the end of that strike pays, and the search goes on from there
 pub loop-place-preserved-in-Some-struck_to : goal.loop-place-preserved-in-Some-struck_to
 loop-place-preserved-in-Some-struck_to c =
     let g = c.args.gains.now in

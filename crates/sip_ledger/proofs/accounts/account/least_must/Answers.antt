@@ -26,6 +26,7 @@ pub entry-requires-clause-kept : goal.entry-requires-clause-kept
 entry-requires-clause-kept c =
     left-kept c.args.gains.now c.in-Some.place c.requires.gained (owed-left c.args.gains.now c.args.strikes.now c.args.account c.in-Some.place (sym c.owes.ensures ∙ c.if-owes.true))
 
+-- the least deadline so far is that of the debts up to here that must be sent
 pub loop-place-preserved : goal.loop-place-preserved
 loop-place-preserved c =
     let found = c.in-Some.ensures in

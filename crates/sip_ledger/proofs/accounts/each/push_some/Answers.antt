@@ -28,6 +28,7 @@ returns-in_err-push_left-clause-accounts c =
 pub returns-in_err-push_left-clause-err : goal.returns-in_err-push_left-clause-err
 returns-in_err-push_left-clause-err c = grind (arith, from_to-end, debts_length, account-there, paid-front, paid-grown, paid-next, row-there, on-error)
 
+-- after one row more, the rows up to it that can pay the message are pushed with it paid
 pub loop-row-preserved : goal.loop-row-preserved
 loop-row-preserved c =
     let g = c.args.gains.now in

@@ -7,6 +7,7 @@ use Rattle.sip_machine.proofs.texts.OrderLaws.{bytes_at-kept}
 use Rattle.sip_machine.proofs.texts.NewestLaws.{texts_split, kept_newest}
 use Rattle.sip_machine.proofs.book.Book.add.Goals as goal
 
+-- a message that the book lacked is its newest one now: it has its gap among the places, and gets its place when the next one comes
 pub invariant_of-self-in-Err : goal.invariant_of-self-in-Err
 invariant_of-self-in-Err c =
     let kept = c.self.inside.kept.items in

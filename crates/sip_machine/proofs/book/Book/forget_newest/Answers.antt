@@ -22,6 +22,7 @@ invariant_of-self-in_default c =
       subst (λ ts. AreTos ts tos) same beside,
     )
 
+-- without the newest message, which had no place yet, the places of the others are as they were
 pub invariant_of-self-in-Some : goal.invariant_of-self-in-Some
 invariant_of-self-in-Some c =
     let old = c.self.inside.kept.items in

@@ -19,6 +19,7 @@ loosened-self-inside-requires-clause-book c =
     let is = c.keep_only.ensures ∙ merged_is numbers texts c.requires.rising book.rising kept in
     rw c.deref-2.ensures.value (subst IsBook (sym is) (IsBook-only texts numbers book c.requires.rising kept))
 
+-- the places of the messages that are kept stand in order, in runs that tell their first message and are short enough
 pub loosened-self-inside-requires-clause-order : goal.loosened-self-inside-requires-clause-order
 loosened-self-inside-requires-clause-order c =
     let texts = texts_of c.self.inside.kept.items in

@@ -7,6 +7,7 @@ use Rattle.sip_machine.proofs.book.retain.keep_only.Goals.{then-left-numbers+the
 abbrev text : KeptMessage → ℕ × List ℕ
 text k = (k.number, k.bytes.items)
 
+-- of the messages up to here, those that are among the numbers are kept, in their order
 pub loop-i-preserved : goal.loop-i-preserved
 loop-i-preserved c =
     let old = c.args.kept.now.items in

@@ -47,6 +47,7 @@ returns-then-is_past-clause-gives g c = λ d.
     let past = subst (λ x. ¬ (IsWithin e.moment (until_of m.figure p (owing_seen m.seen texts x)))) here (rw (c.moment.ensures, c.until.ensures texts) at c.if-is_past.ensures) in
     ([], sym (append-nil c.args.pool.now), Covers-none (owing_names m.names) (OwingInRange m.in_range) (owing_seen m.seen) texts (RestsFrom m.figure p m.seen texts e x) (λ y h. past h.0))
 
+-- what the state gives without a row is found, if it can wait until the moment
 pub returns-clause-gives : goal.returns-clause-gives
 returns-clause-gives g c = λ d.
     let m = g.M.Phases in

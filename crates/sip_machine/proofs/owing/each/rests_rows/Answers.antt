@@ -40,6 +40,7 @@ returns-in_err-rests_row-clause-before g c =
     let (from_le, to_le, (found, is, covers)) = c.loop-at.invariant in
     before-more c.args.pool.now c.loop-at.pool c.rests_row.new.pool found is c.rests_row.ensures.before
 
+-- after one state more, what the states up to it give without a row is found
 pub loop-at-preserved : goal.loop-at-preserved
 loop-at-preserved g c =
     let m = g.M.Phases in

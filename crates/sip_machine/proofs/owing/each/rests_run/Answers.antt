@@ -46,6 +46,7 @@ returns-then-is_past-clause-gives g c =
           (λ x. Rests m.figure e (owing_seen m.seen texts (unexpired_at e.moment x))) closed,
     )
 
+-- each state that can pay the message and is in time is pushed with that debt paid
 pub returns-in-Some-clause-gives : goal.returns-in-Some-clause-gives
 returns-in-Some-clause-gives g c =
     let m = g.M.Phases in

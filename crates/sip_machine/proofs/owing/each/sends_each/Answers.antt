@@ -29,6 +29,7 @@ returns-in_err-sends_run-clause-before g c =
     let (at_le, (found, is, covers)) = c.loop-at.invariant in
     before-more c.args.pool.now c.loop-at.pool c.sends_run.new.pool found is c.sends_run.ensures.before
 
+-- after one more run of states of one phase, what the states up to its end take is found
 pub loop-at-preserved : goal.loop-at-preserved
 loop-at-preserved g c =
     let m = g.M.Phases in

@@ -26,6 +26,7 @@ successors-requires-clause-in_range g c = λ d.
     let (found, is, covers) = c.loop-at.invariant in
     slice-at (OwingInRange g.M.Phases.in_range) 0 c.args.count c.loop-at.at c.args.pool.now found c.loop-at.pool d is (omega arith) c.loop-at-test.true c.requires.count c.requires.in_range
 
+-- after one state more, what the states up to it take is found
 pub loop-at-preserved : goal.loop-at-preserved
 loop-at-preserved g c =
     let m = g.M.Phases in

@@ -18,6 +18,7 @@ index-requires g c =
 pub mix-requires-clause-within : goal.mix-requires-clause-within
 mix-requires-clause-within g c = grind (arith, beside-length)
 
+-- after one more run of states of one phase, the hash of the phase is mixed into the prints up to its end
 pub loop-at-preserved : goal.loop-at-preserved
 loop-at-preserved g c =
     let phases = c.self.inside.phases.items in

@@ -3,6 +3,7 @@ use Rattle.sip_machine.specs.inner.Slots.{AreSlots}
 use Rattle.sip_machine.proofs.pools.SlotsLemmas.{pair-print, pair-older, reached-more}
 use Rattle.sip_machine.proofs.slots.Slots.last_from.Goals as goal
 
+-- no row between this one and the older one of its slot has the print
 pub loop-next-preserved : goal.loop-next-preserved
 loop-next-preserved c =
     let s = c.args.self.now in

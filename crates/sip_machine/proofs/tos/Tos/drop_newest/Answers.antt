@@ -10,6 +10,7 @@ use Rattle.sip_machine.proofs.tos.Tos.drop_newest.Goals as goal
 abbrev below : To → To → Type 0
 below a b = a.number < b.number
 
+-- without the newest To the others are in order, and each stands under its hash
 pub invariant_of-self : goal.invariant_of-self
 invariant_of-self c =
     let tos = c.self.inside.list.items in

@@ -5,6 +5,7 @@ use Rattle.sip_states.specs.inner.Marks.{marks}
 use Rattle.sip_states.proofs.due.MarksLemmas.{marked_less, marked_still, exchanged}
 use Rattle.sip_states.proofs.marks.Marks.unmark.Goals as goal
 
+-- after the index and the last marked one have changed places, order and places still lead to each other
 pub invariant_of-self : goal.invariant_of-self
 invariant_of-self c =
     let order = c.self.inside.order.items in

@@ -69,6 +69,7 @@ pub unmark_silent-requires-clause-marked : goal.unmark_silent-requires-clause-ma
 unmark_silent-requires-clause-marked g c =
     marked_still (λ s. numbers_of s ≡ []) c.args.moment c.marked.result.now c.self.inside.marks (values c.self.inside.sets) (values c.advance_each.new.sets) c.self.invariant.3 (λ n has. (c.marked.ensures.members n).0 has) c.in_ok-advance_each.ensures.ok
 
+-- all sets have waited: the marked ones were advanced, and waiting does not change the others
 pub returns-clause-ok : goal.returns-clause-ok
 returns-clause-ok g c =
     let up = c.in_ok-advance_each.ensures.ok in
@@ -82,6 +83,7 @@ returns-clause-ok g c =
           (c.self.invariant.2 ∙ sym (length-values_of sets.entries)) c.self.invariant.3 c.marked.ensures.members up;
     }))
 
+-- where memory is refused, each set has waited or is as it was
 pub returns-clause-err : goal.returns-clause-err
 returns-clause-err g c =
     let up = c.in_ok-advance_each.ensures.ok in

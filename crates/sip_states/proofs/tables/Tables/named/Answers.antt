@@ -34,6 +34,7 @@ loop-index-preserved g c =
     (subst (λ ns. AppendsAll ns c.loop-index.found.items c.names.new.out.items) (sym (numbers_at-is t.sets index c.index.result.now at))
     (numbers_appended c.index.result.now c.loop-index.found.items c.names.new.out.items c.in_ok-names.ensures))
 
+-- the numbers of the marked sets are the numbers of all sets, since the others name none
 pub returns-clause-ok : goal.returns-clause-ok
 returns-clause-ok g c =
     let t = c.args.self.now in

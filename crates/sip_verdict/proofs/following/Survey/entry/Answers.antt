@@ -31,6 +31,7 @@ find_next-taken-requires-clause-room g c =
     let few = comes.room.1 in
     omega arith
 
+-- where the survey stands after the entries, what was found at the next one is right, and it stands after that one too
 pub returns-in-Ok-clause-found : goal.returns-in-Ok-clause-found
 returns-in-Ok-clause-found g c = λ es surveys.
     let e = c.args.entry.now in

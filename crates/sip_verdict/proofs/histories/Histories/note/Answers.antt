@@ -3,6 +3,7 @@ use Rattle.std.proofs.lemmas.Option.{slice_get-get_or}
 use Rattle.sip_verdict.specs.inner.Histories.{SpellsBranch}
 use Rattle.sip_verdict.proofs.histories.Histories.note.Goals as goal
 
+-- where the transaction has a history, the entry becomes its last one, and its first one and its branch stay
 pub returns-then-index-len-clause-noted : goal.returns-then-index-len-clause-noted
 returns-then-index-len-clause-noted c =
     let before = c.index_mut.result.now in

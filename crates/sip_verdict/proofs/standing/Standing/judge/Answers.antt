@@ -26,6 +26,7 @@ returns-clause-keyless g c none =
 pub returns-in-Some-clause-keyless : goal.returns-in-Some-clause-keyless
 returns-in-Some-clause-keyless g c none = same_within c.args.self.now.book c.take.new.self.book (c.in_ok-taken.ensures.keyless none)
 
+-- what was judged at the entry holds after the newest message was dropped, since no state names it
 pub returns-clause-judged : goal.returns-clause-judged
 returns-clause-judged g c = λ es tracks counts newest.
     let number = c.args.entry.now.number in

@@ -77,6 +77,7 @@ returns-clause-named g c =
     λ es tracks newest. subst (λ b. AreMany (IsNamed s.tables.times es) (length b)) (sym c.retain_only.ensures)
     (many_named s.book c.known.ensures s.tables.times c.args.moment es s.tables u refl tracks c.requires.may.long newest c.requires.may.order advances.long advances.each numbers named.0 named.1 kept)
 
+-- after the sweep the tables track the same entries, and the book has as many messages as states still name
 pub returns-clause-surveyed : goal.returns-clause-surveyed
 returns-clause-surveyed g c =
     let s = c.args.self.now in

@@ -139,6 +139,7 @@ returns-in_ok-verdict-in-Heard-clause-given g c =
     (subst (λ all. HaveNumbers all numbers keys) (sym c.in_ok-verdict-in-Heard.ensures.keys)
     (have_numbers keys numbers c.args.self.now.tables c.touch_each.new.tables c.in_ok-concerned-in-Heard.ensures.touched))
 
+-- where transactions hear the message, the verdict is that of what is observed of the entry
 pub returns-in_ok-verdict-in-Heard-clause-judged : goal.returns-in_ok-verdict-in-Heard-clause-judged
 returns-in_ok-verdict-in-Heard-clause-judged g c = λ es tracks counts newest.
     let s = c.args.self.now in

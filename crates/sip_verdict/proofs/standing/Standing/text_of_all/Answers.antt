@@ -25,6 +25,7 @@ loop-number-preserved g c =
     subst (λ ns. AppendsEach t ns old new) (sym (up_to-more n (omega arith)) ∙ ap up_to same)
     (appends_more t (up_to (n - 1)) n old (string_bytes c.loop-number.text) new c.loop-number.invariant c.in_ok-push_one.ensures)
 
+-- the text is that of all transactions, in the order of their numbers
 pub returns : goal.returns
 returns g c =
     let t = c.args.self.now.tables in

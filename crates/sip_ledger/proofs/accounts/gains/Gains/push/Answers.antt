@@ -34,6 +34,7 @@ returns-in_err-note c =
     (flags-same g new c.requires.flags c.reserve.ensures.items c.reserve-2.ensures.items refl) in
     record { gained = all.0; ok = first_of (search rules, grind (arith, common_steps)); err = on-error c.from_residual-in_err-note.result c.from_residual-in_err-note.ensures.0 all.1 }
 
+-- with the new gain, its entry, its flags and its places in the indexes are right
 pub returns : goal.returns
 returns c =
     let g = c.args.self.now in

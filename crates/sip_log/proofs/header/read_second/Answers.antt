@@ -24,6 +24,7 @@ returns-in_default-read_times g c =
     (λ ys left. ComesSecond-other c.args.format held ys c.in-Some.len (rw c.in-Some.is at line.first)
     (rw c.as_slice.ensures.value at c.in_default-read_times.ensures))
 
+-- where the second line tells times, what comes is what comes after it
 pub returns : goal.returns
 returns g c =
     let line = c.in_ok-len.ensures in

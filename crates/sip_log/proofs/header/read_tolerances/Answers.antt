@@ -20,6 +20,7 @@ returns-in_err-early-in-Two c =
     let at = subst (λ f. Tolerances f text early late) c.in-Two.is is in
     c.in_err-early-in-Two.ensures early at.0 at.1)
 
+-- where no number follows ` late `, the line tells no two tolerances
 pub returns-in_err-late-in-Two : goal.returns-in_err-late-in-Two
 returns-in_err-late-in-Two c =
     let text = c.args.text.now in

@@ -26,6 +26,7 @@ loop-entry-preserved g c =
       few = omega (arith, counted.up, counted.few);
     }
 
+-- where the next entry cannot be read, this fault is that of the log after the entries before it
 pub returns-in-Err-clause-err : goal.returns-in-Err-clause-err
 returns-in-Err-clause-err g c =
     let l = c.loop-entry in

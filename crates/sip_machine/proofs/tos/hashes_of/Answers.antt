@@ -7,6 +7,7 @@ use Rattle.sip_machine.specs.inner.Tos.{AreUnder, IsUnder}
 use Rattle.sip_machine.proofs.acks.ToLemmas.{on_ok, put-here, put-keeps}
 use Rattle.sip_machine.proofs.tos.hashes_of.Goals as goal
 
+-- after one To more, each To up to it stands under its hash
 pub loop-at-preserved : goal.loop-at-preserved
 loop-at-preserved c =
     let to = c.index-list-at.result in

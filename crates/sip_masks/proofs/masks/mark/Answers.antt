@@ -13,6 +13,7 @@ last-two p text words k w nul room past there before now i below =
     marks-more p text (set words k w) (k + 1) 18446744073709551615 (omega (arith, room, length-set words k w)) (marks-more p text words k w (omega (arith, room)) before now)
     (λ j h. ones-past p text (64 * (k + 1)) j nul (omega (arith, past)) h) i (omega (arith, below, past, there))
 
+-- after one word more, both masks are right for the text up to its end
 pub loop-word-preserved : goal.loop-word-preserved
 loop-word-preserved c =
     let text = c.args.text.now in

@@ -10,6 +10,7 @@ returns-then-at-eq0 c = no-words c.args.text.now c.token_len-at.result c.token_l
 pub words-init : goal.words-init
 words-init c = words-first c.args.text.now c.token_len-at.result c.token_len-at.ensures.within c.token_len-at.ensures.reads c.if-at-eq0.false
 
+-- where no blank or no word follows, the words end here
 pub returns-then-blanks-eq0 : goal.returns-then-blanks-eq0
 returns-then-blanks-eq0 c =
     let text = c.args.text.now in

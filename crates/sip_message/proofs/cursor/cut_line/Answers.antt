@@ -32,6 +32,7 @@ returns-then-is_line c =
     (c.cut.ensures.front ∙ ap (before line_feed) same) (sym (ap option_copied c.in_ok-rest.was) ∙ c.cut.ensures.rest ∙ ap (behind line_feed) same)
     (sym c.is_line.ensures ∙ c.if-is_line.true)
 
+-- the line feed that was found ends no line, so the search goes on after it
 pub ends-preserved : goal.ends-preserved
 ends-preserved c =
     let text = c.args.text.now in

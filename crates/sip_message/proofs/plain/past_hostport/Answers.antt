@@ -7,6 +7,7 @@ use Rattle.sip_message.specs.inner.Plain.{HostPort}
 use Rattle.sip_message.proofs.PlainLemmas.{stands-as, then-stands, hostport-none, hostport-some}
 use Rattle.sip_message.proofs.plain.past_hostport.Goals as goal
 
+-- a host, a colon and a port are a host with its port
 pub returns-in-Some : goal.returns-in-Some
 returns-in-Some c =
     let m = c.args.masks.now in

@@ -47,6 +47,7 @@ returns-in_err-check_not_twice-clause-names c =
 pub returns-clause-names : goal.returns-clause-names
 returns-clause-names c = passes _ c.in_ok-via.ensures.present (passes _ c.in_ok-from.ensures (passes _ c.in_ok-to.ensures (passes _ c.in_ok-call_id.ensures (passes _ c.in_ok-cseq.ensures (passes _ c.in_ok-check_not_twice.ensures refl)))))
 
+-- what was found by name are the first Via and the one From, To, Call-ID and CSeq
 pub returns-clause-stand : goal.returns-clause-stand
 returns-clause-stand c =
     let fields = slice_fields c.args.fields in

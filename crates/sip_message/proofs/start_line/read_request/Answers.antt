@@ -36,6 +36,7 @@ returns-in_err-read_uri c =
     (request-no_uri c.args.line.now c.in_ok-method.method.now c.in_ok-method.rest.now more c.in_ok-at.at c.in_ok-method.ensures (sym c.in_ok-rest.ensures) (omega (arith, c.in_ok-at.ensures.0, c.in_ok-at.ensures.1))
     (subst (λ t. NotRead (UriText t)) c.split_at.ensures.front c.in_err-read_uri.ensures))
 
+-- a method, a URI and the version are the parts of the request line
 pub returns : goal.returns
 returns c =
     let more = c.in_ok-rest.rest.now in

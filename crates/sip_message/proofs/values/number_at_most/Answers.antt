@@ -7,6 +7,7 @@ pub returns-then-not-is_ascii_digit : goal.returns-then-not-is_ascii_digit
 returns-then-not-is_ascii_digit c = λ digits.
     absurd (digits-at c.args.text.now c.loop-byte.byte-index digits c.loop-byte-test.true (sym c.is_ascii_digit.ensures.value ∙ c.if-not-is_ascii_digit.true))
 
+-- where one digit more leads above the greatest number, so does the whole text
 pub returns-then-digit-most : goal.returns-then-digit-most
 returns-then-digit-most c = λ digits.
     let text = c.args.text.now in

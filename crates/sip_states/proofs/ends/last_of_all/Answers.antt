@@ -15,6 +15,7 @@ returns-in_err-last_of g c = rw c.from_residual.ensures (λ m low.
     let inside : i < length xs = omega arith in
     (λ _. tt, λ _. (i, get_or xs i d, inside, get_or_default xs i (get_or xs i d) d inside, (c.in_err-last_of.ensures d m low).1 tt)))
 
+-- after one state more, the last moment so far is the latest to which one of them can wait
 pub loop-at-preserved : goal.loop-at-preserved
 loop-at-preserved g c =
     let m = c.args.machine.now in

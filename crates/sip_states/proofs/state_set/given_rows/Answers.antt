@@ -34,6 +34,7 @@ module _ (g : Over) (c : After-len g) where
       c.requires.order c.requires.book (GivesAfter g.M.Machine.seen texts r xs c.args.from e) _ (picked new x rows)
       c.in_ok-first.ensures.gives (picked-members new c.in_ok-first.first rows x ones) (picked-distinct new c.in_ok-first.first rows x ones)
 
+-- where more states were found than a set follows, the event gives too many
 pub returns-then-len-gt-WIDEST-clause-too_many : goal.returns-then-len-gt-WIDEST-clause-too_many
 returns-then-len-gt-WIDEST-clause-too_many g c = λ _.
     let at = (goal.at.returns-then-len-gt-WIDEST-clause-too_many g c).After-len in

@@ -31,6 +31,7 @@ returns-in_err-past-clause-reads c =
     c.contents_len-close.ensures.stops
     (ap (past dquote) (sym (take_rest inner k)) ∙ sym c.in_err-past.ensures))
 
+-- blanks, a quote, contents and a quote are the one quoted string at the front
 pub returns-clause-reads : goal.returns-clause-reads
 returns-clause-reads c =
     let text = c.args.text.now in

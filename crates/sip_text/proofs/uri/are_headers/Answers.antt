@@ -5,6 +5,7 @@ use Rattle.sip_text.specs.inner.Pieces.{Header}
 use Rattle.sip_text.proofs.uris.UriPartLemmas.{each-past, each-last, each-first, headers-each, each-headers}
 use Rattle.sip_text.proofs.uri.are_headers.Goals as goal
 
+-- where one of the parts between `&` is no header, the text is no headers
 pub returns-then-not-is_header : goal.returns-then-not-is_header
 returns-then-not-is_header c = (
   λ is. absurd (false≢true is),

@@ -5,6 +5,7 @@ use Rattle.sip_text.specs.inner.Pieces.{UriParameter}
 use Rattle.sip_text.proofs.uris.UriPartLemmas.{each-past, each-last, each-first, joined-each, each-joined}
 use Rattle.sip_text.proofs.uri.are_joined_params.Goals as goal
 
+-- where one of the parts between ";" is no parameter, the text is no parameters
 pub returns-then-not-is_param : goal.returns-then-not-is_param
 returns-then-not-is_param c = (
   λ is. absurd (false≢true is),

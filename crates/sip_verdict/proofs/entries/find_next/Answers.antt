@@ -5,6 +5,7 @@ use Rattle.sip_verdict.proofs.sweeps.SweptBook.{same_within, within_keeps}
 use Rattle.sip_verdict.proofs.surveys.kept.Kept.{surveyed_kept, surveyed_swept}
 use Rattle.sip_verdict.proofs.entries.find_next.Goals as goal
 
+-- where no sweep is due yet, what was found at the entry is right, and the book has few enough messages
 pub returns-then-kept-left-clause-found : goal.returns-then-kept-left-clause-found
 returns-then-kept-left-clause-found g c = λ es surveyed counts late.
     let s = c.args.standing.now in

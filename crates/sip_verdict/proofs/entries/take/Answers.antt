@@ -72,6 +72,7 @@ returns-in_ok-pass_each-in-Restart-clause-histories g c = λ es e told keys coun
     restart_histories es e b (record { each = b.each; restart = number }) number
     (ap (λ o. o.keys) (observes_one es (item c.args.entry.now) e f seen f_seen ∙ is)) counts refl refl told
 
+-- the histories of the transactions that hear the message have the entry as their last one
 pub returns-in_ok-pass_each-in-Heard-clause-histories : goal.returns-in_ok-pass_each-in-Heard-clause-histories
 returns-in_ok-pass_each-in-Heard-clause-histories g c = λ es e told t_keys counts seen.
     let s = c.args.standing.now in

@@ -48,6 +48,7 @@ returns-clause-may g c =
     let may = subst (λ t. MayTake s.book t (newest.number + 1) newest.moment) (sym c.in_ok-keep.ensures.ok) (take_kept flags s.tables long c.known.ensures.unique s.book (newest.number + 1) newest.moment waited) in
     swept_take s.book new.book mid new.tables (newest.number + 1) newest.moment may swept.may swept.recorded (within_keeps s.book new.book swept.fewer) swept.keys
 
+-- what is kept is watched: the last moment of each set is on record, and a transaction in trouble has none
 pub returns-clause-watched : goal.returns-clause-watched
 returns-clause-watched g c =
     let s = c.wait.new.self in

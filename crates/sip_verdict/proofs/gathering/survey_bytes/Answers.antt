@@ -10,6 +10,7 @@ use Rattle.sip_verdict.proofs.surveys.written.Gathering.{gathered_header}
 use Rattle.sip_verdict.proofs.surveys.written.Writing.{surveys_none}
 use Rattle.sip_verdict.proofs.gathering.survey_bytes.Goals as goal
 
+-- after the header nothing was read; from there on the loop finds what the whole log has
 pub returns-in-Ok-clause-survey : goal.returns-in-Ok-clause-survey
 returns-in-Ok-clause-survey g c =
     let start = Some c.args.bytes.now in

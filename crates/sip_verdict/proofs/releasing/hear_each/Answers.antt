@@ -41,6 +41,7 @@ hear_or_release-requires-in-OwnAndCancelled-2-clause-given g c =
 pub returns-in-Own-clause-watched : goal.returns-in-Own-clause-watched
 returns-in-Own-clause-watched g c = on_ok_weaker c.hear_or_release.result (λ watched h. watched [] (rw c.in-Own.is at h)) c.hear_or_release.ensures.watched
 
+-- where the event concerns its own transaction alone, that one hears it or is released
 pub returns-in-Own-clause-heard : goal.returns-in-Own-clause-heard
 returns-in-Own-clause-heard g c =
     let t = c.args.tables.now in

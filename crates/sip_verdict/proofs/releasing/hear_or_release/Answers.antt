@@ -84,6 +84,7 @@ returns-in_ok-restart_key-in-NoRun-clause-watched g c =
     on_ok_weaker c.add_broken.result (λ added waits h. watched_off t c.args.troubled.now c.args.number waits c.requires.given h c.restart_key.new.self c.add_broken.new.self (start_of t.times anew.key) anew.endless added.deaf
     (ap (λ x. x.keys) anew.begun) (anew_sets t c.restart_key.new.self c.args.number c.hear.new.set anew.key (ap (λ x. x.sets) anew.begun)) (ap (λ x. x.records) anew.begun)) c.add_broken.ensures
 
+-- where the event leaves no state, the transaction is called broken, and its set begins anew
 pub returns-in_ok-restart_key-in-NoRun-clause-heard : goal.returns-in_ok-restart_key-in-NoRun-clause-heard
 returns-in_ok-restart_key-in-NoRun-clause-heard g c =
     let t = c.args.tables.now in
@@ -108,6 +109,7 @@ returns-in_ok-restart_key-in-TooWide-clause-watched g c =
     on_ok_weaker c.add_wide.result (λ added waits h. watched_off t c.args.troubled.now c.args.number waits c.requires.given h c.restart_key-in-TooWide.new.self c.add_wide.new.self (start_of t.times anew.key) anew.endless added.deaf
     (ap (λ x. x.keys) anew.begun) (anew_sets t c.restart_key-in-TooWide.new.self c.args.number c.hear.new.set anew.key (ap (λ x. x.sets) anew.begun)) (ap (λ x. x.records) anew.begun)) c.add_wide.ensures
 
+-- where the event leaves too many states, the transaction is called too wide, and its set begins anew
 pub returns-in_ok-restart_key-in-TooWide-clause-heard : goal.returns-in_ok-restart_key-in-TooWide-clause-heard
 returns-in_ok-restart_key-in-TooWide-clause-heard g c =
     let t = c.args.tables.now in

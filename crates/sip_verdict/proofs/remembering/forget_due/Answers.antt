@@ -4,6 +4,7 @@ use Rattle.sip_verdict.specs.Forgetting.{remembered}
 use Rattle.sip_verdict.proofs.surveys.written.Horizons.{came_long_ago, horizon_kept, horizon_left}
 use Rattle.sip_verdict.proofs.remembering.forget_due.Goals as goal
 
+-- where it is time to forget, the survey stands after what is remembered, and the horizon tells how many messages are left
 pub returns-clause-left : goal.returns-clause-left
 returns-clause-left g c = λ es stands horizon_is.
     let m = c.args.horizon.now in

@@ -35,6 +35,7 @@ returns-in-Own-clause-none g c none =
     subst (λ x. (is_all x ≡ false) × All names (each x)) (sym c.in-Own.is)
     (refl, All-cons names own [] (names_not c.args.number own t c.set.result.now c.set.ensures (c.may_name.ensures.none none)) (All-nil names))
 
+-- where the own transaction can name the message, some set may name it
 pub returns-then-may_name-clause-may : goal.returns-then-may_name-clause-may
 returns-then-may_name-clause-may g c =
     let t = c.args.tables.now in

@@ -109,6 +109,7 @@ loop-standing-preserved g c =
           (subst (JudgesOn c.args.aim l.standing.book l.standing.tables l.left now.standing.book now.standing.tables now.left e) c.in_default.is c.in_ok-verdict-in-Entry.ensures.judged) c.in_ok-verdict-in-Entry.ensures.times moves.3;
     }
 
+-- where the log ends before the aim, the walk tells how many entries and transactions there were
 pub returns-in-End-clause-answer : goal.returns-in-End-clause-answer
 returns-in-End-clause-answer g c =
     let l = c.loop-standing in
@@ -118,6 +119,7 @@ returns-in-End-clause-answer g c =
     walks_end c.args.aim start old l.count l.left l.standing.book l.standing.tables walks c.transactions-transactions.result c.transactions-transactions.ensures l.invariant.may.passes.long l.invariant.before
     ((rw c.in-End.is at c.in_ok-entry.ensures.gives) start l.standing.tables.times walks.items walks.read)
 
+-- where the next entry cannot be read, the walk's answer is that fault
 pub returns-in-Fault-clause-answer : goal.returns-in-Fault-clause-answer
 returns-in-Fault-clause-answer g c =
     let l = c.loop-standing in

@@ -27,6 +27,7 @@ loop-place-preserved-in-Some-struck_to c =
       c.next.ensures.seek,
     )
 
+-- the place is owed and in time, and no place before it pays, so it is the first
 pub returns-then-moment-entry-clause-found : goal.returns-then-moment-entry-clause-found
 returns-then-moment-entry-clause-found c =
     let g = c.args.gains.now in
@@ -46,6 +47,7 @@ returns-clause-none c = λ k owed.
     let end = c.requires.account.end in
     none-pays_to g c.args.strikes.now c.args.account c.args.message c.args.moment c.loop-place.from (length (entries_of g)) c.loop-place.invariant.1 (λ j low high. c.in_default.ensures.next.none j low) k (omega (arith, within, end)) owed
 
+-- the deadline of the place is past, so no place up to it pays
 pub loop-place-preserved : goal.loop-place-preserved
 loop-place-preserved c =
     let g = c.args.gains.now in

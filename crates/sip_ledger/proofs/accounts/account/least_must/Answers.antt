@@ -6,6 +6,7 @@ use Rattle.sip_ledger.proofs.account.ToldLemmas.{least-first, least-first_due, l
 use Rattle.sip_ledger.proofs.accounts.account.least_must.Goals.{then-owes+else-gains, else-owes}
 use Rattle.sip_ledger.proofs.accounts.account.least_must.Goals as goal
 
+-- before the first place there is no least deadline, or it is that of the first debt
 pub loop-place-init : goal.loop-place-init
 loop-place-init c =
     let start = c.args.account.start in

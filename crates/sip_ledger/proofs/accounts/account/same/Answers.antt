@@ -39,6 +39,7 @@ returns-then-ne c =
 pub returns-then-at-one : goal.returns-then-at-one
 returns-then-at-one c = end-same c.requires.one c.requires.other c.loop-at.invariant c.if-at-one.true
 
+-- one account ends here and the other goes on, so they owe different things
 pub returns-else-at-one : goal.returns-else-at-one
 returns-else-at-one c =
     let was = c.loop-at.invariant in

@@ -18,6 +18,7 @@ returns-in_err-grown-clause-accounts c =
 pub returns-in_err-grown-clause-err : goal.returns-in_err-grown-clause-err
 returns-in_err-grown-clause-err c = grind (arith, changing-all, debts-count, gained-front, gained-grown, gained-more, gained-over, with_debt, on-error)
 
+-- after one row more, the rows up to it have gained the debt
 pub loop-row-preserved : goal.loop-row-preserved
 loop-row-preserved c =
     let was = c.loop-row.invariant in

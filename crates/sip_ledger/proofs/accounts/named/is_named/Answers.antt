@@ -12,6 +12,7 @@ use Rattle.sip_ledger.proofs.accounts.named.is_named.Goals as goal
 pub returns-then-names : goal.returns-then-names
 returns-then-names c = grind (arith, take-length, take_more, named-here, named-nowhere)
 
+-- none of the rows up to here owes the message
 pub loop-at-preserved : goal.loop-at-preserved
 loop-at-preserved c =
     let none : Account = record { start = 0; end = 0; soft = 0; first = 0; last = 0; print = 0 } in

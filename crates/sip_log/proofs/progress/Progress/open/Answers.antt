@@ -25,6 +25,7 @@ returns-in-Ok g c =
           (headed (unread window left) left2 before after format p c.in-Ok.ensures),
     )
 
+-- where the header has a fault, this fault is what came
 pub returns-in-Err : goal.returns-in-Err
 returns-in-Err g c =
     let window = c.in_ok-window.window in

@@ -25,6 +25,7 @@ returns-clause-reads g c =
       fine = c.in_ok-count.ensures.ok;
     }
 
+-- where there was room and no byte came, the source is at its end
 pub returns-clause-end : goal.returns-clause-end
 unfolding returns-clause-reads
 returns-clause-end g c = λ none room.

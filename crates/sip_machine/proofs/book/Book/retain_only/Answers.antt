@@ -41,6 +41,7 @@ loosened-self-inside-requires-clause-order c =
       short = c.move_all.ensures.short;
     })
 
+-- the messages that are kept, their places and their Tos fit each other
 pub invariant_of-self : goal.invariant_of-self
 invariant_of-self c =
     let texts = texts_of c.self.inside.kept.items in

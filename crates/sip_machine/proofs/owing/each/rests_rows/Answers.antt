@@ -12,6 +12,7 @@ use Rattle.sip_machine.proofs.pools.PoolLemmas.{some-at}
 use Rattle.sip_machine.proofs.pools.PoolEachLemmas.{from_to-more}
 use Rattle.sip_machine.proofs.owing.each.rests_rows.Goals as goal
 
+-- before the first state nothing was found
 pub loop-at-init : goal.loop-at-init
 loop-at-init g c =
     let m = g.M.Phases in

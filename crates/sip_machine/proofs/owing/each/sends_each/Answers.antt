@@ -44,6 +44,7 @@ loop-at-preserved g c =
           (omega (arith, order.1, le)) has c.in_ok-sends_run.ensures.gives,
     )
 
+-- at the end of the loop all states that were to be asked have been asked
 pub returns-clause-gives : goal.returns-clause-gives
 returns-clause-gives g c =
     let m = g.M.Phases in

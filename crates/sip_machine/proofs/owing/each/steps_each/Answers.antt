@@ -48,6 +48,7 @@ loop-at-preserved g c =
     (take_more old at d low) (found, is, covers) new_is
     (Covers-alone (owing_names m.names) (OwingInRange m.in_range) (owing_seen m.seen) texts P x added (Covers-stood (owing_names m.names) (OwingInRange m.in_range) (owing_seen m.seen) texts (P x) added stands))
 
+-- at the end of the loop all states that were to be asked have been asked
 pub returns-clause-gives : goal.returns-clause-gives
 returns-clause-gives g c =
     let m = g.M.Phases in

@@ -45,6 +45,7 @@ loop-at-preserved g c =
           ∙ ap (λ z. z.phase) (state-at phases rows xs at p x c.self.view_is here) ∙ sym c.index.ensures)),
     )
 
+-- at the end of the loop each print has the hash of its state's phase and debts
 pub returns : goal.returns
 returns g c =
     let phases = c.self.inside.phases.items in

@@ -10,6 +10,7 @@ use Rattle.sip_machine.proofs.tos.Tos.push.Goals as goal
 abbrev below : To → To → Type 0
 below a b = a.number < b.number
 
+-- with the new To the others are in order, and each stands under its hash
 pub invariant_of-self-2 : goal.invariant_of-self-2
 invariant_of-self-2 c =
     let tos = c.self.inside.list.items in

@@ -5,6 +5,7 @@ use Rattle.sip_masks.specs.Marks.{is_plain, is_other}
 use Rattle.sip_masks.proofs.RunLemmas.{stops-at, goes-on}
 use Rattle.sip_masks.proofs.masks.Masks.long_run.Goals as goal
 
+-- the first bit of the word is the first byte that is not plain, so the run ends there
 pub returns-then-word-ne0 : goal.returns-then-word-ne0
 returns-then-word-ne0 c =
     let text = c.self.inside.text.now in

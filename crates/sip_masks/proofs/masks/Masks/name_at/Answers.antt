@@ -14,6 +14,7 @@ is_ordinary_name-requires c =
     let all = ap (prefix_len is_plain) (take_rest text p) ∙ ap (λ t. prefix_len is_plain (drop p t)) c.text.ensures in
     omega (arith, all, c.in_ok-len.ensures.0)
 
+-- the plain bytes at p are an ordinary name
 pub returns-then-is_ordinary_name : goal.returns-then-is_ordinary_name
 returns-then-is_ordinary_name c =
     let len = c.in_ok-len.len in
@@ -23,6 +24,7 @@ returns-then-is_ordinary_name c =
     (subst (λ w. OrdinaryName (take len w) × (32 ≤ length w)) (take_rest c.text.result.now p) (c.is_ordinary_name.ensures.0 c.if-is_ordinary_name.true)) in
     (c.in_ok-len.ensures.0, name.0, name.1)
 
+-- no ordinary name stands at p, since the plain bytes there are none
 pub returns-else-is_ordinary_name : goal.returns-else-is_ordinary_name
 returns-else-is_ordinary_name c len begins =
     let p = c.args.p in

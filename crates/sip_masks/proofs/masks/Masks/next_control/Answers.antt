@@ -5,6 +5,7 @@ use Rattle.sip_masks.specs.Marks.{is_control}
 use Rattle.sip_masks.proofs.RunLemmas.{stops-at, goes-on, twice}
 use Rattle.sip_masks.proofs.masks.Masks.next_control.Goals as goal
 
+-- the first bit of the word is the next control
 pub returns-then-word-ne0 : goal.returns-then-word-ne0
 returns-then-word-ne0 c =
     let text = c.self.inside.text.now in

@@ -46,6 +46,7 @@ returns-in_err-named c =
     (begun b.1 (passes _ c.in-Some-read_start.ensures.0 (passes _ (c.in_ok-fields.ensures.fields b.0 b.2)
     (stopped fault (subst (λ xs. NamesOf (map field_parts xs) (stops fault)) c.deref.ensures.value c.in_err-named.ensures.names) refl))))
 
+-- where the body has a fault, and nothing before it has, this is the fault of the bytes
 pub returns-in_err-body : goal.returns-in_err-body
 returns-in_err-body c =
     let b = begins c.in-Some.ensures.0 (c.is_clean.ensures.0 c.if-not-is_clean.false) c.cut_first.ensures in

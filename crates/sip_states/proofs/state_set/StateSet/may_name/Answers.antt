@@ -11,6 +11,7 @@ use Rattle.sip_states.proofs.state_set.StateSet.may_name.Goals as goal
 pub loop-at-init : goal.loop-at-init
 loop-at-init g c any = omega (arith, any.2)
 
+-- no state up to here names the message
 pub loop-at-preserved : goal.loop-at-preserved
 loop-at-preserved g c =
     let xs = c.args.self.now.states in
@@ -21,6 +22,7 @@ loop-at-preserved g c =
     none_more (MayName g.M.Phases.names c.args.number) xs c.loop-at.at d low c.loop-at.invariant
     (λ may. false≢true (sym c.if-state_may_name.false ∙ tells.1 may))
 
+-- the state that was found is a state of the set that names the message
 pub returns-then-state_may_name-clause-may : goal.returns-then-state_may_name-clause-may
 returns-then-state_may_name-clause-may g c =
     let xs = c.args.self.now.states in

@@ -46,6 +46,7 @@ invariant_of-self g c =
       },
     )
 
+-- the keys, the sets and the records are those whose flag is set, in their order
 pub returns-clause-ok : goal.returns-clause-ok
 returns-clause-ok g c =
     let flags = c.args.flags.now in

@@ -13,6 +13,7 @@ use Rattle.sip_states.proofs.keyed.ByMachine.{numbers_appended}
 use Rattle.sip_states.proofs.due.AdvanceLemmas.{place_among, numbers_at, numbers_at-is, marked_names, named_if}
 use Rattle.sip_states.proofs.tables.Tables.named.Goals as goal
 
+-- an index that is marked is one of the sets
 pub index-requires : goal.index-requires
 index-requires g c =
     let marks = c.self.inside.marks in

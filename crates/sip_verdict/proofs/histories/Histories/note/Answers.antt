@@ -19,6 +19,7 @@ returns-then-index-len-clause-noted c =
       last = refl;
     })
 
+-- where the transaction has no history yet, the entry becomes its first one and its last one, with the branch as the message spells it
 pub returns-clause-noted : goal.returns-clause-noted
 returns-clause-noted c =
     let number = c.args.entry.now.number in

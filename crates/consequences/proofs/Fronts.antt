@@ -53,6 +53,7 @@ ends p es (item ∷ items) end v (e, sees, inr (formed, runs, narrow, more)) =
           ⊎ ((next : Item) × (after : List Item) × (f : Observation KeyParts) × (later.rest ≡ next ∷ after) × Sees fs next f × HasTrouble p fs f v)) same later.last;
     }
 
+-- What follows is of one input.
 module _ (input : List ℕ) where
   -- the first entry that is in trouble has the number that follows those of the entries that go well
   first_in_trouble : (p : Times) (items : List Item) (end : LogEnd) (v : Verdict) (number : ℕ) → LogSays input p items end → (found : Ends p [] items end v)

@@ -63,6 +63,7 @@ strange byte = (not (is_ascii_alphanumeric byte) && not (byte == dot)) && not (b
 beyond-strange : (b : ℕ) → b < 256 → is_plain b ≡ true → is_beyond b ≡ strange b
 beyond-strange b small plain = subst (λ p. (p && is_beyond b) ≡ (p && strange b)) plain (agree_below_at (λ x. is_plain x && is_beyond x) (λ x. is_plain x && strange x) 256 b refl small)
 
+-- What follows is of a window, the first len bytes of it, which are plain, and the bits that the code has of its first 32 bytes.
 module _ (window : List ℕ) (len bs ds hs : ℕ) (room : 32 ≤ length window) (some : 0 < len) (small : len ≤ 32)
     (bytes : (i : ℕ) → get_or window i 0 < 256) (plain : (i : ℕ) → i < len → is_plain (get_or window i 0) ≡ true)
     (beyond : (i : ℕ) → i < 32 → test bs i ≡ is_beyond (get_or window i 0))

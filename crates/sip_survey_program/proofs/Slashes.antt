@@ -32,6 +32,7 @@ slash_at (x ∷ xs) ys (other, lacks) =
     let on = slash_at xs ys lacks in
     ap (λ b. cond (not b) (1 + position_or_len is_slash (xs ++ 47 ∷ ys)) 0) other ∙ omega (arith, on)
 
+-- What follows is of a word of two numbers with a slash between them.
 module _ (k n : ℕ) (low : k < 2 ^ 64) where
   -- the first slash of K/N comes right after K
   at : position_or_len is_slash (decimal k ++ 47 ∷ decimal n) ≡ length (decimal k)

@@ -24,6 +24,7 @@ use Rattle.sip_ledger.proofs.account.FindLemmas.{named-pays}
 pays-parts : (message t : ℕ) (entry : Entry) → (entry.message == message && nat_le t entry.deadline) ≡ true → (entry.message ≡ message) × (t ≤ entry.deadline)
 pays-parts message t entry pays = (grind (arith, nat_tests), grind (arith, nat_tests))
 
+-- What follows is of two tests of messages at the moment t: each message that passes `few` passes `more`.
 module _ (entries : List Entry) (owes few more : ℕ → Bool) (t : ℕ) (wider : (m : ℕ) → few m ≡ true → more m ≡ true) where
   -- what a message pays that passes one test, a message pays that passes a wider one
   of-more : (k : ℕ) → PaysSomeAt entries few t k → PaysSomeAt entries more t k
@@ -35,6 +36,7 @@ module _ (entries : List Entry) (owes few more : ℕ → Bool) (t : ℕ) (wider 
   first-same None back none = λ k owed (passes, early). none k owed (back k tt owed passes, early)
   first-same (Some p) back is = (is.0, of-more p is.1, λ k low owed (passes, early). is.2 k low owed (back k low owed passes, early))
 
+  -- What follows is of one message, the only one that passes `more` and perhaps not `few`.
   module _ (message : ℕ) (passes : more message ≡ true) (only : (m : ℕ) → more m ≡ true → (few m ≡ true) ⊎ (m ≡ message)) where
     of-last : (k : ℕ) → pays_at entries message t k ≡ true → PaysSomeAt entries more t k
     of-last k pays =
@@ -76,6 +78,7 @@ below-parts false m from is = absurd (true≢false (sym is))
 below-is : (held : Bool) (m from : ℕ) → held ≡ true → m < from → (held && nat_lt m from) ≡ true
 below-is held m from is low = ap (λ b. b && nat_lt m from) is ∙ lt-ltb m from low
 
+-- What follows is of the search of `find_under`: an account, the pairs of its index, the key that is looked up, and the moment t.
 module _ (gains : Gains) (strikes : List Strike) (a : Account) (pairs : List (ℕ × ℕ)) (key t : ℕ) where
   abbrev IsFirst : (ℕ → Bool) → Option ℕ → Type 0
   IsFirst test first = IsFirstOf (entries_of gains) (owes_at gains strikes a) test t first
@@ -90,6 +93,7 @@ module _ (gains : Gains) (strikes : List Strike) (a : Account) (pairs : List (�
       below-is (holds pairs key m) m from (under m passes) (low m k passes (under m passes) (held_left gains m k refl ∙ owed-left gains strikes a k owed)))
       is
 
+  -- What follows is of the first place so far: that of the messages under the key below `from`.
   module _ (from : ℕ) (first : Option ℕ) (is : IsFirst (below pairs key from) first) where
     -- nothing stands under the key from here on
     pub none-under : ((n : ℕ) → from ≤ n → holds pairs key n ≡ false) → IsFirst (holds pairs key) first
@@ -99,6 +103,7 @@ module _ (gains : Gains) (strikes : List Strike) (a : Account) (pairs : List (�
           | inr high ↦ absurd (true≢false (sym held ∙ none m high))
         ]) is
 
+    -- What follows is of the next message under the key.
     module _ (message : ℕ) (next : IsNextUnder pairs key from message) where
       -- what stands under the key is below `from`, or not below the next message
       next-under : (m : ℕ) → holds pairs key m ≡ true → m < message → m < from
@@ -133,6 +138,7 @@ module _ (gains : Gains) (strikes : List Strike) (a : Account) (pairs : List (�
                 absurd (omega (arith, least, low))
           ]) is
 
+  -- What follows is of the place that was found for one more message under the key.
   module _ (message : ℕ) (first place : Option ℕ) (held : holds pairs key message ≡ true) (is : IsFirst (below pairs key message) first)
       (found : IfSome place (IsFirstPayable (entries_of gains) (owes_at gains strikes a) message t))
       (none : IfNone place ((k : ℕ) → owes_at gains strikes a k ≡ true → pays_at (entries_of gains) message t k ≡ false)) where
@@ -156,6 +162,7 @@ sooner-low : (first : Option ℕ) (p k : ℕ) → IfSome (sooner first (Some p))
 sooner-low None p k low = low
 sooner-low (Some q) p k low = omega (arith, low)
 
+-- What follows is of what was found of one message under the key.
 module _ (gains : Gains) (strikes : List Strike) (a : Account) (pairs : List (ℕ × ℕ)) (key t message : ℕ) (gained : AreGains gains) where
   -- the place of a debt that is found is kept
   pub found-kept : (place : Option ℕ) → IfSome place (IsFirstPayable (entries_of gains) (owes_at gains strikes a) message t) → IfSome place (IsKept gains)
@@ -177,6 +184,7 @@ module _ (gains : Gains) (strikes : List Strike) (a : Account) (pairs : List (�
       below-is (holds pairs key (entry_at (entries_of gains) k).message) (entry_at (entries_of gains) k).message (message + 1) passes (omega (arith, low, same)))
       is
 
+-- What follows is of one account, and what a send at the moment t of a message that passes the test pays of it.
 module _ (gains : Gains) (strikes : List Strike) (a : Account) (test : ℕ → Bool) (t : ℕ) where
   abbrev owed : ℕ → Bool
   owed = owes_at gains strikes a

@@ -6,6 +6,7 @@ use Rattle.std.proofs.lemmas.List.Elements.{All-head, All-tail}
 use Rattle.sip_ledger.specs.declared.debt.Debt.{Debt}
 use Rattle.sip_ledger.specs.Debts.{IsWithoutFirst, is_payable, paid_by}
 
+-- What follows is of a send of one message at the moment t.
 module _ (message t : ℕ) where
   abbrev Unpaid : Debt → Type 0
   Unpaid debt = ¬ (IsTrue (is_payable message t debt))

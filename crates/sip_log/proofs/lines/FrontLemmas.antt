@@ -68,6 +68,7 @@ module _ (format : Format) (last : ℕ) (held ys : List ℕ) where
   AtLine-long none many =
       inl (FrontLine-none held ys none (inl many), inr (omega (arith, length-append held ys), refl))
 
+  -- What follows is of a front line that ends at the place k.
   module _ (k : ℕ) (short : k < longest_line) (found : IsFirstByte (is_byte line_feed) (take longest_line held) (Some k)) where
     -- where the front line does not have the form of an entry's line, the line of the entry is at fault
     pub AtLine-other : ((head : Head) → ¬ (HeadLine format (take k held) head)) → LineComes format last (held ++ ys) (stops faults.EntryLine)

@@ -64,6 +64,7 @@ pub none-appends : (count : ℕ) (old : List ℕ) → AppendsAll (flat_map owes_
 none-appends count old =
     ([], sym (append-nil old), λ m. (λ there. absurd (Contains-nil m there), λ there. absurd (Contains-nil m (subst (λ ns. Contains ns m) (none-named count) there))))
 
+-- What follows is of the states of one machine, and what its phases name.
 module _ {S : Type 0} (names : S → List ℕ) where
   -- what a state's phase names
   abbrev phase_names : CodeOwing S → List ℕ

@@ -13,6 +13,7 @@ use Rattle.sip_machine.specs.declared.effects.Rest.TheVariants.{Stays, Pays}
 use Rattle.sip_machine.specs.inner.Effects.{rested_debts, rests_at}
 use Rattle.sip_machine.specs.inner.Pools.{beside}
 
+-- What follows is of phases beside the rows of what is owed, as the states of a pool.
 module _ {S : Type 0} where
   -- phases beside rows are as many states as there are phases
   pub beside-length : (phases : List S) (rows : List (List Debt)) → length (beside phases rows) ≡ length phases

@@ -47,6 +47,7 @@ within-told : (t : ℕ) (last : Option ℕ) → is_within t last ≡ false → �
 within-told t None is = λ _. true≢false is
 within-told t (Some last) is = λ within. grind (arith, nat_tests)
 
+-- What follows is of the states of one phase, which are asked together: the figure f with the times p.
 module _ {S X : Type 0} (f : Figure X) (p : Times) (seen : Texts → S → X) (names : S → List ℕ) (InRange : S → Type 0) (texts : Texts) where
   -- a state lasts until t where its timers and the deadlines of what it must send do
   timely-lasts : (t : ℕ) (x : CodeOwing S) → IsWithin t (earliest (closes_at f p (seen texts x.phase))) → is_timely t x.owes ≡ true →
@@ -190,6 +191,7 @@ module _ {S X : Type 0} (f : Figure X) (p : Times) (seen : Texts → S → X) (n
         subst (Owings (Lasting e.moment x P)) (timely-paid can (is_timely e.moment owes) (repaid_at e.moment message x))
         (timely-answers e.moment x P (cond can (Some (repaid_at e.moment message x)) None) (is_timely e.moment owes) refl timers one)))
 
+-- What follows is of one state of the code, without what has expired at the event: the figure f with the times p.
 module _ {S X : Type 0} (f : Figure X) (p : Times) (seen : Texts → S → X) (texts : Texts) where
   -- the step of a state of the code that has lasted until the event, without what has expired, is the take of its state of the rules
   steps-same : (a : Action) (e : MachineEvent) (x : CodeOwing S) (y : Owing X) → e.action ≡ a →

@@ -135,6 +135,7 @@ IsWithoutFirst-filter p P xs ys passes a =
       rest = ap (filter p) a.rest ∙ filter-append p a.before a.after;
     }
 
+-- What follows is of one state of the code: the figure f with the times p.
 module _ {S X : Type 0} (f : Figure X) (p : Times) (seen : Texts → S → X) (names : S → List ℕ) (InRange : S → Type 0) (texts : Texts) where
   -- where a row of the code leads to a turn alone, the state that the turn gives is the only one to which the row leads
   led-one : (Row : After X → Type 0) (e : MachineEvent) (x : CodeOwing S) (turn : Turn S) →

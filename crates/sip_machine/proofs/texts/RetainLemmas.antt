@@ -185,6 +185,7 @@ still old now i d rest =
 still_rest : {X : Type 0} (old now : List X) (i : ℕ) → drop i now ≡ drop i old → drop (i + 1) now ≡ drop (i + 1) old
 still_rest old now i rest = sym (drop-drop 1 i now) ∙ ap (drop 1) rest ∙ drop-drop 1 i old
 
+-- What follows is of one step of `retain`: the element x at i is read, and f says what becomes of it.
 module _ {X : Type 0} (f : X → Option X) (old now : List X) (left i : ℕ) (moves : MovesInPlace f old now left i) (x : X) (low : i < length now) (read : x ≡ get_or now i x) where
   here : get_or old i x ≡ x
   here = sym (still old now i x moves.rest) ∙ sym read
@@ -223,6 +224,7 @@ pub keeps_end : {K : Type 0} (text : K → ℕ × List ℕ) (numbers : List ℕ)
     → KeepsInPlace text numbers old now left (i + 1)
 keeps_end text numbers old now left i keeps low end = grind (arith, nat_tests, drop_all, merged_none, still_rest)
 
+-- What follows is of one step of `keep_only`: the message x at i is read, and goes or is kept.
 module _ {K : Type 0} (text : K → ℕ × List ℕ) (numbers : List ℕ) (old now : List K) (left i : ℕ) (keeps : KeepsInPlace text numbers old now left i) (x : K) (low : i < length now) (read : x ≡ get_or now i x) where
   there : get_or old i x ≡ x
   there = sym (still old now i x keeps.rest) ∙ sym read
@@ -340,6 +342,7 @@ kept_place texts n (k, low, is) =
     let first : ℕ × List ℕ → ℕ = λ t. t.0 in
     (k, within, sym (get_or-map first texts k (0, []) n within) ∙ is)
 
+-- What follows is of a book of which the messages with these numbers alone are kept.
 module _ (texts : Texts) (numbers : List ℕ) (book : IsBook texts) (up : AllPairs (λ a b. a < b) numbers) (kept : All (Keeps texts) numbers) where
   -- the message at place i of those that are kept has the number at place i of the numbers, and its bytes
   at_number : (i d : ℕ) → i < length numbers → get_or (only numbers texts) i (0, []) ≡ (get_or numbers i d, text_of texts (get_or numbers i d))

@@ -156,6 +156,7 @@ place_at : (runs : List PlaceRun) (r j : ℕ) (d : PlaceRun) (e : Place) → r <
     get_or (places_of runs) (length (places_of (take r runs)) + j) e ≡ get_or (items (get_or runs r d)) j e
 place_at runs r j d e low within = get_or-flat_map items runs r j d e low within
 
+-- What follows is of a book whose places stand in runs, and the hash and bytes that are searched in it.
 module _ (texts : Texts) (runs : List PlaceRun) (key : ℕ × List ℕ) (held : IsInRuns texts runs) where
   led_at : (r : ℕ) (d : PlaceRun) → r < length runs → IsLed (get_or runs r d)
   led_at r d low = All-get_or IsLed runs r d low held.led

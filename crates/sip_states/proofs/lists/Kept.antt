@@ -8,6 +8,7 @@ use Rattle.std.proofs.lemmas.List.{take_more, drop_more, drop_all, same_lists, l
 use Rattle.std.proofs.lemmas.List.Edits.{length-swap, swapped_from_swap}
 use Rattle.sip_states.specs.Kept.{kept_of}
 
+-- What follows is of the elements of a list whose flag is set.
 module _ {X : Type 0} where
   -- what is kept from the place i on is what is kept of the element there, and of those after it
   kept_more : (flags : List Bool) (xs : List X) (i : ℕ) (b : Bool) (x : X) → i < length flags → i < length xs → b ≡ get_or flags i b → x ≡ get_or xs i x
@@ -50,6 +51,7 @@ module _ {X : Type 0} where
   pub keeps_done : (flags : List Bool) (xs ys : List X) (k i : ℕ) → KeepsInPlace flags xs ys k i → min (length flags) (length xs) ≤ i → take k ys ≡ kept_of flags xs
   keeps_done flags xs ys k i h past = sym (append-nil (take k ys)) ∙ ap (λ l. take k ys ++ l) (sym (kept_end flags xs i past)) ∙ h.whole
 
+  -- What follows is of one step at i, after which those elements up to it whose flag is set stand at the front: xs was the list, and ys is it now.
   module _ (flags : List Bool) (xs ys : List X) (k i : ℕ) (h : KeepsInPlace flags xs ys k i) (low : i < length flags) (within : i < length ys) (x : X) (is : x ≡ get_or ys i x) where
     within_xs : i < length xs
     within_xs = let long = h.long in omega (arith, within, long)

@@ -5,6 +5,7 @@ use Rattle.sip_machine.specs.Rules.{MachineRules, IsLawful, Waits}
 use Rattle.sip_states.specs.Runs.{Wait}
 use Rattle.sip_states.proofs.sets.Waiting.{StaysFrom, EndsFrom, IsWithin-earlier, IsWithin-none, Wait-stay, Wait-end, Wait-cases, ends_once}
 
+-- What follows is of two waits, one until m and one from there until n, by the rules r of a machine.
 module _ {X : Type 0} (r : MachineRules X) (lawful : IsLawful r) (P : X → Type 0) (h m n : ℕ) (low : h ≤ m) (high : m ≤ n) where
   -- a wait until m and then staying until n is one wait until n
   stay_after : (y : X) → Wait r P h m y → Waits r y n → Wait r P h n y

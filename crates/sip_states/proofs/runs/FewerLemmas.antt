@@ -16,6 +16,7 @@ NotBefore m e = m ≤ e.moment
 abbrev NotAfter : ℕ → MachineEvent → Type 0
 NotAfter m e = e.moment ≤ m
 
+-- What follows is of the runs by the rules r of a machine.
 module _ {X : Type 0} (r : MachineRules X) where
   -- steps that start at a moment take no event before it
   Goes-low : (x : X) (h : ℕ) (steps : List Step) (y : X) (m : ℕ) → Goes r x h steps y m → All (NotBefore h) (taken steps)

@@ -26,6 +26,7 @@ any_push P xs x = (
   ],
 )
 
+-- What follows is of states of the code at the moment h, with the window in which each may end and the moment up to which it can stay.
 module _ {S : Type 0} (window : S → Option (ℕ × Option ℕ)) (until : S → Option ℕ) (h : ℕ) where
   -- one can wait until `last` from some state before the index, and no longer; h counts as a moment until which one can
   abbrev pub IsLastSoFar : List S → ℕ → Type 0

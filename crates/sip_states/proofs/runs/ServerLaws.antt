@@ -33,6 +33,7 @@ record IsAsleep {X : Type 0} (f : Figure X) (p : Times) : Type 0 where
   pub woken : (k : Kind) (e : MachineEvent) (y : Row X) → f.Receives p f.idle k e y → (method : Method) × (k ≡ Request method)
   pub unmoved : (k : Kind) → f.Stays f.idle k → ⊥
 
+-- What follows is of a server that sends nothing from idle: its figure f with the times p.
 module _ {X : Type 0} (f : Figure X) (p : Times) (asleep : IsAsleep f p) where
   -- nothing can be sent from the idle state
   emits_nothing : (e : MachineEvent) (y : Owing X) → Emits f p e (quiet f.idle) y → ⊥

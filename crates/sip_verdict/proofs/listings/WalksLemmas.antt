@@ -149,6 +149,7 @@ legal_until p items es count observed good counts =
     let v : Verdict = Legal count (length (keys_in es)) in
     subst (λ all. IsVerdictAfter p [] all Clean v) (append-nil items) (judges_front p Clean v [] items [] es observed good (ap (λ n. Legal n (length (keys_in es))) counts))
 
+-- What follows is of a walk that has read `count` entries on its way to its aim.
 module _ (way : Aim) (start : Option (List ℕ)) (now : log.ReaderState) (count left : ℕ) (texts : Texts) (t : Tabled) (walks : Walks way start now count left texts t) where
   -- the tables track the entries that were read on the walk
   tracks : TablesTrack texts walks.es t
@@ -169,6 +170,7 @@ module _ (way : Aim) (start : Option (List ℕ)) (now : log.ReaderState) (count 
       (judged_ends t.times start walks.items walks.es walks.observed tracks.good (Stops fault) (FaultOfLog (count + 1) reason)
       (ap (λ c. FaultOfLog (c + 1) reason) walks.counts ∙ ap (FaultOfLog (length walks.es + 1)) is) logs)
 
+  -- What follows is of one entry e more on the walk.
   module _ (e : Entry) (next : e.number ≡ count + 1) (order : now.last ≤ e.moment) (new : log.ReaderState) (read : HasRead start t.times (walks.items ++ item e ∷ []) new) where
     -- the next entry has the number after those that were walked
     number_is : e.number ≡ length walks.es + 1

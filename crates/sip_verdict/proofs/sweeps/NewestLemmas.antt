@@ -50,6 +50,7 @@ known_unnamed texts number below set known has =
     let low = below number (All-contains (Keeps texts) (names x) number (All-contains (Knows names texts) s.states x knows among) named) in
     omega (arith, low)
 
+-- What follows is of the newest message of a book, which is dropped: `new` are the texts without it.
 module _ (number : ℕ) (bytes : List ℕ) (new : Texts) where
   -- the texts with the newest message, which is dropped
   abbrev old : Texts

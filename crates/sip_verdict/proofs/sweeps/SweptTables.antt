@@ -32,6 +32,7 @@ named_is t start out none (added, is, rising, same) numbers are =
     let all : numbers ≡ added = are ∙ is ∙ ap (λ xs. xs ++ added) none in
     (subst (AllPairs (λ a b. a < b)) (sym all) rising, λ n. subst (λ xs. Contains xs n ↔ Contains (flat_map numbers_of t.sets) n) (sym all) (same n))
 
+-- What follows is of a sweep: t are the tables before, u after all sets have waited, and `numbers` what the sets name.
 module _ (texts : Texts) (book : IsBook texts) (t u : Tabled) (moment : ℕ) (advances : AdvancesAll moment t u) (may : MayPass texts t moment)
     (numbers : List ℕ) (up : AllPairs (λ a b. a < b) numbers) (same : (n : ℕ) → Contains numbers n ↔ Contains (flat_map numbers_of u.sets) n) where
   -- the set that stood at the place before the sweep
@@ -77,6 +78,7 @@ module _ (texts : Texts) (book : IsBook texts) (t u : Tabled) (moment : ℕ) (ad
           let (x, among, named) = Contains-from_flat_map names v.states k (subst (λ ns. Contains ns k) (ap numbers_of new_is ∙ numbers_are machine v) has) in
           All-contains (Keeps texts) (names x) k (All-contains (Knows names texts) v.states x stand.known among) named
 
+  -- What follows is of a book that has all messages that the sets name.
   module _ (kept : All (Keeps texts) numbers) where
     -- the swept book keeps each message that the sets name
     pub swept_known : All (IsKnownSet (only numbers texts)) u.sets

@@ -51,6 +51,7 @@ pub not_passing : (b : Bool) → ¬ (b ≡ true) → b ≡ false
 not_passing true h = absurd (h refl)
 not_passing false h = refl
 
+-- What follows is of one entry e after the entries es, where some transactions have passed it and others have not.
 module _ (texts : Texts) (p : Times) (es : List (Observation KeyParts)) (e : Observation KeyParts) (keys : List KeyParts) where
   -- what is kept of a key is a set of its machine
   abbrev k : Keeping (KeyParts × AnySet)

@@ -121,6 +121,7 @@ zip-push [] (v ∷ ys) x y long = absurd (omega arith)
 zip-push (u ∷ xs) [] x y long = absurd (omega arith)
 zip-push (u ∷ xs) (v ∷ ys) x y long = ap (λ z. (u, v) ∷ z) (zip-push xs ys x y (omega arith))
 
+-- What follows is of keys that come into tables for the first time.
 module _ (texts : Texts) (p : Times) where
   -- a new key's set leads to the runs over no event
   pub starts : (key : KeyParts) (from : ℕ) → LeadsOf texts p (machine_of_key p.rules key) [] from (start_of p key)

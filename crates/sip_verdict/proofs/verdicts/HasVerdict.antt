@@ -49,6 +49,7 @@ all_of P [] all never = never (All-nil P)
 all_of P (key ∷ keys) all never =
     All-head (λ k. ¬ (¬ (P k))) key keys all (λ holds. all_of P keys (All-tail (λ k. ¬ (¬ (P k))) key keys all) (λ later. never (All-cons P key keys holds later)))
 
+-- What follows is of one entry e after the entries es.
 module _ (p : Times) (es : List (Observation KeyParts)) (e : Observation KeyParts) where
   -- the keys of the entries and e
   abbrev keys : List KeyParts

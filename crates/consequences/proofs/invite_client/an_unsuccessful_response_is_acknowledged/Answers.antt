@@ -22,6 +22,7 @@ use Rattle.sip_states.proofs.runs.StandsLemmas.{what_stands_lasts}
 use Rattle.consequences.proofs.lemmas.run.Lists.{any-none}
 use Rattle.consequences.proofs.invite_client.an_unsuccessful_response_is_acknowledged.Goals as goal
 
+-- What follows is of a run in which an INVITE was sent and a response of 300 to 699 came before timer B, and m is after its ACK was due.
 module _ (p : Times) (before between after : List MachineEvent) (invite response : MachineEvent) (m : ℕ) (none : All (λ f. ¬ (SendsRequest Invite f)) before) (sent : SendsRequest Invite invite)
     (gets : GetsResponse IsUnsuccessful response) (early : response.moment < open_at p invite.moment (64 * p.t1)) (late : close_at p response.moment 0 < m) where
   abbrev IsBroken : MachineEvent → Type 0

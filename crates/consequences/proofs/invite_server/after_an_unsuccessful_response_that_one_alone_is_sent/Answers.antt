@@ -22,6 +22,7 @@ use Rattle.consequences.proofs.lemmas.server.FinalResponse.{one-code, sent-after
 use Rattle.consequences.proofs.lemmas.server.InviteServers.{Row, is-server-6026, is-server-3261, first_in}
 use Rattle.consequences.proofs.invite_server.after_an_unsuccessful_response_that_one_alone_is_sent.Goals as goal
 
+-- What follows is of a run in which a final response of 300 to 699 was sent.
 module _ (p : Times) (before after : List MachineEvent) (final e : MachineEvent) (sends : SendsResponse IsUnsuccessful final) where
   is_final : SendsResponse IsFinal final
   is_final = (sends.0, (sends.1.0, sends.1.1, (omega (arith, sends.1.2.0), sends.1.2.1)))

@@ -71,6 +71,7 @@ module _ (R : Receiving) (is : IsReceiving R) (p : Times) (invite : MachineEvent
   abbrev Awaits : List MachineEvent → ℕ → Owing InviteClientPhase → Type 0
   Awaits es m y = (invite.moment ≤ m) × (Waits es y.phase ⊎ Over es m)
 
+  -- What follows is of one event e that comes after the events es.
   module _ (es : List MachineEvent) (e : MachineEvent) where
     -- the events with the event that comes
     abbrev Now : List MachineEvent

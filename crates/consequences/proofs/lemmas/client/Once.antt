@@ -29,6 +29,7 @@ pub record IsOnce {X : Type 0} (f : Figure X) (p : Times) (HasAsked : X → Type
   pub over : (k : Kind) (e : MachineEvent) (y : X × Change) → f.Sends p f.ended k e y → MaySend k × (y ≡ (f.ended, keeps))
   pub unmoved : (x : X) (k : Kind) → ¬ (f.Stays x k)
 
+-- What follows is of a client that sends its request once: its figure f with the times p.
 module _ {X : Type 0} (f : Figure X) (p : Times) (HasAsked : X → Type 0) (IsRequest MaySend : Kind → Type 0) (once : IsOnce f p HasAsked IsRequest MaySend) where
   -- a message that is sent leads from a phase after the request to a phase after the request
   emits : (e : MachineEvent) (x y : Owing X) → HasAsked x.phase → Emits f p e x y → HasAsked y.phase

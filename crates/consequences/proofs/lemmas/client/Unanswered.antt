@@ -131,6 +131,7 @@ module _ (R : Receiving) (is : IsReceiving R) (p : Times) where
       by : Answers w.reliable w.request e.kind e row → Any (GetsResponse IsAnyCode) (es ++ e ∷ [])
       by (code, kind, leads) = any-last (GetsResponse IsAnyCode) es e (was, (code, kind, any code leads))
 
+  -- What follows is of one INVITE that was sent.
   module _ (invite : MachineEvent) where
     -- the client need not wait: a response came, a message was refused, the element started again, or timer B may have fired
     abbrev Over : List MachineEvent → ℕ → Type 0
@@ -311,6 +312,7 @@ module _ (R : Receiving) (is : IsReceiving R) (p : Times) where
   invite-calls e (Completed reliable request set) owes y invite began (inl (row, is_row, to)) = absurd (no-cancel (sym invite ∙ (sends-completed p reliable request set e.kind e row is_row).0))
   invite-calls e Ended owes y invite began (inl (row, is_row, to)) = absurd (no-cancel (sym invite ∙ (sends-ended p e.kind e row is_row).0))
 
+  -- What follows is of a moment by which the client had sent its INVITE.
   module _ (moment : ℕ) where
     -- the client calls, since the moment or longer, or has ended, or a response came
     abbrev Waits : List MachineEvent → ℕ → Owing InviteClientPhase → Type 0

@@ -34,6 +34,7 @@ nothing-to-pay P left pays = by pays.before pays.whole
     by [] is = cc
     by (o ∷ os) is = cc
 
+-- What follows is of a server that sleeps until a kind of message of Wakes comes: its figure f with the times p.
 module _ {X : Type 0} (f : Figure X) (p : Times) (Wakes : Kind → Type 0) (asleep : IsAsleep f p Wakes) where
   -- a server that sleeps sends nothing
   pub asleep-emits : (e : MachineEvent) (y : Owing X) → ¬ (Emits f p e (quiet f.idle) y)

@@ -30,6 +30,7 @@ use Rattle.consequences.proofs.lemmas.server.InviteServers.{Row, IsServer, Recei
 pub one-code : (e : MachineEvent) → IsResponse IsUnsuccessful e → ¬ (IsResponse IsSuccess e)
 one-code e (code, told, refused) (other, told_too, accepted) = absurd (omega (arith, codes-are-one code other (sym told ∙ told_too), refused.0, accepted.1))
 
+-- What follows is of a server whose figure f holds the phases of the corrected INVITE server, with the times p.
 module _ {X : Type 0} (f : Figure X) (p : Times) (held : InviteServerPhase → X) (is : IsServer f p held) where
   -- the state has a phase of the corrected machine, as this server holds it, and K holds of that phase and the debts
   abbrev pub HoldsIn : (InviteServerPhase → List Owed → Type 0) → Owing X → Type 0
@@ -70,6 +71,7 @@ module _ {X : Type 0} (f : Figure X) (p : Times) (held : InviteServerPhase → X
   opens-left es e m (Proceeding reliable set last) y opens = (opens.0, All-filter _ (λ o. (o.deadline ≤ close_at p m 0) × IsSaid es o.message) y.owes opens.1)
   opens-left es e m x y opens = absurd opens
 
+  -- What follows is of one event e that comes after the events es.
   module _ (es : List MachineEvent) (e : MachineEvent) where
     -- the events with the event that comes
     abbrev Now : List MachineEvent
@@ -227,6 +229,7 @@ module _ {X : Type 0} (f : Figure X) (p : Times) (held : InviteServerPhase → X
     abbrev IsAllowed : MachineEvent → Type 0
     IsAllowed e = (IsGood × IsResponse IsSuccess e) ⊎ (IsBad × (e.text ≡ final.text)) ⊎ ((e.moment ≤ close_at p final.moment 0) × IsSaid before e.text)
 
+    -- What follows is of one event e that comes after the events es.
     module _ (es : List MachineEvent) (e : MachineEvent) where
       -- the row of a sent message sends what may be sent after the final response, and keeps Closes
       closes-sent : (x : InviteServerPhase) (k : Kind) (row : Row) (owes : List Owed) → e.kind ≡ k → Closes es e.moment x owes → SentRow p x k e row

@@ -21,6 +21,7 @@ use Rattle.consequences.proofs.lemmas.run.Lists.{any-last, any-earlier}
 use Rattle.consequences.proofs.lemmas.run.Running.{IsKept, step-of, stands-run, Cut, cut, run-keeps}
 use Rattle.consequences.proofs.lemmas.server.InviteServers.{Row, IsServer, ReceivedRow, comes, again, again_after, acknowledged, received-row, SentRow, provisional, success, unsuccessful, success_again, repeats, sent-row}
 
+-- What follows is of an INVITE server, whose figure f holds the corrected phases, and the INVITE with which its transaction begins.
 module _ {X : Type 0} (f : Figure X) (p : Times) (held : InviteServerPhase → X) (is : IsServer f p held) (invite : MachineEvent) where
   -- the event has the property P, and comes within 200 ms of the INVITE and as much as an element may be late
   abbrev InTime : (MachineEvent → Type 0) → MachineEvent → Type 0
@@ -110,6 +111,7 @@ module _ {X : Type 0} (f : Figure X) (p : Times) (held : InviteServerPhase → X
       as_it_takes es e x y (inr (inl sent)) take = inr (inl (any-earlier (InTime (SendsResponse IsAnyCode)) es (e ∷ []) sent))
       as_it_takes es e x y (inr (inr restarted)) take = inr (inr (any-earlier (InTime IsRestart) es (e ∷ []) restarted))
 
+  -- What follows is of a server that sleeps until an INVITE comes.
   module _ (asleep : IsAsleep f p IsInvite) where
     -- the first INVITE leads to proceeding, where nothing was sent yet
     opens : (x y : Owing X) → x ≡ quiet f.idle → GetsRequest Invite invite → Takes f p x invite y → y ≡ quiet (held (Proceeding invite.reliable invite.moment None))

@@ -78,6 +78,7 @@ module _ (p : Times) where
   abbrev Is : (PlainServerPhase → List Owed → Type 0) → Owing PlainServerPhase → Type 0
   Is K y = K y.phase y.owes
 
+  -- What follows is of one event e that comes after the events es.
   module _ (es : List MachineEvent) (e : MachineEvent) where
     -- the events with the event that comes
     abbrev Now : List MachineEvent

@@ -90,6 +90,7 @@ soft es final (o ∷ os) all =
 
 -- What follows is of the non-INVITE server.
 module _ (p : Times) where
+  -- What follows is of one event e that comes after the events es.
   module _ (es : List MachineEvent) (e : MachineEvent) where
     -- the events with the event that comes
     abbrev Now : List MachineEvent

@@ -201,6 +201,7 @@ fresh-at e x due =
     by o true is is_due kept = is_due is
     by o false is is_due kept = leb-true e.moment o.deadline (subst (λ a. (a || nat_le e.moment o.deadline) ≡ true) is kept)
 
+-- What follows is of a machine by two tolerances: its figure f with the times p, and with the wider ones.
 module _ {X : Type 0} (f : Figure X) (p : Times) (early late : ℕ) (wider : p.late ≤ late) (steady : IsSteady f p (tolerant early late p)) where
   -- the times with the wider tolerance
   abbrev q : Times
@@ -231,6 +232,7 @@ module _ {X : Type 0} (f : Figure X) (p : Times) (early late : ℕ) (wider : p.l
   near-ends : (h : ℕ) (phase : X) (os ns : List Owed) → Later os ns → MayEnd f p (record { phase = phase; owes = os }) h → MayEnd f q (record { phase = phase; owes = ns }) h
   near-ends h phase os ns later may = (steady.opens phase h may.0, later-must os ns later ∙ may.1)
 
+  -- What follows is of one event e that pays a debt: os are the debts by the narrower tolerance, ns by the wider one.
   module _ (e : MachineEvent) (phase : X) (os ns : List Owed) (later : Later os ns)
       (pays : (left : List Owed) → IsWithoutFirst (λ o. f.Satisfies phase e.kind e o.message × (e.moment ≤ o.deadline)) os left →
       (others : List Owed) × IsWithoutFirst (λ o. f.Satisfies phase e.kind e o.message × (e.moment ≤ o.deadline)) ns others × Later left others) where
@@ -295,6 +297,7 @@ module _ {X : Type 0} (f : Figure X) (p : Times) (early late : ℕ) (wider : p.l
     sorted-left es e y one beside =
         All-filter (keep_at e.moment) (λ o. (o.must ≡ true → ¬ (May es y.phase o.message)) × (o.must ≡ false → May es y.phase o.message)) y.owes (is_sorted.sorted es e.moment y one beside)
 
+    -- What follows is of one event e after the events es, which leads from the state x to y.
     module _ (es : List MachineEvent) (e : MachineEvent) (x y : Owing X) where
       -- the event satisfies a debt of this message
       abbrev S : List ℕ → Type 0

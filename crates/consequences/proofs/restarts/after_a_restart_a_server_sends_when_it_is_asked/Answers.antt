@@ -21,6 +21,7 @@ use Rattle.consequences.proofs.lemmas.server.Asleep.{IsAsleep, IsInvite, IsAnyRe
 use Rattle.consequences.proofs.lemmas.run.Running.{step-of, stands-run, cut}
 use Rattle.consequences.proofs.restarts.after_a_restart_a_server_sends_when_it_is_asked.Goals as goal
 
+-- What follows is of a server that sleeps until a request of Wakes comes: its figure f with the times p.
 module _ {X : Type 0} (f : Figure X) (p : Times) (Wakes : Kind → Type 0) (asleep : IsAsleep f p Wakes) (is_request : (k : Kind) → Wakes k → (method : Method) × (k ≡ Request method)) where
   silent : (before after : List MachineEvent) (restart e : MachineEvent) (y : Owing X) → IsRestart restart → All (λ g. ¬ (GetsAnyRequest g)) after → e.action ≡ Sent →
       ¬ (StandsAfter f p (before ++ restart ∷ after) e y)

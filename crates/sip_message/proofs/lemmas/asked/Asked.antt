@@ -35,6 +35,7 @@ found-more n k (g ∷ fields) f = let later = found-more (n + 1) k fields f in (
     at true xs ys zs is = ap (λ t. (n, g.value) ∷ t) is
     at false xs ys zs is = is
 
+-- What follows is of the fields of one name, and one field f more.
 module _ {X : Type 0} (R : List ℕ → X → Type 0) (k : Known) (fields : List Field) (f : Field) where
   -- a further field of another name adds nothing to the fields of the name that are found
   found-passed : is_name_of k f.name ≡ false → found k (fields ++ f ∷ []) ≡ found k fields
@@ -111,6 +112,7 @@ asks-cseq f a (Some c) cseq named some read (none, is) fields of = record {
   content_length = once-passed Itself known_name.ContentLength fields f (option_copied a.content_length) (ap (is_name_of known_name.ContentLength) named) of.content_length;
 }
 
+-- What follows is of one more field f, and what is kept of the fields that are asked for.
 module _ (f : Field) (a : Asked) (value : Bor (List ℕ)) (kept : Option (Bor (List ℕ))) (value_is : value.now ≡ f.value) (is : kept ≡ Some value) where
   -- the value of a From is kept where none is kept yet
   pub asks-from : f.name ≡ known known_name.From → a.from ≡ None → AsksMore f a (record { via = a.via; from = kept; to = a.to; call_id = a.call_id; cseq = a.cseq; content_length = a.content_length })

@@ -14,6 +14,7 @@ use Rattle.sip_states.proofs.state_set.given_rows.Given.{Over}
 use Rattle.sip_states.proofs.state_set.given_rows.Goals as goal
 use Rattle.sip_states.proofs.state_set.given_rows.Goals.{After-len}
 
+-- What follows is of the moment after the states were found and each was taken once.
 module _ (g : Over) (c : After-len g) where
   -- the states that were found, each once, stand for exactly what the event gives
   found_stand : (x : CodeOwing _) → StandFor g.M.Machine.names g.M.Machine.in_range g.M.Machine.seen c.args.book.now

@@ -34,6 +34,7 @@ split_of {A} (y ∷ xs) ys (z ∷ front) x rest is = by (split_of xs ys front x 
     by (inl (zs, e)) = inl (zs, cc)
     by (inr (zs, e, f)) = inr (zs, cc, f)
 
+-- What follows is of one key, which the old entries leave idle again.
 module _ (p : Times) (key : KeyParts) (old : List (Observation KeyParts)) (again : IsIdleAgain (machine_of_key p.rules key) p (events_for key old) (newest_moment old)) where
   -- the old entries and these later ones are in order of their moments
   abbrev order_of : List (Observation KeyParts) → Type 0
@@ -93,6 +94,7 @@ module _ (p : Times) (key : KeyParts) (old : List (Observation KeyParts)) (again
         λ wide. (wide.0, (wide.1.0, wide.1.1, wide.1.2, All-weaker (StandsAfter f p (events_for key front) e.event) (StandsAfter f p (events_for key (old ++ front)) e.event) from wide.1.0 wide.1.3)),
       )
 
+  -- What follows is of a key that came into no trouble over the old entries.
   module _ (sound : IsSound p old key) where
     -- the key is in no trouble over all entries exactly if it is in none over the later ones
     sound_new : (more : List (Observation KeyParts)) → order_of more → IsSound p (old ++ more) key ↔ IsSound p more key

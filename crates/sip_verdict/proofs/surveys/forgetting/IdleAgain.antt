@@ -22,6 +22,7 @@ IsTo m e = e.moment ≤ m
 abbrev IsFrom : ℕ → MachineEvent → Type 0
 IsFrom m e = m ≤ e.moment
 
+-- What follows is of a machine that can stay in idle for ever and does not end there: its figure f with the times p.
 module _ {X : Type 0} (f : Figure X) (p : Times) (lasts : (m : ℕ) → Lasts f p (quiet f.idle) m) (has_no_end : (m : ℕ) → ¬ (MayEnd f p (quiet f.idle) m)) where
   -- no event of a run is after the moment at which the run stands
   events_to : (events : List MachineEvent) (m : ℕ) (y : Owing X) → Stands f p events m y → All (IsTo m) events
@@ -30,6 +31,7 @@ module _ {X : Type 0} (f : Figure X) (p : Times) (lasts : (m : ℕ) → Lasts f 
   events_to events m y (ends evs h x stands may) = events_to evs h x stands
   events_to events m y (takes evs e x z stands does) = All-push (IsTo e.moment) evs e (events_to evs e.moment x stands) (omega arith)
 
+  -- What follows is of old events that leave the transaction idle at the moment m.
   module _ (old : List MachineEvent) (m : ℕ) (idle : Stands f p old m (quiet f.idle)) where
     -- where old events leave the transaction idle at m, a run over later events goes on after them; before m such a run has no event and stands in idle
     on : (more : List MachineEvent) (k : ℕ) (y : Owing X) → Stands f p more k y → All (IsFrom m) more → (m ≤ k → Stands f p (old ++ more) k y) × (k < m → (more ≡ []) × (y ≡ quiet f.idle))
@@ -53,6 +55,7 @@ module _ {X : Type 0} (f : Figure X) (p : Times) (lasts : (m : ℕ) → Lasts f 
         let before = (on evs e.moment x stands (All-front (IsFrom m) evs (e ∷ []) from)).0 last in
         (λ high. subst (λ es. Stands f p es e.moment z) (append_assoc old evs (e ∷ [])) (takes (old ++ evs) e x z before does), λ low. absurd (omega (arith, low, last)))
 
+  -- What follows is of old events after which the transaction stands in idle alone at the moment m.
   module _ (old : List MachineEvent) (m : ℕ) (only : (x : Owing X) → Stands f p old m x → x ≡ quiet f.idle) (past : All (IsTo m) old) where
     -- the transaction stands in idle at each moment, where there is no event
     new : (k : ℕ) → Stands f p [] k (quiet f.idle)

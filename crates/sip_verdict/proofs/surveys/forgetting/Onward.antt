@@ -72,6 +72,7 @@ order_by xs ys same order i j d low high =
     let was = order i j d low (omega (arith, high, long)) in
     omega (arith, first, second, was)
 
+-- What follows is of one key.
 module _ (key : KeyParts) where
   -- those of the keys that are equal to `key`, the one key of which all that follows speaks
   abbrev own : List KeyParts → List KeyParts
@@ -127,6 +128,7 @@ module _ (key : KeyParts) where
   cut_self : (e : Observation KeyParts) → IsCutOf (same_key key) e (cut_of e)
   cut_self e = (refl, refl, λ some. refl)
 
+  -- What follows is of the key by the times p.
   module _ (p : Times) where
     -- where the key is among the keys of two logs alike, and one entry more concerns it in both or in neither, it is among their keys alike still
     own_push : (done left : Entries) (e f : Observation KeyParts) → own (keys_in done) ≡ own (keys_in left) → own e.keys ≡ own f.keys → own (keys_in (done ++ e ∷ [])) ≡ own (keys_in (left ++ f ∷ []))

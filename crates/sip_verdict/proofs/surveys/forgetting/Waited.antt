@@ -65,6 +65,7 @@ waited_known texts book moment old new waits known =
     let stand = waited.states texts book (of_set (λ X M S m s. IsKnown m texts s) machine s (subst (IsKnownSet texts) is known)) in
     (subst (IsKnownSet texts) (sym new_is) (to_set (λ X M S m s. IsKnown m texts s) machine t stand.known), ap moment_of new_is ∙ moment_is machine t ∙ waited.at)
 
+-- What follows is of the set of one transaction, before it has waited until the moment and after it.
 module _ (texts : Texts) (book : IsBook texts) (p : Times) (machine : MachineKind) (events : List MachineEvent) (from moment : ℕ) (late : from ≤ moment) (old new : AnySet)
     (low : moment_of old ≤ moment) (waits : SetWaits moment old new) where
   -- the states of the set that has waited stand for just where the runs stand at the moment, and the set leads to these runs
@@ -164,6 +165,7 @@ module _ (texts : Texts) (book : IsBook texts) (t u : Tabled) (moment : ℕ) (wa
       go n None old new was at h = h
       go n (Some limit) old new was at h = swept_agenda texts book moment old new (low n old was) (inl (waited.each n old new was at)) (known n old was) limit h
 
+  -- What follows is of tables t that track the entries es, and the tables u after all sets have waited.
   module _ (es : List (Observation KeyParts)) (deaf : List Bool) (tracks : TablesSurvey texts es t deaf) (newest : newest_moment es ≡ moment) (as_many : length deaf ≡ length t.keys) where
     late : newest_moment es ≤ moment
     late = omega (arith, newest)

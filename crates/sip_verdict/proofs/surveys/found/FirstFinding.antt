@@ -35,6 +35,7 @@ first_least P Q keys n k (before, key, rest, is, holds, earlier, counts) (front,
 found_none : (P Q : KeyParts → Type 0) (keys : List KeyParts) (k : ℕ) → HoldsOf Q keys k → All P keys → ((key : KeyParts) → Q key → P key → ⊥) → ⊥
 found_none P Q keys k (front, key, rest, is, has, number) all not = not key has (All-middle P front rest key (subst (All P) is all))
 
+-- What follows is of the entry e after the entries es, and what a survey finds at it.
 module _ (p : Times) (es : List (Observation KeyParts)) (e : Observation KeyParts) (here : List Finding) (at : AreFoundAt p es e here) where
   -- the keys of the entries and e
   abbrev keys : List KeyParts

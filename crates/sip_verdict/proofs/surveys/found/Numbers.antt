@@ -26,6 +26,7 @@ same_place P keys before key rest n is (front, other, more, are, holds, number) 
     by (inr (inl h)) = absurd (omega (arith, number, place, simp length-append at (ap length h.1)))
     by (inr (inr h)) = absurd (omega (arith, number, place, simp length-append at (ap length h.1)))
 
+-- What follows is of a property P of keys, and the numbers of those keys that have it.
 module _ (P : KeyParts → Type 0) (keys : List KeyParts) where
   -- the numbers above `low` of the keys of which P holds, each once and in order
   abbrev AreAbove : ℕ → List ℕ → Type 0
@@ -38,6 +39,7 @@ module _ (P : KeyParts → Type 0) (keys : List KeyParts) where
       over : (n : ℕ) → HoldsOf P keys n → length keys < n → ⊥
       over n (front, key, rest, are, holds, number) low = omega (arith, low, number, simp length-append at (ap length are))
 
+  -- What follows is of one of the keys, with those before it and those after it.
   module _ (before : List KeyParts) (key : KeyParts) (rest : List KeyParts) (is : keys ≡ before ++ key ∷ rest) where
     -- where P holds of the next key, its number comes before the numbers above it
     one_above : P key → (ns : List ℕ) → AreAbove (length before + 1) ns → AreAbove (length before) ((length before + 1) ∷ ns)

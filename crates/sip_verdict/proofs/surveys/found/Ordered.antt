@@ -5,6 +5,7 @@ use Rattle.std.proofs.lemmas.List.Kept.{AllPairs-cons}
 use Rattle.sip_standard.proofs.Few.{AllPairs-head, AllPairs-tail}
 use Rattle.sip_states.proofs.lists.Listed.{Contains-none, Contains-here, Contains-there, Contains-cons}
 
+-- What follows is of lists in the order R.
 module _ {A : Type 0} (R : A → A → Type 0) where
   -- two lists in order, of which each element of the second comes after each of the first, are in order one after the other
   pub ordered_append : (xs ys : List A) → AllPairs R xs → AllPairs R ys → ((x y : A) → Contains xs x → Contains ys y → R x y) → AllPairs R (xs ++ ys)
@@ -25,6 +26,7 @@ ordered_map R S f keeps (x ∷ xs) sorted =
     AllPairs-cons S (f x) (map f xs) (All-map (S (f x)) f xs (All-weaker (R x) (λ a. S (f x) (f a)) (keeps x) xs (AllPairs-head R x xs sorted)))
     (ordered_map R S f keeps xs (AllPairs-tail R x xs sorted))
 
+-- What follows is of lists in the order R, in which no two elements come before each other.
 module _ {A : Type 0} (R : A → A → Type 0) (once : (a b : A) → R a b → R b a → ⊥) where
   -- lists in order with the same elements are the same
   pub ordered_one : (xs ys : List A) → AllPairs R xs → AllPairs R ys → ((a : A) → Contains xs a → Contains ys a) → ((a : A) → Contains ys a → Contains xs a) → xs ≡ ys

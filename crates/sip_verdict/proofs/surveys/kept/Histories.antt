@@ -137,6 +137,7 @@ IsAt entry text old i h true =
     × (((k : History) × (slice_get old i ≡ Some k) × (h.branch.items ≡ k.branch.items) × (h.first ≡ k.first)) ⊎ ((length old ≤ i) × (h.first ≡ entry) × SpellsBranch text h.branch.items))
 IsAt entry text old i h false = slice_get old i ≡ Some h
 
+-- What follows is of the note of one entry and the text of its message.
 module _ (entry : ℕ) (text : List ℕ) where
   -- where a key was looked up and its number noted, there are as many histories as keys, and the number is at most one above those before
   note_long : (key : KeyParts) (n : ℕ) (t u : Tabled) (old new : List History) → Touches key n t u → length old ≡ length t.keys → Notes entry text n old new → (length new ≡ length u.keys) × (0 < n) × (n ≤ length old + 1)

@@ -40,6 +40,7 @@ of_one_branch s direction keys concerns =
     (All-append (λ key. branch ≡ Some key.branch) _ _ (own_branch (role_of s.start direction) (sent_by_of (role_of s.start direction) s.via) (method_of s.start s.cseq.1) branch)
     (cancelled_branch (is_sent (λ method. bytes_eq method (codes "CANCEL")) s.start direction) branch))
 
+-- What follows is of the branches that are chosen.
 module _ (chosen : List ℕ → Bool) where
   -- the item has a form in the log of the chosen branches: it stays, or becomes a mark
   abbrev Cut : Item → Observation KeyParts → Type 0

@@ -18,6 +18,7 @@ use Rattle.sip_standard.specs.VerdictOf.{keys_in, events_for, RunsOver, IsWideAt
 use Rattle.sip_verdict.specs.SurveyOf.{IsSound, Breaks, Widens}
 use Rattle.sip_verdict.specs.SurveyLaws.{IsCutOf, HasSameTrouble}
 
+-- What follows is of the keys that are chosen.
 module _ (chosen : KeyParts → Bool) where
   -- a chosen key is among keys exactly if it is among the chosen ones of them
   pub among_chosen : (key : KeyParts) → chosen key ≡ true → (keys : List KeyParts) → list_any (same_key key) (filter chosen keys) ≡ list_any (same_key key) keys
@@ -93,6 +94,7 @@ module _ (chosen : KeyParts → Bool) where
   newest_cut last (e ∷ es) (c ∷ cs) (here, rest) =
       ap (λ t. fold (λ moment e. e.event.moment) t cs) here.0 ∙ newest_cut e.event.moment es cs rest
 
+  -- What follows is of one key that is chosen.
   module _ (key : KeyParts) (is : chosen key ≡ true) where
     concerns_cut : (e c : Observation KeyParts) → IsCutOf chosen e c → concerns key c ≡ concerns key e
     concerns_cut e c cut = ap (list_any (same_key key)) cut.1 ∙ among_chosen key is e.keys
@@ -122,6 +124,7 @@ module _ (chosen : KeyParts → Bool) where
         go : (b : Bool) → concerns key c ≡ b → events_for key cs ≡ events_for key es → events_with (concerns key c) c cs ≡ events_with (concerns key e) e es
         go b any same = ap (λ t. events_with t c cs) any ∙ by b any same ∙ ap (λ t. events_with t e es) (sym any ∙ concerns_cut e c here)
 
+    -- What follows is of the chosen key by the times p.
     module _ (p : Times) where
       -- a chosen key has a run over the entries of the whole log exactly if it has one over those of the cut log
       pub runs_cut : (es cs : List (Observation KeyParts)) → AllZip (IsCutOf chosen) es cs → RunsOver p es key ↔ RunsOver p cs key

@@ -105,6 +105,7 @@ back_place P [] ys n x low all at = All-place P ys n x at all
 back_place P (u ∷ xs) ys zero x low all at = absurd (omega (arith, low))
 back_place P (u ∷ xs) ys (suc n) x low all at = back_place P xs ys n x (omega (arith, low)) all at
 
+-- What follows is of tables that track the entries es, and new keys, which are in no trouble.
 module _ (texts : Texts) (es : List (Observation KeyParts)) (e : Observation KeyParts) (old : Tabled) (deaf more : List Bool) (tracks : TablesSurvey texts es old deaf) (long : length deaf ≡ length old.keys)
     (false_all : All (λ d. d ≡ false) more) (late : newest_moment es ≤ e.event.moment) where
   -- a key that is none of the entries' is in no trouble, and the set that it starts with follows the entries

@@ -50,6 +50,7 @@ split_at [] i x at = absurd cc
 split_at (u ∷ xs) zero x at = ([], xs, (let same : u ≡ x = cc in ap (λ y. y ∷ xs) same), refl)
 split_at (u ∷ xs) (suc i) x at = let (before, rest, is, long) = split_at xs i x at in (u ∷ before, rest, ap (λ ys. u ∷ ys) is, ap suc long)
 
+-- What follows is of a property P of keys, by the numbers of the keys.
 module _ (P : KeyParts → Type 0) (keys : List KeyParts) where
   -- where P holds of the key that stands under the number n, it holds of the key with the number n
   number_holds : (n : ℕ) → IsNumberOf P keys n → HoldsOf P keys n
@@ -61,6 +62,7 @@ module _ (P : KeyParts → Type 0) (keys : List KeyParts) where
       let place : length before ≡ n - 1 = omega (arith, number) in
       (key, ap (λ ks. slice_get ks (n - 1)) is ∙ subst (λ i. slice_get (before ++ key ∷ rest) i ≡ Some key) place (middle_place before key rest), holds, omega (arith, number))
 
+-- What follows is of tables in which each transaction has passed the entry e.
 module _ (texts : Texts) (es : List (Observation KeyParts)) (e : Observation KeyParts) (t : Tabled) (b : Troubled) (p : Times) (order : IsOrdered es) (late : newest_moment es ≤ e.event.moment)
     (keys : t.keys ≡ keys_in (es ++ e ∷ [])) (sets : length t.sets ≡ length t.keys) (long : length b.deaf.items ≡ length t.keys) (h : ArePassing texts p es e (is_among []) t b) where
   -- a transaction that was in trouble, or came into it at the entry e, is in trouble over the entries and e
@@ -118,6 +120,7 @@ module _ (texts : Texts) (es : List (Observation KeyParts)) (e : Observation Key
       by true s (leads, inr (inr has)) = has
       by false s (still, goes) = absurd (goes.narrow wide)
 
+  -- What follows is of the numbers of the transactions that came into trouble at the entry, in ascending order.
   module _ (broken wide : List ℕ) (broken_is : AreAscending b.broken.items broken) (wide_is : AreAscending b.wide.items wide) where
     -- the numbers of the broken are those of the keys that break at the entry, each once and in order
     breaks : AreNumbers (Breaks p es e) t.keys broken

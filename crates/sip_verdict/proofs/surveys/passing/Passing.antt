@@ -31,6 +31,7 @@ among_cons n number ns differ = by (nat_eq n number) refl
 pub same_at : {A : Type 0} (xs : List A) (n : ℕ) (x y : A) → slice_get xs n ≡ Some x → slice_get xs n ≡ Some y → x ≡ y
 same_at xs n x y a b = let both : Some x ≡ Some y = sym a ∙ b in cc
 
+-- What follows is of one entry e after the entries es.
 module _ (texts : Texts) (p : Times) (es : List (Observation KeyParts)) (e : Observation KeyParts) where
   -- what is kept of each key: its set, beside these texts
   abbrev k : Keeping (KeyParts × AnySet)

@@ -72,11 +72,13 @@ Passes texts moment hearing t b u c =
     (p : Times) (es : List (Observation KeyParts)) (e : Observation KeyParts) → t.times ≡ p → newest_moment es ≤ moment → e.event.moment ≡ moment → AreTold texts t.keys moment hearing e
     → ArePassing texts p es e any t b → ArePassing texts p es e (is_among []) u c
 
+-- What follows is of one item i of a log; `mid` is the book after it was observed.
 module _ (old mid : Texts) (number : ℕ) (bytes : List ℕ) (grown : IsGrown old number bytes mid) (i : Item) (moment : ℕ) (at : i.moment ≡ moment) where
   -- this is told of the entry, and observed of it after any entries
   abbrev Tells : Observed → Type 0
   Tells told = (es : List (Observation KeyParts)) → (e : Observation KeyParts) × Sees es i e × IsObserved mid es i told e
 
+  -- What follows is of an item that brings no key: t and b are kept before it, u and c after it.
   module _ (t u : Tabled) (b c : Troubled) (long : length b.deaf.items ≡ length t.keys) (sets : length t.sets ≡ length t.keys) (fresh : IsFresh b) (keys : u.keys ≡ t.keys) where
     -- an entry that concerns no transaction is taken
     silent_taken : (es : List (Observation KeyParts)) (e : Observation KeyParts) (fault : Option Fault) → Sees es i e → e.fault ≡ fault → e.event.moment ≡ moment → e.keys ≡ [] → Passes mid moment None t b u c

@@ -37,6 +37,7 @@ decided : (b : Bool) → (b ≡ true) ⊎ (b ≡ false)
 decided true = inl refl
 decided false = inr refl
 
+-- What follows is of the entry e at a moment until which each transaction that is in no trouble can wait.
 module _ (texts : Texts) (p : Times) (es : List (Observation KeyParts)) (e : Observation KeyParts) (moment : ℕ) (late : newest_moment es ≤ moment) (now : e.event.moment ≡ moment) (t : Tabled) (b : Troubled)
     (may : MayPass texts t moment) (none : due_of t moment ≡ None) (h : ArePassing texts p es e any t b) where
   -- what is kept of each key: its set, beside these texts

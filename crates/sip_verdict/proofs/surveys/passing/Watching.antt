@@ -20,6 +20,7 @@ use Rattle.sip_verdict.proofs.tables.TablesTouching.{start_at, start_known}
 none_some : {A : Type 0} (x : A) → Some None ≡ Some (Some x) → ⊥
 none_some x h = cc
 
+-- What follows is of one transaction, the first of those that are still to hear the event.
 module _ (t : Tabled) (b : Troubled) (number : ℕ) (waits : List ℕ) (given : IsGiven t number) (h : AreWatched (number ∷ waits) t b) where
   -- the place of the transaction, which counts from 0
   abbrev place : ℕ

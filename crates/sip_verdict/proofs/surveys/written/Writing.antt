@@ -158,6 +158,7 @@ pub record ToldSoFar (part : Option PartOf) (s : Surveying) (found : List Findin
 pub told_nothing : (part : Option PartOf) (s : Surveying) (start : Option (List ℕ)) (now : log.ReaderState) → SurveysRead part s [] start now → ToldSoFar part s [] [] start now
 told_nothing part s start now read = record { read = read; lines_are = refl }
 
+-- What follows is of a survey that has read some items, what it has found, and its lines.
 module _ (part : Option PartOf) (start : Option (List ℕ)) (now : log.ReaderState) (s : Surveying) (found : List Finding) (lines : List ℕ) (told_so : ToldSoFar part s found lines start now) where
   -- what the survey has read so far
   abbrev pub read : SurveysRead part s found start now
@@ -178,6 +179,7 @@ module _ (part : Option PartOf) (start : Option (List ℕ)) (now : log.ReaderSta
             (found_text k s.tables.times read.es seen stands here text (λ f has. (are.1 f).0 has) (subst (λ fs. AreLinesBy k fs text) same are_lines));
       })
 
+  -- What follows is of the end of the survey, and its summary.
   module _ (counts : Counts) (summary : Summary) (before mid after : Option (List ℕ)) (told : AreTold found lines counts before mid)
       (findings : summary.findings ≡ counts.findings) (undecided : summary.undecided ≡ counts.undecided) where
     -- where the log ends after the items that were read, and the last line is written, the survey is written and summed up

@@ -28,6 +28,7 @@ and-true : (b : Bool) → (b && true) ≡ b
 and-true true = refl
 and-true false = refl
 
+-- a conjunction with false is false
 and-false : (b : Bool) → (b && false) ≡ false
 and-false true = refl
 and-false false = refl
@@ -51,6 +52,7 @@ highest-set word j from below =
     let none : j - j ≡ 0 = omega arith in
     ap (λ n. n == 1) (ap (λ n. bit_at n j) (sym is) ∙ bit_at_cat_high 1 j (word - 2 ^ j) j low (omega arith) ∙ ap (bit_at 1) none)
 
+-- no bit above the highest one is set
 pub none-above : (word j i : ℕ) → word < 2 ^ suc j → j < i → test word i ≡ false
 unfolding test
 none-above word j i below after = ap (λ n. n == 1) (bit_at_above word (suc j) i below (omega (arith, after)))
@@ -120,6 +122,7 @@ module _ (window : List ℕ) (len bs ds hs : ℕ) (room : 32 ≤ length window) 
       ∙ ap₂ (λ a b. a || b) (masked ds i below ∙ dots i (omega (arith, below, small)) ∙ ap (λ x. x == dot) (sym (here i below))) (test-shl_low len i 1 below (omega (arith, below, small)))
       ∙ or-false (get_or text i 0 == dot)
 
+  -- the bit right after the text is set
   dot-after : test dot_word len ≡ true
   dot-after =
       let is : len + 0 ≡ len = omega arith in

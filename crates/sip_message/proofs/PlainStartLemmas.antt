@@ -31,6 +31,7 @@ reason-byte b clear =
     over false true false is = refl
     over false false false is = is
 
+-- a text without controls has only bytes that a reason may have
 reason-bytes : (text : List ℕ) → All is_open text → list_all is_reason_byte text ≡ true
 reason-bytes [] clear = refl
 reason-bytes (b ∷ text) clear = and_from _ _ (reason-byte b clear.0) (reason-bytes text clear.1)

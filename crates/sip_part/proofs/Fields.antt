@@ -172,6 +172,7 @@ ended_on line more tail = append_assoc (line ++ codes "\r\n") (Ended more) tail 
 ended_one : (line : List ℕ) (more : List (List ℕ)) → Ended (line ∷ more) ≡ line ++ (13 ∷ (10 ∷ Ended more))
 ended_one line more = append_assoc line (codes "\r\n") (Ended more)
 
+-- the search for the next line passes over a line and its folds
 passed : (line : List ℕ) (more : List (List ℕ)) → Many Unit (Ended (line ∷ more)) → Folded line → Passed line (Ended more)
 passed line more (us, all, whole) folded = pass_line us line (Ended more) all (sym whole ∙ ended_one line more) folded
 

@@ -38,6 +38,7 @@ module _ (entries : List Entry) (owes few more : ℕ → Bool) (t : ℕ) (wider 
 
   -- What follows is of one message, the only one that passes `more` and perhaps not `few`.
   module _ (message : ℕ) (passes : more message ≡ true) (only : (m : ℕ) → more m ≡ true → (few m ≡ true) ⊎ (m ≡ message)) where
+    -- where the message pays at a place, some message that passes `more` does
     of-last : (k : ℕ) → pays_at entries message t k ≡ true → PaysSomeAt entries more t k
     of-last k pays =
         let parts = pays-parts message t (entry_at entries k) pays in
@@ -71,15 +72,18 @@ module _ (entries : List Entry) (owes few more : ℕ → Bool) (t : ℕ) (wider 
 abbrev pub below : List (ℕ × ℕ) → ℕ → ℕ → ℕ → Bool
 below pairs key from m = holds pairs key m && nat_lt m from
 
+-- what stands under the key below `from` stands under the key, and is below `from`
 pub below-parts : (held : Bool) (m from : ℕ) → (held && nat_lt m from) ≡ true → (held ≡ true) × (m < from)
 below-parts true m from is = (refl, ltb-true m from is)
 below-parts false m from is = absurd (true≢false (sym is))
 
+-- what stands under the key, and is below `from`, stands under the key below `from`
 below-is : (held : Bool) (m from : ℕ) → held ≡ true → m < from → (held && nat_lt m from) ≡ true
 below-is held m from is low = ap (λ b. b && nat_lt m from) is ∙ lt-ltb m from low
 
 -- What follows is of the search of `find_under`: an account, the pairs of its index, the key that is looked up, and the moment t.
 module _ (gains : Gains) (strikes : List Strike) (a : Account) (pairs : List (ℕ × ℕ)) (key t : ℕ) where
+  -- the place is the first of which a send of a message that passes the test pays a debt
   abbrev IsFirst : (ℕ → Bool) → Option ℕ → Type 0
   IsFirst test first = IsFirstOf (entries_of gains) (owes_at gains strikes a) test t first
 
@@ -186,6 +190,7 @@ module _ (gains : Gains) (strikes : List Strike) (a : Account) (pairs : List (�
 
 -- What follows is of one account, and what a send at the moment t of a message that passes the test pays of it.
 module _ (gains : Gains) (strikes : List Strike) (a : Account) (test : ℕ → Bool) (t : ℕ) where
+  -- whether the account owes what was gained at a place
   abbrev owed : ℕ → Bool
   owed = owes_at gains strikes a
 

@@ -77,6 +77,7 @@ module _ (input : List ℕ) (format : Format) (p : Times) (items : List Item) (r
 pub Begins-header : (input : List ℕ) (format : Format) (p : Times) (behind : List ℕ) → Header format p input behind → Begins input format p [] behind
 Begins-header input format p behind is = record { header = is; few = omega arith; order = tt }
 
+-- the spelling of items and of others after them is both spellings, one after the other
 pub flat_map-append : (xs ys : List Item) → flat_map entry_says (xs ++ ys) ≡ flat_map entry_says xs ++ flat_map entry_says ys
 flat_map-append [] ys = refl
 flat_map-append (x ∷ xs) ys = ap (λ (t : List ℕ). entry_says x ++ t) (flat_map-append xs ys) ∙ sym (append_assoc (entry_says x) (flat_map entry_says xs) (flat_map entry_says ys))
@@ -173,6 +174,7 @@ module _ (start : Option (List ℕ)) (items : List Item) (old new : ReaderState)
 
   -- What follows is of an answer with an entry.
   module _ (e : Entry) where
+    -- where the reader moved on over the entry, it stands after the items with that one
     closed : Moves old.count old.last new (Ok (Some e)) → HasRead start new.format new.times (items ++ item e ∷ []) new.left → old.count ≡ length items → Stands start (items ++ item e ∷ []) new
     closed moves has counts =
         subst (λ s. StandsAt s start (items ++ item e ∷ []) new) (sym moves.0)
@@ -211,6 +213,7 @@ module _ (start : Option (List ℕ)) (items : List Item) (old new : ReaderState)
     gave-at ended at h again = cc
     gave-at failed at h again = cc
 
+    -- where the reader stands after the items and gives an entry, it stands after the items with that one
     pub Stands-gives : Stands start items old → Nexts old new (Ok (Some e)) → Stands start (items ++ item e ∷ []) new
     Stands-gives stands nexts = gave-at old.stage refl stands nexts
 

@@ -118,6 +118,7 @@ always : {A E : Type 0} (r : Result A E) (P : Type 0) → P → OnOk r P
 always (Ok a) P p = p
 always (Err e) P p = tt
 
+-- times and a format that did not change are kept
 keeps : (old new : Option Times) (format format2 : Format) → new ≡ old → format2 ≡ format → IfSome old (λ p. (new ≡ Some p) × (format2 ≡ format))
 keeps None new format format2 same same2 = tt
 keeps (Some p) new format format2 same same2 = (same, same2)

@@ -88,30 +88,37 @@ Tolerances-length Two text early late low low2 is =
 
 -- What follows shows that the times that are read of line 2, word by word, are those that stand there.
 module _ (format : Format) (line : List ℕ) (p : Times) (is : TimesLine format line p) (n1 : ℕ) (rest1 : List ℕ) (first : NumberAfter (codes "t1 ") line n1 rest1) where
+  -- the first number of the line is t1, and what follows it is what follows t1
   same1 : (p.t1 ≡ n1) × (is.rest1 ≡ rest1)
   same1 = NumberAfter-one (codes "t1 ") line p.t1 n1 is.rest1 rest1 is.t1_is first
 
+  -- after the first number comes t2
   pub t2-after : NumberAfter (codes " t2 ") rest1 p.t2 is.rest2
   t2-after = subst (λ t. NumberAfter (codes " t2 ") t p.t2 is.rest2) same1.1 is.t2_is
 
   -- What follows is of the second number of the line.
   module _ (n2 : ℕ) (rest2 : List ℕ) (second : NumberAfter (codes " t2 ") rest1 n2 rest2) where
+    -- the second number of the line is t2, and what follows it is what follows t2
     same2 : (p.t2 ≡ n2) × (is.rest2 ≡ rest2)
     same2 = NumberAfter-one (codes " t2 ") rest1 p.t2 n2 is.rest2 rest2 t2-after second
 
+    -- after the second number comes t4
     pub t4-after : NumberAfter (codes " t4 ") rest2 p.t4 is.rest3
     t4-after = subst (λ t. NumberAfter (codes " t4 ") t p.t4 is.rest3) same2.1 is.t4_is
 
     -- What follows is of the third number of the line.
     module _ (n3 : ℕ) (rest3 : List ℕ) (third : NumberAfter (codes " t4 ") rest2 n3 rest3) where
+      -- the third number of the line is t4, and what follows it is what follows t4
       same3 : (p.t4 ≡ n3) × (is.rest3 ≡ rest3)
       same3 = NumberAfter-one (codes " t4 ") rest2 p.t4 n3 is.rest3 rest3 t4-after third
 
+      -- after the third number come the tolerances
       pub tolerances-after : Tolerances format rest3 p.early p.late
       tolerances-after = subst (λ t. Tolerances format t p.early p.late) same3.1 is.tolerances
 
       -- What follows is of the tolerances at the end of the line.
       module _ (early late : ℕ) (fourth : Tolerances format rest3 early late) where
+        -- the times of the line are these numbers
         pub times-after : p ≡ record { t1 = n1; t2 = n2; t4 = n3; early = early; late = late; rules = R6026 }
         times-after =
             let same4 = Tolerances-one format rest3 p.early p.late early late tolerances-after fourth in

@@ -31,6 +31,7 @@ module _ (texts : Texts) (to : List ℕ) (low high t : ℕ) (rows : List (List D
   abbrev Under : Debt → Type 0
   Under = PaysSome (holds pairs (hash_of to)) t
 
+  -- the book has each message that the row owes
   known : All (λ d. Keeps texts d.message) debts
   known = All-names (Keeps texts) debts kept
 

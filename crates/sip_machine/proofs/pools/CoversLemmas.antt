@@ -67,6 +67,7 @@ module _ {X S : Type 0} where
 
 -- What follows is of states of the code and what they stand for beside one book.
 module _ {X S : Type 0} (names : S → List ℕ) (InRange : S → Type 0) (seen : Texts → S → X) (texts : Texts) where
+  -- the states stand for exactly that of which P holds
   abbrev pub Cover : (X → Type 0) → List S → Type 0
   Cover P xs = Covers names InRange seen texts P xs
 
@@ -106,6 +107,7 @@ module _ {X S : Type 0} (names : S → List ℕ) (InRange : S → Type 0) (seen 
   answers-front true s ys = refl
   answers-front false s ys = refl
 
+  -- g of a list that begins with x if b is so is g of x, if b is so, and g of the others
   map-passing : (b : Bool) (g : S → S) (x : S) (xs : List S) → map g (cond b (x ∷ xs) xs) ≡ cond b (g x ∷ map g xs) (map g xs)
   map-passing true g x xs = refl
   map-passing false g x xs = refl

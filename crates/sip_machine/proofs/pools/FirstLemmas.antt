@@ -26,6 +26,7 @@ module _ {X : Type 0} (xs : List X) where
   abbrev pub IsNew : List ℕ → ℕ → Type 0
   IsNew rows k = (x : X) → All (λ row. get_or xs row x ≢ get_or xs k x) rows
 
+  -- the row that stands at i in the list of rows is one of them
   pub Any-here : (rows : List ℕ) (i d k : ℕ) (x : X) → i < length rows → get_or xs (get_or rows i d) x ≡ get_or xs k x → Any (λ row. get_or xs row x ≡ get_or xs k x) rows
   Any-here rows i d k x low same = (i, get_or rows i d, low, get_or_default rows i (get_or rows i d) d low, same)
 

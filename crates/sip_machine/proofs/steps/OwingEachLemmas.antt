@@ -93,6 +93,7 @@ module _ {S X : Type 0} (f : Figure X) (p : Times) (seen : Texts → S → X) (n
   abbrev Owings : (Owing X → Type 0) → Option (CodeOwing S) → Type 0
   Owings P answer = AnswersOne (owing_names names) (OwingInRange InRange) (owing_seen seen) texts P answer
 
+  -- the state lasts until t, and P holds
   abbrev pub Lasting : ℕ → CodeOwing S → (Owing X → Type 0) → Owing X → Type 0
   Lasting t x P y = IsWithin t (until_of f p (owing_seen seen texts x)) × P y
 
@@ -112,6 +113,7 @@ module _ {S X : Type 0} (f : Figure X) (p : Times) (seen : Texts → S → X) (n
   -- What follows is of states of one phase, and of one event.
   module _ (e : MachineEvent) (phase : S) (xs : List (CodeOwing S)) (same : All (λ x. x.phase ≡ phase) xs) (known : All (Knows (owing_names names) texts) xs)
       (fits : All (OwingInRange InRange) xs) where
+    -- the state of this phase that owes these debts
     abbrev pub InPhase : List Debt → CodeOwing S
     InPhase owes = record { phase = phase; owes = owes }
 

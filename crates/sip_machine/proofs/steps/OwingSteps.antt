@@ -234,6 +234,7 @@ module _ {S X : Type 0} (f : Figure X) (p : Times) (seen : Texts → S → X) (n
       (names-kept texts (filter (counts_at t) x.owes) (All-filter (counts_at t) (λ d. Keeps texts d.message) x.owes
       (All-names (Keeps texts) x.owes (All-back (Keeps texts) (names x.phase) (owes_names x.owes) known))))
 
+  -- a state in range is in range without what has expired
   in_range-at : (t : ℕ) (x : CodeOwing S) → OwingInRange InRange x → OwingInRange InRange (unexpired_at t x)
   in_range-at t x fits = (fits.0, All-filter (counts_at t) (λ d. d.deadline < 2 ^ 50) x.owes fits.1)
 

@@ -191,6 +191,7 @@ module _ (texts : Texts) (number : ℕ) (bytes : List ℕ) (book : IsBook (texts
       let rest = only_grown ns (All-tail (Keeps texts) n ns all) in
       (λ i. (n, first i) ∷ rest i)
 
+  -- the messages with the earlier numbers are those with all these numbers, without the last one
   only_earlier : only earlier texts ≡ placed true (only numbers (texts ++ (number, bytes) ∷ []))
   only_earlier =
       let f : ℕ → ℕ × List ℕ = λ n. (n, text_of (texts ++ (number, bytes) ∷ []) n) in

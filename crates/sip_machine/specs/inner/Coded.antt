@@ -62,6 +62,7 @@ module _ {X S : Type 0} (f : Figure X) (seen : Texts → S → X) where
   abbrev pub SameWindow : Type 0
   SameWindow = (a b : Texts) (p : Times) (x : S) → f.window p (seen a x) ≡ f.window p (seen b x)
 
+  -- the last moment of a phase is the same beside each book
   abbrev pub SameCloses : Type 0
   SameCloses = (a b : Texts) (p : Times) (x : S) → closes_at f p (seen a x) ≡ closes_at f p (seen b x)
 

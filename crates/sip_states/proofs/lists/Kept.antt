@@ -53,15 +53,19 @@ module _ {X : Type 0} where
 
   -- What follows is of one step at i, after which those elements up to it whose flag is set stand at the front: xs was the list, and ys is it now.
   module _ (flags : List Bool) (xs ys : List X) (k i : ℕ) (h : KeepsInPlace flags xs ys k i) (low : i < length flags) (within : i < length ys) (x : X) (is : x ≡ get_or ys i x) where
+    -- the place i is one of the old list
     within_xs : i < length xs
     within_xs = let long = h.long in omega (arith, within, long)
 
+    -- from i on both lists are the same
     both : get_or ys i x ∷ drop (i + 1) ys ≡ get_or xs i x ∷ drop (i + 1) xs
     both = sym (drop_more ys i x within) ∙ h.rest ∙ drop_more xs i x within_xs
 
+    -- x stood at i in the old list
     at : x ≡ get_or xs i x
     at = is ∙ ap (λ l. get_or l 0 x) both
 
+    -- after i both lists are the same
     after : drop (i + 1) ys ≡ drop (i + 1) xs
     after = ap (drop 1) both
 
@@ -74,12 +78,15 @@ module _ {X : Type 0} where
       long = h.long;
     }
 
+    -- the place k is one of the list
     k_low : k < length ys
     k_low = let b = h.behind in omega (arith, within, b)
 
+    -- the swap puts the element at i to k, and leaves those at other places
     moved : ((d : X) → get_or (swap ys i k) k d ≡ get_or ys i d) × ((n : ℕ) (d : X) → n ≢ i → n ≢ k → get_or (swap ys i k) n d ≡ get_or ys n d)
     moved = (λ d. (swapped_from_swap ys (swap ys i k) i k d within k_low refl).1, λ n d apart other. (swapped_from_swap ys (swap ys i k) i k d within k_low refl).2 n apart other)
 
+    -- the swap leaves as many elements
     swap_long : length (swap ys i k) ≡ length ys
     swap_long = length-swap ys i k
 

@@ -239,6 +239,7 @@ module _ (texts : Texts) (p : Times) (es : List (Observation KeyParts)) (e : Obs
 
   -- What follows is of tables in which no last moment is past.
   module _ (nothing : (n : ℕ) (r : Option (Option ℕ)) → slice_get t.records n ≡ Some r → is_overdue moment r ≡ false) where
+    -- a transaction that is not to hear the event goes on, since its last moment is not past
     goes : (n : ℕ) (key : KeyParts) (s : AnySet) → slice_get t.keys n ≡ Some key → slice_get t.sets n ≡ Some s → is_among numbers (n + 1) ≡ false → GoesOn p (key_keeping texts p) es e (key, s)
     goes n key s at here other = let (r, on) = record_of_key n key at in in_time n key s at here r on (nothing n r on) other
 

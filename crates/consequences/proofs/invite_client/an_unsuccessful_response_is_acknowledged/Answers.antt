@@ -25,6 +25,7 @@ use Rattle.consequences.proofs.invite_client.an_unsuccessful_response_is_acknowl
 -- What follows is of a run in which an INVITE was sent and a response of 300 to 699 came before timer B, and m is after its ACK was due.
 module _ (p : Times) (before between after : List MachineEvent) (invite response : MachineEvent) (m : ℕ) (none : All (λ f. ¬ (SendsRequest Invite f)) before) (sent : SendsRequest Invite invite)
     (gets : GetsResponse IsUnsuccessful response) (early : response.moment < open_at p invite.moment (64 * p.t1)) (late : close_at p response.moment 0 < m) where
+  -- the event ends the transaction, or takes it where no ACK is owed: a 2xx, a refusal or a restart
   abbrev IsBroken : MachineEvent → Type 0
   IsBroken g = GetsResponse IsSuccess g ⊎ IsRefused g ⊎ IsRestart g
 
@@ -45,6 +46,7 @@ module _ (p : Times) (before between after : List MachineEvent) (invite response
       by_rules R6026 y stands = acknowledged corrected.Receives receives_6026 p invite response (what_stands_lasts OfInviteClient p) before between after m y none sent waiting gets stands late
       by_rules R3261 y stands = acknowledged without.Receives receives_3261 p invite response (what_stands_lasts OfInviteClient3261 p) before between after m y none sent waiting gets stands late
 
+  -- the first final response is acknowledged
   first : (rules : Rules) (y : StateOf rules Client true) → All (λ f. ¬ (GetsResponse IsFinal f) × ¬ (IsRefused f) × ¬ (IsRestart f)) between
       → Stands (figure_of rules Client true) p (before ++ invite ∷ (between ++ response ∷ after)) m y → Any (Acknowledges p invite response) after ⊎ Any (λ f. IsRefused f ⊎ IsRestart f) after
   first rules y quiet stands =
@@ -60,6 +62,7 @@ module _ (p : Times) (before between after : List MachineEvent) (invite response
           any-none (GetsResponse IsUnsuccessful) between (All-weaker (λ f. ¬ (GetsResponse IsFinal f) × ¬ (IsRefused f) × ¬ (IsRestart f)) (λ g. ¬ (GetsResponse IsUnsuccessful g))
           (λ g calm bad. calm.0 (bad.0, (bad.1.0, bad.1.1, (omega (arith, bad.1.2.0), bad.1.2.1)))) between quiet) came
 
+  -- over UDP a response of 300 to 699 that comes again is acknowledged, as long as timer D may run
   again : (rules : Rules) (y : StateOf rules Client true) → invite.reliable ≡ false → All (λ f. ¬ (GetsResponse IsSuccess f) × ¬ (IsRefused f) × ¬ (IsRestart f)) between → response.moment < open_at p invite.moment 32000
       → Stands (figure_of rules Client true) p (before ++ invite ∷ (between ++ response ∷ after)) m y → Any (Acknowledges p invite response) after ⊎ Any (λ f. IsRefused f ⊎ IsRestart f) after
   again rules y unreliable quiet in_time stands =

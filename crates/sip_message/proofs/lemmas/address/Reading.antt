@@ -75,6 +75,7 @@ no_scheme b t token apart (c ∷ s, rest, all, whole) =
 abbrev is_scheme_front : ℕ → Bool
 is_scheme_front b = is_token_byte b || nat_eq b colon
 
+-- a blank does not stand in front of a scheme's colon
 blank-front : (b : ℕ) → is_lws_byte b ≡ true → is_scheme_front b ≡ false
 blank-front = blank_is (λ b. is_scheme_front b ≡ false) refl refl refl refl
 
@@ -91,6 +92,7 @@ after-word more rest inner many (stops, (k, y, sws, y_is, r_is)) = elim (some-ma
     at (inl none) = subst (λ t. Fails is_scheme_front (t ++ (left_angle ∷ inner))) (sym none) refl
     at (inr blanks) = fails-append is_scheme_front k (left_angle ∷ inner) (fail-blanks is_scheme_front blank-front k blanks)
 
+-- where the front of a scheme ends, a token ends
 fails-token : (u : List ℕ) → Fails is_scheme_front u → Stops is_token_byte u
 fails-token [] fails = absurd fails
 fails-token (b ∷ u) fails = (or_parts (is_token_byte b) (nat_eq b colon) fails).0
@@ -166,6 +168,7 @@ display-no_angle text name rest stop missing is behind no_angle (Some m, inner) 
 abbrev make : Option (List ℕ) → List ℕ → List ℕ → CutParts
 make d u r = record { display = d; uri = u; rest = r }
 
+-- cuts with the same display name, URI and rest are the same
 cut_same : (c d : CutParts) → c.display ≡ d.display → c.uri ≡ d.uri → c.rest ≡ d.rest → c ≡ d
 cut_same c d displays uris rests =
     ap (λ x. make x c.uri c.rest) displays ∙ ap (λ x. make d.display x c.rest) uris ∙ ap (λ x. make d.display d.uri x) rests
@@ -286,14 +289,17 @@ display-fits (Some name) text inner (rest, inr words, behind) = inr words.0
 not-plain : (b : ℕ) → is_lws_byte b ≡ true → is_unmarked_byte b ≡ false
 not-plain = blank_is (λ b. is_unmarked_byte b ≡ false) refl refl refl refl
 
+-- bytes that are no blanks and none of `,?;` may stand in a URI without angles
 plain-all : (u : List ℕ) → All (λ b. not (is_lws_byte b)) u → All (λ b. not (is_among ",?;" b)) u → All is_unmarked_byte u
 plain-all [] solid other = tt
 plain-all (b ∷ u) solid other = (and_from (not (is_lws_byte b)) (not (is_among ",?;" b)) solid.0 other.0, plain-all u solid.1 other.1)
 
+-- bytes that may stand in a URI without angles are none of `,?;`
 all-other : (u : List ℕ) → All is_unmarked_byte u → All (λ b. not (is_among ",?;" b)) u
 all-other [] all = tt
 all-other (b ∷ u) all = ((and_parts (not (is_lws_byte b)) (not (is_among ",?;" b)) all.0).1, all-other u all.1)
 
+-- where no byte of a URI without angles follows, that URI stops
 fails-plain : (u : List ℕ) → Fails is_unmarked_byte u → Stops is_unmarked_byte u
 fails-plain [] fails = absurd fails
 fails-plain (b ∷ u) fails = fails

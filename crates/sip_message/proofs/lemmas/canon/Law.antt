@@ -188,6 +188,7 @@ inner_class class cr lf b is = at (nat_eq b carriage_return) (nat_eq b line_feed
     at false true x_is y_is = absurd (both_ways (class b) (ap class (eqb-true b line_feed y_is) ∙ lf) is)
     at false false x_is y_is = refl
 
+-- the version of SIP has neither CR nor LF
 version-inner : Inner (codes "SIP/2.0")
 version-inner = (refl, (refl, (refl, (refl, (refl, (refl, (refl, tt)))))))
 
@@ -283,9 +284,11 @@ found-unfolded n name (f ∷ fs) = at (is_name_of name f.name) (found-unfolded (
     at true later = ap (λ t. (n, unfolded f.value) ∷ t) later
     at false later = later
 
+-- a field of the name stands there with the folds made one SP too
 abbrev stands-unfolded : (name : Known) (fs : List Field) → HasField name fs → HasField name (map unfolded_field fs)
 stands-unfolded name fs s = (unfolded_found s.0, (map unfolded_found s.1.0, found-unfolded 1 name fs ∙ ap (map unfolded_found) s.1.1))
 
+-- no second field of the name stands there with the folds made one SP either
 once-unfolded : (name : Known) (fs : List Field) → IsNotTwice name fs → IsNotTwice name (map unfolded_field fs)
 once-unfolded name fs few =
     omega (arith, few, ap length (found-unfolded 1 name fs), length-map (found_from 1 name fs) unfolded_found)
@@ -349,6 +352,7 @@ found-vias n (f ∷ fs) rows = at (is_name_of known_name.Via f.name) refl (found
     at true is later = (subst (λ m. Row m f.value) (named-via f.name is) rows.0, later)
     at false is later = later
 
+-- the first value of Via is one that its row allows
 first-via : (n : ℕ) (fs : List Field) → AllByRecursion (λ f. Row f.name f.value) fs → (one : ℕ × List ℕ) (more : List (ℕ × List ℕ)) → found_from n known_name.Via fs ≡ one ∷ more → Row (known known_name.Via) (one.1)
 first-via n fs rows one more is =
     (subst (AllByRecursion (λ x. Row (known known_name.Via) (x.1))) is (found-vias n fs rows)).0
@@ -358,6 +362,7 @@ body-enough : (len : Option ℕ) (rest : List ℕ) → IsEnough len rest → IsE
 body-enough None rest enough = tt
 body-enough (Some n) rest enough = omega (arith, length-take-le n rest enough)
 
+-- nothing follows a body that was cut to its length
 body-no_more : (stream : List ℕ) (len : Option ℕ) (rest : List ℕ) → IsEnough len rest → IsNoMore stream len (cut_body len rest)
 body-no_more stream None rest enough is = tt
 body-no_more stream (Some n) rest enough is = omega (arith, length-take-le n rest enough)

@@ -130,6 +130,7 @@ parts-mark mark text inner rest (front_stops, (s, t, sws, t_is, whole)) (stops, 
   ),
 )
 
+-- past a mark at the front stands the rest
 past-cons : (mark : ℕ) (rest : List ℕ) → past mark (mark ∷ rest) ≡ Some rest
 past-cons mark rest = ap (λ same. cond same (Some rest) None) (eq-eqb mark mark refl)
 
@@ -159,6 +160,7 @@ same-blanks text r s one other =
 abbrev pub ReadAs : {X : Type 0} → (X → Type 0) → X → Type 0
 ReadAs {X = X} R a = R a × ((x : X) → R x → x ≡ a)
 
+-- R holds of nothing, so nothing is read
 abbrev pub NotRead : {X : Type 0} → (X → Type 0) → Type 0
 NotRead {X = X} R = (x : X) → ¬ (R x)
 

@@ -224,6 +224,7 @@ inner-parts b inner =
     let both = and_parts (not (nat_eq b carriage_return)) (not (nat_eq b line_feed)) inner in
     (not-true _ (both.0), not-true _ (both.1))
 
+-- a byte that is neither CR nor LF is one within a line
 parts-inner : (b : ℕ) → nat_eq b carriage_return ≡ false → nat_eq b line_feed ≡ false → is_inner_byte b ≡ true
 parts-inner b no_end no_feed = ap₂ (λ x y. not x && not y) no_end no_feed
 

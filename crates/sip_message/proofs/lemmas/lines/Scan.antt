@@ -45,6 +45,7 @@ no_lf : (u v : List ℕ) → Lacks line_feed (u ++ line_feed ∷ v) → ⊥
 no_lf [] v lacks = both_ways true lacks.0 refl
 no_lf (b ∷ u) v lacks = no_lf u v lacks.1
 
+-- a text without LF has no CRLF
 no_crlf : (t u v : List ℕ) → Lacks line_feed t → t ≡ u ++ (crlf ++ v) → ⊥
 no_crlf t u v lacks is =
     no_lf (u ++ carriage_return ∷ []) v (subst (Lacks line_feed) (is ∙ sym (append_assoc u (carriage_return ∷ []) (line_feed ∷ v))) lacks)
@@ -143,10 +144,12 @@ cr-ends f = at (ends_cr (f ++ carriage_return ∷ [])) refl
     at false is =
         absurd (none-some f (sym (ap (λ x. cond x (Some (take (length (f ++ carriage_return ∷ []) - 1) (f ++ carriage_return ∷ []))) None) is) ∙ up_to-mark carriage_return f))
 
+-- a text that opens with a blank passes the test for SP and HTAB
 begins-wsp : (text : List ℕ) → OpensBlank text → begins_wsp text ≡ true
 begins-wsp [] begins = absurd begins
 begins-wsp (b ∷ text) begins = begins
 
+-- a text that passes the test for SP and HTAB opens with a blank
 wsp-begins : (text : List ℕ) → begins_wsp text ≡ true → OpensBlank text
 wsp-begins [] is = both_ways false refl is
 wsp-begins (b ∷ text) is = is

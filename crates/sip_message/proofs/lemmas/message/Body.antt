@@ -79,6 +79,7 @@ module _ (start : StartLine) (cseq : ℕ × List ℕ) (via : List ℕ) (len : Op
 
   -- What follows is of a message whose Content-Length says n.
   module _ (n : ℕ) (some : len ≡ Some n) where
+    -- the length of the body is said
     has : HasLength via len
     has stream = ap is_some some
 

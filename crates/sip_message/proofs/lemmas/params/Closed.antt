@@ -96,12 +96,15 @@ some-left P Q some u both none = some both.0 both.2 (nil both.0 both.1 (sym both
     nil [] q is = refl
     nil (b ∷ p) q is = absurd (omega (arith, ap length is))
 
+-- a byte is not empty
 some-byte : (b : ℕ) (u : List ℕ) → Byte b u → u ≡ [] → ⊥
 some-byte b u is none = absurd (omega (arith, ap length is, ap length none))
 
+-- a sequence of hex groups is not empty
 some-hexseq : (u : List ℕ) → Hexseq u → u ≡ [] → ⊥
 some-hexseq u = some-left Hex4 (Many (Byte colon then Hex4)) (λ t is. some-between _ 1 4 t (omega arith) is) u
 
+-- "::" is not empty
 some-double : (u : List ℕ) → Exactly (colon ∷ colon ∷ []) u → u ≡ [] → ⊥
 some-double u is none = absurd (omega (arith, ap length is, ap length none))
 

@@ -88,6 +88,7 @@ separator-bare b is = elim (or_cases (nat_eq b semicolon) (nat_eq b comma) is) [
   | inr same ↦ subst (λ x. is_bare_byte x ≡ false) (sym (eqb-true b comma same)) refl
 ]
 
+-- a blank is no byte of a bare value
 blank-bare : (b : ℕ) → is_lws_byte b ≡ true → is_bare_byte b ≡ false
 blank-bare = blank_is (λ b. is_bare_byte b ≡ false) refl refl refl refl
 
@@ -126,9 +127,11 @@ front-value text v rest (inr (inl is)) = inr (inr (inr is.0))
 front-value text v rest (inr (inr (inl token, stops, whole))) = inl token
 front-value text v rest (inr (inr (inr v6, stops, whole))) = inr (inr (inl v6))
 
+-- the byte is "="
 abbrev is_equals : ℕ → Bool
 is_equals b = nat_eq b equals
 
+-- "=" is no byte of a token
 equals-token : (b : ℕ) → is_equals b ≡ true → is_token_byte b ≡ false
 equals-token b is = subst (λ x. is_token_byte x ≡ false) (sym (eqb-true b equals is)) refl
 

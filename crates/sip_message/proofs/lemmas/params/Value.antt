@@ -161,6 +161,7 @@ no-host_reference text part rest bracket none x reference =
     let is : Bracketed part = subst Bracketed (ap (λ y. y.0) same) reference.0 in
     none (v6 part) (is, refl)
 
+-- a quoted value at the front is blanks and a quoted string there
 quoted-string : (text : List ℕ) (x : List ℕ × List ℕ) → QuotedFront text x → HasFront (Sws then Quoted) text (length (x.0))
 quoted-string text (v, r) (q, whole) = (v, r, ([], v, inl refl, q, refl), whole, refl)
 

@@ -32,6 +32,7 @@ same-demand {X = X} {Y = Y} Q R P fault go come = record { to = to; back = back 
     back (gives y) t = let x = come y t in (gives x.0, x.1, x.2)
     back (stops g) t = (stops g, ((λ x r. let y = go x r in t.0 y.0 y.1), t.1), refl)
 
+-- two demands without a value, of which each gives the other, come to the same
 pub same-holds : (A B : Type 0) (fault : Fault) → (A → B) → (B → A) → Same {X = ⊤} {Y = ⊤} Equal (Holds A fault) (Holds B fault)
 same-holds A B fault go come = same-demand Equal (λ _. A) (λ _. B) fault (λ x a. (x, go a, refl)) (λ y b. (y, come b, refl))
 

@@ -59,6 +59,7 @@ last-solid [] b ends = ends
 last-solid (c ∷ []) b ends = ends
 last-solid (c ∷ d ∷ u) b ends = last-solid (d ∷ u) b ends
 
+-- a text that does not end with a blank has no blank as its last byte
 ends-trimmed : (t : List ℕ) → EndsSolid t → ¬ (((λ before. ⊤) then One is_lws_byte) t)
 ends-trimmed t ends (u, v, any, (b, blank, v_is), whole) =
     both_ways (is_lws_byte b) (last-solid u b (subst EndsSolid (whole ∙ ap (λ z. u ++ z) v_is) ends)) blank
@@ -90,6 +91,7 @@ AreFields n (f ∷ fs) [] = ⊥
 abbrev SaidName : List ℕ → List ℕ × List ℕ → Type 0
 SaidName line y = ((λ t. Token t × (y.0 ≡ t)) then (Many (One (λ byte. byte == 0x20 || byte == 0x09)) then (Byte 58 then Exactly y.1))) line
 
+-- the name is that which the bytes spell, and the rest is the same
 abbrev IsSame : FieldName × List ℕ → List ℕ × List ℕ → Type 0
 IsSame x y = (x.0 ≡ name_of y.0) × (x.1 ≡ y.1)
 
@@ -184,6 +186,7 @@ stream-kind t is = elim (or_cases (bytes_eq (folded t) (codes "tcp")) (bytes_eq 
   | inr tls ↦ inr ((bytes_eq-Decides (folded t) (codes "tls")).0 tls)
 ]
 
+-- TCP and TLS, in letters of any case, are streams
 kind-stream : (t : List ℕ) → (AnyCase "tcp" or AnyCase "tls") t → is_stream t ≡ true
 kind-stream t (inl tcp) = or_left (bytes_eq (folded t) (codes "tcp")) (bytes_eq (folded t) (codes "tls")) ((bytes_eq-Decides (folded t) (codes "tcp")).1 tcp)
 kind-stream t (inr tls) = or_right (bytes_eq (folded t) (codes "tcp")) (bytes_eq (folded t) (codes "tls")) ((bytes_eq-Decides (folded t) (codes "tls")).1 tls)
@@ -210,6 +213,7 @@ method-said : (start : StartLine) (cseq : List ℕ) → MethodFits start cseq �
 method-said (request m u) cseq (n, text) = (n, cseq-said cseq n m text)
 method-said (status code why) cseq any = tt
 
+-- what the definitions say of the methods is what the readers ask
 said-method : (start : StartLine) (cseq : List ℕ) → MethodSays start cseq → MethodFits start cseq
 said-method (request m u) cseq (n, says) = (n, said-cseq cseq n m says)
 said-method (status code why) cseq any = tt

@@ -40,9 +40,11 @@ use Rattle.sip_message.proofs.lemmas.says.Told.{text-tells, tells-text}
 values-said : (k : Known) (key : String) → ((token : List ℕ) → is_name_of k (name_of token) ≡ bytes_eq (full_name (folded token)) (codes key)) → (fs : List Field) (gs : List SaidField) → AreFields 1 fs gs → values k fs ≡ said_values key gs
 values-said k key same fs gs are = found-values 1 k fs ∙ ap (map (λ found. found.1)) (all-found k key same 1 fs gs are)
 
+-- a list has one first element
 one-first : (vs : List (List ℕ)) (a b : List ℕ) → IsFirstOf vs a → IsFirstOf vs b → a ≡ b
 one-first vs a b (more, first) (later, other) = let same : a ∷ more ≡ b ∷ later = sym first ∙ other in cc
 
+-- an address keeps the whole text that it is read from
 whole-of : (a : List ℕ × AddressParts) (text : List ℕ) → AddressValue text a → text ≡ a.0
 whole-of (whole, a) text (address, same) = sym same
 

@@ -66,6 +66,7 @@ ends-take (b ∷ []) (suc (suc n)) within solid = absurd (omega (arith, within))
 ends-take (b ∷ c ∷ text) (suc (suc n)) within solid =
     ends-take (c ∷ text) (suc n) (omega (arith, within)) (λ k is. solid (suc k) (ap suc is))
 
+-- where no blank stands at the front, the text does not open with a blank
 stops-opens : (u : List ℕ) → Stops is_lws_byte u → OpensSolid u
 stops-opens [] stops = tt
 stops-opens (b ∷ u) stops = stops

@@ -81,9 +81,11 @@ bytes-token (b ∷ u) all some = (b ∷ [], u, (b, all.0, refl), many u all.1, r
     many [] every = many-nil (One is_token_byte)
     many (c ∷ t) every = many-cons (One is_token_byte) (c ∷ []) t (c, every.0, refl) (many t every.1)
 
+-- a hostname is a token
 hostname-token : (u : List ℕ) → Hostname u → Token u
 hostname-token u is = bytes-token u (each-hostname u is) (λ none. both_ways (is_hostname u) (ap is_hostname none) (hostname-is u is))
 
+-- an IPv4 address is a token
 v4-token : (u : List ℕ) → Ipv4 u → Token u
 v4-token u is = bytes-token u (each-v4 u is) (λ none. both_ways (is_v4 u) (ap is_v4 none) (v4-is u is))
 

@@ -167,13 +167,16 @@ module _ (texts : Texts) (book : IsBook texts) (t u : Tabled) (moment : ℕ) (wa
 
   -- What follows is of tables t that track the entries es, and the tables u after all sets have waited.
   module _ (es : List (Observation KeyParts)) (deaf : List Bool) (tracks : TablesSurvey texts es t deaf) (newest : newest_moment es ≡ moment) (as_many : length deaf ≡ length t.keys) where
+    -- no entry is after the moment
     late : newest_moment es ≤ moment
     late = omega (arith, newest)
 
+    -- a set that has waited leads to the runs to which it led
     on : (n : ℕ) (old new : AnySet) → slice_get t.sets n ≡ Some old → slice_get u.sets n ≡ Some new → (machine : MachineKind) (events : List MachineEvent)
         → LeadsOf texts t.times machine events (newest_moment es) old → LeadsOf texts t.times machine events (newest_moment es) new
     on n old new was at machine events leads = waited_on texts book t.times machine events (newest_moment es) moment late old new (low n old was) (waited.each n old new was at) leads
 
+    -- a set that has waited follows the entries that it followed
     follows : (n : ℕ) (old new : AnySet) → slice_get t.sets n ≡ Some old → slice_get u.sets n ≡ Some new → (key : KeyParts) (d : Bool) → IsFollowed texts t.times es key old d → IsFollowed texts t.times es key new d
     follows n old new was at key true (leads, unsound) = (on n old new was at (machine_of_key t.times.rules key) [] leads, unsound)
     follows n old new was at key false (leads, sound) = (on n old new was at (machine_of_key t.times.rules key) (events_for key es) leads, sound)

@@ -96,9 +96,11 @@ module _ (chosen : KeyParts → Bool) where
 
   -- What follows is of one key that is chosen.
   module _ (key : KeyParts) (is : chosen key ≡ true) where
+    -- an entry of the cut log concerns the key exactly if the entry of the whole log does
     concerns_cut : (e c : Observation KeyParts) → IsCutOf chosen e c → concerns key c ≡ concerns key e
     concerns_cut e c cut = ap (list_any (same_key key)) cut.1 ∙ among_chosen key is e.keys
 
+    -- keys among which one is are not none
     not_nil : (keys : List KeyParts) → list_any (same_key key) keys ≡ true → keys ≢ []
     not_nil keys any none = false≢true (sym (ap (list_any (same_key key)) none) ∙ any)
 

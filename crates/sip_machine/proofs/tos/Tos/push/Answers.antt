@@ -7,6 +7,7 @@ use Rattle.sip_machine.specs.inner.Tos.{IsUnder}
 use Rattle.sip_machine.proofs.acks.ToLemmas.{put-here, put-keeps}
 use Rattle.sip_machine.proofs.tos.Tos.push.Goals as goal
 
+-- the order of Tos: by the numbers of their messages
 abbrev below : To → To → Type 0
 below a b = a.number < b.number
 

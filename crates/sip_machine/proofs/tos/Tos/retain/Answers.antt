@@ -4,6 +4,7 @@ use Rattle.sip_machine.specs.declared.tos.To.{To}
 use Rattle.sip_machine.proofs.acks.ToLemmas.{AllPairs-picked, left_over, none-under}
 use Rattle.sip_machine.proofs.tos.Tos.retain.Goals as goal
 
+-- the order of Tos: by the numbers of their messages
 abbrev below : To → To → Type 0
 below a b = a.number < b.number
 

@@ -201,6 +201,7 @@ module _ (window : List ℕ) (len bs ds hs : ℕ) (room : 32 ≤ length window) 
           or_lt 64 (bit_or (bit_and bs all) begins) (bit_and dot_word (shl 1 hyphen_word))
           (or_lt 64 (bit_and bs all) begins (omega (arith, and_le_l bs all, fits)) begins_fit) (omega (arith, and_le_r dot_word (shl 1 hyphen_word)))
 
+      -- bit i is not set
       unset : (i : ℕ) → i < 64 → test bad_word i ≡ false
       unset i below = elim (cases_order i len) [
         | inl last ↦ ap (test bad_word) last ∙ end-is ∙ ap (λ n. bad (prev_is n) dot) (sym long) ∙ good-end dot text is_good
@@ -234,6 +235,7 @@ module _ (window : List ℕ) (len bs ds hs : ℕ) (room : 32 ≤ length window) 
       ap (λ g. g && is_ascii_alphabetic (top_of dot dot text)) (good none)
       ∙ ap is_ascii_alphabetic (top-at dot dot text top (omega (arith, within, long)) front no_dots ∙ here top within)
     where
+      -- no dot stands before the end
       end_dot : (d h : Bool) → ((d && true) || h) ≡ false → d ≡ false
       end_dot false h e = refl
       end_dot true h e = absurd (false≢true (sym e))

@@ -61,6 +61,7 @@ word-piece (a ∷ text) = at (is_token_byte a) refl
       | inr front ↦ inr (front.0, front.1, inr front.2, front.3, front.4)
     ]
 
+    -- whether the first byte is one of a token
     at : (token : Bool) → is_token_byte a ≡ token → (cond token 1 (blank_len (a ∷ text)) ≡ 0) ⊎ HasFront WordItem (a ∷ text) (cond token 1 (blank_len (a ∷ text)))
     at true is = inr (a ∷ [], text, inl (a, is, refl), refl, refl)
     at false is = blank

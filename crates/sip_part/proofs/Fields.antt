@@ -100,6 +100,7 @@ field_found n line rest b f says found = by (via_spelled (line ++ (13 ∷ rest))
     short_word : Token (codes "v")
     short_word = token_of 118 [] refl ([], tt, refl)
 
+    -- the name is spelled in full or by its short form
     by : Spelled (codes "Via") (line ++ (13 ∷ rest)) b ⊎ Spelled (codes "v") (line ++ (13 ∷ rest)) b → Found b f
     by (inl spelled) = word_found n (codes "Via") line rest b f full_word refl says spelled
     by (inr spelled) = word_found n (codes "v") line rest b f short_word refl says spelled
@@ -188,6 +189,7 @@ line_found n line rest b more f fs via vias says passed found tells on = by (ope
     text : List ℕ
     text = line ++ (13 ∷ (10 ∷ tail))
 
+    -- whether the text opens with the name of a Via
     by : (opens : Bool) → opens_via text ≡ opens → branch_at (if opens then Some text else via_line text) ≡ Some b → via.branch ≡ Some b
     by true is at =
         let here = field_found n line (10 ∷ tail) b f says at in

@@ -331,18 +331,22 @@ seen_open after x b o seen = by o.opens
     here : (c : ℕ) → o.first ≡ c → Seen b (c ∷ (o.rest ++ x))
     here c is = subst (λ f. Seen b (f ∷ (o.rest ++ x))) is at
 
+    -- nothing is found from a SP on
     blank : Seen b (32 ∷ (o.rest ++ x)) → ⊥
     blank (inl (is, found)) = let e : ◌≡◌ {A = ℕ} 32 98 = cc in omega (arith, e)
     blank (inr (other, found)) = absurd (cc)
 
+    -- nothing is found from a HTAB on
     tab : Seen b (9 ∷ (o.rest ++ x)) → ⊥
     tab (inl (is, found)) = let e : ◌≡◌ {A = ℕ} 9 98 = cc in omega (arith, e)
     tab (inr (other, found)) = absurd (cc)
 
+    -- nothing is found from a CR on
     line : Seen b (13 ∷ (o.rest ++ x)) → ⊥
     line (inl (is, found)) = let e : ◌≡◌ {A = ℕ} 13 98 = cc in omega (arith, e)
     line (inr (other, found)) = absurd (cc)
 
+    -- blanks begin with a SP, a HTAB or a CR
     by : Opens o.first → ⊥
     by (inl is) = blank (here 32 is)
     by (inr (inl is)) = tab (here 9 is)

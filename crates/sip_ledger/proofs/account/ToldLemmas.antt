@@ -121,6 +121,7 @@ module _ {gains : Gains} {strikes : List Strike} {one other : Account} (is : IsA
       (debt_of (entry_at (entries_of gains) beside) (must_at gains other beside) ∷ rest_beside)
       (sym (told-here is are.told inside) ∙ same ∙ told-here is_other are.told_beside inside_beside)))
     where
+      -- equal lists of debts have the same first debt
       first : {d d' : Debt} {ds ds' : List Debt} → d ∷ ds ≡ d' ∷ ds' → d ≡ d'
       first equal = cc
 

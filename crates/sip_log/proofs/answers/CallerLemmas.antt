@@ -151,6 +151,7 @@ module _ (start left : Option (List ℕ)) (before after : Bool) where
             (subst (λ t. HasRead start place.format t [] (beside_source place left after).left) (sym times) (has start says.1), ap (λ (x : ProgressState). x.count) is, ap (λ (x : ProgressState). x.last) is);
       }
     where
+      -- where the header comes first in what was left, it was read
       has : (s : Option (List ℕ)) → IfSome s (λ xs. (ys : List ℕ) × (prepend_known place.held left ≡ Some ys) × Heads place.format xs (gives p ys)) → HasRead s place.format (Some p) [] (prepend_known place.held left)
       has None says = tt
       has (Some xs) (ys, left_is, header) = (ys, left_is, Begins-header xs place.format p ys header)

@@ -35,6 +35,7 @@ module _ (most : ℕ) (held ys : List ℕ) where
       ∙ ap (λ (t : List ℕ). get_or t (length line) 0) whole ∙ get_or-append_seam line line_feed behind 0 in
       (first-none line_feed front none).nowhere (length line) low here
     where
+      -- a line shorter than `most` would lie within the held bytes, which have no line feed
       inside-held : (most ≤ length held) ⊎ (ys ≡ []) → length (held ++ ys) ≡ length line + length (line_feed ∷ behind) → length line < most
           → length line < length held
       inside-held (inl many) len short = omega arith

@@ -448,6 +448,7 @@ second-or-not format rest = elim (cut-or-lacks line_feed rest) as (λ _. SecondO
   ]
 ]
   where
+    -- the line of the times is what stands before the first line feed
     line-is : (front back : List ℕ) → Cut line_feed rest front back → (p : Times) (behind : List ℕ) → TimesFront format rest p behind → TimesLine format front p
     line-is front back at p behind is =
         let parts = cut-one line_feed is.line behind front back (TimesLine-lacks format is.line p is.times) at.first (sym is.whole ∙ at.whole) in

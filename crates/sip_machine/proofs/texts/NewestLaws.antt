@@ -86,6 +86,7 @@ module _ (texts : Texts) (number : ℕ) (bytes : List ℕ) (book : IsBook (texts
         go to under is (Keeps-grow_cases texts number bytes to.number is.kept);
   }
     where
+      -- the To is of an earlier message, since its number is below the newest
       go : (to : To) → to.number < number → IsTo grown to → Keeps texts to.number ⊎ (number ≡ to.number) → IsTo texts to
       go to under is (inl keeps) = record { kept = keeps; text = subst (λ b. IsToOf b to.text) (text_of-grow texts number bytes to.number keeps) is.text }
       go to under is (inr same) = absurd (omega (arith, under, same))

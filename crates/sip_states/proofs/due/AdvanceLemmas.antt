@@ -189,6 +189,7 @@ within_push marks moved long within index mark =
       | inr new ↦ absurd (true≢false (sym new.1))
     ]
   where
+    -- an element of a list stands at the same index with one element more
     slice_get-push : (xs : List Bool) (a : Bool) (n : ℕ) (x : Bool) → slice_get xs n ≡ Some x → slice_get (xs ++ a ∷ []) n ≡ Some x
     slice_get-push [] a n x at = absurd cc
     slice_get-push (u ∷ xs) a zero x at = at
@@ -270,6 +271,7 @@ marked_names marked marks sets long are members n = (
       ],
 )
   where
+    -- an index is marked or it is not
     mark_cases : (marks : List Bool) (n : ℕ) → n < length marks → IsMarked marks n ⊎ (slice_get marks n ≡ Some false)
     mark_cases [] n low = absurd (omega arith)
     mark_cases (true ∷ marks) zero low = inl refl

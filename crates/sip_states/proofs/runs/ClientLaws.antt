@@ -193,15 +193,18 @@ module _ (p : Times) (code : ℕ) (e : MachineEvent) (y : Owing invite.InviteCli
       all other (inr (inl h)) = rw h.1 (omega arith)
       all other (inr (inr h)) = rw h.1 (omega arith)
 
+      -- the final response is a 2xx or one of 300 to 699
       by_code : Dec (code ≤ 299) → 2 ≤ invite_rank y.phase
       by_code (yes low) = leads_on invite.invite_client p invite_rank _ y e _ (Response code) is (inr (inl ((final.0, low), refl))) all h
       by_code (no high) = leads_on invite.invite_client p invite_rank _ y e _ (Response code) is (inr (inr ((omega arith, final.1), refl))) all h
   invite_finishes (invite.Proceeding reliable request cancel) owes low h = by_code (dec_le code 299)
     where
+      -- each row of proceeding for a final response leads to rank 2
       all : (other : Row invite.InviteClientPhase) → invite.Receives p (invite.Proceeding reliable request cancel) (Response code) e other → 2 ≤ invite_rank other.0
       all other (inl h) = rw h.1 (omega arith)
       all other (inr h) = rw h.1 (omega arith)
 
+      -- the final response is a 2xx or one of 300 to 699
       by_code : Dec (code ≤ 299) → 2 ≤ invite_rank y.phase
       by_code (yes low) = leads_on invite.invite_client p invite_rank _ y e _ (Response code) is (inl ((final.0, low), refl)) all h
       by_code (no high) = leads_on invite.invite_client p invite_rank _ y e _ (Response code) is (inr ((omega arith, final.1), refl)) all h

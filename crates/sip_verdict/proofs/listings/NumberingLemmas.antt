@@ -69,6 +69,7 @@ module _ (items : List Item) (i : Item) (old : Texts) (a : AreNumbered items old
             let low = below k.0 k.1 in
             omega (arith, one, low)
 
+        -- whether the earlier item has a message
         by : (b : Bool) → has_message j.action ≡ b → (b && bytes_eq j.text i.text) ≡ false
         by false is = refl
         by true is = false_from_ne_true (bytes_eq j.text i.text) (differ is)

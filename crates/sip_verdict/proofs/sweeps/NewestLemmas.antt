@@ -65,6 +65,7 @@ module _ (number : ℕ) (bytes : List ℕ) (new : Texts) where
       let kept = All-contains (Keeps old) (names x) n (knows k d low) has in
       go (Keeps-grow_cases new number bytes n kept)
     where
+      -- the message is an old one, or the dropped one, which is not named
       go : Keeps new n ⊎ (number ≡ n) → Keeps new n × (text_of old n ≡ text_of new n)
       go (inl keeps) = (keeps, text_of-grow new number bytes n keeps)
       go (inr same) = absurd (unnamed n (Contains-flat_map (meaning_of machine).names s.states (get_or s.states k d) n (Contains-get_or s.states k d low) has) (sym same))

@@ -65,9 +65,11 @@ module _ (texts : Texts) (book : IsBook texts) (t u : Tabled) (moment : ℕ) (ad
       let (old, was) = before n new at in
       go k old new (All-place (IsKnownSet texts) t.sets n old was may.known) (advances.each n old new was at) in_set))
     where
+      -- what holds of each number of a list holds of all
       All-of : (xs : List ℕ) → ((k : ℕ) → Contains xs k → Keeps texts k) → All (Keeps texts) xs
       All-of xs each k d low = each (get_or xs k d) (Contains-get_or xs k d low)
 
+      -- of one set: each message that it names was kept before
       go : (k : ℕ) (old new : AnySet) → IsKnownSet texts old → IsAdvanced moment old new → Contains (numbers_of new) k → Keeps texts k
       go k old new known (inr (stays, silent)) has = absurd (Contains-none k (subst (λ ns. Contains ns k) (ap numbers_of stays ∙ silent) has))
       go k old new known (inl waits) has =
@@ -125,6 +127,7 @@ module _ (texts : Texts) (book : IsBook texts) (t u : Tabled) (moment : ℕ) (ad
         (recorded.each n old r was there);
   }
     where
+      -- of one set: its last moment on record is still right
       go : (r : Option (Option ℕ)) (old new : AnySet) → moment_of old ≤ moment → IsKnownSet texts old → IsAdvanced moment old new → IsOnRecord [] 0 old r → IsOnRecord [] 0 new r
       go None old new low known advanced h = h
       go (Some limit) old new low known advanced h = swept_agenda texts book moment old new low advanced known limit h

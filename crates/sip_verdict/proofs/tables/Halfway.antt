@@ -312,6 +312,7 @@ quiet_others texts p es e moment h t may told ready newest hear numbers hearers 
     not_named : is_among (each h.concerned) (n + 1) ≡ false
     not_named = not_passing (is_among (each h.concerned) (n + 1)) (λ among. false≢true (sym none ∙ hearers.named (n + 1) among))
 
+    -- at a restart a quiet set goes on
     goes : is_all h.concerned ≡ true → GoesOn p k es e (key, s)
     goes every =
         let leads = All-place (IsReady k es) (transactions_of t) n (key, s) (zip-place t.keys t.sets n key s at here) ready in
@@ -322,6 +323,7 @@ quiet_others texts p es e moment h t may told ready newest hear numbers hearers 
         own_passed p k es e (key, s) ((told n key at).concerned ∙ ap (λ b. b || is_among (each h.concerned) (n + 1)) every) all.Fine
         (subst (λ f. IsStepped (key_rules p machine) events f (λ fs. LeadsOf texts p machine fs f.moment s) (λ g. StandsOf texts p machine events g s) all.Fine) (sym (told n key at).event) stepped)
 
+    -- whether the event is a restart, which concerns all
     by_all : (b : Bool) → is_all h.concerned ≡ b → (concerns_number (Some h) (n + 1) ≡ false) ⊎ GoesOn p k es e (key, s)
     by_all true all = inr (goes all)
     by_all false some = inl (ap (λ b. b || is_among (each h.concerned) (n + 1)) some ∙ not_named)

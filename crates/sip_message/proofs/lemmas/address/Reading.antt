@@ -88,6 +88,7 @@ after-word more rest inner many (stops, (k, y, sws, y_is, r_is)) = elim (some-ma
       (fails-append is_scheme_front (some.0 ++ some.1) rest (fails-append is_scheme_front some.0 some.1 (fail-then is_scheme_front Blanks Token (fail-blanks is_scheme_front blank-front) some.0 some.2)))
 ]
   where
+    -- "<" follows the blanks, or there are none
     at : Sws k → Fails is_scheme_front (k ++ (left_angle ∷ inner))
     at (inl none) = subst (λ t. Fails is_scheme_front (t ++ (left_angle ∷ inner))) (sym none) refl
     at (inr blanks) = fails-append is_scheme_front k (left_angle ∷ inner) (fail-blanks is_scheme_front blank-front k blanks)
@@ -262,6 +263,7 @@ before-display (Some name) d text inner fits (e, t, e_is, (s, l, sws, l_is, t_is
     behind_is : Behind (s ++ (left_angle ∷ inner)) (left_angle ∷ inner)
     behind_is = (stops-byte left_angle inner refl, (s, left_angle ∷ inner, sws, refl, refl))
 
+    -- the name is a quoted string, or words
     at : DisplayName name → NameFront text (name, s ++ (left_angle ∷ inner))
     at (inl quoted) = inl (quoted, flat)
     at (inr words) = inr (words, (left_angle ∷ inner, behind_is, refl), flat)
@@ -275,6 +277,7 @@ display-before (Some name) text inner (rest, is, (stops, (s, y, sws, y_is, rest_
   front is ∙ ap (λ t. name ++ t) (rest_is ∙ ap (λ t. s ++ t) y_is ∙ sym (append_assoc s (left_angle ∷ []) inner)) ∙ sym (append_assoc name (s ++ (left_angle ∷ [])) inner),
 )
   where
+    -- the name that was cut off stands at the front
     front : NameFront text (name, rest) → text ≡ name ++ rest
     front (inl quoted) = quoted.1
     front (inr words) = words.2
@@ -314,6 +317,7 @@ tail-stops text (b ∷ params) ((k, y, sws, y_is, whole), (p ∷ ps, (opens, par
     begins : Fails is_unmarked_byte (b ∷ params)
     begins = fail-then is_unmarked_byte (Mark semicolon) _ (fail-mark is_unmarked_byte semicolon not-plain refl) (b ∷ params) part
 
+    -- the ";" follows the blanks, or there are none
     at : Sws k → Fails is_unmarked_byte (k ++ (b ∷ params))
     at (inl none) = subst (λ t. Fails is_unmarked_byte (t ++ (b ∷ params))) (sym none) begins
     at (inr blanks) = fails-append is_unmarked_byte k (b ∷ params) (fail-blanks is_unmarked_byte not-plain k blanks)

@@ -33,6 +33,7 @@ token-cut text n longest some = at longest.front
     stops u [] token whole len = tt
     stops u (b ∷ v) token whole len = go (is_token_byte b) refl
       where
+        -- whether the next byte is one of a token: then the token would be longer
         go : (x : Bool) → is_token_byte b ≡ x → is_token_byte b ≡ false
         go false is = is
         go true is =
@@ -45,6 +46,7 @@ token-cut text n longest some = at longest.front
             ) in
             absurd (omega (arith, longest.longest (length (u ++ b ∷ [])) longer, length-append u (b ∷ []), len))
 
+    -- the longest token is empty, or stands at the front
     at : (n ≡ 0) ⊎ HasFront Token text n → TokenFront text (take n text, drop n text)
     at (inl none) = absurd (some none)
     at (inr front) =
@@ -63,6 +65,7 @@ no-token text longest t r front =
     let short = longest.longest (length t) (t, is.1, front.0, whole, refl) in
     at t front.0 short
   where
+    -- a token is not empty
     at : (u : List ℕ) → Token u → length u ≤ 0 → ⊥
     at [] token short = some-run is_token_byte [] token refl
     at (b ∷ u) token short = absurd (omega (arith, short))

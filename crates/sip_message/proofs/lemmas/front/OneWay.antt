@@ -247,6 +247,7 @@ one-bracket text (v, r) (w, s) (i, i_lacks, v_is, v_whole) (j, j_lacks, w_is, w_
     both_whole : left_bracket ∷ (i ++ right_bracket ∷ r) ≡ left_bracket ∷ (j ++ right_bracket ∷ s)
     both_whole = sym (flat v i r v_is) ∙ sym v_whole ∙ w_whole ∙ flat w j s w_is
 
+    -- what follows the first "]" is one rest
     rests : left_bracket ∷ (i ++ right_bracket ∷ r) ≡ left_bracket ∷ (j ++ right_bracket ∷ s) → r ≡ s
     rests same =
         let inners : i ++ right_bracket ∷ r ≡ j ++ right_bracket ∷ s = cc in

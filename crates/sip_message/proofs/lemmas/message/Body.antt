@@ -51,6 +51,7 @@ stream-first text e r ((v, vias, is), (rest, front)) r_is = (to, from)
     to : IsTrue r → IsStream text
     to so = (v.transport, (v, vias, is, refl), ap (λ x. is_stream x.transport) (sym (top v vias is)) ∙ sym r_is ∙ so)
 
+    -- where the text says a stream, the test passes
     from : IsStream text → IsTrue r
     from (transport, (w, others, are, same), so) = r_is ∙ ap (λ x. is_stream x.transport) (top w others are) ∙ ap is_stream (sym same) ∙ so
 

@@ -73,6 +73,7 @@ decides-more text rest more p first found read is so x = ((λ whole. to x ((so x
         let cons = branch-cons p others.0 later (subst (λ qs. IsBranch qs later) others.1 branch) in
         (cons.2, (others.0, others.2, cons.3), b_is ∙ ap (option_or first) (cons.4 ∙ ap (λ o. option_or o cons.2) (one-branch_of p cons.0 found cons.1 is)) ∙ or-assoc first found cons.2)
 
+    -- what is read of the rest is what is read of the text, with the parameter before it
     from : (y : Option (List ℕ) × List ℕ) → After (option_or first found) more y → After first rest y
     from (b, left) (later, (ps, all, branch), b_is) =
         (option_or found later, (p ∷ ps, ((more, read.0, all.0), all.1), cons-branch p ps found later is branch), b_is ∙ sym (or-assoc first found later))

@@ -175,6 +175,7 @@ closed-param Ok demand u v b w ends opens blanks (name, Some value, ok, (token, 
     same : All is_solid value → ParamSet Ok (u ++ space ∷ v)
     same solid = (name, Some value, ok, (token, kind, with_value (Exactly value) name (solid-token name token) (λ t is. subst OpensSolid (sym is) (opens-solid value solid)) (closed-solid (Exactly value) (λ t is. subst (All is_solid) (sym is) solid)) u v b w ends opens blanks whole))
 
+    -- the blanks lie in the value, if it is a quoted string
     at : GenValue value → ParamSet Ok (u ++ space ∷ v)
     at (inl t) = same (solid-token value t)
     at (inr (inr (inl t))) = same (solid-v6 value t)

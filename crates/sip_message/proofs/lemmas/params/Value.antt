@@ -184,6 +184,7 @@ one-quoted_string text inner n found ((u, v, (blanks, q, sws, quoted, u_is), who
     flat : dquote ∷ inner ≡ blanks ++ (q ++ v)
     flat = sym (past-some dquote text inner found) ∙ whole ∙ ap (λ x. x ++ v) u_is ∙ append_assoc blanks q v
 
+    -- no blank stands before the quote
     none : (b : List ℕ) → Sws b → dquote ∷ inner ≡ b ++ (q ++ v) → b ≡ []
     none [] is same = refl
     none (c ∷ b) is same =

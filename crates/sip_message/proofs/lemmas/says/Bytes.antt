@@ -104,6 +104,7 @@ same-named n line = same-demand IsSame (HasName line) (SaidName line) (fault_in_
         let w = s.whole in
         ((s.spelled, x.1), (w.0, w.1, (subst Token (sym w.2) s.is_token, sym w.2), w.3, w.4), (s.name_is, refl))
 
+    -- what the definitions say of the name, the readers read
     back : (y : List ℕ × List ℕ) → SaidName line y → (x : FieldName × List ℕ) × HasName line x × IsSame x y
     back y (u, v, (token, same), rest, whole) =
         ((name_of y.0, y.1), record { spelled = y.0; is_token = subst Token (sym same) token; name_is = refl; whole = (u, v, sym same, rest, whole) }, (refl, refl))
@@ -120,6 +121,7 @@ same-value n x y same = same-demand Equal (IsValue x) (SaidValue y) (fault_in_li
     to v (text, row) =
         (v, (((opens-trimmed v text.opens, ends-trimmed v text.ends), subst (Sws then Exactly v then Sws) same.1 text.whole), (row-said y.0 v).0 (subst (λ n. Row n v) same.0 row)), refl)
 
+    -- what the definitions say of the value, the readers read
     back : (w : List ℕ) → SaidValue y w → (v : List ℕ) × IsValue x v × (v ≡ w)
     back w (((first, last), whole), row) =
         (w, (record { opens = trimmed-opens w first; ends = trimmed-ends w last; whole = subst (Sws then Exactly w then Sws) (sym same.1) whole }, subst (λ n. Row n w) (sym same.0) ((row-said y.0 w).1 row)), refl)
@@ -150,6 +152,7 @@ all-found k key same n (f ∷ fs) (g ∷ gs) ((f_is, g_is, line_is, value_is), a
     pair : ◌≡◌ {A = ℕ × List ℕ} (n, f.value) (g.line, g.value)
     pair = λ i. (sym line_is i, sym value_is i)
 
+    -- whether the first field has the name, as the readers see it and as it is said
     at : (b c : Bool) → b ≡ c → found_from (n + 1) k fs ≡ all key gs
         → cond b ((n, f.value) ∷ found_from (n + 1) k fs) (found_from (n + 1) k fs) ≡ map (λ h. (h.line, h.value)) (cond c (g ∷ filter (λ h. bytes_eq h.name (codes key)) gs) (filter (λ h. bytes_eq h.name (codes key)) gs))
     at true true b_is later = ap (λ x. x ∷ found_from (n + 1) k fs) pair ∙ ap (λ z. (g.line, g.value) ∷ z) later

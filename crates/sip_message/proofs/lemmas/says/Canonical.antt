@@ -121,6 +121,7 @@ same-canonical a b (s, gs, t) (r, hs, u) one other = (to, from)
           body = ap (λ (k : Message). k.body) is;
         }
 
+    -- messages with the same fields in full have one canonical form
     from : SameInFull (s, gs, t) (r, hs, u) → canonical (s, gs, t) ≡ canonical (r, hs, u)
     from same =
         let lines : map form.field_text gs ≡ map form.field_text hs = lines-in_full gs ∙ ap (map line_of) same.fields ∙ sym (lines-in_full hs) in

@@ -75,6 +75,7 @@ tell-parts m start gs body p s (start_is, are, body_is) parts tells = at es.0 es
     es : (es : List Element) × AreElements (values known_name.Via m.fields) es × (s.via ∷ s.others ≡ map said_via es)
     es = said-are (values known_name.Via m.fields) (s.via ∷ s.others) (subst (λ vs. ViasTell vs (s.via ∷ s.others)) (sym (values-said known_name.Via "via" named-via m.fields gs are)) tells.vias)
 
+    -- the elements are the first Via and the others
     at : (es : List Element) → AreElements (values known_name.Via m.fields) es → s.via ∷ s.others ≡ map said_via es → (q : Parts) × HasParts m.fields q × (s ≡ said_of (record { message = m; parts = q }))
     at [] elements vias = let none : ◌≡◌ {A = List SaidVia} (s.via ∷ s.others) [] = vias in cc
     at (e ∷ es) elements vias =

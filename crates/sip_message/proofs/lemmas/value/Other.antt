@@ -77,6 +77,7 @@ other-piece (a ∷ text) = at (is_plain_byte a) refl
     folds false is = inl refl
     folds true is = inr (fold-front (a ∷ text) is)
 
+    -- whether the first byte is a plain one
     at : (plain : Bool) → is_plain_byte a ≡ plain → (cond plain 1 (fold_len (begins_with_fold (a ∷ text))) ≡ 0) ⊎ HasFront OtherItem (a ∷ text) (cond plain 1 (fold_len (begins_with_fold (a ∷ text))))
     at true is = inr (a ∷ [], text, inl (a, is, refl), refl, refl)
     at false is = folds (begins_with_fold (a ∷ text)) refl
@@ -142,6 +143,7 @@ other-end text rest n front rest_is stops no_fold = (
       eq-eqb n (length text) (omega (arith, low, front-within (Many OtherItem) text n front)),
 )
   where
+    -- neither a plain byte nor a fold stands there, so no piece does
     at : (t : List ℕ) → Stops is_plain_byte t → begins_with_fold t ≡ false → other_len t ≡ 0
     at [] stops_t no_t = refl
     at (b ∷ t) stops_t no_t =

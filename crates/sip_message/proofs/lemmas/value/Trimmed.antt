@@ -116,6 +116,7 @@ value-trimmed text front value back w is of = at w of.opens of.ends (of.whole.4 
     b : List ℕ
     b = of.whole.3.1
 
+    -- the value stands between two blank runs
     at : (v : List ℕ) → OpensSolid v → EndsSolid v → text ≡ a ++ (v ++ b) → Sws front × Sws back
     at [] opens ends whole =
         let same : front ++ (value ++ back) ≡ a ++ b = sym is.whole ∙ whole in
@@ -126,6 +127,7 @@ value-trimmed text front value back w is of = at w of.opens of.ends (of.whole.4 
           inl no_back,
         )
       where
+        -- the second part of an empty text is empty
         right : (u v : List ℕ) → u ++ v ≡ [] → length v ≡ 0
         right [] v e = ap length e
         right (c ∷ u) v e = absurd (omega (arith, ap length e))

@@ -147,6 +147,7 @@ read-only rest text vals more e behind es next read only = (first.others, first.
     first : FirstRead e behind more es
     first = first-read text e behind more es read (next.to es only.is)
 
+    -- the elements that are left after the first are in one way what they are
     same : (ys : List Element) → AreLeft behind more ys → ys ≡ first.others
     same ys left =
         let eq : ◌≡◌ {A = List Element} (e ∷ ys) (e ∷ first.others) = only.only (e ∷ ys) (next.from (e ∷ ys) (read-first text e behind more ys read.0 left)) ∙ first.first in

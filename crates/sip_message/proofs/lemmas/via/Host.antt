@@ -140,6 +140,7 @@ front-host text h rest (both (part, left) cut (is, rest_is)) =
     same (v4 x) fits = fits.1
     same (v6 x) fits = fits.1
 
+    -- the part and what is left are the text
     whole : HostCut text (part, left) → text ≡ part ++ left
     whole (inl bracket) = bracket.3
     whole (inr token) = token.2.4 ∙ ap (λ z. z ++ token.2.1) token.2.2 ∙ ap (λ z. part ++ z) token.2.3

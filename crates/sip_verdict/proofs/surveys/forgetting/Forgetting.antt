@@ -106,23 +106,28 @@ module _ (p : Times) (key : KeyParts) (old : List (Observation KeyParts)) (again
         order_at : (front : List (Observation KeyParts)) (e : Observation KeyParts) (rest : List (Observation KeyParts)) → more ≡ front ++ e ∷ rest → order_of (front ++ e ∷ [])
         order_at front e rest is = order_front (front ++ e ∷ []) rest (subst order_of (is ∙ sym (append_assoc front (e ∷ []) rest)) order)
 
+        -- no entry of the old ones or of the later ones finds the key too wide
         narrow : IsSound p more key → (front : List (Observation KeyParts)) (e : Observation KeyParts) (rest : List (Observation KeyParts)) → IsWideAt p front e key
             → ((zs : List (Observation KeyParts)) × (old ≡ front ++ e ∷ zs)) ⊎ ((zs : List (Observation KeyParts)) × (front ≡ old ++ zs) × (more ≡ zs ++ e ∷ rest)) → ⊥
         narrow new front e rest wide (inl (zs, is)) = sound.1 front e zs is wide
         narrow new front e rest wide (inr (zs, before, is)) = new.1 zs e rest is ((wide_new zs e (order_at zs e rest is)).0 (subst (λ xs. IsWideAt p xs e key) before wide))
 
+        -- a run over all entries is one over the later ones
         runs_of : (es : List (Observation KeyParts)) → order_of es → RunsOver p (old ++ es) key → RunsOver p es key
         runs_of es order runs = by (empty_or_last es)
           where
+            -- there are no later entries, or there is a last one
             by : (es ≡ []) ⊎ ((front : List (Observation KeyParts)) × (e : Observation KeyParts) × (es ≡ front ++ e ∷ [])) → RunsOver p es key
             by (inl none) = subst (λ xs. RunsOver p xs key) (sym none) (sound_nil p key).0
             by (inr (front, e, is)) =
                 subst (λ xs. RunsOver p xs key) (sym is)
                 ((runs_new front e (subst order_of is order)).0 (subst (λ xs. RunsOver p xs key) (ap (λ xs. old ++ xs) is ∙ sym (append_assoc old front (e ∷ []))) runs))
 
+        -- a run over the later entries is one over all of them
         runs_both : (es : List (Observation KeyParts)) → order_of es → RunsOver p es key → RunsOver p (old ++ es) key
         runs_both es order runs = by (empty_or_last es)
           where
+            -- there are no later entries, or there is a last one
             by : (es ≡ []) ⊎ ((front : List (Observation KeyParts)) × (e : Observation KeyParts) × (es ≡ front ++ e ∷ [])) → RunsOver p (old ++ es) key
             by (inl none) = subst (λ xs. RunsOver p (old ++ xs) key) (sym none) (subst (λ xs. RunsOver p xs key) (sym (append-nil old)) sound.0)
             by (inr (front, e, is)) =

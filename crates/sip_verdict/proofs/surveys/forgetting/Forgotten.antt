@@ -56,6 +56,7 @@ kept_by_at (c ∷ flags) (k ∷ keys) apart zero key b at flag =
 kept_by_at (c ∷ flags) (k ∷ keys) apart (suc n) key b at flag =
     go (same_key key k) refl (kept_by_at flags keys (AllPairs-tail (λ a b. a ≢ b) k keys apart) n key b at flag)
   where
+    -- whether the first key is the one that is looked for
     go : (t : Bool) → same_key key k ≡ t → kept_by flags keys key ≡ b → cond (same_key key k) c (kept_by flags keys key) ≡ b
     go true e rest = absurd (All-place (λ x. k ≢ x) keys n key at (AllPairs-head (λ a b. a ≢ b) k keys apart) (sym ((same_key-decides key k).0 e)))
     go false e rest = ap (λ t. cond t c (kept_by flags keys key)) e ∙ rest
@@ -92,6 +93,7 @@ flags_more until t b flags is_past says each n is_kept set h flag at of = go (pu
     turned true = (λ e. refl, λ e. refl)
     turned false = (λ e. absurd (true≢false e), λ e. absurd (false≢true e))
 
+    -- the flag is one of those so far, or the new one
     go : (slice_get flags n ≡ Some is_kept) ⊎ ((n ≡ length flags) × (not is_past ≡ is_kept)) → (is_kept ≡ false) ↔ IsPast until b.restart set h
     go (inl old) = each n is_kept set h old at of
     go (inr (last, is)) =

@@ -47,6 +47,7 @@ module _ {X : Type 0} (f : Figure X) (p : Times) (lasts : (m : ℕ) → Lasts f 
             )
     on more k y (ends evs h x stands may) from = go (dec_le m h) (on evs h x stands from)
       where
+        -- the end comes at m or later, or before it
         go : Dec (m ≤ h) → (m ≤ h → Stands f p (old ++ evs) h x) × (h < m → (evs ≡ []) × (x ≡ quiet f.idle)) → (m ≤ h → Stands f p (old ++ evs) h (quiet f.ended)) × (h < m → (evs ≡ []) × (quiet f.ended ≡ quiet f.idle))
         go (yes late) both = (λ high. ends (old ++ evs) h x (both.0 late) may, λ before. absurd (omega (arith, late, before)))
         go (no early) both = absurd (has_no_end h (subst (λ z. MayEnd f p z h) (both.1 (omega (arith, early))).1 may))
@@ -70,9 +71,11 @@ module _ {X : Type 0} (f : Figure X) (p : Times) (lasts : (m : ℕ) → Lasts f 
         second (x ∷ xs) ys e = absurd (cc)
     off all k y (waits evs h n x stands low lasting) high more is from = go (dec_le m h) (λ late. off evs h x stands late more is from)
       where
+        -- where the run is not at m yet, no later event was taken
         none : (ys : List MachineEvent) → evs ≡ old ++ ys → All (IsFrom m) ys → h < m → ys ≡ []
         none ys are later early = by (empty_or_last ys)
           where
+            -- there are no later events, or there is a last one
             by : (ys ≡ []) ⊎ ((front : List MachineEvent) × (e : MachineEvent) × (ys ≡ front ++ e ∷ [])) → ys ≡ []
             by (inl e) = e
             by (inr (front, e, is_last)) =
@@ -81,6 +84,7 @@ module _ {X : Type 0} (f : Figure X) (p : Times) (lasts : (m : ℕ) → Lasts f 
                 let at = All-middle (IsFrom m) front [] e (subst (All (IsFrom m)) is_last later) in
                 absurd (omega (arith, to, at, early))
 
+        -- the wait begins at m or later, or before it
         go : Dec (m ≤ h) → (m ≤ h → Stands f p more h x) → Stands f p more n x
         go (yes late) before = waits more h n x (before late) low lasting
         go (no early) before =
@@ -90,6 +94,7 @@ module _ {X : Type 0} (f : Figure X) (p : Times) (lasts : (m : ℕ) → Lasts f 
     off all k y (ends evs h x stands may) high more is from = ends more h x (off evs h x stands high more is from) may
     off all k y (takes evs e x z stands does) high more is from = go (empty_or_last more) (λ front are later. off evs e.moment x stands high front are later)
       where
+        -- no later event was taken, or the last one is e
         go : (more ≡ []) ⊎ ((front : List MachineEvent) × (d : MachineEvent) × (more ≡ front ++ d ∷ [])) → ((front : List MachineEvent) → evs ≡ old ++ front → All (IsFrom m) front → Stands f p front e.moment x) → Stands f p more e.moment z
         go (inl nil) before =
             let whole : evs ++ e ∷ [] ≡ old = is ∙ ap (λ ys. old ++ ys) nil ∙ append-nil old in

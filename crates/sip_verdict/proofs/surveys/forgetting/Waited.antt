@@ -161,6 +161,7 @@ module _ (texts : Texts) (book : IsBook texts) (t u : Tabled) (moment : ℕ) (wa
         go n r old new was at (recorded.each n old r was there);
   }
     where
+      -- of one set: its last moment on record is still right
       go : (n : ℕ) (r : Option (Option ℕ)) (old new : AnySet) → slice_get t.sets n ≡ Some old → slice_get u.sets n ≡ Some new → IsOnRecord [] (n + 1) old r → IsOnRecord [] (n + 1) new r
       go n None old new was at h = h
       go n (Some limit) old new was at h = swept_agenda texts book moment old new (low n old was) (inl (waited.each n old new was at)) (known n old was) limit h
@@ -200,16 +201,19 @@ module _ (texts : Texts) (book : IsBook texts) (t u : Tabled) (moment : ℕ) (wa
         let (d, is) = at_place deaf n (let inside = slice_get_within t.keys n key key_at in omega (arith, inside, as_many)) in
         by n old new was here key d (tracks.each n key old d key_at was is) (subst (λ q. IsOver q es key) waited.times over)
       where
+        -- of one set: where its runs stand in idle alone, it is quiet
         idle : (n : ℕ) (old new : AnySet) → slice_get t.sets n ≡ Some old → slice_get u.sets n ≡ Some new → (machine : MachineKind) (events : List MachineEvent)
             → LeadsOf texts t.times machine events (newest_moment es) old → IsIdleAgain machine t.times events (newest_moment es) → IsQuietSet new
         idle n old new was at machine events leads again =
             idle_quiet texts book t.times machine events (newest_moment es) moment late old new (low n old was) (waited.each n old new was at) leads (subst (IsIdleAgain machine t.times events) newest again)
 
+        -- of one set: where its transaction has ended, it is quiet
         ended : (n : ℕ) (old new : AnySet) → slice_get t.sets n ≡ Some old → slice_get u.sets n ≡ Some new → (machine : MachineKind) (events : List MachineEvent)
             → LeadsOf texts t.times machine events (newest_moment es) old → HasEnded machine t.times events (newest_moment es) → IsQuietSet new
         ended n old new was at machine events leads is_over =
             ended_quiet texts book t.times machine events (newest_moment es) moment late old new (low n old was) (waited.each n old new was at) leads (subst (HasEnded machine t.times events) newest is_over)
 
+        -- the transaction is in trouble, idle again, or ended
         by : (n : ℕ) (old new : AnySet) → slice_get t.sets n ≡ Some old → slice_get u.sets n ≡ Some new → (key : KeyParts) (d : Bool) → IsFollowed texts t.times es key old d → IsOver t.times es key → IsQuietSet new
         by n old new was at key true (leads, unsound) over = idle n old new was at (machine_of_key t.times.rules key) [] leads (idle_begun (machine_of_key t.times.rules key) t.times (newest_moment es))
         by n old new was at key false (leads, sound) (inl unsound) = absurd (unsound sound)

@@ -130,6 +130,7 @@ module _ (p : Times) (es : List (Observation KeyParts)) (order : AllPairs (λ a 
       second : HoldsOf (IsTroubled p back c) (keys_in (back ++ c ∷ [])) t
       second = troubled p back c t g so other
 
+      -- the two entries are the same, or one comes before the other
       by : ((front ≡ back) × (e ≡ c)) ⊎ (((zs : List (Observation KeyParts)) × (back ≡ front ++ e ∷ zs)) ⊎ ((zs : List (Observation KeyParts)) × (front ≡ back ++ c ∷ zs))) → f ≡ g
       by (inl h) = alike front e f g is so found (subst (λ xs. IsFoundAt p xs e g) (sym h.0) (subst (λ x. IsFoundAt p back x g) (sym h.1) other))
       by (inr (inl h)) =

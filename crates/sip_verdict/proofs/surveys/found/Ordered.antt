@@ -36,6 +36,7 @@ module _ {A : Type 0} (R : A → A → Type 0) (once : (a b : A) → R a b → R
   ordered_one (x ∷ xs) (y ∷ ys) a b to from =
       ap₂ (λ h t. h ∷ t) same (ordered_one xs ys (AllPairs-tail R x xs a) (AllPairs-tail R y ys b) forth back)
     where
+      -- the first elements of both lists are the same, since neither comes before the other
       by : (y ≡ x) ⊎ Contains ys x → (x ≡ y) ⊎ Contains xs y → x ≡ y
       by (inl e) h = sym e
       by (inr h) (inl e) = e
@@ -52,12 +53,15 @@ module _ {A : Type 0} (R : A → A → Type 0) (once : (a b : A) → R a b → R
       forth_by f h (inr k) = k
       forth_by f h (inl e) = absurd (apart x f (same ∙ e) (first_before R x xs a f h))
 
+      -- an element after the first of the one list is after the first of the other
       forth : (f : A) → Contains xs f → Contains ys f
       forth f h = forth_by f h (Contains-cons y ys f (to f (Contains-there x xs f h)))
 
+      -- the element is the first one of the one list, or a later one
       back_by : (f : A) → Contains ys f → (x ≡ f) ⊎ Contains xs f → Contains xs f
       back_by f h (inr k) = k
       back_by f h (inl e) = absurd (apart y f (sym same ∙ e) (first_before R y ys b f h))
 
+      -- an element after the first of the other list is after the first of the one
       back : (f : A) → Contains ys f → Contains xs f
       back f h = back_by f h (Contains-cons x xs f (from f (Contains-there y ys f h)))

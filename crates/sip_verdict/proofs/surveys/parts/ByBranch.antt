@@ -58,6 +58,7 @@ module _ (chosen : List ℕ → Bool) where
       same : (key : KeyParts) → Some text ≡ Some key.branch → text ≡ key.branch
       same key is = cc
 
+      -- whether the branch is chosen
       by : (b : Bool) → chosen text ≡ b → Cut item e
       by true is = (item, inl (refl, inr (All-weaker (λ key. Some text ≡ Some key.branch) (λ key. chosen key.branch ≡ true) (λ key has. ap chosen (sym (same key has)) ∙ is) e.keys all)))
       by false is = (

@@ -46,12 +46,14 @@ module _ (chosen : KeyParts → Bool) where
       there : (t : Bool) → list_any (same_key k) keys ≡ t → chosen k ≡ true → list_any (same_key k) (filter chosen keys) ≡ t
       there t e is = among_chosen k is keys ∙ e
 
+      -- whether k is chosen, and whether it is among the keys already
       by : (b t : Bool) → chosen k ≡ b → list_any (same_key k) keys ≡ t → OneMore keys k b t
       by true true e f = sym (ap (λ t. cond t (filter chosen keys) (filter chosen keys ++ k ∷ [])) (there true f e))
       by true false e f = one true e ∙ sym (ap (λ t. cond t (filter chosen keys) (filter chosen keys ++ k ∷ [])) (there false f e))
       by false true e f = refl
       by false false e f = one false e ∙ append-nil (filter chosen keys)
 
+      -- with the tests themselves in place of what they say
       go : (b : Bool) → chosen k ≡ b → (t : Bool) → list_any (same_key k) keys ≡ t → OneMore keys k (chosen k) (list_any (same_key k) keys)
       go b e t f = subst (λ c. OneMore keys k c (list_any (same_key k) keys)) (sym e) (subst (λ c. OneMore keys k b c) (sym f) (by b t e f))
 
@@ -123,6 +125,7 @@ module _ (chosen : KeyParts → Bool) where
         by true any same = ap₂ (λ f fs. f ∷ fs) (event_cut e c here any) same
         by false any same = same
 
+        -- with the test itself in place of what it says
         go : (b : Bool) → concerns key c ≡ b → events_for key cs ≡ events_for key es → events_with (concerns key c) c cs ≡ events_with (concerns key e) e es
         go b any same = ap (λ t. events_with t c cs) any ∙ by b any same ∙ ap (λ t. events_with t e es) (sym any ∙ concerns_cut e c here)
 

@@ -39,6 +39,7 @@ ordered_push es e order late = ordered_append (λ a b. a.event.moment ≤ b.even
     last y (inl same) = same
     last y (inr none) = absurd (Contains-none y none)
 
+    -- each of the entries is before the new one
     across : (x y : Observation KeyParts) → Contains es x → Contains (e ∷ []) y → x.event.moment ≤ y.event.moment
     across x y h g =
         let low = All-contains (λ a. a.event.moment ≤ newest_moment es) es x to h in
@@ -83,6 +84,7 @@ module _ (texts : Texts) (es : List (Observation KeyParts)) (e : Observation Key
     each = λ n key s d at here is. subst (λ q. IsFollowed texts q (es ++ e ∷ []) key s d) (sym times) (by n key s d at (h.each n key s d at here is));
   }
     where
+      -- of one transaction: in trouble, or in none
       by : (n : ℕ) (key : KeyParts) (s : AnySet) (d : Bool) → slice_get t.keys n ≡ Some key → IsPassing texts p es e (is_among []) b (n + 1) key s d → IsFollowed texts p (es ++ e ∷ []) key s d
       by n key s true at (leads, troubled) = (subst (λ m. LeadsOf texts p (machine_of_key p.rules key) [] m s) (sym (newest_moment-push es e)) leads, unsound n key at troubled)
       by n key s false at (sound, goes) =

@@ -87,6 +87,7 @@ line_with-told s f number told line tells is es stands P (before, key, rest, who
     at : slice_get (keys_in es) (number - 1) ≡ Some key
     at = ap (slice_get (keys_in es)) (let n : number - 1 ≡ length before = omega (arith, counts) in n) ∙ ap (λ ks. slice_get ks (length before)) whole ∙ middle_place before key rest
 
+    -- the survey has the transaction, and so the words of its line
     by : (o : Option Transaction) → IsSomeAnd o (λ t. (t.key.now ≡ key) × IsFirstOf es key t.first t.branch.now × IsLastOf es key t.last) → line ≡ line_with f o
         → (words : List ℕ) × HoldsOf (AreWordsOf es words) (keys_in es) number × (line ≡ rendered (verdict_of f) ++ words ++ line_feed ∷ [])
     by None none same = absurd none
@@ -119,6 +120,7 @@ found_text s p es e stands (f ∷ found) text at (line, more, is, are, whole) =
       whole,
     )
   where
+    -- each finding is of the newest entry
     at_entry : (g : Finding) → IsFoundAt p es e g → entry_of g ≡ length es + 1
     at_entry (Malformed entry fault) h = h.0
     at_entry (Breach entry transaction) h = h.0

@@ -103,6 +103,7 @@ class Feeding:
                 time.sleep(wait)
             self.watch.stdin.write(b"%.6f " % (begun + moment) + line)
             waiting.append(int((begun + moment) * 1000))
+            # The memory is read after each third of the time; the last reading comes after all lines.
             if len(self.sizes) < 2 and moment > (len(self.sizes) + 1) * SECONDS / 3:
                 self.sizes.append(memory(self.watch.pid))
         self.flush(waiting)

@@ -81,6 +81,7 @@ module _ (p : Times) (before between after : List MachineEvent) (invite response
       not_again (came, inl reliable) = false-true (sym unreliable ∙ reliable)
       not_again (came, inr over) = absurd (omega (arith, over, in_time))
 
+-- the law is what was shown above of the first final response
 pub returns-clause-first : goal.returns-clause-first
 returns-clause-first c = λ p rules before between after invite response m y none sent quiet gets early stands late.
     first p before between after invite response m none sent gets early late rules y quiet stands

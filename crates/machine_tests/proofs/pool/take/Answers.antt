@@ -26,6 +26,7 @@ returns-then-len-count-clause-in_range g c =
     let all : All g.M.Machine.in_range given = rw ok.1 (All-append g.M.Machine.in_range c.args.pool.now ok.0 c.requires.in_range ok.2.in_range) in
     rw (c.truncate.ensures, c.copy.ensures first) (all_moved g.M.Machine.in_range given count (count - 1) count first low all)
 
+-- where no state was given, the book has all that the old states name
 pub returns-else-len-count-clause-known : goal.returns-else-len-count-clause-known
 returns-else-len-count-clause-known g c =
     let ok = c.in_ok-successors.ensures.ok (g.M.Machine.first c.args.machine.now) in

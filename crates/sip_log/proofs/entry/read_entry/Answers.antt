@@ -19,6 +19,7 @@ returns-then-as_slice-lt-LONGEST_LINE-clause-says g c =
     (λ ys left. AtLine-truncated c.args.format c.args.last held ys none few
     (elim (line.none c.in_default.is) as (λ _. ys ≡ []) [ inl many ↦ absurd (omega arith) | inr end ↦ none_left _ ys left end ]))
 
+-- where the longest line is held without a line feed, the fault is that of an entry's line
 pub returns-in_default-clause-says : goal.returns-in_default-clause-says
 returns-in_default-clause-says g c =
     let line = c.in_ok-len.ensures in

@@ -16,6 +16,7 @@ returns-in_default g c =
     (λ ys left. ComesSecond-none c.args.format held ys (rw c.in_default.is at line.first)
     (elim (line.none c.in_default.is) [ inl many ↦ inl many | inr end ↦ inr (none_left _ ys left end) ]))
 
+-- where the line tells no times, the fault is that of the header
 pub returns-in_default-read_times : goal.returns-in_default-read_times
 returns-in_default-read_times g c =
     let line = c.in_ok-len.ensures in

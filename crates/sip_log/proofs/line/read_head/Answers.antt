@@ -27,6 +27,7 @@ returns-then-has_message c =
       cc,
     )
 
+-- where what follows the action is no number, the line tells nothing
 pub returns-in_err-moment-2 : goal.returns-in_err-moment-2
 returns-in_err-moment-2 c =
     let line = c.args.line.now in

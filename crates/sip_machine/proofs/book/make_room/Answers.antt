@@ -29,6 +29,7 @@ returns-then-gap-clause-led c =
     (c.in_ok-places.ensures.items ∙ ap (λ (r : PlaceRun). take 64 r.places.items) is) (c.in_ok-places.ensures.tail ∙ ap (λ (r : PlaceRun). drop 64 r.places.items) is)
     c.index-first.ensures)
 
+-- a run that was cut in two has the same places as before
 pub returns-clause-places : goal.returns-clause-places
 returns-clause-places c =
     let runs = c.args.runs.now.items in

@@ -23,6 +23,7 @@ loop-at-preserved g c =
           (c.in_ok-push_some.ensures.ok ∙ ap (λ ns. c.loop-at.out.items ++ ns) named),
     )
 
+-- at the end of the loop what all phases name is appended
 pub returns-clause-ok : goal.returns-clause-ok
 returns-clause-ok g c =
     let all = take_all c.loop-at.at c.args.pool.now (omega arith) in

@@ -15,6 +15,7 @@ pub paid-requires-clause-owed : goal.paid-requires-clause-owed
 paid-requires-clause-owed g c =
     All-back (Keeps c.args.book.now) (g.M.Phases.names c.args.phase.now) (owes_names (owed_in c.args.dues.now c.args.row)) c.requires.known
 
+-- where the phase may stay by itself, the state is as it was, without what has expired
 pub returns-then-stays-clause-gives : goal.returns-then-stays-clause-gives
 returns-then-stays-clause-gives g c =
     let m = g.M.Phases in

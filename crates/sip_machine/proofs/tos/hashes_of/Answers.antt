@@ -19,6 +19,7 @@ loop-at-preserved c =
     let here : P to = put-here (hash_of to.text) to.number c.loop-at.hashes c.note.new.hashes noted in
     All-more P c.args.list.now c.loop-at.at to (omega arith) before (subst P c.index-list-at.is here)
 
+-- at the end of the loop each To stands under its hash
 pub returns : goal.returns
 returns c =
     let all : take c.loop-at.at c.args.list.now ≡ c.args.list.now = take_all c.loop-at.at c.args.list.now (omega arith) in

@@ -20,6 +20,7 @@ highest-requires c =
     (λ i. (c.type_inv.window i).fits) (λ i h. prefix_len_passes is_plain w i 0 (omega (arith, h, c.requires)))
     (λ i h. c.beyond.ensures i h ∙ ap is_beyond (same i h)) (λ i h. c.equal_to.ensures i h ∙ ap (λ x. x == dot) (same i h)) (λ i h. c.equal_to-2.ensures i h ∙ ap (λ x. x == hyphen) (same i h))
 
+-- the highest bit lies within the window
 pub bounds-window-highest : goal.bounds-window-highest
 bounds-window-highest c =
     let w = c.args.window.now in

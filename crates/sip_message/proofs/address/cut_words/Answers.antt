@@ -21,6 +21,7 @@ returns-then-blanks-eq0 c =
       | then-blanks-eq0-via-else-blanks-eq0+then-word-eq0 w ↦ inr w.if-word-eq0.true
     ])
 
+-- after one word more, the words up to here stand at the front
 pub words-preserved : goal.words-preserved
 words-preserved c =
     let text = c.args.text.now in

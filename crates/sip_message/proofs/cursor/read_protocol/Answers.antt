@@ -15,6 +15,7 @@ returns-in_err-past_mark c =
     subst (IsOnlyValue ProtocolFront protocol_parts c.args.text.now) (sym c.from_residual-in_err-past_mark.ensures)
     (go-stop c.in_ok-protocol.ensures (stop c.in_err-past_mark.ensures))
 
+-- without a version the text is no protocol
 pub returns-in_err-version : goal.returns-in_err-version
 returns-in_err-version c =
     subst (IsOnlyValue ProtocolFront protocol_parts c.args.text.now) (sym c.from_residual-in_err-version.ensures)
@@ -25,6 +26,7 @@ returns-in_err-past_mark-2 c =
     subst (IsOnlyValue ProtocolFront protocol_parts c.args.text.now) (sym c.from_residual-in_err-past_mark-2.ensures)
     (go-stop c.in_ok-protocol.ensures (go-stop c.in_ok-past_mark.ensures (go-stop c.in_ok-version.ensures (stop c.in_err-past_mark-2.ensures))))
 
+-- without a transport the text is no protocol
 pub returns-in_err-transport : goal.returns-in_err-transport
 returns-in_err-transport c =
     subst (IsOnlyValue ProtocolFront protocol_parts c.args.text.now) (sym c.from_residual-in_err-transport.ensures)
@@ -35,6 +37,7 @@ returns-then-blanks-eq0 c =
     go-stop c.in_ok-protocol.ensures (go-stop c.in_ok-past_mark.ensures (go-stop c.in_ok-version.ensures (go-stop c.in_ok-past_mark-2.ensures (go-stop c.in_ok-transport.ensures
     (stop (no-blanks c.in_ok-transport.rest.now (subst (IsLongestFront Blanks c.in_ok-transport.rest.now) c.if-blanks-eq0.true c.skip_lws-blanks.ensures.reads)))))))
 
+-- a name, a slash, a version, a slash, a transport and blanks are a protocol
 pub returns : goal.returns
 returns c =
     let rest = c.in_ok-transport.rest.now in

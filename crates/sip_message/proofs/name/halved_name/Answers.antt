@@ -12,6 +12,7 @@ pub returns-then-second-eq-TYPE : goal.returns-then-second-eq-TYPE
 returns-then-second-eq-TYPE c =
     halved-known c.args.text.now CONTENT TYPE known_name.ContentType c.type_inv.text c.requires.token c.requires.length.1 (sym c.if-first-eq-CONTENT-2.true ∙ c.requires.first) (sym c.if-second-eq-TYPE.true ∙ c.requires.second) refl refl
 
+-- the two halves are those of Content-Encoding
 pub returns-then-second-eq-ENCODING : goal.returns-then-second-eq-ENCODING
 returns-then-second-eq-ENCODING c =
     halved-known c.args.text.now CONTENT ENCODING known_name.ContentEncoding c.type_inv.text c.requires.token c.requires.length.1 (sym c.if-first-eq-CONTENT-3.true ∙ c.requires.first) (sym c.if-second-eq-ENCODING.true ∙ c.requires.second) refl refl

@@ -24,6 +24,7 @@ returns-clause-param c =
     subst (λ t. LiesWithin (PlainParam (segment start behind c.text.result.now, Some (segment first to t))) m c.args.at c.args.end to) (sym c.text-2.ensures)
     (subst (λ t. LiesWithin (PlainParam (segment start behind t, Some (segment first to m))) m c.args.at c.args.end to) (sym c.text.ensures) param)
 
+-- the value is a run of plain bytes, so it is a token
 pub returns-clause-value : goal.returns-clause-value
 returns-clause-value c =
     let m = c.args.masks.now in

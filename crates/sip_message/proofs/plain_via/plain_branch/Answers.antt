@@ -21,6 +21,7 @@ params-preserved c =
           subst (ViaParams (segment c.args.at c.args.end m)) (or-assoc old found later ∙ ap (λ b. option_or b later) (sym new)) all,
     )
 
+-- at the end of the loop the branch is that of all parameters
 pub returns : goal.returns
 returns c =
     let m = c.args.masks.now in

@@ -16,6 +16,7 @@ quick_name-name-requires-clause-token c =
     let behind = take_rest c.text-text.result.now c.args.at ∙ ap (drop c.args.at) c.text-text.ensures in
     subst (λ t. Token (take n t)) (sym behind) (plain-run (drop c.args.at c.args.masks.now) n c.run_at-len.ensures (omega (arith, c.if-len-eq0.false)))
 
+-- no control stands in the value
 pub is_value_at-requires-clause-clear : goal.is_value_at-requires-clause-clear
 is_value_at-requires-clause-clear c =
     let m = c.args.masks.now in

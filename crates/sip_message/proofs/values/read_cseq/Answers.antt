@@ -29,6 +29,7 @@ returns-then-len-eq0 c = λ x is.
           (w.is_token.ensures.1 (cseq-method text _ _ n c.skip_lws-blanks.result run rest_is (take_rest _ c.skip_lws-blanks.result) c.skip_lws-blanks.ensures.reads w.if-blanks-eq0.false x is))
     ]
 
+-- digits, blanks and a method are the one CSeq of the text
 pub returns : goal.returns
 returns c =
     let text = c.args.text.now in

@@ -51,5 +51,6 @@ loop-at-preserved g c =
       | else-is_within w ↦ rw (w.pool-is, w.kept-is) (record { filters = FiltersInPlace-more_no filters low (test ∙ w.if-is_within.false) is; in_range = in_range })
     ]
 
+-- at the end of the loop the states are those that can wait until the moment
 pub returns : goal.returns
 returns g c = c.truncate.ensures ∙ FiltersInPlace-all c.loop-at.invariant.filters (omega arith)

@@ -28,6 +28,7 @@ returns-in-Some g c d =
       )
     ]
 
+-- a state at rest whose phase names no message names none
 pub returns-in-None : goal.returns-in-None
 returns-in-None g c d =
     let number = c.args.number in

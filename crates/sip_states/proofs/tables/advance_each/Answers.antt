@@ -13,6 +13,7 @@ advance-requires g c =
     let fresh = fresh_next indices i 0 c.requires.once (omega arith) in
     still_early c.args.moment (take i indices) (values c.args.sets.now) (values c.loop-index.sets) (get_or indices i 0) c.index_mut.result.now c.loop-index.invariant.up fresh c.requires.early c.index_mut.ensures.value
 
+-- the keys are as they were
 pub returns-in_err-advance-clause-keys : goal.returns-in_err-advance-clause-keys
 returns-in_err-advance-clause-keys g c =
     keys-with_value_at c.loop-index.sets (get_or c.args.indices.now c.loop-index.index-index 0) c.advance.new.self ∙ c.loop-index.invariant.keys_are

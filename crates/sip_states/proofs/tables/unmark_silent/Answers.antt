@@ -18,6 +18,7 @@ index-requires g c =
     let low = slice_get_within marks index true mark in
     rw c.loop-place.invariant.same (omega (arith, low, c.loop-place.invariant.long, c.requires.long))
 
+-- the index is one of the marks
 pub unmark-requires : goal.unmark-requires
 unmark-requires g c =
     let marks = c.loop-place.marks in

@@ -22,6 +22,7 @@ whole word a b None within front rest none = λ part is same.
 pub returns-in_err-number : goal.returns-in_err-number
 returns-in_err-number c = rw c.from_residual.ensures (without c.args.word.now (c.in_err-number.ensures.byte (omega arith) (λ w o f. f)))
 
+-- where the word has a slash, the part is the one between its two numbers
 pub returns : goal.returns
 returns c =
     let parts = c.in_ok-number.ensures.byte (omega arith) (λ w o f. f) in

@@ -23,6 +23,7 @@ returns-then-step-lt-BLOCK-clause-reads c =
     (λ _. block-stops is_token_byte text at step room c.block_len-step.ensures.run c.if-step-lt-BLOCK.true))
     (longest-run is_token_byte text)
 
+-- after one block more, all bytes up to its end are token bytes
 pub loop-at-preserved : goal.loop-at-preserved
 loop-at-preserved c =
     let text = c.args.text.now in

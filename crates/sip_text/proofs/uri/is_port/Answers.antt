@@ -15,6 +15,7 @@ returns-then-is_empty c = decides-not (λ port.
       | then-is_empty-via-else-is_empty+then-text-gt-PORT_DIGITS w ↦ absurd (omega (arith, few, w.if-text-gt-PORT_DIGITS.true))
     ])
 
+-- where a byte is no digit, the text is no port
 pub returns-then-not-has : goal.returns-then-not-has
 returns-then-not-has c = decides-not (λ port.
     port-digit c.args.text.now c.loop-byte.byte-index port c.loop-byte-test.true (sym c.has.ensures ∙ c.if-not-has.true))
@@ -37,6 +38,7 @@ loop-byte-preserved c =
       small = c.if-number-gt-LAST_PORT.false;
     }
 
+-- one to five digits up to 65535 are a port
 pub returns : goal.returns
 returns c = (
   λ _. port-end c.args.text.now c.loop-byte.byte-index c.loop-byte.number

@@ -28,6 +28,7 @@ returns-then-is_sip c =
     read-sip (not is_sip) c.args.text.now scheme c.in_ok-rest.rest.now c.read_sip.result cut
     (named-so is_sip scheme c.same_text-is_sip.ensures.0 sips_named) c.read_sip.ensures
 
+-- another scheme with bytes of a URI after it is that URI
 pub returns-then-is_some_chars : goal.returns-then-is_some_chars
 returns-then-is_some_chars c =
     let cut = scheme-at c.args.text.now c.cut_scheme.result.0.now c.cut_scheme.result.1 c.in_ok-rest.rest c.cut_scheme.ensures.front c.cut_scheme.ensures.rest c.in_ok-rest.was in

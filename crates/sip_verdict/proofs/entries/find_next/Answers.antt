@@ -26,6 +26,7 @@ returns-clause-may g c =
     let swept = c.in_ok-sweep.ensures in
     swept_take mid.book new.book mid.tables new.tables (e.number + 1) e.moment c.in_ok-find.ensures.may swept.may swept.recorded (within_keeps mid.book new.book swept.fewer) swept.keys
 
+-- at most two keys more are known after the sweep too
 pub returns-clause-keys : goal.returns-clause-keys
 returns-clause-keys g c = let same = ap length c.in_ok-sweep.ensures.keys in let few = c.in_ok-find.ensures.keys in omega arith
 

@@ -19,6 +19,7 @@ keep-requires g c = ap length c.as_slice-flags.ensures.value ∙ c.in_ok-flags.e
 pub keep-requires-2 : goal.keep-requires-2
 keep-requires-2 g c = ap length c.as_slice-flags.ensures.value ∙ c.in_ok-flags.ensures.long ∙ ap length c.in_ok-wait.ensures.keys ∙ sym c.requires.watched.long
 
+-- the tables of what is kept may pass the moment
 pub sweep-requires-clause-may : goal.sweep-requires-clause-may
 sweep-requires-clause-may g c =
     let s = c.wait.new.self in
@@ -26,6 +27,7 @@ sweep-requires-clause-may g c =
     let long = ap length c.as_slice-flags.ensures.value ∙ c.in_ok-flags.ensures.long in
     subst (λ t. MayPass s.book t c.args.newest.moment) (sym c.in_ok-keep.ensures.ok) (pass_kept flags s.tables long c.known.ensures.unique s.book c.args.newest.moment c.in_ok-wait.ensures.may)
 
+-- the last moment of each set that is kept is on record
 pub sweep-requires-clause-recorded : goal.sweep-requires-clause-recorded
 sweep-requires-clause-recorded g c =
     let s = c.wait.new.self in

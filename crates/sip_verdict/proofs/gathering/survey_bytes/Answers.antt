@@ -20,6 +20,7 @@ returns-in-Ok-clause-survey g c =
     IfOk-weaker c.gather_entries.result _ _
     (λ done holds. holds start (subst (λ place. SurveysRead None c.new-survey.result [] start (state place)) (search rules) (surveys_none None c.new-survey.result c.in-Ok.params start (state c.in-Ok.progress) times c.new-survey.ensures.stands read))) c.gather_entries.ensures.survey
 
+-- where the header has a fault, nothing is found
 pub returns-in-Err-clause-survey : goal.returns-in-Err-clause-survey
 returns-in-Err-clause-survey g c =
     let fault = rw c.in-Err.is at c.in_ok-params.ensures.fault in

@@ -58,6 +58,7 @@ returns-clause-observed c es =
       refl,
     )
 
+-- the event fits the book, and its keys are those of the message
 pub returns-clause-heard : goal.returns-clause-heard
 returns-clause-heard c =
     let fits = event_fits (item c.args.entry.now) c.in-Ok.message c.add.new.self c.of-event.result c.in_ok-number.number c.of-event.ensures c.in_ok-number.ensures.ok.0 c.requires.limit in

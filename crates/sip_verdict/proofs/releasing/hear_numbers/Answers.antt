@@ -32,6 +32,7 @@ loop-number-preserved g c =
           (subst (λ ns. ArePassing c.args.book.now p es e (is_among ns) c.loop-number.tables c.loop-number.troubled) next (old.heard p es e times late apart concerned h));
     }
 
+-- at the end of the loop none is still to hear the event
 pub returns-clause-watched : goal.returns-clause-watched
 returns-clause-watched g c = λ h.
     subst (λ ns. AreWatched ns c.loop-number.tables c.loop-number.troubled) (none_left c.args.numbers.now c.loop-number.number-index (omega arith)) (c.loop-number.invariant.watched h)

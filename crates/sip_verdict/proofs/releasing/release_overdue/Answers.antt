@@ -33,6 +33,7 @@ loop-number-preserved g c =
           u d t.times anew.key anew.at (old.times_are ∙ times) keys sets added.deaf added.broken added.wide;
     }
 
+-- one set less has a last moment on record
 pub loop-number-smaller : goal.loop-number-smaller
 loop-number-smaller g c =
     let t = c.loop-number.tables in

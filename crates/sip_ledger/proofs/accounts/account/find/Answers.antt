@@ -40,6 +40,7 @@ returns-then-moment-entry-clause-found c =
     (omega (arith, order, start)) c.if-account-place.false (c.requires.gained.messages c.args.message c.in-Some.place c.in-Some.ensures.next.left).message c.in-Some.ensures.next.left (rw c.own-own.ensures at c.in-None.ensures.none)
     (rw c.entry.ensures at c.if-moment-entry.true)
 
+-- where no place with the message is left, none of the account pays
 pub returns-clause-none : goal.returns-clause-none
 returns-clause-none c = λ k owed.
     let g = c.args.gains.now in

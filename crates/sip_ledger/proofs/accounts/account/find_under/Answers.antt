@@ -15,6 +15,7 @@ pub returns-in_default : goal.returns-in_default
 returns-in_default c =
     none-under c.args.gains.now c.args.strikes.now c.args.account c.args.index.now c.args.key c.args.moment c.loop.from c.loop.first c.loop.invariant c.in_default.ensures.none
 
+-- where no message from this one on is left, what was found is the first of all
 pub returns-in_default-message_from : goal.returns-in_default-message_from
 returns-in_default-message_from c =
     none-left c.args.gains.now c.args.strikes.now c.args.account c.args.index.now c.args.key c.args.moment c.loop.from c.loop.first c.loop.invariant

@@ -16,6 +16,7 @@ loop-place-init c =
       | inr above ↦ inl (omega (arith, from, above))
     ])
 
+-- where the place is past the account's end, the least so far is the least of all
 pub returns-then-account-place : goal.returns-then-account-place
 returns-then-account-place c =
     least-last c.args.gains.now c.args.strikes.now c.args.account c.loop-place.from c.in-Some.place c.loop-place.least c.loop-place.invariant c.in-Some.ensures.before c.if-account-place.true

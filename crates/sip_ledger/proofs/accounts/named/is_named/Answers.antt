@@ -23,6 +23,7 @@ loop-at-preserved c =
           (All-push P (take c.loop-at.at c.args.rows.now) (get_or c.args.rows.now c.loop-at.at none) c.loop-at.invariant.1 (sym c.names.ensures.is ∙ c.if-names.false)),
     )
 
+-- at the end of the loop no row was found that owes the message
 pub returns : goal.returns
 returns c =
     let full : c.loop-at.at ≡ length c.args.rows.now = omega arith in

@@ -21,6 +21,7 @@ invariant_of-self-in-Err c =
     kept_newest (texts_of kept) (texts_of c.push.new.self.items) runs c.self.inside.tos c.args.entry c.args.bytes.now newest c.self.invariant.0 order c.self.invariant.2 (rw c.self.view_is c.requires)
     c.hash-hash.ensures gap inside added
 
+-- where the book has the bytes, the number is that under which it has them
 pub returns-in-Ok-clause-ok : goal.returns-in-Ok-clause-ok
 returns-in-Ok-clause-ok c =
     let kept = c.self.inside.kept.items in
@@ -28,6 +29,7 @@ returns-in-Ok-clause-ok c =
     let here = text_of-kept (λ k. (k.number, k.bytes.items)) kept c.in-Ok.position c.index.result.now c.self.invariant.0.rising at.0 c.index.ensures in
     (here.0, here.1 ∙ sym (bytes_at-kept kept c.in-Ok.position c.index.result.now at.0 c.index.ensures) ∙ at.1)
 
+-- where the book lacked the bytes, it has them now under the new number
 pub returns-in_ok-push-in-Err-clause-ok : goal.returns-in_ok-push-in-Err-clause-ok
 returns-in_ok-push-in-Err-clause-ok c =
     let kept = c.self.inside.kept.items in

@@ -11,6 +11,7 @@ invariant_of-self c =
     let texts = texts_of c.self.inside.kept.items in
     (c.self.invariant.0, c.self.invariant.1, AreTos-some texts c.self.inside.tos c.drop_newest.new.self c.self.invariant.2 c.drop_newest.ensures)
 
+-- where no message was forgotten, the book is right as before
 pub invariant_of-self-in_default : goal.invariant_of-self-in_default
 invariant_of-self-in_default c =
     let texts = texts_of c.self.inside.kept.items in

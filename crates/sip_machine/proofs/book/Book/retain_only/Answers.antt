@@ -54,6 +54,7 @@ invariant_of-self c =
       subst (λ ts. AreTos ts c.retain.new.self) (sym is) (AreTos-only texts numbers book c.requires.rising kept c.self.inside.tos c.retain.new.self c.self.invariant.2 c.retain.ensures),
     )
 
+-- the messages that are kept are those with the numbers
 pub returns : goal.returns
 returns c =
     let texts = texts_of c.self.inside.kept.items in

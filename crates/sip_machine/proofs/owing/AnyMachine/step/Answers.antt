@@ -21,6 +21,7 @@ returns-in_ok-lead-in-Some-None-clause-alone g c =
     let changed : c.lead.new.self ≡ set xs 0 led = rw (c.in_ok-turn.ensures.same, c.params.ensures, c.moment-moment.ensures) at c.in_ok-lead-in-Some-None.ensures.ok d in
     ap length (changed ∙ alone-set xs led one)
 
+-- the one state that the event gives is the old one as it rests
 pub returns-in_ok-come_to_rest-in-None-Some-clause-one : goal.returns-in_ok-come_to_rest-in-None-Some-clause-one
 returns-in_ok-come_to_rest-in-None-Some-clause-one g c = λ d.
     let xs = c.args.pool.now in

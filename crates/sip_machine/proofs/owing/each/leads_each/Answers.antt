@@ -13,6 +13,7 @@ loop-at-init g c =
     let e = event_in texts c.args.event.now in
     (omega arith, found-none (owing_names m.names) (OwingInRange m.in_range) (owing_seen m.seen) texts (LeadsFrom m.figure (m.times c.args.machine.now) m.seen texts e) c.args.pool.now)
 
+-- the book has all that the states of the next run name, since they are old ones
 pub leads_run-requires-clause-known : goal.leads_run-requires-clause-known
 leads_run-requires-clause-known g c =
     let (at_le, (found, is, covers)) = c.loop-at.invariant in
@@ -23,6 +24,7 @@ leads_run-requires-clause-in_range g c =
     let (at_le, (found, is, covers)) = c.loop-at.invariant in
     slice-kept (OwingInRange g.M.Phases.in_range) c.loop-at.at c.run_end-end.result c.args.count c.args.pool.now found c.loop-at.pool is c.run_end-end.ensures.order.1 c.requires.count c.requires.in_range
 
+-- where memory is refused, the old states are as they were
 pub returns-in_err-leads_run-clause-before : goal.returns-in_err-leads_run-clause-before
 returns-in_err-leads_run-clause-before g c =
     let (at_le, (found, is, covers)) = c.loop-at.invariant in

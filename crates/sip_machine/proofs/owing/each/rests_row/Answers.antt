@@ -36,6 +36,7 @@ pub rests-requires-clause-in_range : goal.rests-requires-clause-in_range
 rests-requires-clause-in_range g c =
     holds-here (OwingInRange g.M.Phases.in_range) c.pool.inside.phases.items c.pool.inside.dues c.args.pool.now c.args.at c.index.result.now c.pool.view_is c.requires.at c.index.ensures c.requires.in_range
 
+-- where the state cannot wait until the moment, it gives nothing
 pub returns-then-is_past-clause-gives : goal.returns-then-is_past-clause-gives
 returns-then-is_past-clause-gives g c = λ d.
     let m = g.M.Phases in
@@ -65,6 +66,7 @@ returns-clause-gives g c = λ d.
     on_ok_weaker c.push_rested.result (λ (is : c.push_rested.new.self ≡ c.args.pool.now ++ option_to_list rested). (option_to_list rested, is, covers))
     (rw (c.in_ok-rest.ensures.same, c.pool.view_is, c.moment-2.ensures) at c.push_rested.ensures.ok d)
 
+-- the old states are as they were
 pub returns-clause-before : goal.returns-clause-before
 returns-clause-before g c =
     let d = at_rest c.index.result.now in

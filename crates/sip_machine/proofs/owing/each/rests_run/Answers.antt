@@ -16,6 +16,7 @@ index-requires g c =
     subst (λ n. c.args.from < n) (sym c.pool.inside.phases.ok.0)
     (in-phases c.pool.inside.phases.items c.pool.inside.dues c.args.pool.now c.args.from c.pool.view_is (omega (arith, c.requires.from, c.requires.to)))
 
+-- the phase of the run is in range
 pub closes-requires : goal.closes-requires
 closes-requires g c =
     let m = g.M.Phases in

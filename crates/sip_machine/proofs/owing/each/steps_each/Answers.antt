@@ -16,6 +16,7 @@ loop-at-init g c =
     found-none (owing_names m.names) (OwingInRange m.in_range) (owing_seen m.seen) texts
     (λ x. TakeOf m.figure (m.times c.args.machine.now) (owing_seen m.seen texts x) (event_in texts c.args.event.now)) c.args.pool.now
 
+-- the book has all that the next state names, since it is an old one
 pub successors-requires-clause-known : goal.successors-requires-clause-known
 successors-requires-clause-known g c = λ d.
     let (found, is, covers) = c.loop-at.invariant in

@@ -43,6 +43,7 @@ loop-at-preserved g c =
       | else-not-is_repeat w ↦ rw (w.rows-is, w.slots-is) (first-again xs from at rows first (λ x. (repeats x).0 w.if-not-is_repeat.false), long, told)
     ]
 
+-- at the end of the loop the rows are those of all states that have no equal before them
 pub returns : goal.returns
 returns g c =
     let end : c.loop-at.at ≡ length c.args.self.now = omega arith in

@@ -14,6 +14,7 @@ push_rested-requires g c =
     in-longer xs (option_to_list (option_map (λ turn. led_by c.args.params.now c.args.moment turn (get_or xs c.args.at d)) c.args.effect.turn)) c.push_led.new.self c.args.at
     (c.in_ok-push_led.ensures.ok d) c.requires.at
 
+-- where memory is refused, the pool is as it was
 pub returns-then-is_err-clause-err : goal.returns-then-is_err-clause-err
 returns-then-is_err-clause-err g c =
     let xs = c.args.self.now in

@@ -23,6 +23,7 @@ loop-next-preserved c =
           (reached-more s c.args.print limit c.loop-next.next at are low_limit (c.loop-next.invariant.1 limit low_limit is) (omega (arith, some)) (λ same. c.if-kept-print.false (sym print ∙ same))),
     )
 
+-- at the end of the loop no row has the print
 pub returns : goal.returns
 returns c = λ limit low is.
     let reached = c.loop-next.invariant.1 limit low is in

@@ -31,6 +31,7 @@ invariant_of-self c =
       subst (AreUnder new) (sym c.pop.ensures.rest) under,
     )
 
+-- the Tos that are left were there before
 pub returns-in-Some : goal.returns-in-Some
 returns-in-Some c =
     let tos = c.self.inside.list.items in

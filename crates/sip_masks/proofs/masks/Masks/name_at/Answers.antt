@@ -34,6 +34,7 @@ returns-else-is_ordinary_name c len begins =
     (c.is_ordinary_name.ensures.1 (subst (λ w. OrdinaryName (take n w) × (32 ≤ length w)) (sym (take_rest c.text.result.now p))
     (subst (λ t. OrdinaryName (take n (drop p t)) × (32 ≤ length (drop p t))) (sym c.text.ensures) (name, begins.2))))
 
+-- a run of 64 bytes or more is longer than an ordinary name
 pub returns-in_err-len : goal.returns-in_err-len
 returns-in_err-len c =
     rw c.from_residual.ensures

@@ -66,6 +66,7 @@ returns-in_err-advance_each-clause-err g c =
       each = some_advance c.args.moment some.0 (values c.self.inside.sets) (values c.advance_each.new.sets) some.2;
     }))
 
+-- the sets without a mark name nothing, also after the wait
 pub unmark_silent-requires-clause-marked : goal.unmark_silent-requires-clause-marked
 unmark_silent-requires-clause-marked g c =
     marked_still (λ s. numbers_of s ≡ []) c.args.moment c.marked.result.now c.self.inside.marks (values c.self.inside.sets) (values c.advance_each.new.sets) c.self.invariant.3 (λ n has. (c.marked.ensures.members n).0 has) c.in_ok-advance_each.ensures.ok

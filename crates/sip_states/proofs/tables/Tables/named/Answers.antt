@@ -23,6 +23,7 @@ index-requires g c =
     let within = slice_get_within marks index true mark in
     omega (arith, within, c.self.invariant.2)
 
+-- after one set more, the numbers found are those of the sets up to it
 pub loop-index-preserved : goal.loop-index-preserved
 loop-index-preserved g c =
     let t = c.args.self.now in

@@ -56,6 +56,7 @@ invariant_of-self-2 g c =
       },
     )
 
+-- where memory is refused, some sets have waited, and the others are as they were
 pub returns-in_err-advance_each-clause-err : goal.returns-in_err-advance_each-clause-err
 returns-in_err-advance_each-clause-err g c =
     let some = c.in_err-advance_each.ensures.err in

@@ -72,6 +72,7 @@ returns-clause-tracks g c =
     let kept = swept_kept s.book c.known.ensures s.tables u c.args.moment advances c.requires.may numbers named.0 named.1 in
     λ es tracks. subst (λ b. TablesTrack b es u) (sym c.retain_only.ensures) (swept_track s.book c.known.ensures s.tables u c.args.moment advances c.requires.may numbers named.0 named.1 kept es tracks)
 
+-- each message that is left is named by some set
 pub returns-clause-named : goal.returns-clause-named
 returns-clause-named g c =
     let s = c.args.self.now in

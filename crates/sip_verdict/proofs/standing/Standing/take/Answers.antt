@@ -21,6 +21,7 @@ pass-requires-in-Restart-clause-may g c =
     let e = c.args.entry.now in
     grown_may s.book c.observe.new.book e.number e.bytes.items (inl (rw c.in-Restart.is at c.in_ok-told.ensures.kept).0) s.tables e.moment c.requires.may.passes
 
+-- at a restart each transaction may hear the event
 pub pass-requires-in-Restart-clause-hear : goal.pass-requires-in-Restart-clause-hear
 pass-requires-in-Restart-clause-hear g c =
     let e = c.args.entry.now in
@@ -30,6 +31,7 @@ pass-requires-in-Restart-clause-hear g c =
 pub pass-requires-in-Restart-clause-recorded : goal.pass-requires-in-Restart-clause-recorded
 pass-requires-in-Restart-clause-recorded g c = c.requires.may.recorded
 
+-- after a restart the next entry may be taken
 pub returns-in_ok-verdict-in-Restart-clause-may : goal.returns-in_ok-verdict-in-Restart-clause-may
 returns-in_ok-verdict-in-Restart-clause-may g c =
     let s = c.args.self.now in
@@ -58,6 +60,7 @@ returns-in_ok-verdict-in-Restart-clause-judged g c =
     c.restart-event.result s.tables c.pass-in-Restart.new.self.tables c.requires.may.passes.long c.known-in-Restart.ensures.unique c.in_ok-verdict-in-Restart.ensures.keys c.restart-event.ensures
     (λ n keeps. c.requires.may.some n (subst (λ b. Keeps b n) same keeps)) refl (rw c.in-Restart.is at c.in_ok-told.ensures.observed) c.in_ok-verdict-in-Restart.ensures.judged
 
+-- after the keys were looked up, the tables may pass the moment
 pub pass-requires-in-Heard-clause-may : goal.pass-requires-in-Heard-clause-may
 pass-requires-in-Heard-clause-may g c =
     let s = c.args.self.now in
@@ -65,6 +68,7 @@ pass-requires-in-Heard-clause-may g c =
     touches_may c.observe.new.book e.moment (each c.in-Heard.concerned) (each c.in_ok-concerned-in-Heard.concerned) s.tables c.touch_each.new.tables
     (grown_may s.book c.observe.new.book e.number e.bytes.items (rw c.in-Heard.is at c.in_ok-told.ensures.kept).4 s.tables e.moment c.requires.may.passes) c.in_ok-concerned-in-Heard.ensures.touched
 
+-- the transactions that are to hear the event have their sets, at its moment
 pub pass-requires-in-Heard-clause-hear : goal.pass-requires-in-Heard-clause-hear
 pass-requires-in-Heard-clause-hear g c =
     let e = c.args.entry.now in

@@ -283,7 +283,7 @@ class Claims:
         return {self.case.history[int(number) - 1].data for number, until, is_reliable in found if is_reliable or int(until) <= deadline}
 
     def due_together(self):
-        """Checks that the messages that were due together settle it together, and no fewer do."""
+        """Checks that the messages that were due together settle it together, and that each of them is needed."""
         case, told = self.case, self.told
         until = case.end()
         together = [Entry(one["letter"], until, latin(one["bytes"])) for one in told["together"]]

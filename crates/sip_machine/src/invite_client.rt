@@ -198,6 +198,7 @@ impl Phases for InviteClient {
                 }),
                 _ => return Ok(None),
             },
+            // An ACK before any INVITE, such as one for a 2xx, leaves idle as it is.
             Method::Ack => match *phase {
                 Idle => Idle,
                 _ => return Ok(None),

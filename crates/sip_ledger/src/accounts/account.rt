@@ -188,9 +188,9 @@ pub(crate) fn find(
     None
 }
 
-/// The first place whose debt a send of one of the messages under the key pays at the moment. The messages that stand there and are left
-/// are gone through from the least on, until what is found stands before all greater ones. Where that takes more than `most` steps, the
-/// answer is None.
+/// The first place whose debt a send of one of the messages under the key pays at the moment. The index gives the messages under the key
+/// and the gains give those that are still owed. Both are asked in turn, so that each step goes to a greater message. The search ends where
+/// no gain of a greater message is left, or none stands before what was found. Where it takes more than `most` steps, the answer is None.
 pub(crate) fn find_under(
     gains: &Gains,
     strikes: &[Strike],

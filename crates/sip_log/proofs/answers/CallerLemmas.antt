@@ -200,10 +200,12 @@ module _ (start : Option (List ℕ)) (items : List Item) (old new : ReaderState)
 
     -- an answer with an entry says that it was read after the entries before it, at whatever stage
     gave-at : (s : Stage) → old.stage ≡ s → StandsAt s start items old → NextsAt s old new (Ok (Some e)) → Stands start (items ++ item e ∷ []) new
+    -- the first answer: the format and the times are read with it
     gave-at fresh at h steps =
         let says = subst (λ s. IfSome old.left (λ xs. (ys : List ℕ) × (new.left ≡ Some ys) × Comes s old new xs (gives (item e) ys))) at steps.says.1 in
         closed steps.moves (gave-first new.times start h.0 steps.times (subst (λ o. IfSome o (λ xs. (ys : List ℕ) × (new.left ≡ Some ys) × ComesFirst new.format new.times xs (gives (item e) ys))) h.1 says))
         (h.3 ∙ sym (ap length h.0))
+    -- a later answer: the format and the times are those of the old state
     gave-at entries at h steps =
         let says = subst (λ s. IfSome old.left (λ xs. (ys : List ℕ) × (new.left ≡ Some ys) × Comes s old new xs (gives (item e) ys))) at steps.says.1 in
         let same = same-times old.times h.0 steps.kept in
@@ -211,6 +213,7 @@ module _ (start : Option (List ℕ)) (items : List Item) (old new : ReaderState)
         closed steps.moves
         (subst (λ f. HasRead start f new.times (items ++ item e ∷ []) new.left) (sym format)
         (gave-next new.times start h.1 h.2 (subst (λ t. HasRead start old.format t items old.left) (sym same) h.0) says)) h.1
+    -- after the end and after a failure no entry is answered
     gave-at ended at h again = cc
     gave-at failed at h again = cc
 

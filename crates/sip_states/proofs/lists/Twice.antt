@@ -35,6 +35,7 @@ module _ {X : Type 0} (r : MachineRules X) (lawful : IsLawful r) (P : X → Type
 
   -- an end between h and n is one by m, after which the ended state stays, or one after m
   end_twice : (y : X) → (e : EndsFrom r P h n y) → Dec (e.at ≤ m) → Wait r (Wait r P h m) m n y
+  -- an end by m is one of the first wait, and the state after it has no end of its own, so that it waits until n
   end_twice y e (yes by) =
       Wait-stay r (Wait r P h m) m n y
       (record {
@@ -42,6 +43,7 @@ module _ {X : Type 0} (r : MachineRules X) (lawful : IsLawful r) (P : X → Type
         reached = high;
         waits = IsWithin-none n (r.until y) (rw e.hides.gives lawful.ended_stays);
       })
+  -- an end after m is one of the second wait, and its state waits until m before
   end_twice y e (no later) =
       let past : m ≤ e.at = omega arith in
       Wait-end r lawful (Wait r P h m) m n y

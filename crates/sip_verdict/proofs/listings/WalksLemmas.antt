@@ -208,11 +208,13 @@ module _ (way : Aim) (start : Option (List ℕ)) (now : log.ReaderState) (count 
         → ((more : List Item) → (seen : Observation KeyParts) × Sees walks.es (item e) seen × IsListedEntry t.times (first_entry ((walks.items ++ item e ∷ []) ++ more)) walks.es seen listing)
         → IfSome start (λ input. IsListingOf input e.number listing)
     listed_at NoEntry says = absurd (says []).2
+    -- an entry in trouble: the verdict on the log is what is listed
     listed_at (Stopped v) says =
         let h = says [] in
         IfSome-map start (λ input. IsVerdictOf input v) (λ input. IsListingOf input e.number (Stopped v))
         (λ input verdict. stops_at input v (length walks.es + 1) e.number (trouble_at t.times walks.es h.0 v h.2) (omega (arith, number_is)) verdict)
         (judged_trouble t.times start walks.items walks.es walks.observed tracks.good (item e) new read h.0 h.1 v h.2)
+    -- an entry without trouble: its listing stands in each log that goes on from what was read
     listed_at (Text text) says =
         IfSome-map start (λ input. (more : List Item) × (end : LogEnd) × LogSays input t.times ((walks.items ++ item e ∷ []) ++ more) end) (λ input. IsListingOf input e.number (Text text)) (λ input l.
         let h = says l.0 in

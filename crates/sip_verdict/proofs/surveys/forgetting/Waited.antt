@@ -81,7 +81,9 @@ module _ (texts : Texts) (book : IsBook texts) (p : Times) (machine : MachineKin
       let m = meaning_of machine in
       let (t, new_is, waited) = of_sets (λ X M S m s u. HasWaited m moment s u) machine s new (subst (λ o. SetWaits moment o new) is waits) in
       let not_later : s.moment ≤ moment = subst (λ n. n ≤ moment) (ap moment_of is ∙ moment_is machine s) low in
+      -- the waited states stand for where the runs that wait until the moment stand
       let stand = subst (λ q. StandFor m.names m.in_range m.seen texts (Wait (m.rules q) (Contains (map (m.seen texts) s.states)) s.moment moment) t.states) leads.machine_is (waited.states texts book leads.leads.known) in
+      -- so they also lead to the runs until the moment
       let on = waited_leads m.names m.in_range m.seen texts (m.rules p) (lawful_of machine p) events from s.moment moment s.states t.states not_later leads.leads stand in
       record {
         held = t;

@@ -36,6 +36,7 @@ class Axis:
         self.at, self.rows, y, before = {}, [0.0] * len(arrows), float(TOP), None
         floor = 0.0
         for moment in sorted({one.moment for one in arrows} | set(edges)):
+            # A gap takes from 14 to 90 units, and each doubling of a long one takes 8 more.
             if before is not None:
                 y += min(90, 14 + 8 * math.log2(1 + max(0, moment - before) / 4))
             own = [n for n, one in enumerate(arrows) if one.moment == moment]

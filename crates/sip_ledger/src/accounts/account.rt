@@ -25,7 +25,7 @@ pub(crate) struct Account {
     /// Its strikes stand from `first` up to `last` among those of all rows.
     pub first: usize,
     pub last: usize,
-    /// The number of its debts.
+    /// A number made of its debts: accounts that owe the same have the same one, and others hardly ever do.
     pub print: u64,
 }
 

@@ -72,6 +72,7 @@ impl Model for InviteClient {
 }
 
 impl InviteClient {
+    /// A client with these times.
     pub fn new(params: Params) -> InviteClient
         ensures { result ≡ params }
     {

@@ -33,6 +33,7 @@ impl Model for InviteClient3261 {
 }
 
 impl InviteClient3261 {
+    /// A client with these times.
     pub fn new(params: Params) -> InviteClient3261
         ensures { result ≡ params }
     {

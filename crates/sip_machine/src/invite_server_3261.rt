@@ -65,6 +65,7 @@ impl Model for InviteServer3261 {
 }
 
 impl InviteServer3261 {
+    /// A server with these times.
     pub fn new(params: Params) -> InviteServer3261
         ensures { result ≡ params }
     {

@@ -53,6 +53,7 @@ impl Model for PlainClient {
 }
 
 impl PlainClient {
+    /// A client with these times.
     pub fn new(params: Params) -> PlainClient
         ensures { result ≡ params }
     {

@@ -35,7 +35,9 @@ module _ {X : Type 0} (f : Figure X) (p : Times) (lasts : (m : ℕ) → Lasts f 
   module _ (old : List MachineEvent) (m : ℕ) (idle : Stands f p old m (quiet f.idle)) where
     -- where old events leave the transaction idle at m, a run over later events goes on after them; before m such a run has no event and stands in idle
     on : (more : List MachineEvent) (k : ℕ) (y : Owing X) → Stands f p more k y → All (IsFrom m) more → (m ≤ k → Stands f p (old ++ more) k y) × (k < m → (more ≡ []) × (y ≡ quiet f.idle))
+    -- the run begins at 0, so that m is 0 or after its moment
     on more k y begins from = (λ high. subst (λ n. Stands f p (old ++ []) n (quiet f.idle)) (let same : m ≡ 0 = omega (arith, high) in same) (subst (λ es. Stands f p es m (quiet f.idle)) (sym (append-nil old)) idle), λ low. (refl, refl))
+    -- the run waits
     on more k y (waits evs h n x stands low lasting) from = go (dec_le m h) (on evs h x stands from)
       where
         go : Dec (m ≤ h) → (m ≤ h → Stands f p (old ++ evs) h x) × (h < m → (evs ≡ []) × (x ≡ quiet f.idle)) → (m ≤ n → Stands f p (old ++ evs) n x) × (n < m → (evs ≡ []) × (x ≡ quiet f.idle))
@@ -45,12 +47,14 @@ module _ {X : Type 0} (f : Figure X) (p : Times) (lasts : (m : ℕ) → Lasts f 
               λ high. subst (λ es. Stands f p (old ++ es) n x) (sym new.0) (subst (λ es. Stands f p es n x) (sym (append-nil old)) (subst (Stands f p old n) (sym new.1) (waits old m n (quiet f.idle) idle high (lasts n)))),
               λ before. new,
             )
+    -- the state ends
     on more k y (ends evs h x stands may) from = go (dec_le m h) (on evs h x stands from)
       where
         -- the end comes at m or later, or before it
         go : Dec (m ≤ h) → (m ≤ h → Stands f p (old ++ evs) h x) × (h < m → (evs ≡ []) × (x ≡ quiet f.idle)) → (m ≤ h → Stands f p (old ++ evs) h (quiet f.ended)) × (h < m → (evs ≡ []) × (quiet f.ended ≡ quiet f.idle))
         go (yes late) both = (λ high. ends (old ++ evs) h x (both.0 late) may, λ before. absurd (omega (arith, late, before)))
         go (no early) both = absurd (has_no_end h (subst (λ z. MayEnd f p z h) (both.1 (omega (arith, early))).1 may))
+    -- the run takes an event, which comes at m or later
     on more k y (takes evs e x z stands does) from =
         let last : m ≤ e.moment = All-middle (IsFrom m) evs [] e from in
         let before = (on evs e.moment x stands (All-front (IsFrom m) evs (e ∷ []) from)).0 last in

@@ -23,8 +23,10 @@ fn debt(message: u64) -> Debt {
     }
 }
 
+/// The number of the request, an OPTIONS.
 const REQUEST: u64 = 4;
 
+/// The number of a 180, the response that is sent last.
 const LAST: u64 = 5;
 
 /// The messages by number: three that are owed, their request, and one that is sent after them.
@@ -36,6 +38,7 @@ const MESSAGES: [Numbered; 5] = [
     (LAST, Start::Response(180), None),
 ];
 
+/// A server with the times of the tests.
 fn server() -> Result<PlainServer, Fail> {
     Ok(PlainServer::new(params(500)?))
 }

@@ -215,8 +215,10 @@ fn long_line(
     changed(alloc, &[(6, &line)], b"")
 }
 
+/// The message with the line is read, and has no body.
 const LINE_READ: Answer = Answer::Read { body: 0 };
 
+/// The line, the seventh of the message, has a faulty value.
 const LINE_FAULTY: Answer = Answer::Line(7, Reason::Value);
 
 /// A line, by its front, a part that is repeated, how often it is, and the end of the line; and what the line comes to.

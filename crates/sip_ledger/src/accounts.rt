@@ -150,7 +150,7 @@ impl Accounts {
         .is_some()
     }
 
-    /// The message of the row's first debt that a send of a message at the moment pays that stands under the key, if there is one. Where it is
+    /// The message of the row's first debt that a send of one of the messages under the key pays at the moment, if there is one. Where it is
     /// not found in `most` steps, the answer is None.
     pub fn first_payable(
         &self,
@@ -304,7 +304,7 @@ impl Accounts {
         Ok(())
     }
 
-    /// Two numbers between which the numbers of all messages are that rows owe.
+    /// Two numbers. The numbers of all messages that rows owe lie between them.
     pub fn span(&self) -> (u64, u64)
         ensures { All (All (λ debt. (result.0 ≤ debt.message) × (debt.message ≤ result.1))) self.now }
     {

@@ -27,6 +27,7 @@ impl Model for Hashed {
 }
 
 impl Hashed {
+    /// The text with its hash.
     pub(crate) fn of(text: Vec<u8>) -> Hashed
         ensures { result ≡ text.items }
     {
@@ -34,6 +35,7 @@ impl Hashed {
         Hashed { text, hash }
     }
 
+    /// The text alone.
     pub(crate) fn text(&self) -> &[u8]
         ensures { result.now ≡ self.now }
     {

@@ -206,7 +206,7 @@ impl<P: Phase> Pool<P> {
         }
     }
 
-    /// The indices of the states from `from` on, of equal ones that of the first alone, found by a look at each other.
+    /// The indices of the states from `from` on, of equal ones that of the first alone. Each state is held against those found before it.
     fn first_of_few(&self, from: usize) -> Result<Vec<usize>, AllocError>
         requires { from ≤ length self.now }
         ensures { IfOk result (λ rows. AreFirstOnes self.now from (length self.now) rows.items) }

@@ -47,6 +47,7 @@ impl Model for Tos {
 }
 
 impl Tos {
+    /// No To value at all.
     pub(crate) fn new(alloc: Global) -> Tos
         ensures { result ≡ [] }
     {

@@ -29,6 +29,7 @@ branch-behind p found later text at end to param is (ps, part, branch) = (p ∷ 
 pub branch-none : (text : List ℕ) (end : ℕ) → ViaParams (segment end end text) None
 branch-none text end = subst (λ u. ViaParams u None) (sym (segment-none text end)) ([], (tt, refl), refl)
 
+-- an option or else nothing is that option
 pub or-none : (b : Option (List ℕ)) → option_or b None ≡ b
 or-none None = refl
 or-none (Some v) = refl
@@ -46,6 +47,7 @@ port-led text at end port to mark is =
 spelled : (text : List ℕ) (at end to : ℕ) → LiesWithin PlainRun text at end to → LiesWithin (Exactly (segment at to text)) text at end to
 spelled text at end to run = (run.0, run.1, refl)
 
+-- a slash without blanks is a slash with the blanks that the grammar allows
 marked : (text : List ℕ) (at end to : ℕ) → LiesWithin (Byte slash) text at end to → LiesWithin (Mark slash) text at end to
 marked text at end to mark = stands-as (Byte slash) (Mark slash) text at end to (λ u is. subst (Mark slash) (sym is) (mark-alone slash)) mark
 

@@ -208,6 +208,7 @@ fn a_set_goes_on_after_a_refused_growth(rt: HostRuntime) -> Result<(), Fail> {
     play_again(&rt, &book(rt.alloc())?, SENDS, &[])
 }
 
+/// The INVITE comes again just before the 486 is sent once more.
 static REPEAT: &[Entry] = &[
     (0, Action::Received, INVITE),
     (0, Action::Sent, BUSY),
@@ -226,6 +227,7 @@ fn a_repeat_goes_on_after_a_refused_growth(rt: HostRuntime) -> Result<(), Fail> 
     )
 }
 
+/// An INVITE and its 200.
 static ACCEPTED: &[Entry] = &[(0, Action::Received, INVITE), (0, Action::Sent, OK)];
 
 /// After the 200 timer L ends the transaction between 31950 and 32050.

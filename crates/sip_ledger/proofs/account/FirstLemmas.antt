@@ -24,6 +24,7 @@ use Rattle.sip_ledger.proofs.account.FindLemmas.{named-pays}
 pays-parts : (message t : ℕ) (entry : Entry) → (entry.message == message && nat_le t entry.deadline) ≡ true → (entry.message ≡ message) × (t ≤ entry.deadline)
 pays-parts message t entry pays = (grind (arith, nat_tests), grind (arith, nat_tests))
 
+-- What follows is of two tests of messages at the moment t: each message that passes `few` passes `more`.
 module _ (entries : List Entry) (owes few more : ℕ → Bool) (t : ℕ) (wider : (m : ℕ) → few m ≡ true → more m ≡ true) where
   -- what a message pays that passes one test, a message pays that passes a wider one
   of-more : (k : ℕ) → PaysSomeAt entries few t k → PaysSomeAt entries more t k
@@ -35,7 +36,9 @@ module _ (entries : List Entry) (owes few more : ℕ → Bool) (t : ℕ) (wider 
   first-same None back none = λ k owed (passes, early). none k owed (back k tt owed passes, early)
   first-same (Some p) back is = (is.0, of-more p is.1, λ k low owed (passes, early). is.2 k low owed (back k low owed passes, early))
 
+  -- What follows is of one message, the only one that passes `more` and perhaps not `few`.
   module _ (message : ℕ) (passes : more message ≡ true) (only : (m : ℕ) → more m ≡ true → (few m ≡ true) ⊎ (m ≡ message)) where
+    -- where the message pays at a place, some message that passes `more` does
     of-last : (k : ℕ) → pays_at entries message t k ≡ true → PaysSomeAt entries more t k
     of-last k pays =
         let parts = pays-parts message t (entry_at entries k) pays in
@@ -69,14 +72,18 @@ module _ (entries : List Entry) (owes few more : ℕ → Bool) (t : ℕ) (wider 
 abbrev pub below : List (ℕ × ℕ) → ℕ → ℕ → ℕ → Bool
 below pairs key from m = holds pairs key m && nat_lt m from
 
+-- what stands under the key below `from` stands under the key, and is below `from`
 pub below-parts : (held : Bool) (m from : ℕ) → (held && nat_lt m from) ≡ true → (held ≡ true) × (m < from)
 below-parts true m from is = (refl, ltb-true m from is)
 below-parts false m from is = absurd (true≢false (sym is))
 
+-- what stands under the key, and is below `from`, stands under the key below `from`
 below-is : (held : Bool) (m from : ℕ) → held ≡ true → m < from → (held && nat_lt m from) ≡ true
 below-is held m from is low = ap (λ b. b && nat_lt m from) is ∙ lt-ltb m from low
 
+-- What follows is of the search of `find_under`: an account, the pairs of its index, the key that is looked up, and the moment t.
 module _ (gains : Gains) (strikes : List Strike) (a : Account) (pairs : List (ℕ × ℕ)) (key t : ℕ) where
+  -- the place is the first of which a send of a message that passes the test pays a debt
   abbrev IsFirst : (ℕ → Bool) → Option ℕ → Type 0
   IsFirst test first = IsFirstOf (entries_of gains) (owes_at gains strikes a) test t first
 
@@ -90,6 +97,7 @@ module _ (gains : Gains) (strikes : List Strike) (a : Account) (pairs : List (�
       below-is (holds pairs key m) m from (under m passes) (low m k passes (under m passes) (held_left gains m k refl ∙ owed-left gains strikes a k owed)))
       is
 
+  -- What follows is of the first place so far: that of the messages under the key below `from`.
   module _ (from : ℕ) (first : Option ℕ) (is : IsFirst (below pairs key from) first) where
     -- nothing stands under the key from here on
     pub none-under : ((n : ℕ) → from ≤ n → holds pairs key n ≡ false) → IsFirst (holds pairs key) first
@@ -99,6 +107,7 @@ module _ (gains : Gains) (strikes : List Strike) (a : Account) (pairs : List (�
           | inr high ↦ absurd (true≢false (sym held ∙ none m high))
         ]) is
 
+    -- What follows is of the next message under the key.
     module _ (message : ℕ) (next : IsNextUnder pairs key from message) where
       -- what stands under the key is below `from`, or not below the next message
       next-under : (m : ℕ) → holds pairs key m ≡ true → m < message → m < from
@@ -133,6 +142,7 @@ module _ (gains : Gains) (strikes : List Strike) (a : Account) (pairs : List (�
                 absurd (omega (arith, least, low))
           ]) is
 
+  -- What follows is of the place that was found for one more message under the key.
   module _ (message : ℕ) (first place : Option ℕ) (held : holds pairs key message ≡ true) (is : IsFirst (below pairs key message) first)
       (found : IfSome place (IsFirstPayable (entries_of gains) (owes_at gains strikes a) message t))
       (none : IfNone place ((k : ℕ) → owes_at gains strikes a k ≡ true → pays_at (entries_of gains) message t k ≡ false)) where
@@ -156,6 +166,7 @@ sooner-low : (first : Option ℕ) (p k : ℕ) → IfSome (sooner first (Some p))
 sooner-low None p k low = low
 sooner-low (Some q) p k low = omega (arith, low)
 
+-- What follows is of what was found of one message under the key.
 module _ (gains : Gains) (strikes : List Strike) (a : Account) (pairs : List (ℕ × ℕ)) (key t message : ℕ) (gained : AreGains gains) where
   -- the place of a debt that is found is kept
   pub found-kept : (place : Option ℕ) → IfSome place (IsFirstPayable (entries_of gains) (owes_at gains strikes a) message t) → IfSome place (IsKept gains)
@@ -177,7 +188,9 @@ module _ (gains : Gains) (strikes : List Strike) (a : Account) (pairs : List (�
       below-is (holds pairs key (entry_at (entries_of gains) k).message) (entry_at (entries_of gains) k).message (message + 1) passes (omega (arith, low, same)))
       is
 
+-- What follows is of one account, and what a send at the moment t of a message that passes the test pays of it.
 module _ (gains : Gains) (strikes : List Strike) (a : Account) (test : ℕ → Bool) (t : ℕ) where
+  -- whether the account owes what was gained at a place
   abbrev owed : ℕ → Bool
   owed = owes_at gains strikes a
 

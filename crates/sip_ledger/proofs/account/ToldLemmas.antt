@@ -42,6 +42,7 @@ pub record IsToldTo (gains : Gains) (strikes : List Strike) (a : Account) (place
   pub end : place ≤ a.end
   pub owed : place < a.end → owes_at gains strikes a place ≡ true
 
+-- What follows is of one account.
 module _ {gains : Gains} {strikes : List Strike} {a : Account} where
   -- an account owes nothing before its start
   pub told-none : {debts : List Debt} → IsAccount gains strikes a → debts ≡ [] → IsToldTo gains strikes a a.start debts
@@ -93,6 +94,7 @@ pub record AreAt (gains : Gains) (strikes : List Strike) (one other : Account) (
   pub told : IsToldTo gains strikes one at debts
   pub told_beside : IsToldTo gains strikes other beside debts
 
+-- What follows is of two accounts that are compared.
 module _ {gains : Gains} {strikes : List Strike} {one other : Account} (is : IsAccount gains strikes one) (is_other : IsAccount gains strikes other) where
   -- AreAt holds at the starts of two accounts
   pub at-start : AreAt gains strikes one other one.start other.start
@@ -119,6 +121,7 @@ module _ {gains : Gains} {strikes : List Strike} {one other : Account} (is : IsA
       (debt_of (entry_at (entries_of gains) beside) (must_at gains other beside) ∷ rest_beside)
       (sym (told-here is are.told inside) ∙ same ∙ told-here is_other are.told_beside inside_beside)))
     where
+      -- equal lists of debts have the same first debt
       first : {d d' : Debt} {ds ds' : List Debt} → d ∷ ds ≡ d' ∷ ds' → d ≡ d'
       first equal = cc
 

@@ -6,7 +6,9 @@ use Rattle.std.proofs.lemmas.List.Elements.{All-head, All-tail}
 use Rattle.sip_ledger.specs.declared.debt.Debt.{Debt}
 use Rattle.sip_ledger.specs.Debts.{IsWithoutFirst, is_payable, paid_by}
 
+-- What follows is of a send of one message at the moment t.
 module _ (message t : ℕ) where
+  -- the send does not pay the debt
   abbrev Unpaid : Debt → Type 0
   Unpaid debt = ¬ (IsTrue (is_payable message t debt))
 
@@ -19,6 +21,7 @@ module _ (message t : ℕ) where
       ap (λ b. cond b (before ++ first ∷ after) (debt ∷ paid_by message t (before ++ first ∷ after))) unpaid
       ∙ ap (λ debts. debt ∷ debts) (paid-behind before first after (All-tail Unpaid debt before none) pays)
 
+  -- debts without the first that the send can pay are what `paid_by` leaves
   pub paid-is : (debts left : List Debt) → IsWithoutFirst (λ debt. IsTrue (is_payable message t debt)) debts left → left ≡ paid_by message t debts
   paid-is debts left a = a.rest ∙ sym (paid-behind a.before a.first a.after a.none_before a.holds) ∙ ap (paid_by message t) (sym a.whole)
 

@@ -165,6 +165,7 @@ gains-more old new debt are entries end small noted rises higher own flags =
       gain,
     )
   where
+    -- what stands under its message at the new place is the new gain
     named : (m k : ℕ) → k ≡ old.end → holds new.messages m k ≡ true → m ≡ debt.message
     named m k there is = elim (cases_eq m debt.message) [
       | inl same ↦ same

@@ -9,6 +9,7 @@ pub on_ok : {T E : Type 0} (r : Result T E) (P : Type 0) → is_err r ≡ false 
 on_ok (Ok x) P is ok = ok
 on_ok (Err e) P is ok = absurd (true≢false is)
 
+-- What follows is of lists of any elements.
 module _ {X : Type 0} where
   -- the list with the elements from one index up to another changed by f
   abbrev pub changing : (X → X) → ℕ → ℕ → List X → List X

@@ -28,7 +28,7 @@ pub range-first : (s : BTreeSet (ℕ × ℕ)) (key number : ℕ) (p : ℕ × ℕ
 unfolding holds
 range-first s key number p rest h = grind (arith, nat_tests, from-not_gt, not_gt-from)
 
--- an empty range from a pair on has no key from there on
+-- where the range from (key, number) on is empty, there is no pair from there on
 pub range-none : (s : BTreeSet (ℕ × ℕ)) (key number : ℕ) → IsKeyRangeOf pair_cmp (Included (key, number)) Unbounded s [] → NoneFrom s.keys key number
 unfolding holds
 range-none s key number h k n after = h.5 refl (k, n) (not_gt-from key number k n after, tt)

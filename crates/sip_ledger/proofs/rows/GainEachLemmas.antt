@@ -30,6 +30,7 @@ pub record HaveGained (debt : Debt) (from k : ℕ) (old : List (List Debt)) (gai
 pub debts-count : (gains : Gains) (strikes : List Strike) (rows : List Account) (n : ℕ) → n ≡ length rows → n ≡ length (accounts_debts gains strikes rows)
 debts-count gains strikes rows n is = is ∙ sym (debts_length gains strikes rows)
 
+-- What follows is of the rows from `from` up to k, which gain a debt one after the other.
 module _ {debt : Debt} {from k : ℕ} {old : List (List Debt)} {gains : Gains} {strikes : List Strike} {rows : List Account} where
   -- HaveGained stays true over more gains
   pub gained-over : (new : Gains) → KeepsAccounts gains new → AreGains new → HaveGained debt from k old gains strikes rows → HaveGained debt from k old new strikes rows

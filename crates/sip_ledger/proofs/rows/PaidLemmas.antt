@@ -55,6 +55,7 @@ pub record ArePaidTo (gains : Gains) (message t from k : ℕ) (old : List (List 
   pub accounts : AreAccounts gains strikes rows
   pub debts : accounts_debts gains strikes rows ≡ old ++ paid_rows message t (from_to from k old)
 
+-- What follows is of the rows from `from` up to k, of which a send of a message at the moment t pays a debt one after the other.
 module _ {gains : Gains} {message t from k : ℕ} {old : List (List Debt)} {strikes : List Strike} {rows : List Account} where
   -- a row of the old ones is one of the accounts
   pub row-there : (row : ℕ) → ArePaidTo gains message t from k old strikes rows → row < length old → row < length rows

@@ -31,6 +31,7 @@ pub on-err : {T E : Type 0} (r : Result T E) (P : Type 0) → is_err r ≡ true 
 on-err (Ok x) P is p = absurd (true≢false (sym is))
 on-err (Err e) P is p = p
 
+-- What follows is of accounts, and the debts as which contracts see them.
 module _ {gains : Gains} {strikes : List Strike} {rows : List Account} {seen : List (List Debt)} where
   -- a row of the list that contracts see is the row of one of the accounts
   pub row-inside : (row : ℕ) → AreAccounts gains strikes rows → accounts_debts gains strikes rows ≡ seen → row < length seen → row < length rows

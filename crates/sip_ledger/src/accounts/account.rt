@@ -25,7 +25,7 @@ pub(crate) struct Account {
     /// Its strikes stand from `first` up to `last` among those of all rows.
     pub first: usize,
     pub last: usize,
-    /// The number of its debts.
+    /// A number made of its debts: accounts that owe the same have the same one, and others hardly ever do.
     pub print: u64,
 }
 
@@ -188,9 +188,9 @@ pub(crate) fn find(
     None
 }
 
-/// The first place whose debt a send of a message at the moment pays that stands under the key. The messages that stand there and are left
-/// are gone through from the least on, until what is found stands before all greater ones. Where that takes more than `most` steps, the
-/// answer is None.
+/// The first place whose debt a send of one of the messages under the key pays at the moment. The index gives the messages under the key
+/// and the gains give those that are still owed. Both are asked in turn, so that each step goes to a greater message. The search ends where
+/// no gain of a greater message is left, or none stands before what was found. Where it takes more than `most` steps, the answer is None.
 pub(crate) fn find_under(
     gains: &Gains,
     strikes: &[Strike],

@@ -20,6 +20,7 @@ pub FindsFirst-same : (P Q : Debt → Type 0) (t : ℕ) (debts : List Debt) (mes
 FindsFirst-same P Q t debts None same none = λ k d low holds. none k d low ((same k d low).1 holds)
 FindsFirst-same P Q t debts (Some message) same first = IsWithoutFirst-alike P Q debts (paid_by message t debts) same first
 
+-- What follows is of one row, and the pairs that the index of Tos has for the kept messages with numbers from `low` up to `high`.
 module _ (texts : Texts) (to : List ℕ) (low high t : ℕ) (rows : List (List Debt)) (row : ℕ) (inside : row < length rows)
     (spans : All (AreBetween low high) rows) (kept : All (Keeps texts) (owes_names (owed_in rows row))) (pairs : List (ℕ × ℕ)) (stand : StandUnder texts low high pairs) where
   -- what the row owes
@@ -30,6 +31,7 @@ module _ (texts : Texts) (to : List ℕ) (low high t : ℕ) (rows : List (List D
   abbrev Under : Debt → Type 0
   Under = PaysSome (holds pairs (hash_of to)) t
 
+  -- the book has each message that the row owes
   known : All (λ d. Keeps texts d.message) debts
   known = All-names (Keeps texts) debts kept
 

@@ -213,6 +213,7 @@ numbers_kept texts tos are n (i, within, at) =
     let its = All-get_or (IsTo texts) tos i nobody low are.each in
     subst (Keeps texts) (sym (get_or-map (λ to. to.number) tos i nobody n low) ∙ at) its.kept
 
+-- What follows is of the kept messages with numbers from `low` up to `high`, where as many Tos with such numbers are in the list.
 module _ (texts : Texts) (tos : List To) (low high : ℕ) (book : IsBook texts) (are : AreTos texts tos) (up : AllPairs (λ a b. a.number < b.number) tos)
     (as_many : count_between low high (map (λ k. k.0) texts) ≡ count_between low high (map (λ to. to.number) tos)) where
   -- each kept message with a number from low up to high has its To in the list

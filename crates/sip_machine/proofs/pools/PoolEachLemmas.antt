@@ -14,6 +14,7 @@ use Rattle.sip_machine.specs.Pools.{picked}
 use Rattle.sip_machine.specs.inner.Pools.{beside}
 use Rattle.sip_machine.proofs.pools.PoolLemmas.{beside-at}
 
+-- What follows is of parts of a list, from one index up to another.
 module _ {X : Type 0} where
   -- the elements from `from` up to the next index are those up to k and the element at k
   from_to-next : (from k : ℕ) (xs : List X) (d : X) → from ≤ k → k < length xs → from_to from (suc k) xs ≡ from_to from k xs ++ get_or xs k d ∷ []
@@ -57,6 +58,7 @@ pub map-same : {X Y : Type 0} (f g : X → Y) (xs : List X) → All (λ x. f x �
 map-same f g [] same = refl
 map-same f g (x ∷ xs) same = ap₂ (λ y ys. y ∷ ys) (All-head (λ x. f x ≡ g x) x xs same) (map-same f g xs (All-tail (λ x. f x ≡ g x) x xs same))
 
+-- What follows is of phases beside the rows of what is owed, as the states of a pool.
 module _ {S : Type 0} where
   -- phases and further ones beside their rows are the states of the phases and then those of the further ones
   beside-append : (phases more : List S) (rows again : List (List Debt)) → length rows ≡ length phases →

@@ -13,6 +13,7 @@ use Rattle.sip_machine.specs.declared.effects.Rest.TheVariants.{Stays, Pays}
 use Rattle.sip_machine.specs.inner.Effects.{rested_debts, rests_at}
 use Rattle.sip_machine.specs.inner.Pools.{beside}
 
+-- What follows is of phases beside the rows of what is owed, as the states of a pool.
 module _ {S : Type 0} where
   -- phases beside rows are as many states as there are phases
   pub beside-length : (phases : List S) (rows : List (List Debt)) → length (beside phases rows) ≡ length phases
@@ -79,6 +80,7 @@ module _ {S : Type 0} where
   pub in-phases : (phases : List S) (rows : List (List Debt)) (xs : List (CodeOwing S)) (k : ℕ) → beside phases rows ≡ xs → k < length xs → k < length phases
   in-phases phases rows xs k is low = subst (λ n. k < n) (ap length (sym is) ∙ beside-length phases rows) low
 
+  -- an index of a state is one of a row
   pub in-rows : (phases : List S) (rows : List (List Debt)) (xs : List (CodeOwing S)) (k : ℕ) → beside phases rows ≡ xs → length rows ≡ length phases → k < length xs → k < length rows
   in-rows phases rows xs k is long low = subst (λ n. k < n) (sym long) (in-phases phases rows xs k is low)
 
@@ -87,6 +89,7 @@ module _ {S : Type 0} where
       get_or xs k x ≡ state_in (get_or phases k p) rows k
   state-at phases rows xs k p x is low = ap (λ ys. get_or ys k x) (sym is) ∙ beside-at phases rows k p x (in-phases phases rows xs k is low)
 
+  -- the phase at k with what row k has is the state at k
   pub state-here : (phases : List S) (rows : List (List Debt)) (xs : List (CodeOwing S)) (k : ℕ) (p : S) (x : CodeOwing S) → beside phases rows ≡ xs → k < length xs →
       p ≡ get_or phases k p → state_in p rows k ≡ get_or xs k x
   state-here phases rows xs k p x is low is_p = ap (λ q. state_in q rows k) is_p ∙ sym (state-at phases rows xs k p x is low)

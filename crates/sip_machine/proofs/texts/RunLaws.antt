@@ -91,9 +91,11 @@ run_size runs r d low =
     ∙ ap length (flat_map-append items (take r runs) (get_or runs r d ∷ []) ∙ ap (λ run. places_of (take r runs) ++ run) (append-nil (items (get_or runs r d))))
     ∙ length-append (places_of (take r runs)) (items (get_or runs r d))
 
+-- any place, for indexes past the end of a list
 abbrev first : Place
 first = record { hash = 0; position = 0 }
 
+-- 0, 1 or 2 where the message at a place is less than the key, the same or greater
 abbrev rank : Texts → ℕ × List ℕ → Place → ℕ
 rank texts key place = ordering_index (compare (key_of texts place) key)
 
@@ -156,7 +158,9 @@ place_at : (runs : List PlaceRun) (r j : ℕ) (d : PlaceRun) (e : Place) → r <
     get_or (places_of runs) (length (places_of (take r runs)) + j) e ≡ get_or (items (get_or runs r d)) j e
 place_at runs r j d e low within = get_or-flat_map items runs r j d e low within
 
+-- What follows is of a book whose places stand in runs, and the hash and bytes that are searched in it.
 module _ (texts : Texts) (runs : List PlaceRun) (key : ℕ × List ℕ) (held : IsInRuns texts runs) where
+  -- each run tells its first place
   led_at : (r : ℕ) (d : PlaceRun) → r < length runs → IsLed (get_or runs r d)
   led_at r d low = All-get_or IsLed runs r d low held.led
 

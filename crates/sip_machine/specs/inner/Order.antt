@@ -35,6 +35,7 @@ bytes_at texts position = (slice_index_or texts position (0, [])).1
 abbrev pub key_of : Texts → Place → ℕ × List ℕ
 key_of texts place = (place.hash, bytes_at texts place.position)
 
+-- keys by their hashes, and those with one hash by their bytes
 abbrev pub compare : ℕ × List ℕ → ℕ × List ℕ → Ordering
 compare a b = ordering_then (nat_cmp a.0 b.0) (slice_cmp nat_cmp a.1 b.1)
 

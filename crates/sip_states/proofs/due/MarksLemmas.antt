@@ -183,6 +183,7 @@ marked_more order places count is index p low at high =
       ],
     ))
   where
+    -- another number than `count` is below count + 1 exactly if it is below count
     next_test : (x count : ℕ) → x ≢ count → nat_lt x (count + 1) ≡ nat_lt x count
     next_test x count differ = grind (arith, nat_tests)
 
@@ -218,6 +219,7 @@ marked_less order places count is index p low at under =
       ],
     ))
   where
+    -- another number than count - 1 is below it exactly if it is below count
     last_test : (x count : ℕ) → 0 < count → x ≢ count - 1 → nat_lt x (count - 1) ≡ nat_lt x count
     last_test x count some differ = grind (arith, nat_tests)
 
@@ -302,6 +304,7 @@ popped_marks order places count is last p whole at high =
           mark_at places count k d within ∙ alike k under ∙ sym here
     ])
   where
+    -- each of the other indices has its mark as before
     alike : (k : ℕ) → k < last → nat_lt (get_or places k 0) count ≡ nat_lt (get_or (exchanged_places order places p last) k 0) count
     alike k under =
         let there = is.placed last (omega arith) in

@@ -43,6 +43,7 @@ open-owed : (h : ℕ) (owed : Bool) (window : Option (ℕ × Option ℕ)) → Is
 open-owed h true window opening = absurd opening
 open-owed h false window opening = (refl, opening)
 
+-- What follows is of one machine, as the standard tells it (its figure f with the times p) and by the rules that sets follow.
 module _ {X : Type 0} (f : Figure X) (is : IsFigure f) (p : Times) where
   -- a state lasts until h in the words of the standard exactly where it waits until h by the rules
   pub lasts-waits : (x : Owing X) (h : ℕ) → Lasts f p x h ↔ Waits (rules_of f p) x h

@@ -301,6 +301,7 @@ same-parts p secure cut host secure_is same host_is =
     ∙ ap (λ (u : List ℕ). read_parts secure (record (cut_of p) { user = cut.user; password = cut.password; port = cut.port; params = u }) host) (sym same.params)
     ∙ ap (λ (u : Option (List ℕ)). read_parts secure (record cut { headers = u }) host) (sym same.headers)
   where
+    -- where the text of a SIP URI is cut into its parts
     cut_of : SipParts → CutParts
     cut_of q = record { user = q.user; password = q.password; host = cut.host; port = q.port; params = q.params; headers = q.headers }
 

@@ -13,6 +13,7 @@ returns-then-found-room-clause-handed c =
     let l = c.loop-place in
     handed_all plain_finding c.args.found.now c.args.room.now c.min-count.result c.min-count.ensures l.place l.room l.auto.place-end c.loop-place-test.false l.invariant
 
+-- where the room is full or all findings are handed out, the first ones that fit were handed out
 pub returns-else-found-room-clause-handed : goal.returns-else-found-room-clause-handed
 returns-else-found-room-clause-handed c =
     let l = c.loop-place in

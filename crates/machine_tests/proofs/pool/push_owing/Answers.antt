@@ -10,6 +10,7 @@ take-requires-clause-known g c =
     rw (c.in_ok-push.ensures.ok, c.first.ensures)
     (All-push (Knows g.M.Machine.names c.args.book.now) c.args.pool.now first c.requires.known (rw fits.0 (All-nil (Keeps c.args.book.now))))
 
+-- the first state of a machine is in range
 pub take-requires-clause-in_range : goal.take-requires-clause-in_range
 take-requires-clause-in_range g c =
     let first = g.M.Machine.first c.args.machine.now in

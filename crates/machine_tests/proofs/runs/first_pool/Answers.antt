@@ -12,6 +12,7 @@ returns-clause-known g c = λ texts.
     rw (c.in_ok-push.ensures.ok, c.new-pool.ensures)
     (All-push (Knows g.M.Machine.names texts) [] first (All-nil (Knows g.M.Machine.names texts)) (rw (c.first.ensures, fits.0) (All-nil (Keeps texts))))
 
+-- the first state of a machine is in range
 pub returns-clause-in_range : goal.returns-clause-in_range
 returns-clause-in_range g c =
     let first = at_rest c.first.result in

@@ -5,6 +5,7 @@ use Rattle.machine_tests.proofs.tests.are_numbered.Goals as goal
 pub loop-place-init : goal.loop-place-init
 loop-place-init c n keeps = let low = c.requires.above n keeps in omega (arith, low)
 
+-- each number of the book is one that was given so far
 pub loop-place-preserved : goal.loop-place-preserved
 loop-place-preserved c n keeps = elim c.in_ok-right.ensures.grows [
   | inl same ↦ let low = c.loop-place.invariant n (rw same.0 at keeps) in omega (arith, low)

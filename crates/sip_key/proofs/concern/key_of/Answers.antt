@@ -13,6 +13,7 @@ key_with-requires c =
     let P : Element → Type 0 = λ e. IfSome e.1.port Port in
     subst P (sym c.top_via-via.ensures) (top-port _ _ c.known.ensures.1.parts.is)
 
+-- the role, the branch, the sent-by and the method are those of the message, so the key is that of its own transaction
 pub returns : goal.returns
 returns c =
     let d = c.args.direction in

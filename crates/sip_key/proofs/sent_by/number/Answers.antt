@@ -12,6 +12,7 @@ pub overflow_sub-digit : goal.overflow_sub-digit
 overflow_sub-digit c =
     (reads-more c.args.digits.now c.loop-digit.digit-index c.loop-digit.number c.requires c.loop-digit-test.true c.loop-digit.invariant).low
 
+-- a port of at most five digits is a number of 16 bits
 pub overflow_add-number : goal.overflow_add-number
 overflow_add-number c =
     let more = reads-more c.args.digits.now c.loop-digit.digit-index c.loop-digit.number c.requires c.loop-digit-test.true c.loop-digit.invariant in

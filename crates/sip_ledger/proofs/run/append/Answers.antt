@@ -3,6 +3,7 @@ use Rattle.sip_ledger.specs.inner.Ends.{EndsWith}
 use Rattle.sip_ledger.proofs.debts.RunLemmas.{widened-run}
 use Rattle.sip_ledger.proofs.run.append.Goals as goal
 
+-- where the last run is of such debts, it becomes longer by this one
 pub returns-then-ends_with : goal.returns-then-ends_with
 returns-then-ends_with c debts are =
     let old = c.args.runs.now.items in

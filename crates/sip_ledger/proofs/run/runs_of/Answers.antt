@@ -4,6 +4,7 @@ use Rattle.sip_ledger.specs.Runs.{AreRuns}
 use Rattle.sip_ledger.specs.declared.debt.Debt.{Debt}
 use Rattle.sip_ledger.proofs.run.runs_of.Goals as goal
 
+-- any debt, for places past the end of a list
 abbrev no_debt : Debt
 no_debt = record { message = 0; deadline = 0; must = false }
 

@@ -17,6 +17,7 @@ returns-then-held-len-ne10-clause-says g c =
     Says-fault hold.reads (MessageComes c.args.action c.args.moment len) faults.EntryLine
     (λ ys left. AtMessage-open c.args.action c.args.moment len held ys inside (λ same. c.if-held-len-ne10.true (byte ∙ same)))
 
+-- where a line feed stands after the bytes of the message, the entry with these bytes comes
 pub returns-clause-says : goal.returns-clause-says
 returns-clause-says g c =
     let hold = c.in_ok-hold.ensures in

@@ -14,6 +14,7 @@ returns-then-not-is_empty c = λ n is.
     let none : [] ≡ c.in_ok-value.rest.now = (NumberAfter-one c.args.word.now c.args.text.now n value.0 [] c.in_ok-value.rest.now is value.1).1 in
     eqb-false _ 0 (sym c.if-not-is_empty.ensures) (ap length (sym none))
 
+-- where nothing follows the number, the text ends with it
 pub returns : goal.returns
 returns c =
     let value = c.in_ok-value.ensures in

@@ -14,6 +14,7 @@ returns-in_default g c =
     Says-fault hold.reads HeaderComes faults.Header
     (λ ys left. ComesFirst-other held ys (hold.some c.if-not-branch.false) (rw c.as_slice.ensures.value at c.in_default.ensures))
 
+-- where the first line is that of a format, what comes is what comes after it
 pub returns : goal.returns
 returns g c =
     let hold = c.in_ok-hold.ensures in

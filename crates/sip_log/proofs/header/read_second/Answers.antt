@@ -16,6 +16,7 @@ returns-in_default g c =
     (λ ys left. ComesSecond-none c.args.format held ys (rw c.in_default.is at line.first)
     (elim (line.none c.in_default.is) [ inl many ↦ inl many | inr end ↦ inr (none_left _ ys left end) ]))
 
+-- where the line tells no times, the fault is that of the header
 pub returns-in_default-read_times : goal.returns-in_default-read_times
 returns-in_default-read_times g c =
     let line = c.in_ok-len.ensures in
@@ -24,6 +25,7 @@ returns-in_default-read_times g c =
     (λ ys left. ComesSecond-other c.args.format held ys c.in-Some.len (rw c.in-Some.is at line.first)
     (rw c.as_slice.ensures.value at c.in_default-read_times.ensures))
 
+-- where the second line tells times, what comes is what comes after it
 pub returns : goal.returns
 returns g c =
     let line = c.in_ok-len.ensures in

@@ -13,6 +13,7 @@ returns-in_err-t2 c =
     let t1 = c.in_ok-t1.ensures in
     rw c.from_residual-in_err-t2.ensures (λ p is within. c.in_err-t2.ensures _ _ (t2-after c.args.format c.args.line.now p is t1.0 _ t1.1))
 
+-- where no number follows ` t4 `, the line tells no times
 pub returns-in_err-t4 : goal.returns-in_err-t4
 returns-in_err-t4 c =
     let t1 = c.in_ok-t1.ensures in
@@ -20,6 +21,7 @@ returns-in_err-t4 c =
     rw c.from_residual-in_err-t4.ensures
     (λ p is within. c.in_err-t4.ensures _ _ (t4-after c.args.format c.args.line.now p is t1.0 _ t1.1 t2.0 _ t2.1))
 
+-- where no tolerances follow, the line tells no times
 pub returns-in_err-early : goal.returns-in_err-early
 returns-in_err-early c =
     let t1 = c.in_ok-t1.ensures in
@@ -29,6 +31,7 @@ returns-in_err-early c =
     (λ p is within.
     c.in_err-early.ensures _ _ (tolerances-after c.args.format c.args.line.now p is t1.0 _ t1.1 t2.0 _ t2.1 t4.0 _ t4.1))
 
+-- where t1, t2, t4 and the tolerances were read, the line tells the times that have these
 pub returns : goal.returns
 returns c =
     let format = c.args.format in

@@ -12,6 +12,7 @@ returns-in_err-tolerance-in-One c =
     let at = subst (λ f. Tolerances f text early late) c.in-One.is is in
     c.in_err-tolerance-in-One.ensures late at.0)
 
+-- where no number follows ` early `, the line tells no two tolerances
 pub returns-in_err-early-in-Two : goal.returns-in_err-early-in-Two
 returns-in_err-early-in-Two c =
     let text = c.args.text.now in
@@ -20,6 +21,7 @@ returns-in_err-early-in-Two c =
     let at = subst (λ f. Tolerances f text early late) c.in-Two.is is in
     c.in_err-early-in-Two.ensures early at.0 at.1)
 
+-- where no number follows ` late `, the line tells no two tolerances
 pub returns-in_err-late-in-Two : goal.returns-in_err-late-in-Two
 returns-in_err-late-in-Two c =
     let text = c.args.text.now in

@@ -14,6 +14,7 @@ returns-then-len-text c = λ n is.
     let digit = digit_at c.args.text.now c.digits-value.result.1 is.digits.1 (omega arith) in
     omega (arith, digit, c.digits-value.ensures.end (omega arith))
 
+-- where all bytes are digits and the number is plain, the text is that number
 pub returns : goal.returns
 returns c =
     let text = c.args.text.now in

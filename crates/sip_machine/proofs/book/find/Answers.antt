@@ -15,6 +15,7 @@ returns-in-Ok-clause-found c =
     let here = found_in_run (texts_of c.args.kept.now) c.args.runs.now (c.args.hash, c.args.bytes.now) c.requires r c.in-Ok.at c.index-runs-run.result c.index.result.now low within equal in
     rw (← c.index.ensures, length-map) at here
 
+-- where the book lacks the message, its gap lies after all lesser messages and before all greater ones
 pub returns-in-Err-clause-gap : goal.returns-in-Err-clause-gap
 returns-in-Err-clause-gap c =
     let texts = texts_of c.args.kept.now in

@@ -12,6 +12,7 @@ returns-then-not-has_code_100 c = (
       absurd (true≢false (sym (c.has_code_100.ensures.1 code) ∙ c.if-not-has_code_100.true)),
 )
 
+-- a message is a 100 exactly if its start line has that code
 pub returns-in-Some : goal.returns-in-Some
 returns-in-Some c =
     let tells = rw c.start.ensures at c.is_status_100.ensures in

@@ -7,6 +7,7 @@ use Rattle.sip_machine.specs.inner.Tos.{AreUnder, IsUnder}
 use Rattle.sip_machine.proofs.acks.ToLemmas.{on_ok, put-here, put-keeps}
 use Rattle.sip_machine.proofs.tos.hashes_of.Goals as goal
 
+-- after one To more, each To up to it stands under its hash
 pub loop-at-preserved : goal.loop-at-preserved
 loop-at-preserved c =
     let to = c.index-list-at.result in
@@ -18,6 +19,7 @@ loop-at-preserved c =
     let here : P to = put-here (hash_of to.text) to.number c.loop-at.hashes c.note.new.hashes noted in
     All-more P c.args.list.now c.loop-at.at to (omega arith) before (subst P c.index-list-at.is here)
 
+-- at the end of the loop each To stands under its hash
 pub returns : goal.returns
 returns c =
     let all : take c.loop-at.at c.args.list.now ≡ c.args.list.now = take_all c.loop-at.at c.args.list.now (omega arith) in

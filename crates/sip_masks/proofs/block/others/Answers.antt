@@ -18,6 +18,7 @@ swizzle-high c = high_ok c.args.v c.fits-v
 abbrev is_neither : ℕ → Bool
 is_neither byte = is_other byte && not (is_control byte)
 
+-- each bit says whether its byte is neither kind of plain byte, or a control
 pub returns : goal.returns
 returns c i h =
     let v = c.args.v in

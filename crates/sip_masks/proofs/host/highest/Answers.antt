@@ -12,6 +12,7 @@ returns-clause-set c =
     let is : top.0 ≡ 63 - leading_zeros w64 word = omega (arith, top.1) in
     subst (λ j. test word j ≡ true) is (highest-set word top.0 top.2 top.3)
 
+-- no bit above the highest one is set
 pub returns-clause-above : goal.returns-clause-above
 returns-clause-above c j after =
     let word = c.args.word in

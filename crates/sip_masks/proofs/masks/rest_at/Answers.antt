@@ -11,6 +11,7 @@ returns-clause-bits c j h =
     let bit : p % 64 + j ≡ (p + j) % 64 = omega (arith, h) in
     test-shr (get_or words (p / 64) 0) (p % 64) j ∙ ap₂ (λ w i. test (get_or words w 0) i) word bit
 
+-- past the end of the word no bit is set
 pub returns-clause-none : goal.returns-clause-none
 returns-clause-none c j h =
     let x = get_or c.args.words.now (c.args.p / 64) 0 in

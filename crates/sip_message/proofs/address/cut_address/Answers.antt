@@ -15,6 +15,7 @@ returns-in_err-display c =
     subst (IsOnlyValue AddressCut cut_parts c.args.text.now) (sym c.from_residual.ensures)
     (cut-no_display c.args.text.now (λ has. both_ways c.has_scheme.result c.if-has_scheme.false (c.has_scheme.ensures.1 has)) c.in_err-display.ensures)
 
+-- without a ">" after the URI the text is no address
 pub returns-in_err-rest : goal.returns-in_err-rest
 returns-in_err-rest c =
     subst (IsOnlyValue AddressCut cut_parts c.args.text.now) (sym c.from_residual-in_err-rest.ensures)

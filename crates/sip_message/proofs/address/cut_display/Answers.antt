@@ -14,6 +14,7 @@ returns-in_err-inner c =
     subst (IsOnlyValue DisplayFront display_parts c.args.text.now) (sym c.from_residual-in_err-inner.ensures)
     (display-no_angle c.args.text.now c.in_ok-name.name.now c.in_ok-name.rest.now c.skip_blanks.result.now (sym c.in_default.ensures) c.in_ok-name.ensures c.skip_blanks.ensures (sym c.in_err-inner.ensures))
 
+-- a name, blanks and "<" were cut off
 pub returns : goal.returns
 returns c =
     display-some c.args.text.now c.in_ok-name.name.now c.in_ok-name.rest.now c.skip_blanks.result.now c.in_ok-inner.inner.now c.in_ok-name.ensures c.skip_blanks.ensures (sym c.in_ok-inner.ensures)

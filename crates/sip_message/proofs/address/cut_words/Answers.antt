@@ -10,6 +10,7 @@ returns-then-at-eq0 c = no-words c.args.text.now c.token_len-at.result c.token_l
 pub words-init : goal.words-init
 words-init c = words-first c.args.text.now c.token_len-at.result c.token_len-at.ensures.within c.token_len-at.ensures.reads c.if-at-eq0.false
 
+-- where no blank or no word follows, the words end here
 pub returns-then-blanks-eq0 : goal.returns-then-blanks-eq0
 returns-then-blanks-eq0 c =
     let text = c.args.text.now in
@@ -20,6 +21,7 @@ returns-then-blanks-eq0 c =
       | then-blanks-eq0-via-else-blanks-eq0+then-word-eq0 w ↦ inr w.if-word-eq0.true
     ])
 
+-- after one word more, the words up to here stand at the front
 pub words-preserved : goal.words-preserved
 words-preserved c =
     let text = c.args.text.now in

@@ -16,6 +16,7 @@ returns-in_err-uri c =
     subst (IsOnlyValue AddressValue address_parts c.args.text.now) (sym c.from_residual-in_err-uri.ensures)
     (no-address c.args.text.now (go-stop c.in_ok-cuts.ensures (stop c.in_err-uri.ensures)))
 
+-- where what follows the URI is no parameters, the text is no address
 pub returns-in_err-params : goal.returns-in_err-params
 returns-in_err-params c =
     subst (IsOnlyValue AddressValue address_parts c.args.text.now) (sym c.from_residual-in_err-params.ensures)

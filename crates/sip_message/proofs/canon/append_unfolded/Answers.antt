@@ -13,6 +13,7 @@ pub bytes-preserved-then-is_blank : goal.bytes-preserved-then-is_blank
 bytes-preserved-then-is_blank c =
     unfold-blank c.args.out.now.items c.args.text.now c.bytes.out.items c.bytes.from c.bytes.at c.bytes-test.true (sym c.is_blank.ensures ∙ c.if-is_blank.true) c.bytes.invariant
 
+-- where memory is refused, a part of the text was appended
 pub returns-in_err-append : goal.returns-in_err-append
 returns-in_err-append c =
     unfold-part c.args.out.now.items c.args.text.now c.bytes.out.items c.append-in-bytes.new.out.items (unfolded c.args.text.now) c.bytes.from c.bytes.at c.from_residual-in_err-append.result c.from_residual-in_err-append.ensures.0 c.bytes.invariant

@@ -10,6 +10,7 @@ returns-then-not-is_paired c = (
       (c.is_paired.ensures.1 (clean-each c.args.head.now clean c.loop-at.at c.loop-at-test.true)))),
 )
 
+-- a head is clean exactly if it does not begin with a line feed, and each CR has its LF and each LF its CR
 pub returns : goal.returns
 returns c =
     let head = c.args.head.now in

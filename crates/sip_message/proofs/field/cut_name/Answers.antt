@@ -16,6 +16,7 @@ returns-in_err-rest c =
     subst (IsOnlyValue HasName named_parts c.args.line.now) (sym c.from_residual-in_err-rest.ensures)
     (named-no_colon c.args.line.now c.in_ok-name.name.now c.in_ok-name.rest.now c.in_ok-name.ensures (ap (past colon) (sym c.past_wsp.ensures) ∙ sym c.in_err-rest.ensures))
 
+-- a name before blanks and a colon is the name of the field
 pub returns : goal.returns
 returns c =
     subst (λ n. ReadAs (HasName c.args.line.now) (n, c.in_ok-rest.rest.now)) (sym c.read_name.ensures)

@@ -84,9 +84,11 @@ some-host t (v6 x) is none = some-left (Byte 91) _ (λ u byte empty. absurd (ome
 abbrev HostSet : List ℕ → Type 0
 HostSet text = (h : HostParts) × HostText (host_text h) h × (text ≡ host_text h)
 
+-- the text is a colon and a port, or empty
 abbrev PortSet : List ℕ → Type 0
 PortSet text = (port : Option (List ℕ)) × IfSome port Port × ColonPort port text
 
+-- what follows the transport of a Via: blanks, a host, an optional port and parameters
 abbrev AfterTransport : List ℕ → Type 0
 AfterTransport = Blanks then (HostSet then (PortSet then ParamsSet BranchOk))
 
@@ -94,9 +96,11 @@ AfterTransport = Blanks then (HostSet then (PortSet then ParamsSet BranchOk))
 abbrev ViaSet : (List ℕ → Type 0) → List ℕ → Type 0
 ViaSet Transport = Token then (Mark slash then (Token then (Mark slash then (Transport then AfterTransport))))
 
+-- a host has no blank
 solid-host_set : Each is_solid HostSet
 solid-host_set u is = subst (All is_solid) (sym is.2) (solid-host (host_text is.0) is.0 is.1)
 
+-- a host is not empty
 some-host_set : (u : List ℕ) → HostSet u → u ≡ [] → ⊥
 some-host_set u is none = some-host (host_text is.0) is.0 is.1 (sym is.2 ∙ none)
 

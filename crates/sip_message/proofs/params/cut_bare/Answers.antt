@@ -4,6 +4,7 @@ use Rattle.std.proofs.lemmas.Bool.{both_ways}
 use Rattle.sip_message.proofs.lemmas.params.Value.{bare-token_front}
 use Rattle.sip_message.proofs.params.cut_bare.Goals as goal
 
+-- where there is nothing, its copy is nothing
 copied-none : (o : Option (Bor (List ℕ))) → is_some o ≡ false → option_copied o ≡ None
 copied-none None is = refl
 copied-none (Some v) is = absurd (both_ways (is_some (Some v)) is refl)

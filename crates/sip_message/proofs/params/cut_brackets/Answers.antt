@@ -14,6 +14,7 @@ pub slice_bounds-result-count : goal.slice_bounds-result-count
 slice_bounds-result-count c =
     closed-short c.args.text.now c.in_ok-past.field-0.now c.in_ok-rest.rest.now (sym c.in_ok-past.ensures) (sym c.cut.ensures.rest ∙ ap option_copied c.in_ok-rest.was)
 
+-- what stands from "[" to the first "]" was cut off
 pub returns : goal.returns
 returns c =
     one-closed c.args.text.now c.in_ok-past.field-0.now c.in_ok-rest.rest.now (sym c.in_ok-past.ensures) (sym c.cut.ensures.rest ∙ ap option_copied c.in_ok-rest.was)

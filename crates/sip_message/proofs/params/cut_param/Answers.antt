@@ -14,5 +14,6 @@ returns-in_err-value c =
     subst (IsOnlyValue ParamFront param_parts c.args.text.now) (sym c.from_residual-in_err-value.ensures)
     (go-stop c.in_ok-past_mark.ensures (go-stop c.in_ok-name.ensures (stop c.in_err-value.ensures)))
 
+-- a ";", a name and an optional value are a parameter
 pub returns : goal.returns
 returns c = go c.in_ok-past_mark.ensures (go c.in_ok-name.ensures (go c.in_ok-value.ensures (last _)))

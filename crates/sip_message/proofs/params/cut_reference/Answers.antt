@@ -17,6 +17,7 @@ returns-in_err-read_host c =
     subst (IsOnlyValue ReferenceFront pair_parts c.args.text.now) (sym c.from_residual-in_err-read_host.ensures)
     (no-host_reference c.args.text.now c.in_ok-part.part.now c.in_ok-part.rest.now c.in_ok-part.ensures c.in_err-read_host.ensures)
 
+-- an IPv6 address in brackets was cut off
 pub returns : goal.returns
 returns c =
     one-host_reference c.args.text.now c.in_ok-part.part.now c.in_ok-part.rest.now (host_parts c.in_ok-read_host.field-0) c.in_ok-part.ensures c.in_ok-read_host.ensures.0

@@ -13,6 +13,7 @@ returns-then-word-end c = λ _.
     let run = subst (LiesWithin PlainRun m c.args.at c.args.end) c.if-word-end.true c.in-Some.ensures in
     call_id-one (segment c.args.at c.args.end m) run.2
 
+-- two plain words with `@` between them are a Call-ID
 pub returns-in-Some-past_any_run : goal.returns-in-Some-past_any_run
 returns-in-Some-past_any_run c = λ so.
     let m = c.args.masks.now in

@@ -17,6 +17,7 @@ returns-then-is_behind_cr c =
     let behind = c.if-is_behind_cr.ensures.0 refl in
     first-double text _ c.feeds.from c.in_ok-at.field-0 c.feeds.invariant.0 (take_rest text c.feeds.from) c.feeds.invariant.1 c.in_ok-at.ensures.0 c.in_ok-at.ensures.1 behind.0 behind.1
 
+-- the line feed that was found ends no empty line, so the search goes on after it
 pub feeds-preserved : goal.feeds-preserved
 feeds-preserved c =
     let text = c.args.bytes.now in

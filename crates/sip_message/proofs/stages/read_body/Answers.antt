@@ -20,6 +20,7 @@ returns-in-Some c =
     subst (λ len. BodyOf (start_parts c.args.start) ((names_parts c.args.named).1) ((names_parts c.args.named).0.1) len c.args.rest.now (outcome_of text_parts c.body_by_length.result))
     (sym (length-some (slice_fields c.args.fields) _ _ c.in-Some.ensures.found)) c.body_by_length.ensures
 
+-- without a Content-Length the body is what the transport leaves
 pub returns-in-None : goal.returns-in-None
 returns-in-None c =
     subst (λ len. BodyOf (start_parts c.args.start) ((names_parts c.args.named).1) ((names_parts c.args.named).0.1) len c.args.rest.now (outcome_of text_parts c.body_by_length-in-None.result))

@@ -17,6 +17,7 @@ returns-in_err-code c =
     subst (IsOnlyValue StatusLine status_parts c.args.line.now) (sym c.from_residual.ensures)
     (status-no_code c.args.line.now (subst (λ t. NotRead (CodeFront t)) c.split_at.ensures.back c.in_err-code.ensures))
 
+-- where a byte may not stand in a reason, the line is no status line
 pub returns-then-not-are_reason_bytes : goal.returns-then-not-are_reason_bytes
 returns-then-not-are_reason_bytes c =
     status-no_reason c.args.line.now c.in_ok-code.code c.in_ok-code.reason.now (subst (λ t. ReadAs (CodeFront t) (c.in_ok-code.code, c.in_ok-code.reason.now)) c.split_at.ensures.back c.in_ok-code.ensures)

@@ -9,6 +9,7 @@ returns-then-is_word c =
     c.cut.ensures.front (ap option_copied (sym c.in-Some.is) ∙ c.cut.ensures.rest)
     (both-when c.is_word.result c.is_word-then-is_word.result c.if-is_word.true c.is_word.ensures c.is_word-then-is_word.ensures)
 
+-- where what stands before "@" is no word, the text is no Call-ID
 pub returns-else-is_word : goal.returns-else-is_word
 returns-else-is_word c =
     decides-call_id c.args.text.now c.cut.result.0.now (Some c.in-Some.other.now) c.is_word.result

@@ -11,6 +11,7 @@ returns-in_default-read_via c = (
   λ are. absurd (vias-none c.in-Some.next.now c.in_default-read_via.ensures ((more-behind c.elements.rest.now c.in-Some.next.now c.in-Some.ensures).0 (c.elements.invariant.1 are))),
 )
 
+-- after one element more, the text is elements exactly if what is left is
 pub elements-preserved : goal.elements-preserved
 elements-preserved c =
     let behind = more-behind c.elements.rest.now c.in-Some.next.now c.in-Some.ensures in

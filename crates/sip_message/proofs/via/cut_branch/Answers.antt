@@ -13,6 +13,7 @@ params-preserved c =
     (decides-more c.args.text.now c.params.rest.now c.in-Some.more.now p (option_copied c.params.branch) (option_copied c.in_ok-branch_of.field-0)
     c.in-Some.ensures c.in_ok-branch_of.ensures c.params.invariant)
 
+-- where a parameter named `branch` has no token as its value, the text has no branch
 pub returns-in_err-branch_of : goal.returns-in_err-branch_of
 returns-in_err-branch_of c =
     subst (IsOnlyValue BranchFront led_parts c.args.text.now) (sym c.from_residual.ensures)

@@ -15,6 +15,7 @@ returns-in_err-host c =
     subst (IsOnlyValue HostFront host_front_parts c.args.text.now) (sym c.from_residual-in_err-host.ensures)
     (go-stop c.in_ok-part.ensures (λ x is. c.in_err-host.ensures (x.0) is.0))
 
+-- a host and blanks after it were cut off
 pub returns : goal.returns
 returns c =
     go c.in_ok-part.ensures (host-last c.in_ok-part.part.now c.in_ok-part.rest.now (host_parts c.in_ok-host.host) c.in_ok-host.ensures.0)

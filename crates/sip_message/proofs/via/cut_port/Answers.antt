@@ -14,6 +14,7 @@ pub returns-then-is_port : goal.returns-then-is_port
 returns-then-is_port c =
     port-found c.args.text.now c.in_ok-port.port.now c.in_ok-port.rest.now c.in_ok-port.ensures (c.is_port.ensures.0 c.if-is_port.true)
 
+-- where what follows the colon is no port, the text has no port there
 pub returns-else-is_port : goal.returns-else-is_port
 returns-else-is_port c =
     port-missing c.args.text.now c.in_ok-port.port.now c.in_ok-port.rest.now c.in_ok-port.ensures

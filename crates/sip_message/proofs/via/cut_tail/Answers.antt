@@ -15,6 +15,7 @@ slice_bounds-skip_blanks-count c =
     let whole = branch-whole c.args.text.now (option_copied c.in_ok-branch.branch) c.in_ok-branch.rest.now c.in_ok-branch.ensures.0 in
     rest-short c.args.text.now whole.0 c.in_ok-branch.rest.now whole.1
 
+-- blanks and parameters were cut off, with the branch that counts in them
 pub returns : goal.returns
 returns c =
     tail-found c.args.text.now c.skip_blanks.result.now (option_copied c.in_ok-branch.branch) c.in_ok-branch.rest.now c.in_ok-branch.ensures c.skip_blanks.ensures

@@ -10,6 +10,7 @@ pub returns-in_err-first : goal.returns-in_err-first
 returns-in_err-first c =
     subst (IsOnlyValue FirstVia element c.args.text.now) (sym c.from_residual.ensures) (λ e is. c.in_err-first.ensures (e, is.1.0) is.1.1)
 
+-- where further elements follow, the first one is the top Via
 pub returns-then-are_more_vias : goal.returns-then-are_more_vias
 returns-then-are_more_vias c =
     let text = c.args.text.now in

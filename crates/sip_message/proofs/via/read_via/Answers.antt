@@ -20,6 +20,7 @@ returns-in_err-host c =
     subst (IsOnlyValue ViaFront front_parts c.args.text.now) (sym c.from_residual-in_err-host.ensures)
     (via-missing c.args.text.now (go-stop c.in_ok-protocol.ensures (stop c.in_err-host.ensures)))
 
+-- where no port can be read after the host, the text is no element of Via
 pub returns-in_err-port : goal.returns-in_err-port
 returns-in_err-port c =
     subst (IsOnlyValue ViaFront front_parts c.args.text.now) (sym c.from_residual-in_err-port.ensures)
@@ -30,6 +31,7 @@ returns-in_err-params c =
     subst (IsOnlyValue ViaFront front_parts c.args.text.now) (sym c.from_residual-in_err-params.ensures)
     (via-missing c.args.text.now (go-stop c.in_ok-protocol.ensures (go-stop c.in_ok-host.ensures (go-stop c.in_ok-port.ensures (stop c.in_err-params.ensures)))))
 
+-- where neither the end nor a comma follows, the text is no element of Via
 pub returns-then-not-ends_element : goal.returns-then-not-ends_element
 returns-then-not-ends_element c =
     via-missing c.args.text.now (go-stop c.in_ok-protocol.ensures (go-stop c.in_ok-host.ensures (go-stop c.in_ok-port.ensures (go-stop c.in_ok-params.ensures

@@ -12,6 +12,7 @@ returns-in-len2 c = (
   tt,
 )
 
+-- two words, `check` or `show` and a file, ask for that of the file
 pub returns-in-len2-2 : goal.returns-in-len2-2
 returns-in-len2-2 c = (
   two-words string_bytes c.args.words.now c.word-item-then-words-lt3.result c.file-item-then-words-lt3.result _ _
@@ -20,6 +21,7 @@ returns-in-len2-2 c = (
   tt,
 )
 
+-- three words, `states`, a file and a number, ask for the listing at that entry
 pub returns-in_ok-entry-in-len3 : goal.returns-in_ok-entry-in-len3
 returns-in_ok-entry-in-len3 c = (
   three-words string_bytes c.args.words.now c.word-item-then-words-lt4.result c.file-item-then-words-lt4.result c.entry-item.result _ _ _
@@ -29,6 +31,7 @@ returns-in_ok-entry-in-len3 c = (
   c.in_ok-entry-in-len3.ensures.0,
 )
 
+-- words of no form that is told ask for nothing
 pub returns-in_default : goal.returns-in_default
 returns-in_default c = λ asked meant same.
     elim c.in_default.branch [

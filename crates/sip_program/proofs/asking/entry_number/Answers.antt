@@ -10,6 +10,7 @@ returns-in_default c = λ entry is same.
     let never : Err c.in_default.field-0 ≡ Ok entry = sym c.in_default.is ∙ read in
     cc
 
+-- a number out of its limits, or with another spelling than the plain one, is no number of an entry
 pub returns-then-number-lt-LEAST : goal.returns-then-number-lt-LEAST
 returns-then-number-lt-LEAST c = λ entry is same.
     let read = parse-decimal 64 entry c.args.word.now c.parse.result (omega (arith, is.1)) (omega (arith, is.1)) same c.parse.ensures.value.0 in

@@ -14,6 +14,7 @@ loop-at-preserved g c =
     All-more (λ x. x ≢ at_rest c.args.phase) c.args.pool.now c.loop-at.at (at_rest c.args.phase) (omega arith) c.loop-at.invariant
     (λ same. true≢false (sym ((c.is_at_rest.ensures (at_rest c.args.phase)).1 same) ∙ c.if-is_at_rest.false))
 
+-- at the end of the loop no state was found that rests in the phase
 pub returns : goal.returns
 returns g c =
     let all = rw (take_all c.loop-at.at c.args.pool.now (omega arith)) at c.loop-at.invariant in

@@ -27,6 +27,7 @@ copy-requires-clause-to g c =
 pub overflow_add-kept : goal.overflow_add-kept
 overflow_add-kept g c = let behind = c.loop-at.invariant.filters.behind in omega (arith, behind)
 
+-- of the states up to here, those that can wait until the moment stand at the front, in their order
 pub loop-at-preserved : goal.loop-at-preserved
 loop-at-preserved g c =
     let m = c.args.machine.now in
@@ -50,5 +51,6 @@ loop-at-preserved g c =
       | else-is_within w ↦ rw (w.pool-is, w.kept-is) (record { filters = FiltersInPlace-more_no filters low (test ∙ w.if-is_within.false) is; in_range = in_range })
     ]
 
+-- at the end of the loop the states are those that can wait until the moment
 pub returns : goal.returns
 returns g c = c.truncate.ensures ∙ FiltersInPlace-all c.loop-at.invariant.filters (omega arith)

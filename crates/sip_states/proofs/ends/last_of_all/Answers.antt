@@ -15,6 +15,7 @@ returns-in_err-last_of g c = rw c.from_residual.ensures (λ m low.
     let inside : i < length xs = omega arith in
     (λ _. tt, λ _. (i, get_or xs i d, inside, get_or_default xs i (get_or xs i d) d inside, (c.in_err-last_of.ensures d m low).1 tt)))
 
+-- after one state more, the last moment so far is the latest to which one of them can wait
 pub loop-at-preserved : goal.loop-at-preserved
 loop-at-preserved g c =
     let m = c.args.machine.now in
@@ -26,6 +27,7 @@ loop-at-preserved g c =
     rw (take_more xs i d low)
     (last_push (g.M.Machine.end_window m) (g.M.Machine.until m) c.args.from (take i xs) (get_or xs i d) c.loop-at.last c.in_ok-last_of.field-0 c.max-last.result c.loop-at.invariant (c.in_ok-last_of.ensures d) later)
 
+-- at the end of the loop the last moment is the latest to which one of all states can wait
 pub returns : goal.returns
 returns g c =
     let m = c.args.machine.now in

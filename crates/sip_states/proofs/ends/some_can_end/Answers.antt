@@ -8,6 +8,7 @@ use Rattle.sip_states.proofs.ends.some_can_end.Goals as goal
 pub can_end-requires-clause-in_range : goal.can_end-requires-clause-in_range
 can_end-requires-clause-in_range g c = λ d. All-get_or g.M.Machine.in_range c.args.pool.now c.loop-at.at d (omega arith) c.requires
 
+-- the state that was found can end
 pub returns-then-can_end : goal.returns-then-can_end
 returns-then-can_end g c =
     let xs = c.args.pool.now in
@@ -16,6 +17,7 @@ returns-then-can_end g c =
     let low : at < length xs = omega arith in
     (λ _. (at, get_or xs at d, low, get_or_default xs at (get_or xs at d) d low, (c.can_end.ensures d).0 c.if-can_end.true), λ _. refl)
 
+-- no state up to here can end
 pub loop-at-preserved : goal.loop-at-preserved
 loop-at-preserved g c =
     let m = c.args.machine.now in

@@ -14,6 +14,7 @@ returns-clause-invite c =
     invite_after_final p before between rest request final e code y asked invite answered response is_final sent
     ((stands-after (transaction_of machine).figure (coded_holds machine).is_figure p (before ++ request ∷ (between ++ final ∷ rest)) e y).0 stands)
 
+-- a client of any other method sends nothing after a final response
 pub returns-clause-plain : goal.returns-clause-plain
 returns-clause-plain c =
     λ p rules before between rest request final e code y asked plain answered response is_final sent stands.

@@ -12,6 +12,7 @@ returns-then-not-is_at_rest g c d =
     let other : x ≢ at_rest phase = λ rest. false≢true (sym (search rules) ∙ (c.is_at_rest.ensures d).1 rest) in
     (λ _. inr (owes_something x phase (c.phase-phase.ensures d) other), λ _. refl)
 
+-- a state at rest names the message of its phase and no other, so the two numbers are compared
 pub returns-in-Some : goal.returns-in-Some
 returns-in-Some g c d =
     let number = c.args.number in
@@ -27,6 +28,7 @@ returns-in-Some g c d =
       )
     ]
 
+-- a state at rest whose phase names no message names none
 pub returns-in-None : goal.returns-in-None
 returns-in-None g c d =
     let number = c.args.number in

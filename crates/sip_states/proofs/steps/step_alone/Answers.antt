@@ -14,6 +14,7 @@ step-requires-clause-known g c = λ d. All-get_or (Knows g.M.Machine.names c.arg
 pub step-requires-clause-in_range : goal.step-requires-clause-in_range
 step-requires-clause-in_range g c = λ d. All-get_or g.M.Machine.in_range c.args.pool.now 0 d (omega arith) c.requires.in_range
 
+-- where the one state cannot end before the event, what it gives is all that the event gives
 pub returns-clause-gives : goal.returns-clause-gives
 returns-clause-gives g c =
     let texts = c.args.book.now in

@@ -17,6 +17,7 @@ index-requires g c =
     let low = slice_get_within moved index true mark in
     rw c.loop-place.invariant.same (omega (arith, low, c.loop-place.invariant.long, c.requires.long.0))
 
+-- the index is one of the marks
 pub unmark-requires : goal.unmark-requires
 unmark-requires g c =
     let moved = c.loop-place.moved in
@@ -24,6 +25,7 @@ unmark-requires g c =
     let mark : IsMarked moved index = (c.marked.ensures.members index).0 (item_among _ _ _ _ _ c.get.ensures.lookup c.copied.ensures c.in-Some.is) in
     slice_get_within moved index true mark
 
+-- the index is one of the other marks too
 pub unmark-requires-then-is_quiet : goal.unmark-requires-then-is_quiet
 unmark-requires-then-is_quiet g c =
     let moved = c.loop-place.moved in
@@ -32,6 +34,7 @@ unmark-requires-then-is_quiet g c =
     let low = slice_get_within moved index true mark in
     omega (arith, low, c.loop-place.invariant.long, c.loop-place.invariant.as_long, c.requires.long.0, c.requires.long.1)
 
+-- where the set at the index is quiet, both its marks go, and the marks stay right
 pub loop-place-preserved-then-is_quiet : goal.loop-place-preserved-then-is_quiet
 loop-place-preserved-then-is_quiet g c =
     let moved = c.loop-place.moved in

@@ -18,6 +18,7 @@ index-requires g c =
     let low = slice_get_within marks index true mark in
     rw c.loop-place.invariant.same (omega (arith, low, c.loop-place.invariant.long, c.requires.long))
 
+-- the index is one of the marks
 pub unmark-requires : goal.unmark-requires
 unmark-requires g c =
     let marks = c.loop-place.marks in
@@ -25,6 +26,7 @@ unmark-requires g c =
     let mark : IsMarked marks index = (c.marked.ensures.members index).0 (item_among _ _ _ _ _ c.get.ensures.lookup c.copied.ensures c.in-Some.is) in
     slice_get_within marks index true mark
 
+-- where the set at the index names nothing, its mark goes, and the marks stay right
 pub loop-place-preserved-then-is_empty : goal.loop-place-preserved-then-is_empty
 loop-place-preserved-then-is_empty g c =
     let marks = c.loop-place.marks in

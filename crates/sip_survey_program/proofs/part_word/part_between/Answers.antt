@@ -23,6 +23,7 @@ made a b k n (Some part) low high a_is b_is (same, some, within) =
     let count : part.count ≡ n = ap (λ p. p.count) same in
     ((omega (arith, number, some), omega (arith, number, count, within), omega (arith, count, high)), a_is ∙ ap decimal (sym number), b_is ∙ ap decimal (sym count))
 
+-- where both words are numbers, the part is the one of these
 pub returns : goal.returns
 returns c =
     made c.args.number.now c.args.count.now c.in_ok-number.number c.in_ok-count.count c.new.result c.in_ok-number.ensures.0 c.in_ok-count.ensures.0 c.in_ok-number.ensures.1 c.in_ok-count.ensures.1 c.new.ensures

@@ -8,6 +8,7 @@ returns-in-Some-clause-front c =
     let first = c.in-Some.ensures in
     sym (before-first c.args.mark c.in-Some.at c.args.text.now first.0.high first.0.before first.1).0
 
+-- what is left begins after the first mark
 pub returns-in-Some-clause-rest : goal.returns-in-Some-clause-rest
 returns-in-Some-clause-rest c =
     let first = c.in-Some.ensures in

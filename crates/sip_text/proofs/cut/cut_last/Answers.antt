@@ -9,6 +9,7 @@ returns-in-Some-clause-front c =
     let last = c.in-Some.ensures in
     sym (last-place c.args.mark c.in-Some.at c.args.text.now last.0.high last.0.after last.1)
 
+-- after the last mark stands what is left of the text
 pub returns-in-Some-clause-rest : goal.returns-in-Some-clause-rest
 returns-in-Some-clause-rest c =
     let last = c.in-Some.ensures in

@@ -13,6 +13,7 @@ pub returns-then-len-text-clause-front : goal.returns-then-len-text-clause-front
 returns-then-len-text-clause-front c =
     (run-end (is_in c.args.class) c.args.mark c.run_len-len.result c.args.text.now c.requires c.run_len-len.ensures.run c.if-len-text.true).0
 
+-- where the run is the whole text, nothing is left
 pub returns-then-len-text-clause-rest : goal.returns-then-len-text-clause-rest
 returns-then-len-text-clause-rest c =
     (run-end (is_in c.args.class) c.args.mark c.run_len-len.result c.args.text.now c.requires c.run_len-len.ensures.run c.if-len-text.true).1
@@ -22,6 +23,7 @@ returns-in-Some-clause-run c =
     (run-mark (is_in c.args.class) c.args.mark c.run_len-len.result c.args.text.now c.in-Some.rest.now c.requires c.run_len-len.ensures.run
     (c.in-Some.ensures ∙ ap (past c.args.mark) (take_rest c.args.text.now c.run_len-len.result))).2
 
+-- where the mark follows the run, the run is what stands before the first mark
 pub returns-in-Some-clause-front : goal.returns-in-Some-clause-front
 returns-in-Some-clause-front c =
     (run-mark (is_in c.args.class) c.args.mark c.run_len-len.result c.args.text.now c.in-Some.rest.now c.requires c.run_len-len.ensures.run
@@ -32,6 +34,7 @@ returns-in-Some-clause-rest c =
     (run-mark (is_in c.args.class) c.args.mark c.run_len-len.result c.args.text.now c.in-Some.rest.now c.requires c.run_len-len.ensures.run
     (c.in-Some.ensures ∙ ap (past c.args.mark) (take_rest c.args.text.now c.run_len-len.result))).1
 
+-- where neither the end nor the mark follows the run, not all bytes before the mark are of the class
 pub returns-in-None-clause-run : goal.returns-in-None-clause-run
 returns-in-None-clause-run c =
     run-other (is_in c.args.class) c.args.mark c.run_len-len.result c.args.text.now c.requires c.run_len-len.ensures.run

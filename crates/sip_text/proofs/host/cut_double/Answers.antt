@@ -16,6 +16,7 @@ pub returns-then-text-at-eq58-2-clause-front : goal.returns-then-text-at-eq58-2-
 returns-then-text-at-eq58-2-clause-front c =
     sym (double-first (c.loop-at.at - 1) c.args.text.now (omega arith) (found c) (λ j below. c.loop-at.invariant j (omega arith))).0
 
+-- what is left begins after the first "::"
 pub returns-then-text-at-eq58-2-clause-rest : goal.returns-then-text-at-eq58-2-clause-rest
 returns-then-text-at-eq58-2-clause-rest c =
     let next : c.loop-at.at + 1 ≡ c.loop-at.at - 1 + 2 = omega arith in

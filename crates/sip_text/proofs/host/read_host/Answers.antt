@@ -12,6 +12,7 @@ returns-then-is_v4 c = only-v4 c.args.text.now (sym c.is_v4.ensures ∙ c.if-is_
 pub returns-then-is_hostname : goal.returns-then-is_hostname
 returns-then-is_hostname c = only-name c.args.text.now (sym c.is_hostname.ensures ∙ c.if-is_hostname.true)
 
+-- a text that passes none of the three tests is no host
 pub returns-else-is_hostname : goal.returns-else-is_hostname
 returns-else-is_hostname c =
     no-host c.args.text.now (sym c.is_v6_reference.ensures ∙ c.if-is_v6_reference.false)

@@ -11,6 +11,7 @@ returns-in-Some c =
     (sym c.cut_last.ensures.front ∙ ap option_copied c.in-Some.is) c.cut_last.ensures.rest
     (c.is_port.ensures.0 c.if-is_port.true)
 
+-- where what follows the last colon is no port, or no colon is there, the text has no port
 pub returns-in_default : goal.returns-in_default
 returns-in_default c =
     no-port c.args.text.now (λ u there port.

@@ -13,6 +13,7 @@ slice_bounds-params-start c =
     before-within semicolon c.cut.result.0.now c.cut-2.result.0.now c.cut-2.ensures.front in
     search rules
 
+-- a host of token bytes ends where they do
 pub returns-then-are_token_bytes : goal.returns-then-are_token_bytes
 returns-then-are_token_bytes c =
     host-cut is_token_byte c.args.text.now _ _ c.cut_userinfo.result.2.now refl refl refl

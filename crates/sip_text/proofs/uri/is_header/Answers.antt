@@ -11,6 +11,7 @@ returns-then-is_some_chars c =
     (both-when c.is_some_chars.result c.is_chars.result c.if-is_some_chars.true
     (decides-some is_hnv_unreserved _ _ c.is_some_chars.ensures) (decides-many is_hnv_unreserved _ _ c.is_chars.ensures))
 
+-- where the name has a byte that may not stand there, the text is no header
 pub returns-else-is_some_chars : goal.returns-else-is_some_chars
 returns-else-is_some_chars c =
     decides-header c.args.text.now c.cut.result.0.now (Some c.in-Some.value.now) c.is_some_chars.result

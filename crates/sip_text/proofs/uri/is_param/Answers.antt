@@ -12,6 +12,7 @@ returns-then-is_some_chars c =
     (decides-some is_param_unreserved _ _ c.is_some_chars.ensures)
     (decides-some is_param_unreserved _ _ c.is_some_chars-then-is_some_chars.ensures))
 
+-- where the name has a byte that may not stand there, the text is no parameter
 pub returns-else-is_some_chars : goal.returns-else-is_some_chars
 returns-else-is_some_chars c =
     decides-param c.args.text.now c.cut.result.0.now (Some c.in-Some.value.now) c.is_some_chars.result

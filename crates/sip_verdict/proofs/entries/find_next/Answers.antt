@@ -5,6 +5,7 @@ use Rattle.sip_verdict.proofs.sweeps.SweptBook.{same_within, within_keeps}
 use Rattle.sip_verdict.proofs.surveys.kept.Kept.{surveyed_kept, surveyed_swept}
 use Rattle.sip_verdict.proofs.entries.find_next.Goals as goal
 
+-- where no sweep is due yet, what was found at the entry is right, and the book has few enough messages
 pub returns-then-kept-left-clause-found : goal.returns-then-kept-left-clause-found
 returns-then-kept-left-clause-found g c = λ es surveyed counts late.
     let s = c.args.standing.now in
@@ -25,6 +26,7 @@ returns-clause-may g c =
     let swept = c.in_ok-sweep.ensures in
     swept_take mid.book new.book mid.tables new.tables (e.number + 1) e.moment c.in_ok-find.ensures.may swept.may swept.recorded (within_keeps mid.book new.book swept.fewer) swept.keys
 
+-- at most two keys more are known after the sweep too
 pub returns-clause-keys : goal.returns-clause-keys
 returns-clause-keys g c = let same = ap length c.in_ok-sweep.ensures.keys in let few = c.in_ok-find.ensures.keys in omega arith
 
@@ -44,6 +46,7 @@ returns-clause-watched g c =
     let swept = c.in_ok-sweep.ensures in
     record { long = h.long ∙ ap length (sym swept.keys); recorded = swept.recorded; silent = λ n is. ap (λ rs. slice_get rs n) swept.records ∙ h.silent n is }
 
+-- what was found at the entry is still right after the sweep, and the tables that are left track one entry more
 pub returns-clause-found : goal.returns-clause-found
 returns-clause-found g c = λ es surveyed counts late.
     let mid = c.find.new.standing in

@@ -16,6 +16,7 @@ returns-in-Some-branch c =
     read_spells c.args.bytes.now (said_of c.in-Ok.message) (Some c.in-Some-branch.branch.now) c.in_ok-to_vec-in-Some-branch.field-0.items c.in-Ok.ensures.says
     (sym (ap (λ (e : Element). e.1.branch) c.top_via.ensures) ∙ ap option_copied c.in-Some-branch.is) (c.in_ok-to_vec-in-Some-branch.ensures.items_if_clones_equal (λ x y same. same))
 
+-- a message without a branch spells none
 pub returns-in-Ok : goal.returns-in-Ok
 returns-in-Ok c =
     read_spells c.args.bytes.now (said_of c.in-Ok.message) None c.new.result.items c.in-Ok.ensures.says

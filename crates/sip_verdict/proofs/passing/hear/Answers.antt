@@ -11,6 +11,7 @@ returns-in-Ok-clause-stepped c = λ p machine events from late leads.
 pub returns-in-Ok-2-clause-known : goal.returns-in-Ok-2-clause-known
 returns-in-Ok-2-clause-known c = takes_known c.args.book.now c.args.event.now c.args.set.now c.take.new.self c.in-Ok-2.ensures.ok
 
+-- the set that took the event leads to the runs over one event more
 pub returns-in-Ok-2-clause-stepped : goal.returns-in-Ok-2-clause-stepped
 returns-in-Ok-2-clause-stepped c = λ p machine events from late leads.
     let some : ¬ IsEmpty c.take.new.self = search rules in

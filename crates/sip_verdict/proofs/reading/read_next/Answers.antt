@@ -9,6 +9,7 @@ returns-in-Ok-Some-clause-gives g c start times items read =
     let new : log.ReaderState = beside_source c.next_into.new.self (g.R.Source.left c.next_into.new.source) (g.R.Source.has_failed c.next_into.new.source) in
     gives_entry start times items old new read c.in-Ok-Some.entry (rw c.in-Ok-Some.field-0-is at c.in-Ok-Some.ensures)
 
+-- where no entry comes, the log ends after those that were read
 pub returns-in-Ok-None-clause-gives : goal.returns-in-Ok-None-clause-gives
 returns-in-Ok-None-clause-gives g c start times items read =
     let old : log.ReaderState = beside_source c.args.progress.now (g.R.Source.left c.args.reader.now) (g.R.Source.has_failed c.args.reader.now) in

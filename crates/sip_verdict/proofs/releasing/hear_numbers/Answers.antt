@@ -11,6 +11,7 @@ hear_or_release-requires-clause-given g c =
     let i = c.loop-number.number-index in
     given_still (get_or numbers i 0) c.args.tables.now c.loop-number.tables c.loop-number.invariant.keys_are (c.requires.given i 0 (omega arith))
 
+-- after one transaction more has heard the event or was released, those that are left in the list can hear it
 pub loop-number-preserved : goal.loop-number-preserved
 loop-number-preserved g c =
     let numbers = c.args.numbers.now in
@@ -31,6 +32,7 @@ loop-number-preserved g c =
           (subst (λ ns. ArePassing c.args.book.now p es e (is_among ns) c.loop-number.tables c.loop-number.troubled) next (old.heard p es e times late apart concerned h));
     }
 
+-- at the end of the loop none is still to hear the event
 pub returns-clause-watched : goal.returns-clause-watched
 returns-clause-watched g c = λ h.
     subst (λ ns. AreWatched ns c.loop-number.tables c.loop-number.troubled) (none_left c.args.numbers.now c.loop-number.number-index (omega arith)) (c.loop-number.invariant.watched h)

@@ -15,6 +15,7 @@ returns-in_default-clause-may g c = c.in_ok-release_overdue.ensures.may c.args.b
 pub returns-in_default-clause-others : goal.returns-in_default-clause-others
 returns-in_default-clause-others g c = λ texts n set may none at. All-place (IsKnownSet texts) c.release_overdue.new.tables.sets n set at (c.in_ok-release_overdue.ensures.may texts may).known
 
+-- a set that neither hears the event nor was released is as it was, and so the book has all that it names
 pub returns-clause-others : goal.returns-clause-others
 returns-clause-others g c =
     on_ok_weaker c.hear_each.result (λ still texts n set may none at.
@@ -23,6 +24,7 @@ returns-clause-others g c =
 pub returns-in_default-clause-watched : goal.returns-in_default-clause-watched
 returns-in_default-clause-watched g c = c.in_ok-release_overdue.ensures.watched [] (rw c.in_default.is at c.requires.watched)
 
+-- an entry that no transaction hears is passed where no last moment is past
 pub returns-in_default-clause-passed : goal.returns-in_default-clause-passed
 returns-in_default-clause-passed g c = λ p es e times late now told h.
     let released = c.in_ok-release_overdue.ensures in
@@ -31,6 +33,7 @@ returns-in_default-clause-passed g c = λ p es e times late now told h.
     mark_passes c.args.book.now p es e c.args.moment late now u c.release_overdue.new.troubled (released.may c.args.book.now c.requires.may) released.none
     (subst (λ ks. AreTold c.args.book.now ks c.args.moment None e) (sym released.keys) (rw c.in_default.is at told)) (released.watched [] watched) (released.released c.args.book.now p es e [] times late now c.requires.may watched h)
 
+-- the hearers are still those of the tables after some were released
 pub hear_each-requires-clause-hear : goal.hear_each-requires-clause-hear
 hear_each-requires-clause-hear g c =
     let hear = hear_still c.args.book.now c.args.tables.now c.release_overdue.new.tables c.args.moment c.in-Some.hearing.now c.in_ok-release_overdue.ensures.keys (c.requires.hear c.in-Some.hearing c.in-Some.is) in
@@ -39,6 +42,7 @@ hear_each-requires-clause-hear g c =
 pub hear_each-requires-clause-long : goal.hear_each-requires-clause-long
 hear_each-requires-clause-long g c = (c.in_ok-release_overdue.ensures.watched _ c.requires.watched).long
 
+-- the tables may pass the moment of the event
 pub hear_each-requires-clause-may : goal.hear_each-requires-clause-may
 hear_each-requires-clause-may g c =
     subst (MayPass c.args.book.now c.release_overdue.new.tables) (sym (c.requires.hear c.in-Some.hearing c.in-Some.is).at) (c.in_ok-release_overdue.ensures.may c.args.book.now c.requires.may)
@@ -51,6 +55,7 @@ pub returns-clause-watched : goal.returns-clause-watched
 returns-clause-watched g c =
     on_ok_weaker c.hear_each.result (λ watched. watched (c.in_ok-release_overdue.ensures.watched (each c.in-Some.hearing.now.concerned) (rw c.in-Some.is at c.requires.watched))) c.hear_each.ensures.watched
 
+-- first the transactions whose time is over are released, then the others hear the event: so all have passed the entry
 pub returns-clause-passed : goal.returns-clause-passed
 returns-clause-passed g c =
     let released = c.in_ok-release_overdue.ensures in

@@ -14,6 +14,7 @@ hear_numbers-requires-clause-given g c = subst (All (IsGiven c.args.tables.now))
 pub returns-clause-may : goal.returns-clause-may
 returns-clause-may g c = subst (λ u. MayPass c.args.book.now u c.args.event.now.moment) (sym c.restarted.ensures) c.in_ok-hear_numbers.ensures.may
 
+-- after all have heard the restart, all are watched
 pub returns-clause-watched : goal.returns-clause-watched
 returns-clause-watched g c = λ h.
     subst (λ u. AreWatched [] u c.hear_numbers.new.troubled) (sym c.restarted.ensures)

@@ -35,6 +35,7 @@ returns-in-Own-clause-none g c none =
     subst (λ x. (is_all x ≡ false) × All names (each x)) (sym c.in-Own.is)
     (refl, All-cons names own [] (names_not c.args.number own t c.set.result.now c.set.ensures (c.may_name.ensures.none none)) (All-nil names))
 
+-- where the own transaction can name the message, some set may name it
 pub returns-then-may_name-clause-may : goal.returns-then-may_name-clause-may
 returns-then-may_name-clause-may g c =
     let t = c.args.tables.now in
@@ -47,6 +48,7 @@ returns-then-may_name-clause-may g c =
 pub set-requires-else-may_name : goal.set-requires-else-may_name
 set-requires-else-may_name g c = (rw c.in-OwnAndCancelled.is at c.requires) 1 0 (omega arith)
 
+-- where the own transaction cannot name the message, some set may name it exactly if the cancelled one may
 pub returns-else-may_name-clause-may : goal.returns-else-may_name-clause-may
 returns-else-may_name-clause-may g c =
     let t = c.args.tables.now in

@@ -11,6 +11,7 @@ use Rattle.sip_verdict.specs.inner.SurveyingLogs.{AreLinesBy}
 use Rattle.sip_verdict.proofs.surveys.written.Writing.{told_none, told_nothing, told_more, summed, surveys_on, surveys_end, surveys_stop}
 use Rattle.sip_verdict.proofs.surveying.write_entries.Goals as goal
 
+-- before the first entry nothing was found or written
 pub loop-found-init : goal.loop-found-init
 loop-found-init g c = record {
   read = refl;
@@ -26,6 +27,7 @@ loop-found-init g c = record {
   );
 }
 
+-- the entry has the next number, it is not before the newest one, its moment is within the limit, and there is room for it
 pub entry-requires : goal.entry-requires
 entry-requires g c = λ goes_on.
     let l = c.loop-found in
@@ -41,6 +43,7 @@ entry-requires g c = λ goes_on.
     let low = moves.4 in
     record { next = omega (arith, number, same, counts); order = omega (arith, newest, order, moment); limit = omega (arith, high, moment); room = (omega (arith, counts, low), omega (arith, room, low)) }
 
+-- after one entry more, the lines are those of all findings so far, and the survey stands after the entries that were read
 pub loop-found-preserved : goal.loop-found-preserved
 loop-found-preserved g c =
     let l = c.loop-found in
@@ -79,6 +82,7 @@ loop-found-preserved g c =
       );
     }
 
+-- where the log ends, the summary and the last line tell all its entries
 pub returns-in-End-clause-surveyed : goal.returns-in-End-clause-surveyed
 returns-in-End-clause-surveyed g c =
     let l = c.loop-found in
@@ -95,6 +99,7 @@ returns-in-End-clause-surveyed g c =
     let is = same_Some _ _ (sym c.unwrap.ensures ∙ c.end.ensures.clean read.es read.follows) in
     surveys_end part start old l.survey told.0 told.1 so l.counts summary before mid after told.2 findings undecided (end ∙ is) (subst (λ e. Appends mid after (end_text e l.counts.findings)) is last) logs)
 
+-- where the next entry cannot be read, the survey ends with that fault
 pub returns-in-Fault-clause-surveyed : goal.returns-in-Fault-clause-surveyed
 returns-in-Fault-clause-surveyed g c =
     let l = c.loop-found in

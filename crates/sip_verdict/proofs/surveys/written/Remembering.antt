@@ -45,6 +45,7 @@ pub remembers_none : (age : ℕ) (part : Option PartOf) (p : Times) (s : Surveyi
 remembers_none age part p s start now times stands read =
     record { items = []; es = []; times = times; follows = stands; read = read; front = λ rest close later end more told. told }
 
+-- What follows is of a survey that has read some items and forgotten some transactions, what it has found, and its lines.
 module _ (age : ℕ) (part : Option PartOf) (p : Times) (start : Option (List ℕ)) (now : log.ReaderState) (s : Surveying) (found : List Finding) (lines : List ℕ) (so : RemembersRead age part p s found lines start now) where
   -- where transactions may have been forgotten, one more item was read and surveyed, and its lines were written, the survey has read that item too
   pub remembers_on : (m : Horizon) → IsHorizonOf m so.es → m.age ≡ age
@@ -85,6 +86,7 @@ module _ (age : ℕ) (part : Option PartOf) (p : Times) (start : Option (List �
         notes (left ++ seen ∷ []) (horizon_push a left seen f_horizon (omega (arith, f_now, k_now, newest, moves))) k_stands,
       )
 
+  -- What follows is of the end of the survey, and its summary.
   module _ (counts : Counts) (summary : Summary) (before mid after : Option (List ℕ)) (told : AreTold found lines counts before mid)
       (findings : summary.findings ≡ counts.findings) (undecided : summary.undecided ≡ counts.undecided) where
     -- this is told of the whole input

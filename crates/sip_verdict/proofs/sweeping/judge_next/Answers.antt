@@ -5,6 +5,7 @@ use Rattle.sip_verdict.proofs.sweeps.FollowedLemmas.{followed_kept, followed_swe
 use Rattle.sip_verdict.proofs.sweeps.SweptBook.{within_keeps}
 use Rattle.sip_verdict.proofs.sweeping.judge_next.Goals as goal
 
+-- where no sweep is due yet, the judge follows the entries as it did, and the book has few enough messages
 pub returns-then-kept-left-clause-judged : goal.returns-then-kept-left-clause-judged
 returns-then-kept-left-clause-judged g c =
     let s = c.args.standing.now in
@@ -35,6 +36,7 @@ returns-clause-keyless g c none =
     let mid = c.judge.new.self.book in
     All-weaker (Contains mid) (Contains old) (λ x has. All-contains (Contains old) mid x (c.in_ok-verdict.ensures.keyless none) has) c.sweep.new.self.book c.in_ok-sweep.ensures.fewer
 
+-- after a sweep the judge follows the entries, and `left` is how many messages the book kept
 pub returns-clause-judged : goal.returns-clause-judged
 returns-clause-judged g c =
     let s = c.args.standing.now in

@@ -22,6 +22,7 @@ returns-then-is_entry-clause-answer g c =
     let now : log.ReaderState = beside_source opened.1 (g.R.Source.left c.read_header.new.reader) (g.R.Source.has_failed c.read_header.new.reader) in
     none_listed c.args.aim start opened.0 now (rw c.in-Ok.is at c.in_ok-opened.ensures.reads) (c.is_entry.ensures.is c.if-is_entry.true)
 
+-- after the header the walk has read no entry and judged nothing
 pub loop-standing-init : goal.loop-standing-init
 loop-standing-init g c =
     let start = g.R.Source.left c.args.reader.now in
@@ -66,6 +67,7 @@ returns-then-is_entry-2-clause-answer g c =
     walks_listed c.args.aim start old l.count l.left l.standing.book l.standing.tables walks c.in-Entry.entry (moves.1.number_is ∙ ap (λ n. n + 1) (sym l.invariant.counts)) moves.1.order new
     ((rw c.in-Entry.is at c.in_ok-entry.ensures.gives) start l.standing.tables.times walks.items walks.read) c.in_ok-list-in-Entry.field-0 (c.is_entry-in-Entry.ensures.is c.if-is_entry-2.true) c.in_ok-list-in-Entry.ensures.listed
 
+-- where the judge gives a verdict at the entry, this verdict is the walk's answer
 pub returns-in-Some-clause-answer : goal.returns-in-Some-clause-answer
 returns-in-Some-clause-answer g c =
     let l = c.loop-standing in
@@ -79,6 +81,7 @@ returns-in-Some-clause-answer g c =
     ((rw c.in-Entry.is at c.in_ok-entry.ensures.gives) start l.standing.tables.times walks.items walks.read) now.left now.standing.book now.standing.tables c.in-Some.verdict
     (rw c.in-Some.is at c.in_ok-verdict-in-Entry.ensures.judged) c.in_ok-verdict-in-Entry.ensures.times l.invariant.before
 
+-- after an entry without a verdict the walk has judged one entry more, and its aim is still ahead
 pub loop-standing-preserved : goal.loop-standing-preserved
 loop-standing-preserved g c =
     let l = c.loop-standing in
@@ -106,6 +109,7 @@ loop-standing-preserved g c =
           (subst (JudgesOn c.args.aim l.standing.book l.standing.tables l.left now.standing.book now.standing.tables now.left e) c.in_default.is c.in_ok-verdict-in-Entry.ensures.judged) c.in_ok-verdict-in-Entry.ensures.times moves.3;
     }
 
+-- where the log ends before the aim, the walk tells how many entries and transactions there were
 pub returns-in-End-clause-answer : goal.returns-in-End-clause-answer
 returns-in-End-clause-answer g c =
     let l = c.loop-standing in
@@ -115,6 +119,7 @@ returns-in-End-clause-answer g c =
     walks_end c.args.aim start old l.count l.left l.standing.book l.standing.tables walks c.transactions-transactions.result c.transactions-transactions.ensures l.invariant.may.passes.long l.invariant.before
     ((rw c.in-End.is at c.in_ok-entry.ensures.gives) start l.standing.tables.times walks.items walks.read)
 
+-- where the next entry cannot be read, the walk's answer is that fault
 pub returns-in-Fault-clause-answer : goal.returns-in-Fault-clause-answer
 returns-in-Fault-clause-answer g c =
     let l = c.loop-standing in

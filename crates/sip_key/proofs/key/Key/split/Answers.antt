@@ -14,6 +14,7 @@ split_length-method-requires c =
     (c.self.invariant ∙ ap key_text c.self.view_is) c.deref.ensures.value c.split_length-branch.ensures.count c.split_length-branch.ensures.rest in
     subst (λ n. n ≤ length c.split_length-branch.result.1.now) (sym t.1) t.3
 
+-- the text of a key tells its branch after the lengths
 pub returns-clause-branch : goal.returns-clause-branch
 returns-clause-branch c =
     (tells-read c.args.self.now c.self.inside.text.items c.deref.result.now c.split_length-branch.result.1.now c.split_length-branch.result.0
@@ -25,6 +26,7 @@ returns-clause-method c =
     ∙ (tells-read c.args.self.now c.self.inside.text.items c.deref.result.now c.split_length-branch.result.1.now c.split_length-branch.result.0
     (c.self.invariant ∙ ap key_text c.self.view_is) c.deref.ensures.value c.split_length-branch.ensures.count c.split_length-branch.ensures.rest).1
 
+-- the text of a key tells its other texts after the branch
 pub returns-clause-texts : goal.returns-clause-texts
 returns-clause-texts c =
     c.split_length-method.ensures.rest

@@ -10,6 +10,7 @@ returns-then-all_count-clause-ok c =
     let s = c.self.inside in
     none-past s.gains s.strikes.items s.rows.items c.args.self.now c.args.from c.args.moment c.self.invariant.gained c.self.view_is c.if-all_count.ensures
 
+-- after one row more, the rows up to it owe nothing whose deadline is past
 pub loop-row-preserved : goal.loop-row-preserved
 loop-row-preserved c =
     let was = c.loop-row.invariant in

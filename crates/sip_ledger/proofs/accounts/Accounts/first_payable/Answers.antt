@@ -18,6 +18,7 @@ entry-requires-clause-kept c =
     let found = rw (c.in-Some.is, c.deref.ensures.value) at c.in_ok-found.ensures in
     left-kept s.gains c.in-Some.place c.self.invariant.gained (owed-left s.gains s.strikes.items c.index-account.result.now c.in-Some.place found.0)
 
+-- the debt of the row that was found is the first that a send under the key pays
 pub returns-in-Some : goal.returns-in-Some
 returns-in-Some c =
     let s = c.self.inside in
@@ -27,6 +28,7 @@ returns-in-Some c =
     rw c.entry.ensures (subst (λ (debts : List Debt). IsFirstPaid (PaysSome test c.args.moment) c.args.moment debts (Some (entry_at (entries_of s.gains) c.in-Some.place).message)) is.1
     (first-account s.gains s.strikes.items c.index-account.result.now test c.args.moment c.in-Some.place is.0 found))
 
+-- where the account has none, the row has no debt that a send under the key pays
 pub returns-in-None : goal.returns-in-None
 returns-in-None c =
     let s = c.self.inside in

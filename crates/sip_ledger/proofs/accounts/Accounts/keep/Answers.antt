@@ -11,6 +11,7 @@ loop-to-preserved c =
     rw c.copy.ensures
     (kept-more [] c.args.rows.now c.loop-to.to c.args.self.now c.loop-to.self c.loop-to.invariant c.requires.rising inside c.requires.within)
 
+-- at the end of the loop the rows are those that are kept, in their order
 pub returns : goal.returns
 returns c =
     let places = c.args.rows.now in

@@ -5,6 +5,7 @@ use Rattle.sip_ledger.specs.Accounts.{debts_print, owed_in}
 use Rattle.sip_ledger.proofs.rows.SeenLemmas.{account-at}
 use Rattle.sip_ledger.proofs.accounts.Accounts.prints.Goals as goal
 
+-- after one row more, the prints are those of what the rows up to it owe
 pub loop-row-preserved : goal.loop-row-preserved
 loop-row-preserved c =
     let was = c.loop-row.invariant in

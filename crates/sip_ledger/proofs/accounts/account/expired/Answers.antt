@@ -15,6 +15,7 @@ pub returns-then-all_count-clause-debts : goal.returns-then-all_count-clause-deb
 returns-then-all_count-clause-debts c =
     sym (none-goes c.args.gains.now c.args.strikes.now.items c.args.account c.args.moment c.requires.gained c.if-all_count.ensures)
 
+-- a place of the account is kept
 pub expired_at-requires-clause-kept : goal.expired_at-requires-clause-kept
 expired_at-requires-clause-kept c =
     let was = c.loop-place.invariant in
@@ -25,6 +26,7 @@ entry-requires-clause-kept c =
     let was = c.loop-place.invariant in
     kept-passed c.loop-place.place c.requires.gained c.requires.account (omega (arith, c.requires.account.order, c.if-account.false)) was.low (omega (arith, c.loop-place-test.true, was.account.end))
 
+-- where nothing falls and the deadline is not past, all that expired stands before this place
 pub returns-then-moment-entry-clause-debts : goal.returns-then-moment-entry-clause-debts
 returns-then-moment-entry-clause-debts c =
     let was = c.loop-place.invariant in

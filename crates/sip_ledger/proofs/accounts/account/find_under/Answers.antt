@@ -15,6 +15,7 @@ pub returns-in_default : goal.returns-in_default
 returns-in_default c =
     none-under c.args.gains.now c.args.strikes.now c.args.account c.args.index.now c.args.key c.args.moment c.loop.from c.loop.first c.loop.invariant c.in_default.ensures.none
 
+-- where no message from this one on is left, what was found is the first of all
 pub returns-in_default-message_from : goal.returns-in_default-message_from
 returns-in_default-message_from c =
     none-left c.args.gains.now c.args.strikes.now c.args.account c.args.index.now c.args.key c.args.moment c.loop.from c.loop.first c.loop.invariant
@@ -24,6 +25,7 @@ pub is_newest-requires-clause-kept : goal.is_newest-requires-clause-kept
 is_newest-requires-clause-kept c =
     found-kept c.args.gains.now c.args.strikes.now c.args.account c.args.index.now c.args.key c.args.moment c.in-Some.message c.requires.gained c.find-place.result c.find-place.ensures.found
 
+-- where nothing before the place has a greater message, what was found is the first of all
 pub returns-then-is_newest : goal.returns-then-is_newest
 returns-then-is_newest c =
     let g = c.args.gains.now in
@@ -39,6 +41,7 @@ returns-then-is_newest c =
     rw c.sooner-first.ensures (newest-first g s c.args.account pairs key c.args.moment message c.requires.gained c.loop.first c.find-place.result c.find-place.ensures.found
     (rw c.if-is_newest.true at c.is_newest.ensures) more)
 
+-- what was found so far is the first debt of the messages under the key that are below the next one
 pub loop-preserved : goal.loop-preserved
 loop-preserved c =
     let g = c.args.gains.now in

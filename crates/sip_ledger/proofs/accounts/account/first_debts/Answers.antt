@@ -10,6 +10,7 @@ loop-place-init c = grind (arith, take_all, kept-from, told-all, told-first, tol
 pub debt_for-requires-clause-kept : goal.debt_for-requires-clause-kept
 debt_for-requires-clause-kept c = kept-from c.loop-place.place c.requires.gained c.requires.account c.loop-place.invariant.told.low c.loop-place-test.true
 
+-- after one place more, the list has the debts of the account up to it
 pub loop-place-preserved : goal.loop-place-preserved
 loop-place-preserved c =
     let was = c.loop-place.invariant in

@@ -6,6 +6,7 @@ use Rattle.sip_ledger.proofs.account.ToldLemmas.{least-first, least-first_due, l
 use Rattle.sip_ledger.proofs.accounts.account.least_must.Goals.{then-owes+else-gains, else-owes}
 use Rattle.sip_ledger.proofs.accounts.account.least_must.Goals as goal
 
+-- before the first place there is no least deadline, or it is that of the first debt
 pub loop-place-init : goal.loop-place-init
 loop-place-init c =
     let start = c.args.account.start in
@@ -15,6 +16,7 @@ loop-place-init c =
       | inr above ↦ inl (omega (arith, from, above))
     ])
 
+-- where the place is past the account's end, the least so far is the least of all
 pub returns-then-account-place : goal.returns-then-account-place
 returns-then-account-place c =
     least-last c.args.gains.now c.args.strikes.now c.args.account c.loop-place.from c.in-Some.place c.loop-place.least c.loop-place.invariant c.in-Some.ensures.before c.if-account-place.true
@@ -26,6 +28,7 @@ pub entry-requires-clause-kept : goal.entry-requires-clause-kept
 entry-requires-clause-kept c =
     left-kept c.args.gains.now c.in-Some.place c.requires.gained (owed-left c.args.gains.now c.args.strikes.now c.args.account c.in-Some.place (sym c.owes.ensures ∙ c.if-owes.true))
 
+-- the least deadline so far is that of the debts up to here that must be sent
 pub loop-place-preserved : goal.loop-place-preserved
 loop-place-preserved c =
     let found = c.in-Some.ensures in

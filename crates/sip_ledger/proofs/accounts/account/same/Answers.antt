@@ -14,6 +14,7 @@ debt_for-requires-clause-kept c = kept-from c.loop-at.at c.requires.gained c.req
 pub debt_for-requires-in-loop-at-clause-kept : goal.debt_for-requires-in-loop-at-clause-kept
 debt_for-requires-in-loop-at-clause-kept c = kept-from c.loop-at.beside c.requires.gained c.requires.other c.loop-at.invariant.told_beside.low c.if-beside-other.true
 
+-- accounts that are alike owe the same
 pub returns-then-is_alike : goal.returns-then-is_alike
 returns-then-is_alike c = (λ _. alike-debts c.args.gains.now c.args.strikes.now c.args.one c.args.other c.if-is_alike.ensures, λ _. refl)
 
@@ -25,6 +26,7 @@ loop-at-preserved c =
     at-more c.requires.one c.requires.other c.debt_for.result c.loop-at.invariant c.loop-at-test.true c.if-beside-other.true c.debt_for.ensures (same ∙ c.debt_for-in-loop-at.ensures)
     (record { within = one.within; before = one.before; is = one.is }) (record { within = other.within; before = other.before; is = other.is })
 
+-- accounts that share the rest of their places owe the same
 pub returns-then-shares_rest : goal.returns-then-shares_rest
 returns-then-shares_rest c = (λ _. rest-same c.requires.one c.requires.other c.loop-at.invariant c.if-at-beside.true c.if-shares_rest.ensures, λ _. refl)
 
@@ -36,9 +38,11 @@ returns-then-ne c =
           (λ is. apart (c.debt_for.ensures ∙ is ∙ sym c.debt_for-in-loop-at.ensures)) same),
     )
 
+-- both accounts end here, so they owe the same
 pub returns-then-at-one : goal.returns-then-at-one
 returns-then-at-one c = end-same c.requires.one c.requires.other c.loop-at.invariant c.if-at-one.true
 
+-- one account ends here and the other goes on, so they owe different things
 pub returns-else-at-one : goal.returns-else-at-one
 returns-else-at-one c =
     let was = c.loop-at.invariant in

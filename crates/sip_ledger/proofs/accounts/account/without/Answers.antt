@@ -16,6 +16,7 @@ entry-entry-requires-clause-kept c = left-kept c.args.gains.now c.args.place c.r
 pub next-start-requires-clause-from : goal.next-start-requires-clause-from
 next-start-requires-clause-from c = omega (arith, owed-within c.args.gains.now c.args.strikes.now.items c.args.account c.args.place c.requires.owed)
 
+-- without its first place the account begins with the next one
 pub returns-then-place-account : goal.returns-then-place-account
 returns-then-place-account c =
     let new = without-first c.args.gains.now c.args.strikes.now.items c.args.account c.args.place c.worth.result c.next-start.result _ c.requires.account c.requires.owed c.if-place-account.true
@@ -23,6 +24,7 @@ returns-then-place-account c =
     (rw c.deref.ensures.value at c.next-start.ensures.before) (rw c.deref.ensures.value at c.next-start.ensures.is) in
     record { kept = take-length c.args.strikes.now.items; account = new.0; owed = new.1; soft = refl }
 
+-- without its last place the account ends after the one before it
 pub returns-then-rest-eq1 : goal.returns-then-rest-eq1
 returns-then-rest-eq1 c =
     let last : c.args.place + 1 ≡ c.args.account.end =
@@ -34,6 +36,7 @@ returns-then-rest-eq1 c =
 pub put-requires-clause-kept : goal.put-requires-clause-kept
 put-requires-clause-kept c = grind (arith, entries_long, left-kept, owed-left, owed-within, without-first, without-last, without-middle)
 
+-- without a place in its midst the account has one strike more
 pub returns-clause-account : goal.returns-clause-account
 returns-clause-account c =
     (without-middle c.args.gains.now c.args.strikes.now.items c.put.new.strikes.items c.args.account c.in_ok-struck.struck c.args.place c.worth.result _ c.requires.account c.requires.owed

@@ -14,6 +14,7 @@ paid-requires-clause-account c =
     let long = debts_length c.args.gains.now c.args.strikes.now.items c.args.rows.now.items in
     (account-there c.loop-row.row c.index.result.now c.loop-row.invariant.3 (omega (arith, long, c.requires.to)) c.index.ensures).0
 
+-- where memory is refused, the accounts are as right as before
 pub returns-in_err-left-clause-accounts : goal.returns-in_err-left-clause-accounts
 returns-in_err-left-clause-accounts c = (paid-grown c.paid.new.strikes.items c.paid.ensures.kept c.loop-row.invariant.3).accounts
 
@@ -25,9 +26,11 @@ returns-in_err-push_left-clause-accounts c =
     let grown = paid-grown c.paid.new.strikes.items c.paid.ensures.kept c.loop-row.invariant.3 in
     subst (AreAccounts c.args.gains.now c.paid.new.strikes.items) (sym c.in_err-push_left.ensures.err) grown.accounts
 
+-- where memory is refused, the old rows are as they were
 pub returns-in_err-push_left-clause-err : goal.returns-in_err-push_left-clause-err
 returns-in_err-push_left-clause-err c = grind (arith, from_to-end, debts_length, account-there, paid-front, paid-grown, paid-next, row-there, on-error)
 
+-- after one row more, the rows up to it that can pay the message are pushed with it paid
 pub loop-row-preserved : goal.loop-row-preserved
 loop-row-preserved c =
     let g = c.args.gains.now in
@@ -46,5 +49,6 @@ loop-row-preserved c =
       subst (λ r. ArePaidTo g c.args.message c.args.moment c.args.from (k + 1) seen new r) (sym c.in_ok-push_left.ensures.ok) next,
     )
 
+-- at the end of the loop all rows that can pay were pushed with it paid
 pub returns-clause-ok : goal.returns-clause-ok
 returns-clause-ok c = grind (arith, from_to-end)

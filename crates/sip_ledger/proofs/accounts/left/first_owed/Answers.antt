@@ -11,6 +11,7 @@ returns-clause-start c =
     let full : c.loop-at.at ≡ length c.args.rows.now = omega arith in
     subst (StartFrom c.loop-at.first) (ap (λ n. take n c.args.rows.now) full ∙ take-length c.args.rows.now) c.loop-at.invariant.1
 
+-- of the rows up to here that owe something, none starts before the least start so far
 pub loop-at-preserved : goal.loop-at-preserved
 loop-at-preserved c =
     let none : Account = record { start = 0; end = 0; soft = 0; first = 0; last = 0; print = 0 } in

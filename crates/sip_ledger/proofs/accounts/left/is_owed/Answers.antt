@@ -15,6 +15,7 @@ loop-at-preserved c =
     subst (All P) (sym (take_more c.args.rows.now c.loop-at.at none inside))
     (All-push P (take c.loop-at.at c.args.rows.now) (get_or c.args.rows.now c.loop-at.at none) c.loop-at.invariant (sym c.owes.ensures ∙ c.if-owes.false))
 
+-- at the end of the loop no row was found that owes the place
 pub returns : goal.returns
 returns c =
     let full : c.loop-at.at ≡ length c.args.rows.now = omega arith in

@@ -10,6 +10,7 @@ loop-place-init c = written-none c.args.gains.now c.args.from c.args.strikes.now
 pub strike_too-requires-clause-kept : goal.strike_too-requires-clause-kept
 strike_too-requires-clause-kept c = c.requires.kept c.loop-place.place c.loop-place.auto.place (omega arith)
 
+-- after one place more, it is struck for the account too
 pub loop-place-preserved : goal.loop-place-preserved
 loop-place-preserved c =
     let g = c.args.gains.now in

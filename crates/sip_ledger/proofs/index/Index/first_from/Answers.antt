@@ -13,6 +13,7 @@ returns-in-Some-clause-found c =
     let at = subst (λ (r : List (ℕ × ℕ)). IsKeyRangeOf pair_cmp (Included (a.key, a.number)) Unbounded s r) c.in-Some.ensures.steps said in
     subst (λ v. IsFirstFrom v a.key a.number c.in-Some.pair.now) c.self.view_is (range-first s a.key a.number c.in-Some.pair.now c.next.new.self at)
 
+-- where the range is empty, no number from this one on stands under the key
 pub returns-in-None-clause-none : goal.returns-in-None-clause-none
 returns-in-None-clause-none c =
     let s = c.self.inside.pairs in

@@ -15,6 +15,7 @@ returns-in_ok-solid_of-in-Some c =
     record { message = c.in-Some.message; reads = reads; is = c.as_slice.ensures.value ∙ c.in_ok-solid_of-in-Some.ensures ∙ ap (λ a. solid a.0) c.to.ensures } in
     rw (c.eq.ensures, c.text.ensures) (IsToOf-same bytes c.args.to.now c.as_slice.result.now its)
 
+-- bytes that are no message have no To
 pub returns-in-None : goal.returns-in-None
 returns-in-None c =
     let fault = rw c.in-None.is at c.in_ok-message.ensures in

@@ -6,9 +6,11 @@ use Rattle.sip_machine.specs.inner.Dues.{rows_in}
 use Rattle.sip_machine.proofs.debts.NamesLemmas.{none-appends, owed-appends}
 use Rattle.sip_machine.proofs.dues.Dues.names_all.Goals as goal
 
+-- what the rows owe is named
 pub returns-in_ok-all_names-clause-ok : goal.returns-in_ok-all_names-clause-ok
 returns-in_ok-all_names-clause-ok c = grind (arith, owed-appends)
 
+-- where no row owes anything, nothing is named
 pub returns-in_default-clause-ok : goal.returns-in_default-clause-ok
 returns-in_default-clause-ok c =
     let count = c.self.inside.rows in

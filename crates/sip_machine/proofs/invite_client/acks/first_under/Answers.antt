@@ -11,6 +11,7 @@ has_to-requires c =
     first-kept c.args.book.now c.args.to.now c.span-low.result.0 c.span-low.result.1 c.args.moment c.args.dues.now c.args.row c.requires.row c.span-low.ensures c.requires.owed
     c.in-Some.hashes.now c.in-Some.ensures c.in-Some-first.message (rw (c.in-Some-first.is, c.hash.ensures) at c.in-Some-first_payable.ensures)
 
+-- the first debt under the hash of the To is the first with that To
 pub returns : goal.returns
 returns c =
     first-under c.args.book.now c.args.to.now c.span-low.result.0 c.span-low.result.1 c.args.moment c.args.dues.now c.args.row c.requires.row c.span-low.ensures c.requires.owed

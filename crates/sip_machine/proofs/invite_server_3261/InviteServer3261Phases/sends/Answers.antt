@@ -16,6 +16,7 @@ returns-then-is_success c =
     (Sends c.args.self.now (invite_server_3261_seen texts c.args.phase.now) k e) c.succeeds.result) c.in-Response.ensures
     (c.succeeds.ensures c.args.self.now texts c.in-Response.code e (c.is_success.ensures.0 c.if-is_success.true))
 
+-- a response that is no success is sent as the corrected machine sends it
 pub returns-in_ok-sent-in-In : goal.returns-in_ok-sent-in-In
 returns-in_ok-sent-in-In c =
     let texts = c.args.book.now in

@@ -13,6 +13,7 @@ index-requires g c =
 pub names-requires : goal.names-requires
 names-requires g c = in-rows c.pool.inside.phases.items c.pool.inside.dues c.args.pool.now c.args.at c.pool.view_is c.pool.invariant c.requires
 
+-- the numbers that were appended are those that the phase names and then those of what is owed
 pub returns-clause-ok : goal.returns-clause-ok
 returns-clause-ok g c = λ d.
     let names = g.M.Phases.names in

@@ -36,6 +36,7 @@ pub rests-requires-clause-in_range : goal.rests-requires-clause-in_range
 rests-requires-clause-in_range g c =
     holds-here (OwingInRange g.M.Phases.in_range) c.pool.inside.phases.items c.pool.inside.dues c.args.pool.now c.args.at c.index.result.now c.pool.view_is c.requires.at c.index.ensures c.requires.in_range
 
+-- where the state cannot wait until the moment, it gives nothing
 pub returns-then-is_past-clause-gives : goal.returns-then-is_past-clause-gives
 returns-then-is_past-clause-gives g c = λ d.
     let m = g.M.Phases in
@@ -47,6 +48,7 @@ returns-then-is_past-clause-gives g c = λ d.
     let past = subst (λ x. ¬ (IsWithin e.moment (until_of m.figure p (owing_seen m.seen texts x)))) here (rw (c.moment.ensures, c.until.ensures texts) at c.if-is_past.ensures) in
     ([], sym (append-nil c.args.pool.now), Covers-none (owing_names m.names) (OwingInRange m.in_range) (owing_seen m.seen) texts (RestsFrom m.figure p m.seen texts e x) (λ y h. past h.0))
 
+-- what the state gives without a row is found, if it can wait until the moment
 pub returns-clause-gives : goal.returns-clause-gives
 returns-clause-gives g c = λ d.
     let m = g.M.Phases in
@@ -64,6 +66,7 @@ returns-clause-gives g c = λ d.
     on_ok_weaker c.push_rested.result (λ (is : c.push_rested.new.self ≡ c.args.pool.now ++ option_to_list rested). (option_to_list rested, is, covers))
     (rw (c.in_ok-rest.ensures.same, c.pool.view_is, c.moment-2.ensures) at c.push_rested.ensures.ok d)
 
+-- the old states are as they were
 pub returns-clause-before : goal.returns-clause-before
 returns-clause-before g c =
     let d = at_rest c.index.result.now in

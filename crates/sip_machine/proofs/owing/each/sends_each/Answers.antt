@@ -14,6 +14,7 @@ loop-at-init g c =
     let e = event_in texts c.args.event.now in
     (omega arith, found-none (owing_names m.names) (OwingInRange m.in_range) (owing_seen m.seen) texts (λ x. TakeOf m.figure (m.times c.args.machine.now) (owing_seen m.seen texts x) e) c.args.pool.now)
 
+-- the book has all that the states of the next run name, since they are old ones
 pub sends_run-requires-clause-known : goal.sends_run-requires-clause-known
 sends_run-requires-clause-known g c =
     let (at_le, (found, is, covers)) = c.loop-at.invariant in
@@ -24,11 +25,13 @@ sends_run-requires-clause-in_range g c =
     let (at_le, (found, is, covers)) = c.loop-at.invariant in
     slice-kept (OwingInRange g.M.Phases.in_range) c.loop-at.at c.run_end-end.result c.args.count c.args.pool.now found c.loop-at.pool is c.run_end-end.ensures.order.1 c.requires.count c.requires.in_range
 
+-- where memory is refused, the old states are as they were
 pub returns-in_err-sends_run-clause-before : goal.returns-in_err-sends_run-clause-before
 returns-in_err-sends_run-clause-before g c =
     let (at_le, (found, is, covers)) = c.loop-at.invariant in
     before-more c.args.pool.now c.loop-at.pool c.sends_run.new.pool found is c.sends_run.ensures.before
 
+-- after one more run of states of one phase, what the states up to its end take is found
 pub loop-at-preserved : goal.loop-at-preserved
 loop-at-preserved g c =
     let m = g.M.Phases in
@@ -43,6 +46,7 @@ loop-at-preserved g c =
           (omega (arith, order.1, le)) has c.in_ok-sends_run.ensures.gives,
     )
 
+-- at the end of the loop all states that were to be asked have been asked
 pub returns-clause-gives : goal.returns-clause-gives
 returns-clause-gives g c =
     let m = g.M.Phases in

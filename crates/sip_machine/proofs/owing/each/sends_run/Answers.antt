@@ -21,6 +21,7 @@ rests_run-requires-clause-in_range g c =
     let (added, is, covers) = c.in_ok-leads_run.ensures.gives in
     subst (All (OwingInRange g.M.Phases.in_range)) (sym (slice-old c.args.from c.args.to c.args.pool.now added c.leads_run.new.pool is c.requires.to)) c.requires.in_range
 
+-- what the states take of a sent message is what the rows lead to, and what they give without a row
 pub returns-clause-gives : goal.returns-clause-gives
 returns-clause-gives g c =
     let m = g.M.Phases in

@@ -12,6 +12,7 @@ owes_nothing-requires g c = in-rows c.self.inside.phases.items c.self.inside.due
 pub returns-then-eq : goal.returns-then-eq
 returns-then-eq g c = grind (arith, state-at, same-state)
 
+-- where the phases differ, the state is not the one at rest in the phase
 pub returns-else-eq : goal.returns-else-eq
 returns-else-eq g c = λ d.
     let p = c.index.result.now in

@@ -18,6 +18,7 @@ same-requires-clause-other g c = in-rows c.self.inside.phases.items c.self.insid
 pub returns-then-eq : goal.returns-then-eq
 returns-then-eq g c = grind (arith, state-at, same-state)
 
+-- where the phases differ, the states differ
 pub returns-else-eq : goal.returns-else-eq
 returns-else-eq g c = λ d.
     let p = c.index.result.now in

@@ -12,6 +12,7 @@ keep_phases-requires-clause-within g c = grind (arith, beside-length)
 pub keep-requires-clause-within : goal.keep-requires-clause-within
 keep-requires-clause-within g c = grind (arith, beside-length)
 
+-- the phases and the debts are those of the rows that are kept, in their order
 pub returns : goal.returns
 returns g c = λ x.
     let phases = c.self.inside.phases.items in

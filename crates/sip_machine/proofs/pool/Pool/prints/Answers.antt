@@ -18,6 +18,7 @@ index-requires g c =
 pub mix-requires-clause-within : goal.mix-requires-clause-within
 mix-requires-clause-within g c = grind (arith, beside-length)
 
+-- after one more run of states of one phase, the hash of the phase is mixed into the prints up to its end
 pub loop-at-preserved : goal.loop-at-preserved
 loop-at-preserved g c =
     let phases = c.self.inside.phases.items in
@@ -44,6 +45,7 @@ loop-at-preserved g c =
           ∙ ap (λ z. z.phase) (state-at phases rows xs at p x c.self.view_is here) ∙ sym c.index.ensures)),
     )
 
+-- at the end of the loop each print has the hash of its state's phase and debts
 pub returns : goal.returns
 returns g c =
     let phases = c.self.inside.phases.items in

@@ -11,6 +11,7 @@ lead-requires-clause-at g c =
     let d = some-at xs c.args.at c.requires.at in
     last-in xs c.push_copy.new.self (get_or xs c.args.at d) c.len-last.result (c.in_ok-push_copy.ensures.ok d) c.len-last.ensures
 
+-- where memory is refused, the pool is as it was
 pub returns-then-is_err-clause-err : goal.returns-then-is_err-clause-err
 returns-then-is_err-clause-err g c =
     let xs = c.args.self.now in
@@ -18,6 +19,7 @@ returns-then-is_err-clause-err g c =
     let as_before = on_err c.lead.result _ (rw c.is_err.ensures.value at c.if-is_err.true) c.lead.ensures.err in
     c.truncate.ensures ∙ take-old xs (get_or xs c.args.at d ∷ []) c.lead.new.self c.len-last.result (as_before ∙ c.in_ok-push_copy.ensures.ok d) c.len-last.ensures
 
+-- the state is pushed once more, and is led by its row there
 pub returns-clause-ok : goal.returns-clause-ok
 returns-clause-ok g c = λ d.
     let xs = c.args.self.now in

@@ -21,6 +21,7 @@ index-phase-requires g c =
 pub push_paid-requires : goal.push_paid-requires
 push_paid-requires g c = grind (arith, beside-length)
 
+-- the states between the indices that can pay the message and are in time are pushed once more, with it paid
 pub returns-clause-ok : goal.returns-clause-ok
 returns-clause-ok g c =
     let phases = c.self.inside.phases.items in

@@ -14,6 +14,7 @@ index-requires-in-loop-end g c =
     subst (λ n. c.loop-end.end < n) (sym c.self.inside.phases.ok.0)
     (in-phases c.self.inside.phases.items c.self.inside.dues c.args.self.now c.loop-end.end c.self.view_is (omega (arith, c.loop-end-test.true, c.requires.limit)))
 
+-- one more state has the phase of the first one
 pub loop-end-preserved : goal.loop-end-preserved
 loop-end-preserved g c =
     let xs = c.args.self.now in

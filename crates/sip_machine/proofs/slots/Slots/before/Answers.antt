@@ -12,6 +12,7 @@ last_from-requires c =
     let within = (are.older_is c.args.at low).within in
     omega (arith, older, within, low)
 
+-- the newest row of the slot before this one with the same print is the last such row of all
 pub returns : goal.returns
 returns c =
     let s = c.args.self.now in

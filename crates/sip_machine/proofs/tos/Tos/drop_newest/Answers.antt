@@ -7,9 +7,11 @@ use Rattle.sip_machine.specs.inner.Tos.{AreUnder, IsUnder}
 use Rattle.sip_machine.proofs.acks.ToLemmas.{AllPairs-take, front_below, taken-keeps}
 use Rattle.sip_machine.proofs.tos.Tos.drop_newest.Goals as goal
 
+-- the order of Tos: by the numbers of their messages
 abbrev below : To → To → Type 0
 below a b = a.number < b.number
 
+-- without the newest To the others are in order, and each stands under its hash
 pub invariant_of-self : goal.invariant_of-self
 invariant_of-self c =
     let tos = c.self.inside.list.items in
@@ -29,6 +31,7 @@ invariant_of-self c =
       subst (AreUnder new) (sym c.pop.ensures.rest) under,
     )
 
+-- the Tos that are left were there before
 pub returns-in-Some : goal.returns-in-Some
 returns-in-Some c =
     let tos = c.self.inside.list.items in

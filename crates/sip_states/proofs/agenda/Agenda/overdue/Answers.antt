@@ -15,6 +15,7 @@ returns-in_err-last-clause-none c =
     if_none c.from_residual.result _ (rw (← c.self.view_is) (nothing_due c.self.inside.records.items c.self.inside.order c.args.moment c.self.invariant
     (λ line has. absurd (no_line c.self.inside.order line (λ h. true≢false (sym (c.in_err-last.ensures.variant.1 h))) has))))
 
+-- where the earliest last moment is not past, none is
 pub returns-then-last-moment-clause-none : goal.returns-then-last-moment-clause-none
 returns-then-last-moment-clause-none c =
     rw (← c.self.view_is) (nothing_due c.self.inside.records.items c.self.inside.order c.args.moment c.self.invariant

@@ -5,6 +5,7 @@ use Rattle.sip_states.specs.inner.Marks.{marks}
 use Rattle.sip_states.proofs.due.MarksLemmas.{marked_more, marked_still}
 use Rattle.sip_states.proofs.marks.Marks.mark.Goals as goal
 
+-- where the index had no mark, it has one now, and the other marks are as they were
 pub returns-then-place-self : goal.returns-then-place-self
 returns-then-place-self c =
     let order = c.self.inside.order.items in
@@ -16,6 +17,7 @@ returns-then-place-self c =
     ap (λ ps. marks ps (count + 1)) c.exchange.ensures.places ∙ marked_more order places count c.self.invariant c.args.index p low at c.if-place-self.true
     ∙ ap (λ ms. set ms c.args.index true) c.self.view_is
 
+-- where the index had its mark, all marks are as they were
 pub returns-else-place-self : goal.returns-else-place-self
 returns-else-place-self c =
     let places = c.self.inside.places.items in

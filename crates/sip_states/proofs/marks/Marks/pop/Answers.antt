@@ -4,6 +4,7 @@ use Rattle.sip_states.specs.inner.Marks.{marks}
 use Rattle.sip_states.proofs.due.MarksLemmas.{popped, popped_marks, last_unmarked}
 use Rattle.sip_states.proofs.marks.Marks.pop.Goals as goal
 
+-- without the last index, order and places still lead to each other
 pub invariant_of-self : goal.invariant_of-self
 invariant_of-self c =
     let order = c.self.inside.order.items in
@@ -18,6 +19,7 @@ invariant_of-self c =
     let high : count ≤ p = (let from = last_unmarked places count last c.requires.0 (long ∙ whole) (c.self.view_is ∙ c.requires.1) in omega arith) in
     rw (c.truncate.ensures.items, c.truncate-2.ensures.items, c.exchange.ensures.order, c.exchange.ensures.places) (popped order places count c.self.invariant last p whole at high)
 
+-- the marks are those of all indices but the last one
 pub returns : goal.returns
 returns c =
     let order = c.self.inside.order.items in

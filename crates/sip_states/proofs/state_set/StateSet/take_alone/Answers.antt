@@ -9,6 +9,7 @@ use Rattle.sip_states.proofs.state_set.StateSet.take_alone.Goals as goal
 pub step_alone-requires-clause-known : goal.step_alone-requires-clause-known
 step_alone-requires-clause-known g c = rw (← c.self.view_is) at c.requires.known
 
+-- after its one state has taken the event, the set keeps its invariant: it has one state again
 pub invariant_of-self-then-stepped : goal.invariant_of-self-then-stepped
 invariant_of-self-then-stepped g c =
     let m = c.self.inside.machine in

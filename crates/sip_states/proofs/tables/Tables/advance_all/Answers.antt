@@ -54,6 +54,7 @@ invariant_of-self-2 g c =
       }),
     )
 
+-- where memory is refused, some marked sets have waited, and the others are as they were
 pub returns-in_err-advance_each-clause-err : goal.returns-in_err-advance_each-clause-err
 returns-in_err-advance_each-clause-err g c =
     let some = c.in_err-advance_each.ensures.err in
@@ -65,10 +66,12 @@ returns-in_err-advance_each-clause-err g c =
       each = some_advance c.args.moment some.0 (values c.self.inside.sets) (values c.advance_each.new.sets) some.2;
     }))
 
+-- the sets without a mark name nothing, also after the wait
 pub unmark_silent-requires-clause-marked : goal.unmark_silent-requires-clause-marked
 unmark_silent-requires-clause-marked g c =
     marked_still (λ s. numbers_of s ≡ []) c.args.moment c.marked.result.now c.self.inside.marks (values c.self.inside.sets) (values c.advance_each.new.sets) c.self.invariant.3 (λ n has. (c.marked.ensures.members n).0 has) c.in_ok-advance_each.ensures.ok
 
+-- all sets have waited: the marked ones were advanced, and waiting does not change the others
 pub returns-clause-ok : goal.returns-clause-ok
 returns-clause-ok g c =
     let up = c.in_ok-advance_each.ensures.ok in
@@ -82,6 +85,7 @@ returns-clause-ok g c =
           (c.self.invariant.2 ∙ sym (length-values_of sets.entries)) c.self.invariant.3 c.marked.ensures.members up;
     }))
 
+-- where memory is refused, each set has waited or is as it was
 pub returns-clause-err : goal.returns-clause-err
 returns-clause-err g c =
     let up = c.in_ok-advance_each.ensures.ok in

@@ -20,6 +20,7 @@ all-requires-2 g c =
     let is = c.len-2.ensures ∙ ap length c.in_ok-agenda.ensures in
     omega (arith, few, is, c.self.invariant.1, c.self.invariant.0)
 
+-- all marks of what is kept are set, so they are right whatever the sets are, and all lists are of one length
 pub invariant_of-self : goal.invariant_of-self
 invariant_of-self g c =
     let flags = c.args.flags.now in
@@ -45,6 +46,7 @@ invariant_of-self g c =
       },
     )
 
+-- the keys, the sets and the records are those whose flag is set, in their order
 pub returns-clause-ok : goal.returns-clause-ok
 returns-clause-ok g c =
     let flags = c.args.flags.now in

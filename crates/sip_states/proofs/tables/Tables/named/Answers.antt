@@ -13,6 +13,7 @@ use Rattle.sip_states.proofs.keyed.ByMachine.{numbers_appended}
 use Rattle.sip_states.proofs.due.AdvanceLemmas.{place_among, numbers_at, numbers_at-is, marked_names, named_if}
 use Rattle.sip_states.proofs.tables.Tables.named.Goals as goal
 
+-- an index that is marked is one of the sets
 pub index-requires : goal.index-requires
 index-requires g c =
     let marks = c.self.inside.marks in
@@ -22,6 +23,7 @@ index-requires g c =
     let within = slice_get_within marks index true mark in
     omega (arith, within, c.self.invariant.2)
 
+-- after one set more, the numbers found are those of the sets up to it
 pub loop-index-preserved : goal.loop-index-preserved
 loop-index-preserved g c =
     let t = c.args.self.now in
@@ -34,6 +36,7 @@ loop-index-preserved g c =
     (subst (λ ns. AppendsAll ns c.loop-index.found.items c.names.new.out.items) (sym (numbers_at-is t.sets index c.index.result.now at))
     (numbers_appended c.index.result.now c.loop-index.found.items c.names.new.out.items c.in_ok-names.ensures))
 
+-- the numbers of the marked sets are the numbers of all sets, since the others name none
 pub returns-clause-ok : goal.returns-clause-ok
 returns-clause-ok g c =
     let t = c.args.self.now in

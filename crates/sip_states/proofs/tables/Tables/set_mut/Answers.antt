@@ -9,6 +9,7 @@ use Rattle.sip_states.proofs.keyed.TablesLemmas.{values_of-set_value_at}
 use Rattle.sip_states.proofs.due.AdvanceLemmas.{marked_set, within_set}
 use Rattle.sip_states.proofs.tables.Tables.set_mut.Goals as goal
 
+-- whatever is left in the set that was lent, its marks are set and so they are right
 pub invariant_of-self-lent : goal.invariant_of-self-lent
 invariant_of-self-lent g c w =
     let inv = c.self.invariant in

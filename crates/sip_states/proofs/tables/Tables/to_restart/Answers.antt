@@ -7,6 +7,7 @@ use Rattle.sip_states.specs.Restarting.{AreToRestart}
 use Rattle.sip_states.proofs.due.AdvanceLemmas.{restart_numbers}
 use Rattle.sip_states.proofs.tables.Tables.to_restart.Goals as goal
 
+-- the numbers are those of the sets that have their second mark; all others are quiet, so that a restart changes none of them
 pub returns : goal.returns
 returns g c =
     let sets = c.self.inside.sets in

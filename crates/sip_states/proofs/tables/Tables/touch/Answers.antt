@@ -12,6 +12,7 @@ use Rattle.sip_states.proofs.due.AdvanceLemmas.{marked_push, within_push, start_
 use Rattle.sip_states.proofs.keyed.TablesLemmas.{fresh-index}
 use Rattle.sip_states.proofs.tables.Tables.touch.Goals as goal
 
+-- with a new key each list is longer by one, and its mark need not be set, since a new set names nothing and is quiet
 pub invariant_of-self-2 : goal.invariant_of-self-2
 invariant_of-self-2 g c =
     let inv = c.self.invariant in
@@ -36,6 +37,7 @@ invariant_of-self-2 g c =
     }) in
     (omega (arith, size, room, many), omega (arith, size, agenda, inv.1), omega (arith, size, marks, inv.2), marked, omega (arith, size, moved, inv.4), moves)
 
+-- where memory is refused, the new key goes again, and all is as before
 pub invariant_of-self-in-Err : goal.invariant_of-self-in-Err
 invariant_of-self-in-Err g c =
     let t = c.self.inside in

@@ -37,6 +37,7 @@ invariant_of-self g c =
       },
     )
 
+-- all marks are set, so they are right whatever the sets are
 pub invariant_of-self-2 : goal.invariant_of-self-2
 invariant_of-self-2 g c =
     let marks = c.in_ok-marks.marks in
@@ -55,6 +56,7 @@ invariant_of-self-2 g c =
       },
     )
 
+-- where memory is refused, some sets have waited, and the others are as they were
 pub returns-in_err-advance_each-clause-err : goal.returns-in_err-advance_each-clause-err
 returns-in_err-advance_each-clause-err g c =
     let some = c.in_err-advance_each.ensures.err in
@@ -66,6 +68,7 @@ returns-in_err-advance_each-clause-err g c =
       each = some_advance c.args.moment some.0 (values c.self.inside.sets) (values c.advance_each.new.sets) some.2;
     }))
 
+-- every set has waited until the moment
 pub returns-clause-ok : goal.returns-clause-ok
 returns-clause-ok g c =
     let up = c.in_ok-advance_each.ensures.ok in

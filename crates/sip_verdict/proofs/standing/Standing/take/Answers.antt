@@ -21,6 +21,7 @@ pass-requires-in-Restart-clause-may g c =
     let e = c.args.entry.now in
     grown_may s.book c.observe.new.book e.number e.bytes.items (inl (rw c.in-Restart.is at c.in_ok-told.ensures.kept).0) s.tables e.moment c.requires.may.passes
 
+-- at a restart each transaction may hear the event
 pub pass-requires-in-Restart-clause-hear : goal.pass-requires-in-Restart-clause-hear
 pass-requires-in-Restart-clause-hear g c =
     let e = c.args.entry.now in
@@ -30,6 +31,7 @@ pass-requires-in-Restart-clause-hear g c =
 pub pass-requires-in-Restart-clause-recorded : goal.pass-requires-in-Restart-clause-recorded
 pass-requires-in-Restart-clause-recorded g c = c.requires.may.recorded
 
+-- after a restart the next entry may be taken
 pub returns-in_ok-verdict-in-Restart-clause-may : goal.returns-in_ok-verdict-in-Restart-clause-may
 returns-in_ok-verdict-in-Restart-clause-may g c =
     let s = c.args.self.now in
@@ -38,6 +40,7 @@ returns-in_ok-verdict-in-Restart-clause-may g c =
     may_next passed.verdict s.book c.observe.new.book c.pass-in-Restart.new.self.book s.tables s.tables c.pass-in-Restart.new.self.tables e.number e.moment e.bytes.items c.requires.may
     (inl (rw c.in-Restart.is at c.in_ok-told.ensures.kept).0) (omega arith) passed.ensures.keys passed.ensures.book passed.ensures.may passed.ensures.recorded
 
+-- a restart has no message, so the numbers of the book stay those of the entries
 pub returns-in_ok-verdict-in-Restart-clause-numbered : goal.returns-in_ok-verdict-in-Restart-clause-numbered
 returns-in_ok-verdict-in-Restart-clause-numbered g c =
     let s = c.args.self.now in
@@ -47,6 +50,7 @@ returns-in_ok-verdict-in-Restart-clause-numbered g c =
     unless_trouble (StaysNumbered (item e) e.number s.book new) c.in_ok-verdict-in-Restart.verdict
     (numbered_none (item e) e.number s.book new kept.1 (c.in_ok-verdict-in-Restart.ensures.book ∙ kept.0))
 
+-- the verdict after a restart is that of what is observed of the entry
 pub returns-in_ok-verdict-in-Restart-clause-judged : goal.returns-in_ok-verdict-in-Restart-clause-judged
 returns-in_ok-verdict-in-Restart-clause-judged g c =
     let s = c.args.self.now in
@@ -56,6 +60,7 @@ returns-in_ok-verdict-in-Restart-clause-judged g c =
     c.restart-event.result s.tables c.pass-in-Restart.new.self.tables c.requires.may.passes.long c.known-in-Restart.ensures.unique c.in_ok-verdict-in-Restart.ensures.keys c.restart-event.ensures
     (λ n keeps. c.requires.may.some n (subst (λ b. Keeps b n) same keeps)) refl (rw c.in-Restart.is at c.in_ok-told.ensures.observed) c.in_ok-verdict-in-Restart.ensures.judged
 
+-- after the keys were looked up, the tables may pass the moment
 pub pass-requires-in-Heard-clause-may : goal.pass-requires-in-Heard-clause-may
 pass-requires-in-Heard-clause-may g c =
     let s = c.args.self.now in
@@ -63,6 +68,7 @@ pass-requires-in-Heard-clause-may g c =
     touches_may c.observe.new.book e.moment (each c.in-Heard.concerned) (each c.in_ok-concerned-in-Heard.concerned) s.tables c.touch_each.new.tables
     (grown_may s.book c.observe.new.book e.number e.bytes.items (rw c.in-Heard.is at c.in_ok-told.ensures.kept).4 s.tables e.moment c.requires.may.passes) c.in_ok-concerned-in-Heard.ensures.touched
 
+-- the transactions that are to hear the event have their sets, at its moment
 pub pass-requires-in-Heard-clause-hear : goal.pass-requires-in-Heard-clause-hear
 pass-requires-in-Heard-clause-hear g c =
     let e = c.args.entry.now in
@@ -84,6 +90,7 @@ returns-in_ok-verdict-in-Unheard-clause-may g c =
     may_next passed.verdict s.book c.observe.new.book c.pass.new.self.book s.tables s.tables c.pass.new.self.tables e.number e.moment e.bytes.items c.requires.may
     (inl (rw c.in-Unheard.is at c.in_ok-told.ensures.kept)) (omega arith) passed.ensures.keys passed.ensures.book passed.ensures.may passed.ensures.recorded
 
+-- where no transaction hears the entry, the book is as it was, and its numbers stay those of the entries
 pub returns-in_ok-verdict-in-Unheard-clause-numbered : goal.returns-in_ok-verdict-in-Unheard-clause-numbered
 returns-in_ok-verdict-in-Unheard-clause-numbered g c =
     let s = c.args.self.now in
@@ -101,6 +108,7 @@ returns-in_ok-verdict-in-Unheard-clause-judged g c =
     unheard_judged c.in_ok-verdict-in-Unheard.verdict s.book c.observe.new.book c.pass.new.self.book e.number e.bytes.items (inl (rw c.in-Unheard.is at c.in_ok-told.ensures.kept)) (item e) e.moment e.number
     s.tables c.pass.new.self.tables refl (rw c.in-Unheard.is at c.in_ok-told.ensures.observed) c.in_ok-verdict-in-Unheard.ensures.judged
 
+-- where the message has a fault, the verdict is that it is malformed
 pub returns-in-Fault-clause-judged : goal.returns-in-Fault-clause-judged
 returns-in-Fault-clause-judged g c = λ es tracks counts newest.
     let (e, seen, is) = (rw c.in-Fault.is at c.in_ok-told.ensures.observed) es in (
@@ -110,6 +118,7 @@ returns-in-Fault-clause-judged g c = λ es tracks counts newest.
       tt,
     )
 
+-- after transactions heard the message, the next entry may be taken
 pub returns-in_ok-verdict-in-Heard-clause-may : goal.returns-in_ok-verdict-in-Heard-clause-may
 returns-in_ok-verdict-in-Heard-clause-may g c =
     let s = c.args.self.now in
@@ -120,6 +129,7 @@ returns-in_ok-verdict-in-Heard-clause-may g c =
     (few_keys c.in-Heard.concerned (each c.in_ok-concerned-in-Heard.concerned) s.tables c.touch_each.new.tables c.in_ok-concerned-in-Heard.ensures.touched)
     passed.ensures.keys passed.ensures.book passed.ensures.may passed.ensures.recorded
 
+-- the message that was kept has the number of the first entry with its bytes
 pub returns-in_ok-verdict-in-Heard-clause-numbered : goal.returns-in_ok-verdict-in-Heard-clause-numbered
 returns-in_ok-verdict-in-Heard-clause-numbered g c =
     let s = c.args.self.now in
@@ -139,6 +149,7 @@ returns-in_ok-verdict-in-Heard-clause-given g c =
     (subst (λ all. HaveNumbers all numbers keys) (sym c.in_ok-verdict-in-Heard.ensures.keys)
     (have_numbers keys numbers c.args.self.now.tables c.touch_each.new.tables c.in_ok-concerned-in-Heard.ensures.touched))
 
+-- where transactions hear the message, the verdict is that of what is observed of the entry
 pub returns-in_ok-verdict-in-Heard-clause-judged : goal.returns-in_ok-verdict-in-Heard-clause-judged
 returns-in_ok-verdict-in-Heard-clause-judged g c = λ es tracks counts newest.
     let s = c.args.self.now in

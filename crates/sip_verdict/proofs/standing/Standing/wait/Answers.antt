@@ -11,6 +11,7 @@ returns-clause-recorded g c =
     let s = c.args.self.now in
     waited_recorded s.book c.known.ensures s.tables c.wait_all.new.self c.args.moment c.in_ok-wait_all.ensures.ok c.requires.may c.requires.recorded
 
+-- after all sets have waited, the tables track the same entries, and each transaction that is over has a quiet set
 pub returns-clause-surveyed : goal.returns-clause-surveyed
 returns-clause-surveyed g c =
     let s = c.args.self.now in

@@ -12,6 +12,7 @@ judge_next-requires-clause-may g c =
     let next = subst (λ j. MayComeNext j.number j.moment e.number e.moment) (sym is) (c.requires (ap (λ j. j.stage) (sym is) ∙ c.in-Open.is)) in
     may_take_next s.standing.book s.standing.tables s.number s.moment e.number e.moment next (c.self.invariant c.in-Open.is).0
 
+-- where the entry brings no verdict, the judge stands after it
 pub returns-in-Ok-None-clause-judged : goal.returns-in-Ok-None-clause-judged
 returns-in-Ok-None-clause-judged g c es stands =
     let e = c.args.entry.now in

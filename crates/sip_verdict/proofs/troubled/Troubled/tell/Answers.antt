@@ -15,6 +15,7 @@ returns-then-is_fresh-clause-told c =
       sym (append-nil c.args.found.now.items),
     )
 
+-- the breaches are found first and then what is undecided, each in the order of their numbers
 pub returns-clause-told : goal.returns-clause-told
 returns-clause-told c =
     let entry = c.args.entry in

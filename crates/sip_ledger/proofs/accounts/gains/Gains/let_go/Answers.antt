@@ -6,6 +6,7 @@ use Rattle.sip_ledger.proofs.gains.FlagLemmas.{flags-let_go}
 use Rattle.sip_ledger.proofs.gains.LeftLemmas.{gains-let_go}
 use Rattle.sip_ledger.proofs.accounts.gains.Gains.let_go.Goals as goal
 
+-- without the gain at the place, the indexes lack it, and the others are as they were
 pub returns : goal.returns
 returns c =
     let g = c.args.self.now in

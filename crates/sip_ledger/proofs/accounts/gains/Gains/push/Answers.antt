@@ -18,6 +18,7 @@ returns-in_err-reserve c =
     let all = gains-same g new c.requires c.reserve.ensures.items refl (λ m k. refl) (λ k. refl) refl refl (flags-same g new c.requires.flags c.reserve.ensures.items refl refl) in
     record { gained = all.0; ok = first_of (search rules, grind (arith, common_steps)); err = on-error c.from_residual.result c.from_residual.ensures.0 all.1 }
 
+-- where memory is refused, the gains are the same
 pub returns-in_err-reserve-2 : goal.returns-in_err-reserve-2
 returns-in_err-reserve-2 c =
     let g = c.args.self.now in
@@ -26,6 +27,7 @@ returns-in_err-reserve-2 c =
     (flags-same g new c.requires.flags c.reserve.ensures.items c.reserve-2.ensures.items refl) in
     record { gained = all.0; ok = first_of (search rules, grind (arith, common_steps)); err = on-error c.from_residual-in_err-reserve-2.result c.from_residual-in_err-reserve-2.ensures.0 all.1 }
 
+-- where memory is refused, the gains are the same
 pub returns-in_err-note : goal.returns-in_err-note
 returns-in_err-note c =
     let g = c.args.self.now in
@@ -34,6 +36,7 @@ returns-in_err-note c =
     (flags-same g new c.requires.flags c.reserve.ensures.items c.reserve-2.ensures.items refl) in
     record { gained = all.0; ok = first_of (search rules, grind (arith, common_steps)); err = on-error c.from_residual-in_err-note.result c.from_residual-in_err-note.ensures.0 all.1 }
 
+-- with the new gain, its entry, its flags and its places in the indexes are right
 pub returns : goal.returns
 returns c =
     let g = c.args.self.now in

@@ -8,6 +8,7 @@ use Rattle.sip_log.proofs.header.read_times.Goals as goal
 pub returns-in_err-t1 : goal.returns-in_err-t1
 returns-in_err-t1 c = rw c.from_residual.ensures (λ p is within. c.in_err-t1.ensures _ _ is.t1_is)
 
+-- no T2 stands after T1
 pub returns-in_err-t2 : goal.returns-in_err-t2
 returns-in_err-t2 c =
     let t1 = c.in_ok-t1.ensures in

@@ -6,6 +6,7 @@ use Rattle.sip_message.proofs.lemmas.params.Reading.{param-shorter}
 use Rattle.sip_message.proofs.lemmas.params.Branch.{Decides, copied-or, decides-more, decides-not, decides-all}
 use Rattle.sip_message.proofs.via.cut_branch.Goals as goal
 
+-- with one parameter more the first branch is still the one that was found
 pub params-preserved : goal.params-preserved
 params-preserved c =
     let p : Param = (c.in-Some.name.now, option_copied c.in-Some.value) in

@@ -10,6 +10,7 @@ pub returns-in_err-part : goal.returns-in_err-part
 returns-in_err-part c =
     subst (IsOnlyValue HostFront host_front_parts c.args.text.now) (sym c.from_residual.ensures) (stop c.in_err-part.ensures)
 
+-- what stands at the front is no host
 pub returns-in_err-host : goal.returns-in_err-host
 returns-in_err-host c =
     subst (IsOnlyValue HostFront host_front_parts c.args.text.now) (sym c.from_residual-in_err-host.ensures)

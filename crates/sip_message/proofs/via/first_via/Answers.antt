@@ -18,6 +18,7 @@ returns-then-are_more_vias c =
     let first = element c.in_ok-first.first in
     first-is text more first c.in_ok-first.ensures ((vias-behind text more first c.in_ok-first.ensures).1 (c.are_more_vias.ensures.0 c.if-are_more_vias.true))
 
+-- what follows the first element is not more elements
 pub returns-else-are_more_vias : goal.returns-else-are_more_vias
 returns-else-are_more_vias c = λ e is.
     both_ways c.are_more_vias.result c.if-are_more_vias.false

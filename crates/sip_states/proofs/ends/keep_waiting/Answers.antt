@@ -10,6 +10,7 @@ use Rattle.sip_states.proofs.ends.keep_waiting.Goals.{then-is_within, else-is_wi
 pub until-requires-clause-at : goal.until-requires-clause-at
 until-requires-clause-at g c = let long = c.loop-at.invariant.filters.long in omega (arith, long)
 
+-- the moments of the state are in range
 pub until-requires-clause-in_range : goal.until-requires-clause-in_range
 until-requires-clause-in_range g c = λ d.
     let long = c.loop-at.invariant.filters.long in
@@ -18,6 +19,7 @@ until-requires-clause-in_range g c = λ d.
 pub copy-requires-clause-from : goal.copy-requires-clause-from
 copy-requires-clause-from g c = let long = c.loop-at.invariant.filters.long in omega (arith, long)
 
+-- the place to which a state is copied is not past the one that is looked at
 pub copy-requires-clause-to : goal.copy-requires-clause-to
 copy-requires-clause-to g c =
     let long = c.loop-at.invariant.filters.long in

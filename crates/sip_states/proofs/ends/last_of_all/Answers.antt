@@ -7,6 +7,7 @@ use Rattle.sip_states.proofs.ends.last_of_all.Goals as goal
 pub last_of-requires-clause-in_range : goal.last_of-requires-clause-in_range
 last_of-requires-clause-in_range g c = λ d. All-get_or g.M.Machine.in_range c.args.pool.now c.loop-at.at d (omega arith) c.requires.in_range
 
+-- one state can wait for ever, so all together can
 pub returns-in_err-last_of : goal.returns-in_err-last_of
 returns-in_err-last_of g c = rw c.from_residual.ensures (λ m low.
     let xs = c.args.pool.now in

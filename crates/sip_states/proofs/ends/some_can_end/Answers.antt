@@ -25,6 +25,7 @@ loop-at-preserved g c =
     All-more (λ x. CanEnd (g.M.Machine.end_window m x) (g.M.Machine.until m x) c.args.from c.args.to → ⊥) c.args.pool.now c.loop-at.at d (omega arith) c.loop-at.invariant
     (λ can. true≢false (sym ((c.can_end.ensures d).1 can) ∙ c.if-can_end.false))
 
+-- all states were looked at, and none can end
 pub returns : goal.returns
 returns g c =
     let all = rw (take_all c.loop-at.at c.args.pool.now (omega arith)) at c.loop-at.invariant in

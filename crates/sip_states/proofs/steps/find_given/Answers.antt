@@ -52,6 +52,7 @@ pub returns-in_err-step_each-2-clause-before : goal.returns-in_err-step_each-2-c
 returns-in_err-step_each-2-clause-before g c =
     before-more c.args.pool.now c.push.new.self c.step_each-2.new.pool (at_rest c.ended.result ∷ []) c.in_ok-push.ensures.ok c.in_err-step_each-2.ensures.before
 
+-- the ended state names nothing, so the book has what it names
 pub successors-requires-clause-known : goal.successors-requires-clause-known
 successors-requires-clause-known g c = λ d.
     let m = c.args.machine.now in

@@ -3,6 +3,7 @@ use Rattle.std.proofs.lemmas.List.{take_rest}
 use Rattle.sip_text.proofs.cuts.CutLemmas.{before-first, before-nowhere}
 use Rattle.sip_text.proofs.cut.cut.Goals as goal
 
+-- the front ends before the first mark
 pub returns-in-Some-clause-front : goal.returns-in-Some-clause-front
 returns-in-Some-clause-front c =
     let first = c.in-Some.ensures in

@@ -13,6 +13,7 @@ use Rattle.sip_verdict.proofs.surveys.kept.Histories.{silent_histories, restart_
 use Rattle.sip_verdict.proofs.surveys.passing.Taken.{unheard_taken, fault_taken, restart_taken, heard_taken, dropped_passing, watched_touched}
 use Rattle.sip_verdict.proofs.entries.take.Goals as goal
 
+-- the grown book and the touched tables may pass the entry
 pub pass_each-requires-in-Heard-clause-may : goal.pass_each-requires-in-Heard-clause-may
 pass_each-requires-in-Heard-clause-may g c =
     let s = c.args.standing.now in
@@ -64,6 +65,7 @@ returns-in_ok-pass_each-in-Unheard-clause-histories g c = λ es e told keys coun
     let (f, f_seen, (fine, at, none)) = (rw c.in-Unheard.is at c.in_ok-told.ensures.observed) es in
     silent_histories es e c.args.histories.now (ap (λ o. o.keys) (observes_one es (item c.args.entry.now) e f seen f_seen) ∙ none) told
 
+-- an entry with a fault concerns no key, so the histories stay
 pub returns-in_ok-pass_each-in-Fault-clause-histories : goal.returns-in_ok-pass_each-in-Fault-clause-histories
 returns-in_ok-pass_each-in-Fault-clause-histories g c = λ es e told keys counts seen.
     let (f, f_seen, is) = (rw c.in-Fault.is at c.in_ok-told.ensures.observed) es in

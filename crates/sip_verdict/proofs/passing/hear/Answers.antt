@@ -3,6 +3,7 @@ use Rattle.sip_states.specs.AnySet.{IsEmpty}
 use Rattle.sip_verdict.proofs.keys.AnyHearing.{takes_known, hears_none, hears_some, hears_wide}
 use Rattle.sip_verdict.proofs.passing.hear.Goals as goal
 
+-- no state is left, so no run takes the event
 pub returns-in-Ok-clause-stepped : goal.returns-in-Ok-clause-stepped
 returns-in-Ok-clause-stepped c = λ p machine events from late leads.
     let none : IsEmpty c.take.new.self = search rules in

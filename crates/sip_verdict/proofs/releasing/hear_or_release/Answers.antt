@@ -20,6 +20,7 @@ hear-requires-clause-order g c = All-place (λ set. moment_of set ≤ c.args.eve
 pub hear-requires-clause-known : goal.hear-requires-clause-known
 hear-requires-clause-known g c = All-place (IsKnownSet c.args.book.now) c.args.tables.now.sets (c.args.number - 1) c.set_mut.result.now c.set_mut.ensures.value c.requires.may.known
 
+-- a set that goes on has a state
 pub settle-requires-clause-state : goal.settle-requires-clause-state
 settle-requires-clause-state g c = λ set at.
     elim (set_place c.args.tables.now.sets (c.args.number - 1) (c.args.number - 1) c.hear.new.set set at) [

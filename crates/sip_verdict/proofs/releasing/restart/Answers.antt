@@ -20,6 +20,7 @@ returns-clause-watched g c = λ h.
     subst (λ u. AreWatched [] u c.hear_numbers.new.troubled) (sym c.restarted.ensures)
     (c.in_ok-hear_numbers.ensures.watched (watched_more [] c.as_slice.result.now c.args.tables.now c.args.troubled.now (λ n none. absurd (false≢true none)) h))
 
+-- all transactions hear the restart, one after another
 pub returns-clause-heard : goal.returns-clause-heard
 returns-clause-heard g c =
     let t = c.args.tables.now in (

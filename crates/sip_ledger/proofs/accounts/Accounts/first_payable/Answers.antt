@@ -12,6 +12,7 @@ pub find_under-requires-clause-account : goal.find_under-requires-clause-account
 find_under-requires-clause-account c =
     rw c.deref.ensures.value (account-at c.args.row c.index-account.result.now c.self.invariant c.self.view_is c.requires c.index-account.ensures).0
 
+-- what an account owes is kept
 pub entry-requires-clause-kept : goal.entry-requires-clause-kept
 entry-requires-clause-kept c =
     let s = c.self.inside in

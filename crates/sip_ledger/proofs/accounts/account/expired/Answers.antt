@@ -21,6 +21,7 @@ expired_at-requires-clause-kept c =
     let was = c.loop-place.invariant in
     kept-passed c.loop-place.place c.requires.gained c.requires.account (omega (arith, c.requires.account.order, c.if-account.false)) was.low (omega (arith, c.loop-place-test.true, was.account.end))
 
+-- each place of the account is kept
 pub entry-requires-clause-kept : goal.entry-requires-clause-kept
 entry-requires-clause-kept c =
     let was = c.loop-place.invariant in

@@ -8,6 +8,7 @@ use Rattle.sip_ledger.proofs.accounts.account.find.Goals as goal
 pub loop-place-init : goal.loop-place-init
 loop-place-init c = grind (arith, owed-within, first-payable, none-pays_late, none-pays_struck, none-pays_to, before-start)
 
+-- the place is past the end of the account, so none of its debts is paid
 pub returns-then-account-place-clause-none : goal.returns-then-account-place-clause-none
 returns-then-account-place-clause-none c = λ k owed.
     let within = owed-within c.args.gains.now c.args.strikes.now c.args.account k owed in

@@ -5,6 +5,7 @@ use Rattle.sip_ledger.proofs.account.FirstLemmas.{below, below-parts, found-kept
 use Rattle.sip_ledger.proofs.accounts.account.find_under.Goals.{then-left-message+else-is_newest+in_ok-from, else-left-message}
 use Rattle.sip_ledger.proofs.accounts.account.find_under.Goals as goal
 
+-- no message is below 0, so nothing is looked at yet
 pub loop-init : goal.loop-init
 loop-init c = λ k owed (passes, early).
     let m = (entry_at (entries_of c.args.gains.now) k).message in

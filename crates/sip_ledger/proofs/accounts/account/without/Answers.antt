@@ -42,6 +42,7 @@ returns-clause-account c =
     (without-middle c.args.gains.now c.args.strikes.now.items c.put.new.strikes.items c.args.account c.in_ok-struck.struck c.args.place c.worth.result _ c.requires.account c.requires.owed
     c.if-place-account.false c.in_ok-struck.ensures.struck (c.worth.ensures ∙ ap (λ (e : Entry). worth_of e.message e.deadline) c.entry-entry.ensures) refl).0
 
+-- the debt stands between others, so it is struck
 pub returns-clause-owed : goal.returns-clause-owed
 returns-clause-owed c =
     (without-middle c.args.gains.now c.args.strikes.now.items c.put.new.strikes.items c.args.account c.in_ok-struck.struck c.args.place c.worth.result _ c.requires.account c.requires.owed

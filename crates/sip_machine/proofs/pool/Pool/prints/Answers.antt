@@ -10,6 +10,7 @@ use Rattle.sip_machine.proofs.pool.Pool.prints.Goals as goal
 pub prints-requires : goal.prints-requires
 prints-requires g c = grind (arith, beside-length)
 
+-- there are as many phases as rows
 pub index-requires : goal.index-requires
 index-requires g c =
     subst (λ n. c.loop-at.at < n) (sym c.self.inside.phases.ok.0)

@@ -4,6 +4,7 @@ use Rattle.sip_verdict.proofs.judges.JudgeLemmas.{may_take_next, stands_on}
 use Rattle.sip_verdict.proofs.sweeps.SweptBook.{same_within}
 use Rattle.sip_verdict.proofs.stream.Judge.entry.Goals as goal
 
+-- the entry may come next
 pub judge_next-requires-clause-may : goal.judge_next-requires-clause-may
 judge_next-requires-clause-may g c =
     let s = c.self.inside in
@@ -27,6 +28,7 @@ returns-in-Ok-None-clause-judged g c es stands =
 pub returns-in-Ok-None-clause-keyless : goal.returns-in-Ok-None-clause-keyless
 returns-in-Ok-None-clause-keyless g c none = subst (λ j. All (Contains j.texts) c.judge_next.new.standing.book) c.self.view_is (c.in-Ok-None.ensures.keyless none)
 
+-- the entry is in trouble, and the verdict is on the entries up to it
 pub returns-in-Ok-Some-clause-judged : goal.returns-in-Ok-Some-clause-judged
 returns-in-Ok-Some-clause-judged g c es stands =
     let is = c.self.view_is in

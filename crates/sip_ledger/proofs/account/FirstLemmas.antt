@@ -135,6 +135,7 @@ module _ (gains : Gains) (strikes : List Strike) (a : Account) (pairs : List (�
           below-is (holds pairs key m) m found parts.0 (omega (arith, parts.1, order, after)))
           (λ m passes. (below-parts (holds pairs key m) m found passes).0)
           (λ m k passes held left. elim (cases_lt m message) [
+            -- a message below the next one was passed, and one from it on is not left before the found one
             | inl low ↦ next-under m held low
             | inr high ↦
                 let least = (at.first m k left (record { keys = high; numbers = λ same. omega arith })).keys in

@@ -90,6 +90,7 @@ module _ (order places : List ℕ) (count : ℕ) (is : IsPlaced order places cou
   exchanged next few = record {
     long = new_long ∙ is.long ∙ sym size;
     few = (let same = size in omega arith);
+    -- of an index: it is the first of the two that were exchanged, the second, or another one
     placed = λ i low. (
         let within : i < length order = (let same = size in omega arith) in
         elim (eqb_tells i a) [
@@ -108,6 +109,7 @@ module _ (order places : List ℕ) (count : ℕ) (is : IsPlaced order places cou
           ]
         ]
         );
+    -- of a place: it is the first of the two that were exchanged, the second, or another one
     ordered = λ k low. (
         let within : k < length order = (let same = size in omega arith) in
         elim (eqb_tells k p) [

@@ -9,6 +9,7 @@ overflow_mul-number c =
     let more = reads-more c.args.digits.now c.loop-digit.digit-index c.loop-digit.number c.requires c.loop-digit-test.true c.loop-digit.invariant in
     omega (arith, more.value)
 
+-- a digit is not below `0`
 pub overflow_sub-digit : goal.overflow_sub-digit
 overflow_sub-digit c =
     (reads-more c.args.digits.now c.loop-digit.digit-index c.loop-digit.number c.requires c.loop-digit-test.true c.loop-digit.invariant).low

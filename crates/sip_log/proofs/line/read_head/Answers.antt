@@ -6,6 +6,7 @@ use Rattle.sip_log.specs.inner.Line.{message, plain}
 use Rattle.sip_log.proofs.lines.LineLemmas.{HeadLine-plain, HeadLine-message, HeadLine-unlettered, HeadLine-no_numbers, HeadLine-no_number}
 use Rattle.sip_log.proofs.line.read_head.Goals as goal
 
+-- the line does not begin with the letter of an entry
 pub returns-in_err-action : goal.returns-in_err-action
 returns-in_err-action c = rw c.from_residual.ensures (HeadLine-unlettered c.args.format c.args.line.now c.in_err-action.ensures)
 

@@ -6,6 +6,7 @@ use Rattle.std.proofs.lemmas.Str.Parse.{digit_at}
 use Rattle.sip_log.specs.inner.Number.{cut}
 use Rattle.sip_log.proofs.number.number.Goals as goal
 
+-- the digits are not as a number is written: none, or a needless zero
 pub returns-then-not-is_plain : goal.returns-then-not-is_plain
 returns-then-not-is_plain c = λ n is. true≢false (sym (c.if-not-is_plain.ensures.1 (is.digits.0, is.plain)))
 

@@ -6,6 +6,7 @@ use Rattle.sip_message.specs.inner.AddressFronts.{AddressCut, cut_parts}
 use Rattle.sip_message.proofs.lemmas.address.Reading.{cut-plain, cut-named, cut-no_display, cut-open}
 use Rattle.sip_message.proofs.address.cut_address.Goals as goal
 
+-- the text begins with a scheme, so a URI without angles stands there
 pub returns-then-has_scheme : goal.returns-then-has_scheme
 returns-then-has_scheme c =
     cut-plain c.args.text.now _ c.plain_len-len.result (c.has_scheme.ensures.0 c.if-has_scheme.true) c.plain_len-len.ensures.run (take_rest c.args.text.now c.plain_len-len.result)

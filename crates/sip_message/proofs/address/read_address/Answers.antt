@@ -24,5 +24,6 @@ returns-in_err-params c =
     subst (IsOnlyValue AddressValue address_parts c.args.text.now) (sym c.from_residual-in_err-params.ensures)
     (no-address c.args.text.now (go-stop c.in_ok-cuts.ensures (go-stop c.in_ok-uri.ensures (stop c.in_err-params.ensures))))
 
+-- the cut, the URI and what follows it are an address
 pub returns : goal.returns
 returns c = read-address c.args.text.now _ (go c.in_ok-cuts.ensures (go c.in_ok-uri.ensures (go c.in_ok-params.ensures (last _))))

@@ -8,6 +8,7 @@ use Rattle.sip_message.proofs.lemmas.front.Cuts.{ReadAs, NotRead}
 use Rattle.sip_message.proofs.lemmas.start_line.Reading.{status-no_version, status-no_code, status-no_reason, status-read}
 use Rattle.sip_message.proofs.start_line.read_status.Goals as goal
 
+-- the line does not begin with SIP/2.0 and a SP
 pub returns-then-not-same_text : goal.returns-then-not-same_text
 returns-then-not-same_text c =
     status-no_version c.args.line.now (λ same. both_ways false refl (c.if-not-same_text.ensures.1 (subst (λ t. SameText t (codes "SIP/2.0 ")) (sym c.split_at.ensures.front) same)))

@@ -6,6 +6,7 @@ use Rattle.sip_message.specs.inner.ElementFronts.{FirstVia}
 use Rattle.sip_message.proofs.lemmas.via.Value.{vias-behind, first-is}
 use Rattle.sip_message.proofs.via.first_via.Goals as goal
 
+-- no element stands at the front
 pub returns-in_err-first : goal.returns-in_err-first
 returns-in_err-first c =
     subst (IsOnlyValue FirstVia element c.args.text.now) (sym c.from_residual.ensures) (λ e is. c.in_err-first.ensures (e, is.1.0) is.1.1)

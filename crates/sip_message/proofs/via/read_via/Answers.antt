@@ -62,8 +62,10 @@ steps c =
     via-steps_of c.args.text.now (sent c) (host c) (port c) (tail c) c.in_ok-protocol.ensures.0 c.in_ok-host.ensures.0 c.in_ok-port.ensures.0
     c.in_ok-params.ensures.0 (c.ends_element.ensures.0 c.if-not-ends_element.false)
 
+-- what is left is not longer than the text
 pub slice_bounds-result-count : goal.slice_bounds-result-count
 slice_bounds-result-count c = via-short c.args.text.now (parts c) c.in_ok-params.rest.now (steps c)
 
+-- the protocol, the host, the port and the parameters are an element
 pub returns : goal.returns
 returns c = via-found c.args.text.now (parts c) c.in_ok-params.rest.now (steps c)

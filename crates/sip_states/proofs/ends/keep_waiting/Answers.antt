@@ -7,6 +7,7 @@ use Rattle.sip_states.specs.inner.Ways.{is_within}
 use Rattle.sip_states.proofs.ends.keep_waiting.Goals as goal
 use Rattle.sip_states.proofs.ends.keep_waiting.Goals.{then-is_within, else-is_within}
 
+-- the place that is looked at is one of the states
 pub until-requires-clause-at : goal.until-requires-clause-at
 until-requires-clause-at g c = let long = c.loop-at.invariant.filters.long in omega (arith, long)
 
@@ -16,6 +17,7 @@ until-requires-clause-in_range g c = λ d.
     let long = c.loop-at.invariant.filters.long in
     All-get_or g.M.Machine.in_range c.loop-at.pool c.loop-at.at d (omega (arith, long)) c.loop-at.invariant.in_range
 
+-- the place that is looked at is one of the states
 pub copy-requires-clause-from : goal.copy-requires-clause-from
 copy-requires-clause-from g c = let long = c.loop-at.invariant.filters.long in omega (arith, long)
 
@@ -26,6 +28,7 @@ copy-requires-clause-to g c =
     let behind = c.loop-at.invariant.filters.behind in
     omega (arith, long, behind)
 
+-- no more states are kept than were looked at
 pub overflow_add-kept : goal.overflow_add-kept
 overflow_add-kept g c = let behind = c.loop-at.invariant.filters.behind in omega (arith, behind)
 

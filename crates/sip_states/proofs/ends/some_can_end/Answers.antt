@@ -5,6 +5,7 @@ use Rattle.std.proofs.lemmas.List.Elements.{All-get_or, All-more}
 use Rattle.sip_states.specs.inner.Ways.{CanEnd}
 use Rattle.sip_states.proofs.ends.some_can_end.Goals as goal
 
+-- the moments of the state are in range
 pub can_end-requires-clause-in_range : goal.can_end-requires-clause-in_range
 can_end-requires-clause-in_range g c = λ d. All-get_or g.M.Machine.in_range c.args.pool.now c.loop-at.at d (omega arith) c.requires
 

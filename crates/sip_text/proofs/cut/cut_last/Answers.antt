@@ -20,6 +20,7 @@ returns-in-Some-clause-rest c =
     ∙ ap (λ o. option_map_or (λ u. drop (length u + 1) c.args.text.now) o c.args.text.now)
     (sym (last-place c.args.mark c.in-Some.at c.args.text.now last.0.high last.0.after last.1))
 
+-- without a mark there is no front
 pub returns-in-None-clause-front : goal.returns-in-None-clause-front
 returns-in-None-clause-front c = sym (last-nowhere c.args.mark c.args.text.now c.in-None.ensures)
 

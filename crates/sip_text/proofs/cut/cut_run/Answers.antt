@@ -5,10 +5,12 @@ use Rattle.sip_text.specs.inner.Cut.{past}
 use Rattle.sip_text.proofs.cuts.RunCutLemmas.{run-end, run-mark, run-other}
 use Rattle.sip_text.proofs.cut.cut_run.Goals as goal
 
+-- the run is the whole text, which has no mark
 pub returns-then-len-text-clause-run : goal.returns-then-len-text-clause-run
 returns-then-len-text-clause-run c =
     (run-end (is_in c.args.class) c.args.mark c.run_len-len.result c.args.text.now c.requires c.run_len-len.ensures.run c.if-len-text.true).2
 
+-- the front is the whole text
 pub returns-then-len-text-clause-front : goal.returns-then-len-text-clause-front
 returns-then-len-text-clause-front c =
     (run-end (is_in c.args.class) c.args.mark c.run_len-len.result c.args.text.now c.requires c.run_len-len.ensures.run c.if-len-text.true).0

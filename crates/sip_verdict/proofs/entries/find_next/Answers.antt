@@ -15,6 +15,7 @@ returns-then-kept-left-clause-found g c = λ es surveyed counts late.
     let (e, here, seen, now, found, added, tracks) = c.in_ok-find.ensures.found es surveyed.tracks counts late in
     (e, here, seen, found, added, surveyed_kept s.book mid.book s.tables mid.tables c.args.troubled.now.deaf.items c.find.new.troubled.deaf.items left es e c.in_ok-find.ensures.times surveyed few tracks)
 
+-- an entry without keys leaves the book no more than it had
 pub returns-then-kept-left-clause-keyless : goal.returns-then-kept-left-clause-keyless
 returns-then-kept-left-clause-keyless g c none = same_within c.args.standing.now.book c.find.new.standing.book (c.in_ok-find.ensures.keyless none)
 
@@ -39,6 +40,7 @@ returns-clause-left g c =
     let high = c.kept-2.ensures.few (c.args.entry.now.number + 1) (λ n keeps. may.numbered n (fewer n keeps)) in
     omega (arith, high, c.requires.count)
 
+-- the sweep leaves the book no more than it had
 pub returns-clause-keyless : goal.returns-clause-keyless
 returns-clause-keyless g c none = subst (λ b. All (Contains b) c.sweep.new.self.book) (c.in_ok-find.ensures.keyless none) c.in_ok-sweep.ensures.fewer
 

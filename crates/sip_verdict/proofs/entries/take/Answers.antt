@@ -37,6 +37,7 @@ pass_each-requires-in-Heard-clause-watched g c =
     watched_touched (each c.in-Heard.concerned) (each c.in_ok-concerned-in-Heard.concerned) c.args.standing.now.tables c.touch_each.new.tables c.args.troubled.now c.grow.new.self grown.0
     c.in_ok-concerned-in-Heard.ensures.touched c.requires.may.passes.long c.requires.watched grown.1 grown.2 (c.in_ok-grow-in-Heard.ensures.long ∙ c.len.ensures)
 
+-- the keys that were touched have histories or come next
 pub note_each-requires : goal.note_each-requires
 note_each-requires g c =
     touched_low (each c.in-Heard.concerned) (each c.in_ok-concerned-in-Heard.concerned) c.args.standing.now.tables c.touch_each.new.tables c.in_ok-concerned-in-Heard.ensures.touched
@@ -195,9 +196,11 @@ returns-in_ok-pass_each-in-Heard-clause-taken g c = λ es fresh tracks late.
 pub returns-in_ok-pass_each-in-Unheard-clause-keys : goal.returns-in_ok-pass_each-in-Unheard-clause-keys
 returns-in_ok-pass_each-in-Unheard-clause-keys g c = let same = ap length c.in_ok-pass_each-in-Unheard.ensures.keys in omega arith
 
+-- there are as many keys as before
 pub returns-in_ok-pass_each-in-Fault-clause-keys : goal.returns-in_ok-pass_each-in-Fault-clause-keys
 returns-in_ok-pass_each-in-Fault-clause-keys g c = let same = ap length c.in_ok-pass_each-in-Fault.ensures.keys in omega arith
 
+-- there are as many keys as before
 pub returns-in_ok-pass_each-in-Restart-clause-keys : goal.returns-in_ok-pass_each-in-Restart-clause-keys
 returns-in_ok-pass_each-in-Restart-clause-keys g c = let same = ap length c.in_ok-pass_each-in-Restart.ensures.keys in omega arith
 

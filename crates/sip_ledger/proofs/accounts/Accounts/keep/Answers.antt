@@ -2,6 +2,7 @@ use Rattle.std.proofs.Common.{◌<◌, [], length, ◌∙◌, arith}
 use Rattle.sip_ledger.proofs.lists.KeepLemmas.{rise-above, rise-few, kept-more, kept-all}
 use Rattle.sip_ledger.proofs.accounts.Accounts.keep.Goals as goal
 
+-- the new place is not past the old one
 pub copy-requires-clause-to : goal.copy-requires-clause-to
 copy-requires-clause-to c = grind (arith, [], rise-above, rise-few, kept-more, kept-all)
 

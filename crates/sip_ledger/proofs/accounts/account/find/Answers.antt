@@ -5,6 +5,7 @@ use Rattle.sip_ledger.proofs.account.FindLemmas.{first-payable, none-pays_late, 
 use Rattle.sip_ledger.proofs.account.WithoutLemmas.{before-start}
 use Rattle.sip_ledger.proofs.accounts.account.find.Goals as goal
 
+-- no place was looked at yet
 pub loop-place-init : goal.loop-place-init
 loop-place-init c = grind (arith, owed-within, first-payable, none-pays_late, none-pays_struck, none-pays_to, before-start)
 

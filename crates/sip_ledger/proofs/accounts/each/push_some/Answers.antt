@@ -6,6 +6,7 @@ use Rattle.sip_ledger.proofs.rows.PaidLemmas.{ArePaidTo, account-there, paid-fro
 use Rattle.sip_ledger.proofs.rows.SeenLemmas.{on-error}
 use Rattle.sip_ledger.proofs.accounts.each.push_some.Goals as goal
 
+-- the row is one of the rows
 pub index-requires : goal.index-requires
 index-requires c = grind (arith, from_to-end, debts_length, account-there, paid-front, paid-grown, paid-next, row-there, on-error)
 
@@ -19,6 +20,7 @@ paid-requires-clause-account c =
 pub returns-in_err-left-clause-accounts : goal.returns-in_err-left-clause-accounts
 returns-in_err-left-clause-accounts c = (paid-grown c.paid.new.strikes.items c.paid.ensures.kept c.loop-row.invariant.3).accounts
 
+-- where memory was refused, the old rows are as before
 pub returns-in_err-left-clause-err : goal.returns-in_err-left-clause-err
 returns-in_err-left-clause-err c = grind (arith, from_to-end, debts_length, account-there, paid-front, paid-grown, paid-next, row-there, on-error)
 

@@ -33,6 +33,7 @@ returns-in_default-clause-passed g c = λ p es e times late now told h.
     let released = c.in_ok-release_overdue.ensures in
     let u = c.release_overdue.new.tables in
     let watched = rw c.in_default.is at c.requires.watched in
+    -- no transaction hears the entry, so each passes it as the moment has it, once the overdue ones are released
     mark_passes c.args.book.now p es e c.args.moment late now u c.release_overdue.new.troubled (released.may c.args.book.now c.requires.may) released.none
     (subst (λ ks. AreTold c.args.book.now ks c.args.moment None e) (sym released.keys) (rw c.in_default.is at told)) (released.watched [] watched) (released.released c.args.book.now p es e [] times late now c.requires.may watched h)
 

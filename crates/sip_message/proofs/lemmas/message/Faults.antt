@@ -115,8 +115,8 @@ read-fits start fields rest body names is read =
     let has = given-then method.2 in
     let enough = given-then has.2 in
     let no_more = given-then enough.2 in
-    -- these are what a message demands
     let same = given len.2 in (
+      -- what a message demands
       record {
         via = (via.0, via.1);
         from_once = from_once.1;

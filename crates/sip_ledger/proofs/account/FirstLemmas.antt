@@ -135,6 +135,7 @@ module _ (gains : Gains) (strikes : List Strike) (a : Account) (pairs : List (�
           below-is (holds pairs key m) m found parts.0 (omega (arith, parts.1, order, after)))
           (λ m passes. (below-parts (holds pairs key m) m found passes).0)
           (λ m k passes held left. elim (cases_lt m message) [
+            -- a message below the next one was passed, and one from it on is not left before the found one
             | inl low ↦ next-under m held low
             | inr high ↦
                 let least = (at.first m k left (record { keys = high; numbers = λ same. omega arith })).keys in
@@ -202,6 +203,7 @@ module _ (gains : Gains) (strikes : List Strike) (a : Account) (test : ℕ → B
       let entries = entries_of gains in
       let must = must_at gains a in
       let message = (entry_at entries place).message in
+      -- what is owed once the debt at the place is paid
       let less : ℕ → Bool = λ k. owed k && not (k == place) in
       let left = debts_from less must 0 entries in
       let inside : place < length entries = omega (arith, owed-within gains strikes a place found.0, is.end) in
@@ -209,6 +211,7 @@ module _ (gains : Gains) (strikes : List Strike) (a : Account) (test : ℕ → B
         gone = ap (λ b. owed place && not b) (eq-eqb place place refl) ∙ and-false (owed place);
         others = λ k other. ap (λ b. owed k && not b) (ne_eqb k place other) ∙ and-true (owed k);
       } in
+      -- the debt is the first that a message that passes the test pays, and the first that its own message pays
       let one = removed (PaysSome test t) entries owed must less must place inside found.0 without (λ k. refl) found.1 found.2 in
       let only = removed (λ debt. IsTrue (is_payable message t debt)) entries owed must less must place inside found.0 without (λ k. refl)
       (named-pays entries message t place refl found.1.1)

@@ -124,6 +124,7 @@ without-last gains strikes a place w print is owed later last worth printed =
     let entries = (entries_of gains) in
     let from = owed-from gains strikes a place owed in
     let without : IsWithout place (owes_at gains strikes a) (owes_at gains strikes b) = earlier-end gains strikes a b place last refl refl refl refl in
+    -- the debt is not the first one, so the account still begins with what it owes first
     let other : a.start ≢ place = λ same. later (sym same) in (
       without-account gains strikes strikes a b place w is owed without refl from (omega (arith, last)) is.first is.last (λ m k past. is.bound m k past)
           (λ some. without.others a.start other ∙ is.begins (omega (arith, some, last))) worth printed
@@ -143,6 +144,7 @@ without-middle gains old new a b place w print is owed later struck worth printe
     let from = owed-from gains old a place owed in
     let start = struck.start in
     let without : IsWithout place (owes_at gains old a) (owes_at gains new c) = struck-without gains old new a b c place struck from refl refl refl refl in
+    -- the debt is not the first one, so the account still begins with what it owes first
     let other : a.start ≢ place = λ same. later (sym same) in (
       without-account gains old new a c place w is owed without struck.soft (omega (arith, start, struck.end, is.order)) (omega (arith, struck.end)) struck.first struck.last
           (λ m k past. struck.bound m k past (is.bound m k past))

@@ -125,6 +125,7 @@ gains-more old new debt are entries end small noted rises higher own flags =
     let others : (m k : ℕ) → k ≢ n → holds new.messages m k ≡ holds old.messages m k = λ m k other.
     noted.messages m k ∙ ap (λ b. cond (m == debt.message && b) true (holds old.messages m k)) (ne_eqb k n other)
     ∙ ap (λ b. cond b true (holds old.messages m k)) (and-false (m == debt.message)) in
+    -- the new gain is theirs
     let gain : IsGain debt old new = record {
       entries = all;
       message = ap (holds new.messages debt.message) count ∙ noted.messages debt.message n ∙ ap₂ (λ a b. cond (a && b) true (holds old.messages debt.message n)) (eq-eqb debt.message debt.message refl) (eq-eqb n n refl);
@@ -132,9 +133,11 @@ gains-more old new debt are entries end small noted rises higher own flags =
       must = ap (holds new.musts 0) count ∙ noted.must;
       musts = λ k other. noted.musts k (λ same. other (same ∙ sym count));
     } in (
+      -- the gains are right
       record {
         long = omega (arith, some, end, long);
         small = small;
+        -- what stands under a message is the new gain or an old one
         messages = λ m k is. elim (cases_eq k n) [
           | inl there ↦
               let same : m ≡ debt.message = named m k there is in
@@ -152,6 +155,7 @@ gains-more old new debt are entries end small noted rises higher own flags =
                     ∙ ap (λ (x : Entry). x.message) (get_or_append_left (entries_of old) (e ∷ []) blank k (omega (arith, within, count))) ∙ was.message;
               }
         ];
+        -- what must be sent is the new gain or an old one
         musts = λ k is. elim (cases_eq k n) [
           | inl there ↦ omega (arith, there, end)
           | inr other ↦

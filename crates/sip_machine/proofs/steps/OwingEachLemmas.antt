@@ -182,6 +182,7 @@ module _ {S X : Type 0} (f : Figure X) (p : Times) (seen : Texts → S → X) (n
         (λ x. list_any (is_payable message e.moment) x.owes && is_timely e.moment x.owes) (repaid_at e.moment message) xs
         (each-state (λ x. Owings (RestsFrom f p seen texts e x)
         (cond (list_any (is_payable message e.moment) x.owes && is_timely e.moment x.owes) (Some (repaid_at e.moment message x)) None))
+        -- one state: whether it can pay, and then whether it is timely
         (λ owes knows fit.
         let x = InPhase owes in
         let P = Rests f e (owing_seen seen texts (unexpired_at e.moment x)) in

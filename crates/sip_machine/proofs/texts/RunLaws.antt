@@ -219,7 +219,9 @@ module _ (texts : Texts) (runs : List PlaceRun) (key : ℕ × List ℕ) (held : 
       let front = compare (key_of texts (get_or (items run) 0 first)) key in
       record {
         within = omega arith;
+        -- a place before the gap is less than the key
         before = λ k e zero under. elim (cases_lt k off) [
+          -- it stands in an earlier run, and is not after the first place of this one
           | inl earlier ↦ elim chosen [
             | inl none ↦ let empty : off ≡ 0 = rw none refl in absurd (omega arith)
             | inr past ↦
@@ -232,18 +234,22 @@ module _ (texts : Texts) (runs : List PlaceRun) (key : ℕ × List ℕ) (held : 
                 let less = less_of_rank (compare (key_of texts (get_or all k first)) key) (omega (arith, step, lowest)) in
                 subst (λ p. compare (key_of texts p) key ≡ Less) (get_or_default all k first e (omega arith)) less
           ]
+          -- it stands in this run
           | inr from ↦
               let j = k - off in
               let is : off + j ≡ k = omega arith in
               subst (λ n. compare (key_of texts (get_or all n e)) key ≡ Less) is
               (ap (λ p. compare (key_of texts p) key) (place_at runs r j d e low (omega arith)) ∙ parted.0 j e (omega arith) (omega arith))
         ];
+        -- a place from the gap on is greater than the key
         after = λ k e over end. elim (cases_lt k (off + length (items run))) [
+          -- it stands in this run
           | inl inside ↦
               let j = k - off in
               let is : off + j ≡ k = omega arith in
               subst (λ n. compare (key_of texts (get_or all n e)) key ≡ Greater) is
               (ap (λ p. compare (key_of texts p) key) (place_at runs r j d e low (omega arith)) ∙ parted.1 j e (omega arith) (omega arith))
+          -- it stands in a later run, and is not before the first place of the next one
           | inr later ↦
               let size = run_size runs r d low in
               elim (cases_lt (r + 1) (length runs)) [
@@ -255,6 +261,7 @@ module _ (texts : Texts) (runs : List PlaceRun) (key : ℕ × List ℕ) (held : 
                     let step = rw begin' at (up (length (places_of (take (r + 1) runs)) + 0) k first (omega (arith, size)) end) in
                     let greater = greater_of_rank (compare (key_of texts (get_or all k first)) key) (omega (arith, step, high)) in
                     subst (λ p. compare (key_of texts p) key ≡ Greater) (get_or_default all k first e end) greater
+                -- there is no later run
                 | inr last ↦
                     let whole : length all ≡ length (places_of (take (r + 1) runs)) = ap (λ l. length (places_of l)) (sym (take_all (r + 1) runs last)) in
                     absurd (omega (arith, whole, size))

@@ -90,6 +90,7 @@ module _ (order places : List ℕ) (count : ℕ) (is : IsPlaced order places cou
   exchanged next few = record {
     long = new_long ∙ is.long ∙ sym size;
     few = (let same = size in omega arith);
+    -- of an index: it is the first of the two that were exchanged, the second, or another one
     placed = λ i low. (
         let within : i < length order = (let same = size in omega arith) in
         elim (eqb_tells i a) [
@@ -108,6 +109,7 @@ module _ (order places : List ℕ) (count : ℕ) (is : IsPlaced order places cou
           ]
         ]
         );
+    -- of a place: it is the first of the two that were exchanged, the second, or another one
     ordered = λ k low. (
         let within : k < length order = (let same = size in omega arith) in
         elim (eqb_tells k p) [
@@ -196,6 +198,7 @@ marked_less order places count is index p low at under =
     let within : index < length order = omega arith in
     let there = is.placed index within in
     let p_low : p < length order = omega (arith, at, there.0) in
+    -- q is the place of the last marked index, and b is that index
     let q = count - 1 in
     let q_low : q < length order = omega arith in
     let mine : get_or order p 0 ≡ index = ap (λ n. get_or order n 0) at ∙ there.1 in
@@ -203,6 +206,7 @@ marked_less order places count is index p low at under =
     let b_at : get_or places b 0 ≡ q = (is.ordered q q_low).1 in
     let new = exchanged_places order places p q in
     let new_long = new_long order places count is p q p_low q_low in
+    -- of each index k: it is the one whose mark is taken, the one that was exchanged with it, or another one
     same_marks (marks new q) places count index false (length-map new (λ place. nat_lt place q) ∙ new_long) low (λ k d low_k.
     let here : get_or (marks new q) k d ≡ nat_lt (get_or new k 0) q = mark_at new q k d (omega (arith, new_long)) in (
       λ same. here ∙ ap (λ n. nat_lt (get_or new n 0) q) (same ∙ sym mine) ∙ ap (λ n. nat_lt n q) (place_of_a order places count is p q p_low q_low) ∙ le-ltb q q (omega arith),
@@ -244,6 +248,7 @@ popped order places count is last p whole at high =
     let p_low : p < length order = omega (arith, at, there.0) in
     let q_low : last < length order = omega arith in
     let mine : get_or order p 0 ≡ last = ap (λ n. get_or order n 0) at ∙ there.1 in
+    -- O and P are the order and the places after the exchange, in which the last index stands last
     let O = exchanged_order order p last in
     let P = exchanged_places order places p last in
     let new = exchanged order places count is p last p_low q_low count is.few in
@@ -253,6 +258,7 @@ popped order places count is last p whole at high =
     let P_last : get_or P last 0 ≡ last = ap (λ n. get_or P n 0) (sym mine) ∙ place_of_a order places count is p last p_low q_low in
     let O_short : length (take last O) ≡ last = length-take-le last O (omega arith) in
     let P_short : length (take last P) ≡ last = length-take-le last P (omega arith) in
+    -- without the last ones, each index and each place is as it was
     record {
       long = P_short ∙ sym O_short;
       few = (omega arith);

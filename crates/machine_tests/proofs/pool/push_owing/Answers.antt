@@ -3,6 +3,7 @@ use Rattle.sip_machine.specs.Texts.{Keeps}
 use Rattle.sip_machine.specs.Rules.{Knows}
 use Rattle.machine_tests.proofs.pool.push_owing.Goals as goal
 
+-- the first state names nothing, so the book has what the states name
 pub take-requires-clause-known : goal.take-requires-clause-known
 take-requires-clause-known g c =
     let first = g.M.Machine.first c.args.machine.now in

@@ -32,6 +32,7 @@ returns-else-len-count-clause-known g c =
     let ok = c.in_ok-successors.ensures.ok (g.M.Machine.first c.args.machine.now) in
     rw ok.1 (All-append (Knows g.M.Machine.names c.args.book.now) c.args.pool.now ok.0 c.requires.known ok.2.known)
 
+-- the moments of the old states and of the new ones are in range
 pub returns-else-len-count-clause-in_range : goal.returns-else-len-count-clause-in_range
 returns-else-len-count-clause-in_range g c =
     let ok = c.in_ok-successors.ensures.ok (g.M.Machine.first c.args.machine.now) in

@@ -5,6 +5,7 @@ use Rattle.sip_machine.specs.Texts.{Keeps}
 use Rattle.sip_machine.specs.Rules.{Knows}
 use Rattle.machine_tests.proofs.runs.first_pool.Goals as goal
 
+-- the first state names nothing, so every book has what it names
 pub returns-clause-known : goal.returns-clause-known
 returns-clause-known g c = λ texts.
     let first = at_rest c.first.result in

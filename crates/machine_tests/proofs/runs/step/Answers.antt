@@ -24,6 +24,7 @@ returns-clause-known g c =
     rw (c.keep.ensures first, c.deref.ensures.value)
     (all_picked (Knows g.M.Machine.names c.args.book.now) c.loop-at.pool first c.in_ok-given.given.items c.loop-at.invariant.known (rw (← c.len.ensures) c.in_ok-given.ensures.within))
 
+-- the states that are kept are among those whose moments are in range
 pub returns-clause-in_range : goal.returns-clause-in_range
 returns-clause-in_range g c =
     let first = g.M.Machine.first c.args.machine.now in

@@ -5,9 +5,11 @@ use Rattle.sip_machine.specs.Rules.{Knows}
 use Rattle.machine_tests.proofs.Picked.{behind_picked}
 use Rattle.machine_tests.proofs.runs.step_together.Goals as goal
 
+-- the book has what the first states name
 pub successors_each-requires-clause-known : goal.successors_each-requires-clause-known
 successors_each-requires-clause-known g c = All-take (Knows g.M.Machine.names c.args.book.now) c.len-count.result c.args.pool.now c.requires.known
 
+-- the moments of the first states are in range
 pub successors_each-requires-clause-in_range : goal.successors_each-requires-clause-in_range
 successors_each-requires-clause-in_range g c = All-take g.M.Machine.in_range c.len-count.result c.args.pool.now c.requires.in_range
 

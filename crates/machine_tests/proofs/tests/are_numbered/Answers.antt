@@ -2,6 +2,7 @@ use Rattle.std.proofs.Common.{◌+◌, inl, inr, arith}
 use Rattle.sip_machine.proofs.texts.TextLaws.{Keeps-grow_cases}
 use Rattle.machine_tests.proofs.tests.are_numbered.Goals as goal
 
+-- the messages of the book have numbers below the first one
 pub loop-place-init : goal.loop-place-init
 loop-place-init c n keeps = let low = c.requires.above n keeps in omega (arith, low)
 
@@ -15,5 +16,6 @@ loop-place-preserved c n keeps = elim c.in_ok-right.ensures.grows [
   ]
 ]
 
+-- all messages were added
 pub returns : goal.returns
 returns c n keeps = let low = c.loop-place.invariant n keeps in omega (arith, c.loop-place-test.false)

@@ -8,6 +8,7 @@ use Rattle.sip_standard.specs.Concerns.{role_of, sent_by_of}
 use Rattle.sip_key.proofs.ConcernLemmas.{top-port, own-is}
 use Rattle.sip_key.proofs.concern.key_of.Goals as goal
 
+-- the port of the top Via is a port by the grammar
 pub key_with-requires : goal.key_with-requires
 key_with-requires c =
     let P : Element → Type 0 = λ e. IfSome e.1.port Port in

@@ -8,6 +8,7 @@ use Rattle.sip_ledger.proofs.run.runs_of.Goals as goal
 abbrev no_debt : Debt
 no_debt = record { message = 0; deadline = 0; must = false }
 
+-- one debt more stands in the runs
 pub loop-debt-preserved : goal.loop-debt-preserved
 loop-debt-preserved c =
     let xs = c.args.debts.now in

@@ -7,6 +7,7 @@ use Rattle.sip_log.proofs.answers.SaysLemmas.{Says-value, Says-fault}
 use Rattle.sip_log.proofs.lines.MessageLemmas.{AtMessage-open, AtMessage-gives}
 use Rattle.sip_log.proofs.entry.read_message.Goals as goal
 
+-- no line feed stands after the message
 pub returns-then-held-len-ne10-clause-says : goal.returns-then-held-len-ne10-clause-says
 returns-then-held-len-ne10-clause-says g c =
     let hold = c.in_ok-hold.ensures in

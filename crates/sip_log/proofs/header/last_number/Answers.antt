@@ -5,9 +5,11 @@ use Rattle.sip_log.specs.inner.Header.{NumberAfter}
 use Rattle.sip_log.proofs.headers.HeaderLemmas.{NumberAfter-one}
 use Rattle.sip_log.proofs.header.last_number.Goals as goal
 
+-- no number stands after the word
 pub returns-in_err-value : goal.returns-in_err-value
 returns-in_err-value c = rw c.from_residual.ensures (λ n is. c.in_err-value.ensures n [] is)
 
+-- something is left after the number, so the text is not a number alone
 pub returns-then-not-is_empty : goal.returns-then-not-is_empty
 returns-then-not-is_empty c = λ n is.
     let value = c.in_ok-value.ensures in

@@ -7,6 +7,7 @@ use Rattle.sip_log.proofs.lines.SplitLemmas.{part-found}
 use Rattle.sip_log.proofs.headers.HeaderLemmas.{NumberAfter-part, NumberAfter-of}
 use Rattle.sip_log.proofs.header.number_after.Goals as goal
 
+-- the text does not begin with the word
 pub returns-in_err-text : goal.returns-in_err-text
 returns-in_err-text c =
     let none = strip_prefix_is Decides-eqb c.args.text.now c.args.word.now None c.in_err-text.ensures.cases in

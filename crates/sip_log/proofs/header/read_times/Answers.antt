@@ -5,9 +5,11 @@ use Rattle.sip_log.specs.inner.Header.{TimesLine}
 use Rattle.sip_log.proofs.headers.HeaderLemmas.{t2-after, t4-after, tolerances-after, times-after, times-read}
 use Rattle.sip_log.proofs.header.read_times.Goals as goal
 
+-- the line does not begin with T1
 pub returns-in_err-t1 : goal.returns-in_err-t1
 returns-in_err-t1 c = rw c.from_residual.ensures (λ p is within. c.in_err-t1.ensures _ _ is.t1_is)
 
+-- no T2 stands after T1
 pub returns-in_err-t2 : goal.returns-in_err-t2
 returns-in_err-t2 c =
     let t1 = c.in_ok-t1.ensures in

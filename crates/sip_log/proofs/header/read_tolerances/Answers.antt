@@ -4,6 +4,7 @@ use Rattle.sip_log.specs.inner.Header.{NumberAfter, Tolerances}
 use Rattle.sip_log.proofs.headers.HeaderLemmas.{NumberAfter-one}
 use Rattle.sip_log.proofs.header.read_tolerances.Goals as goal
 
+-- in format 1 no tolerance stands there
 pub returns-in_err-tolerance-in-One : goal.returns-in_err-tolerance-in-One
 returns-in_err-tolerance-in-One c =
     let text = c.args.text.now in

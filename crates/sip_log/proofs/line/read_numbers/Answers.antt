@@ -7,6 +7,7 @@ use Rattle.sip_log.specs.inner.Spelling.{space}
 use Rattle.sip_log.proofs.numbers.DigitLemmas.{digits-front}
 use Rattle.sip_log.proofs.line.read_numbers.Goals as goal
 
+-- the moment is not written as a number is
 pub returns-then-not-is_plain : goal.returns-then-not-is_plain
 returns-then-not-is_plain c = λ moment len is.
     let read = c.digits-moment.ensures in

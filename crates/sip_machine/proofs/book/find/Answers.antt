@@ -6,6 +6,7 @@ use Rattle.sip_machine.specs.inner.Order.{texts_of, begins_by}
 use Rattle.sip_machine.proofs.texts.RunLaws.{partitioned, found_in_run, gap_in_runs, run_rises}
 use Rattle.sip_machine.proofs.book.find.Goals as goal
 
+-- the search within the run finds the message
 pub returns-in-Ok-clause-found : goal.returns-in-Ok-clause-found
 returns-in-Ok-clause-found c =
     let r = c.saturating_sub-run.result in

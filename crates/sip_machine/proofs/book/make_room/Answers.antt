@@ -4,6 +4,7 @@ use Rattle.sip_machine.specs.declared.book.PlaceRun.{PlaceRun}
 use Rattle.sip_machine.proofs.texts.RunLaws.{places-halved, led_halved}
 use Rattle.sip_machine.proofs.book.make_room.Goals as goal
 
+-- the full run is halved, and the places are the same
 pub returns-then-gap-clause-places : goal.returns-then-gap-clause-places
 returns-then-gap-clause-places c =
     let runs = c.args.runs.now.items in

@@ -11,6 +11,7 @@ use Rattle.sip_machine.specs.inner.DebtLaws.{All-front}
 use Rattle.sip_machine.proofs.steps.OwingSteps.{taken}
 use Rattle.sip_machine.proofs.owing.effect_of.Goals as goal
 
+-- the book keeps what the phase names, since it keeps what the state names
 pub restarts-requires : goal.restarts-requires
 restarts-requires g c = All-front (Keeps c.args.book.now) (g.M.Phases.names c.args.phase.now) (owes_names (owed_in c.args.dues.now c.args.row)) c.requires.known
 

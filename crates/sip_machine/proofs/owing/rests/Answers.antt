@@ -7,10 +7,12 @@ use Rattle.sip_machine.proofs.steps.OwingSteps.{rested-stays, rested-pays}
 use Rattle.sip_machine.specs.Owing.{state_in}
 use Rattle.sip_machine.proofs.owing.rests.Goals as goal
 
+-- the book keeps what the phase names, since it keeps what the state names
 pub paid-requires-clause-known : goal.paid-requires-clause-known
 paid-requires-clause-known g c =
     All-front (Keeps c.args.book.now) (g.M.Phases.names c.args.phase.now) (owes_names (owed_in c.args.dues.now c.args.row)) c.requires.known
 
+-- the book keeps what the row owes, since it keeps what the state names
 pub paid-requires-clause-owed : goal.paid-requires-clause-owed
 paid-requires-clause-owed g c =
     All-back (Keeps c.args.book.now) (g.M.Phases.names c.args.phase.now) (owes_names (owed_in c.args.dues.now c.args.row)) c.requires.known

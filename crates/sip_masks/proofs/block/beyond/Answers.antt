@@ -9,6 +9,7 @@ use Rattle.sip_masks.proofs.block.beyond.Goals as goal
 abbrev less : ℕ → ℕ → ℕ
 less a b = (a + (256 - b)) % 256
 
+-- each bit tells whether its byte lies outside of the range of names
 pub returns : goal.returns
 returns c =
     let v = c.args.v in

@@ -5,6 +5,7 @@ use Rattle.sip_masks.specs.Bits.{test}
 use Rattle.sip_masks.proofs.HostWordLemmas.{highest-set, none-above}
 use Rattle.sip_masks.proofs.host.highest.Goals as goal
 
+-- the bit at the place that the leading zeros tell is set
 pub returns-clause-set : goal.returns-clause-set
 returns-clause-set c =
     let word = c.args.word in

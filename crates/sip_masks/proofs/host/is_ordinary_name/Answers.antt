@@ -12,6 +12,7 @@ use Rattle.sip_masks.proofs.HostWordLemmas.{begins-some, top-within, none-bad, n
 use Rattle.sip_masks.proofs.host.is_ordinary_name.Goals.{then-len-eq0-via-then-len-eq0, then-len-eq0-via-else-len-eq0+then-len-gt-LONGEST, then-len-eq0-via-else-len-eq0+else-len-gt-LONGEST+then-window-lt-LONGEST}
 use Rattle.sip_masks.proofs.host.is_ordinary_name.Goals as goal
 
+-- the name is not empty, so at least its first byte begins a label
 pub highest-requires : goal.highest-requires
 highest-requires c =
     let w = c.args.window.now in

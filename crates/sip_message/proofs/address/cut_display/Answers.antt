@@ -4,11 +4,13 @@ use Rattle.sip_message.specs.inner.AddressFronts.{DisplayFront, display_parts}
 use Rattle.sip_message.proofs.lemmas.address.Reading.{display-some, display-no_name, display-no_angle}
 use Rattle.sip_message.proofs.address.cut_display.Goals as goal
 
+-- no display name stands at the front
 pub returns-in_err-name : goal.returns-in_err-name
 returns-in_err-name c =
     subst (IsOnlyValue DisplayFront display_parts c.args.text.now) (sym c.from_residual.ensures)
     (display-no_name c.args.text.now (sym c.in_default.ensures) c.in_err-name.ensures)
 
+-- no `<` follows the display name
 pub returns-in_err-inner : goal.returns-in_err-inner
 returns-in_err-inner c =
     subst (IsOnlyValue DisplayFront display_parts c.args.text.now) (sym c.from_residual-in_err-inner.ensures)

@@ -10,6 +10,7 @@ use Rattle.sip_message.proofs.cursor.cut_line.Goals as goal
 pub ends-init : goal.ends-init
 ends-init c = record { within = omega arith; scanned = scan-nothing c.args.text.now }
 
+-- no line feed is left
 pub returns-in_err-rest : goal.returns-in_err-rest
 returns-in_err-rest c =
     subst (IsOnlyValue LineFront pair_parts c.args.text.now) (sym c.from_residual.ensures)

@@ -100,6 +100,7 @@ fields-read n (line ∷ lines) fields (f, fs, is, are, whole) =
 -- where the names and the body are read, what a message demands of its fields and its body holds
 read-fits : (start : StartLine) (fields : List Field) (rest body : List ℕ) (names : (ℕ × List ℕ) × (ℕ × List ℕ)) → NamesOf fields (gives names) → BodyOf start (names.1) (names.0.1) (content_length fields) rest (gives body) → MessageFits start fields rest × (body ≡ cut_body (content_length fields) rest)
 read-fits start fields rest body names is read =
+    -- what each stage of the reading gave: the fields by their names, and then the demands on the body
     let via = given-then is in
     let from = given-then via.2 in
     let to = given-then from.2 in
@@ -115,6 +116,7 @@ read-fits start fields rest body names is read =
     let enough = given-then has.2 in
     let no_more = given-then enough.2 in
     let same = given len.2 in (
+      -- what a message demands
       record {
         via = (via.0, via.1);
         from_once = from_once.1;

@@ -154,6 +154,7 @@ firm-via_set T =
 -- an element of Via with a transport of T is of the set of such elements
 via-set : (T : List ℕ → Type 0) (text : List ℕ) (v : ViaParts) → T v.transport → ViaText text v → ViaSet T text
 via-set T text v t (fits, (a, w1, a_is, (s, w2, slash1, (b, w3, b_is, (r, w4, slash2, (c, w5, c_is, (sp, w6, blanks, (h, w7, h_is, (p, q, port, params, w7_is), w6_is), w5_is), w4_is), w3_is), w2_is), w1_is), whole)) = (
+  -- the parts stand in the order of the text: the protocol, the version, the transport, the host, the port and the parameters
   a,
   w1,
   subst Token (sym a_is) fits.protocol,
@@ -170,6 +171,7 @@ via-set T text v t (fits, (a, w1, a_is, (s, w2, slash1, (b, w3, b_is, (r, w4, sl
         w4,
         slash2,
         (
+          -- the transport is of T
           c,
           w5,
           subst T (sym c_is) t,

@@ -30,6 +30,7 @@ returns-then-number-eq-SUBJECT c = short-known c.args.text.now SUBJECT known_nam
 pub returns-then-number-eq-ROUTE : goal.returns-then-number-eq-ROUTE
 returns-then-number-eq-ROUTE c = short-known c.args.text.now ROUTE known_name.Route c.type_inv.text c.requires.token c.requires.length.1 (sym c.if-number-eq-ROUTE.true ∙ c.requires.number) refl refl
 
+-- the number is that of no known name
 pub returns-else-number-eq-ROUTE : goal.returns-else-number-eq-ROUTE
 returns-else-number-eq-ROUTE c =
     short-other c.args.text.now c.type_inv.text c.requires.length.0 c.requires.length.1

@@ -9,6 +9,7 @@ copied-none : (o : Option (Bor (List ℕ))) → is_some o ≡ false → option_c
 copied-none None is = refl
 copied-none (Some v) is = absurd (both_ways (is_some (Some v)) is refl)
 
+-- no colon follows the token, so the value is the token
 pub returns-then-is_none : goal.returns-then-is_none
 returns-then-is_none c =
     bare-token_front c.args.text.now c.in-Some.token.now c.in-Some.rest.now c.in-Some.ensures

@@ -5,6 +5,7 @@ use Rattle.sip_message.specs.inner.ParamFronts.{BracketFront}
 use Rattle.sip_message.proofs.lemmas.params.Value.{no-close, one-closed, closed-short}
 use Rattle.sip_message.proofs.params.cut_brackets.Goals as goal
 
+-- no `]` follows the `[`
 pub returns-in_err-rest : goal.returns-in_err-rest
 returns-in_err-rest c =
     subst (IsOnlyValue BracketFront pair_parts c.args.text.now) (sym c.from_residual-in_err-rest.ensures)

@@ -4,6 +4,7 @@ use Rattle.sip_message.specs.inner.Plain.{segment, LiesWithin, PlainParam}
 use Rattle.sip_message.proofs.PlainLemmas.{param-none, param-some, run-token}
 use Rattle.sip_message.proofs.plain.past_param.Goals as goal
 
+-- a parameter without a value
 pub returns-in_default-clause-param : goal.returns-in_default-clause-param
 returns-in_default-clause-param c =
     let m = c.args.masks.now in

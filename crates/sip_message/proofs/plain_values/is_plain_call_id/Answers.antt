@@ -7,6 +7,7 @@ use Rattle.sip_message.proofs.PlainLemmas.{then-stands}
 use Rattle.sip_message.proofs.PlainValueLemmas.{call_id-one, call_id-two}
 use Rattle.sip_message.proofs.plain_values.is_plain_call_id.Goals as goal
 
+-- the Call-ID is one word, without an `@`
 pub returns-then-word-end : goal.returns-then-word-end
 returns-then-word-end c = λ _.
     let m = c.args.masks.now in

@@ -8,6 +8,7 @@ use Rattle.sip_message.proofs.QuickLemmas.{open-other}
 use Rattle.sip_message.proofs.lemmas.asked.Asked.{asks-via, asks-from, asks-to, asks-call_id, asks-cseq, asks-content_length, asks-other}
 use Rattle.sip_message.proofs.quick.is_value_at.Goals as goal
 
+-- the first Via is kept
 pub returns-in-Known-Via-clause-asked : goal.returns-in-Known-Via-clause-asked
 returns-in-Known-Via-clause-asked c =
     let named : name_parts c.args.name ≡ known known_name.Via = ap name_parts c.in-Known-Via.is ∙ ap known (rw c.in-Known-Via.is at c.in-Known-Via.field-0-is) in
@@ -35,6 +36,7 @@ returns-in-Known-CallId-clause-asked c = λ so.
     let kept = c.keep_once-in-Known-CallId.ensures.kept so in
     asks-call_id _ _ _ _ (ap (segment c.args.at c.args.end) c.text.ensures) kept.1 named kept.0
 
+-- the CSeq is kept, and with it what it says
 pub returns-in-Known-CSeq-clause-asked : goal.returns-in-Known-CSeq-clause-asked
 returns-in-Known-CSeq-clause-asked c = λ so.
     let named : name_parts c.args.name ≡ known known_name.CSeq = ap name_parts c.in-Known-CSeq.is ∙ ap known (rw c.in-Known-CSeq.is at c.in-Known-CSeq.field-0-is) in
@@ -47,6 +49,7 @@ returns-in-Known-ContentLength-clause-asked c = λ so.
     let kept = c.keep_once-in-Known-ContentLength.ensures.kept so in
     asks-content_length _ _ _ _ (ap (segment c.args.at c.args.end) c.text.ensures) kept.1 named kept.0
 
+-- any other field may have a value without controls
 pub returns-in_default-clause-row : goal.returns-in_default-clause-row
 returns-in_default-clause-row c = λ _.
     let other : OtherText (segment c.args.at c.args.end c.args.masks.now) = open-other _ c.requires.clear in

@@ -10,6 +10,7 @@ use Rattle.sip_message.specs.inner.Plain.{segment}
 use Rattle.sip_message.proofs.QuickLemmas.{plain-run, plain-named, behind-open, value-open}
 use Rattle.sip_message.proofs.quick.push_ordinary.Goals as goal
 
+-- a run of plain bytes is a token
 pub quick_name-name-requires-clause-token : goal.quick_name-name-requires-clause-token
 quick_name-name-requires-clause-token c =
     let n = c.run_at-len.result in

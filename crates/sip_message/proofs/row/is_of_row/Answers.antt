@@ -7,6 +7,7 @@ use Rattle.sip_message.specs.inner.Views.{name_parts}
 use Rattle.sip_message.proofs.lemmas.asked.Kept.{via-row, via-keeps, cseq-row, cseq-keeps, named-keeps, other-keeps}
 use Rattle.sip_message.proofs.row.is_of_row.Goals as goal
 
+-- the value is of the row of Via exactly if elements are read of it
 pub returns-in-Known-Via-clause-row : goal.returns-in-Known-Via-clause-row
 returns-in-Known-Via-clause-row c =
     let named : name_parts c.args.name ≡ known known_name.Via = ap name_parts c.in-Known-Via.is ∙ ap known (rw c.in-Known-Via.is at c.in-Known-Via.field-0-is) in
@@ -39,6 +40,7 @@ returns-in-Known-CSeq-clause-row c =
     subst (λ n. IsTrue c.keep-in-Known-CSeq.result ↔ Row n c.args.value.now) (sym named)
     (cseq-row c.args.value.now c.read_cseq.result c.keep-in-Known-CSeq.result c.keep-in-Known-CSeq.ensures.says c.read_cseq.ensures)
 
+-- the first CSeq is kept as it was read
 pub returns-in-Known-CSeq-clause-kept : goal.returns-in-Known-CSeq-clause-kept
 returns-in-Known-CSeq-clause-kept c =
     let named : name_parts c.args.name ≡ known known_name.CSeq = ap name_parts c.in-Known-CSeq.is ∙ ap known (rw c.in-Known-CSeq.is at c.in-Known-CSeq.field-0-is) in
@@ -49,6 +51,7 @@ pub returns-in-Known-ContentLength-clause-kept : goal.returns-in-Known-ContentLe
 returns-in-Known-ContentLength-clause-kept c = λ _.
     named-keeps known_name.ContentLength _ _ (ap name_parts c.in-Known-ContentLength.is ∙ ap known (rw c.in-Known-ContentLength.is at c.in-Known-ContentLength.field-0-is)) (refl, refl)
 
+-- nothing is kept of another field
 pub returns-in_default-clause-kept : goal.returns-in_default-clause-kept
 returns-in_default-clause-kept c = λ _.
     let other : (is_name_of known_name.Via (name_parts c.args.name) ≡ false) × (is_name_of known_name.CSeq (name_parts c.args.name) ≡ false) = search rules in

@@ -8,6 +8,7 @@ use Rattle.sip_message.proofs.lemmas.asked.Parts.{first-value}
 use Rattle.sip_message.proofs.lemmas.field.Named.{stops-there, once-first}
 use Rattle.sip_message.proofs.stages.find_named.Goals as goal
 
+-- no Via stands in the head
 pub returns-in_err-via-clause-names : goal.returns-in_err-via-clause-names
 returns-in_err-via-clause-names c =
     let fault = c.in_err-via.field-0.0 in

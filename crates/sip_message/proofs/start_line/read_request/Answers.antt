@@ -13,6 +13,7 @@ use Rattle.sip_message.proofs.start_line.read_request.Goals as goal
 pub returns-in_err-method : goal.returns-in_err-method
 returns-in_err-method c = subst (IsOnlyValue RequestLine pair_parts c.args.line.now) (sym c.from_residual.ensures) (request-no_token c.args.line.now c.in_err-method.ensures)
 
+-- no SP follows the method
 pub returns-in_err-rest : goal.returns-in_err-rest
 returns-in_err-rest c =
     subst (IsOnlyValue RequestLine pair_parts c.args.line.now) (sym c.from_residual-in_err-rest.ensures)
@@ -24,6 +25,7 @@ returns-in_err-at c =
     subst (IsOnlyValue RequestLine pair_parts c.args.line.now) (sym c.from_residual-in_err-at.ensures)
     (request-short c.args.line.now c.in_ok-method.method.now c.in_ok-method.rest.now c.in_ok-rest.rest.now c.in_ok-method.ensures (sym c.in_ok-rest.ensures) (omega (arith, c.in_err-at.ensures)))
 
+-- the line does not end with SIP/2.0
 pub returns-then-not-same_text : goal.returns-then-not-same_text
 returns-then-not-same_text c =
     let more = c.in_ok-rest.rest.now in

@@ -3,6 +3,7 @@ use Rattle.sip_message.proofs.lemmas.value.Number.{digits-at, number-more, numbe
 use Rattle.sip_message.proofs.values.number_at_most.Goals as goal
 use Rattle.sip_message.proofs.values.number_at_most.Goals.{then-digit-most-via-then-digit-most, then-digit-most-via-else-digit-most+then-number-most}
 
+-- a byte that is no digit stands in the text
 pub returns-then-not-is_ascii_digit : goal.returns-then-not-is_ascii_digit
 returns-then-not-is_ascii_digit c = λ digits.
     absurd (digits-at c.args.text.now c.loop-byte.byte-index digits c.loop-byte-test.true (sym c.is_ascii_digit.ensures.value ∙ c.if-not-is_ascii_digit.true))

@@ -8,6 +8,7 @@ use Rattle.sip_message.proofs.lemmas.value.CSeq.{same-cseq, cseq-large, cseq-no_
 use Rattle.sip_message.proofs.values.read_cseq.Goals as goal
 use Rattle.sip_message.proofs.values.read_cseq.Goals.{then-len-eq0-via-then-len-eq0, then-len-eq0-via-else-len-eq0+then-blanks-eq0, then-len-eq0-via-else-len-eq0+else-blanks-eq0+then-not-is_token}
 
+-- the number is too great
 pub returns-in_err-number : goal.returns-in_err-number
 returns-in_err-number c =
     subst (IsOnlyValue CSeqValue cseq_parts c.args.text.now) (sym c.from_residual.ensures)

@@ -6,10 +6,12 @@ use Rattle.sip_message.proofs.lemmas.front.Cuts.{stop, go-stop, go}
 use Rattle.sip_message.proofs.lemmas.via.Host.{host-last}
 use Rattle.sip_message.proofs.via.cut_host.Goals as goal
 
+-- nothing that may be a host stands at the front
 pub returns-in_err-part : goal.returns-in_err-part
 returns-in_err-part c =
     subst (IsOnlyValue HostFront host_front_parts c.args.text.now) (sym c.from_residual.ensures) (stop c.in_err-part.ensures)
 
+-- what stands at the front is no host
 pub returns-in_err-host : goal.returns-in_err-host
 returns-in_err-host c =
     subst (IsOnlyValue HostFront host_front_parts c.args.text.now) (sym c.from_residual-in_err-host.ensures)

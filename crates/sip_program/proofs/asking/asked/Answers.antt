@@ -4,6 +4,7 @@ use Rattle.sip_program.proofs.AskedLemmas.{two-words, three-words, not-long, not
 use Rattle.sip_program.proofs.asking.asked.Goals.{in_default-via-then-words-lt2, in_default-via-in-len2-2+else-eq-2, in_default-via-in-len3+else-eq-3, in_default-via-else-words-lt2+else-words-lt3+else-words-lt4}
 use Rattle.sip_program.proofs.asking.asked.Goals as goal
 
+-- two words ask for a file
 pub returns-in-len2 : goal.returns-in-len2
 returns-in-len2 c = (
   two-words string_bytes c.args.words.now c.word-item.result c.file-item.result _ _

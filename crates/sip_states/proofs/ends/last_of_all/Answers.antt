@@ -4,9 +4,11 @@ use Rattle.std.proofs.lemmas.List.Elements.{All-get_or}
 use Rattle.sip_states.proofs.runs.Reaching.{last_push, last_all}
 use Rattle.sip_states.proofs.ends.last_of_all.Goals as goal
 
+-- the moments of the state are in range
 pub last_of-requires-clause-in_range : goal.last_of-requires-clause-in_range
 last_of-requires-clause-in_range g c = λ d. All-get_or g.M.Machine.in_range c.args.pool.now c.loop-at.at d (omega arith) c.requires.in_range
 
+-- one state can wait for ever, so all together can
 pub returns-in_err-last_of : goal.returns-in_err-last_of
 returns-in_err-last_of g c = rw c.from_residual.ensures (λ m low.
     let xs = c.args.pool.now in

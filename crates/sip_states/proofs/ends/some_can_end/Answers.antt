@@ -5,6 +5,7 @@ use Rattle.std.proofs.lemmas.List.Elements.{All-get_or, All-more}
 use Rattle.sip_states.specs.inner.Ways.{CanEnd}
 use Rattle.sip_states.proofs.ends.some_can_end.Goals as goal
 
+-- the moments of the state are in range
 pub can_end-requires-clause-in_range : goal.can_end-requires-clause-in_range
 can_end-requires-clause-in_range g c = λ d. All-get_or g.M.Machine.in_range c.args.pool.now c.loop-at.at d (omega arith) c.requires
 
@@ -25,6 +26,7 @@ loop-at-preserved g c =
     All-more (λ x. CanEnd (g.M.Machine.end_window m x) (g.M.Machine.until m x) c.args.from c.args.to → ⊥) c.args.pool.now c.loop-at.at d (omega arith) c.loop-at.invariant
     (λ can. true≢false (sym ((c.can_end.ensures d).1 can) ∙ c.if-can_end.false))
 
+-- all states were looked at, and none can end
 pub returns : goal.returns
 returns g c =
     let all = rw (take_all c.loop-at.at c.args.pool.now (omega arith)) at c.loop-at.invariant in

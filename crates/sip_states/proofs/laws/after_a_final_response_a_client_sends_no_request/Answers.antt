@@ -7,6 +7,7 @@ use Rattle.sip_states.proofs.runs.StandsLemmas.{stands-after}
 use Rattle.sip_states.proofs.runs.ClientLaws.{invite_after_final, plain_after_final}
 use Rattle.sip_states.proofs.laws.after_a_final_response_a_client_sends_no_request.Goals as goal
 
+-- what stands in the law is a run, of which the lemma speaks
 pub returns-clause-invite : goal.returns-clause-invite
 returns-clause-invite c =
     λ p before between rest request final e code y asked invite answered response is_final sent stands.

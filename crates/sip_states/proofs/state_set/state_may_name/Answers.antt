@@ -5,6 +5,7 @@ use Rattle.sip_machine.specs.Owing.{at_rest}
 use Rattle.sip_states.proofs.keyed.NamesLemmas.{owes_something, rest_may_name}
 use Rattle.sip_states.proofs.state_set.state_may_name.Goals as goal
 
+-- the state is not at rest, so it owes something
 pub returns-then-not-is_at_rest : goal.returns-then-not-is_at_rest
 returns-then-not-is_at_rest g c d =
     let x = get_or c.args.states.now c.args.at d in

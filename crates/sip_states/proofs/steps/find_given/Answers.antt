@@ -11,9 +11,11 @@ use Rattle.sip_states.proofs.sets.Following.{Follows}
 use Rattle.sip_states.proofs.sets.Stepping.{gives_stayed, gives_ended, found-behind, next-there}
 use Rattle.sip_states.proofs.steps.find_given.Goals as goal
 
+-- the book has what the states before the event name
 pub step_each-requires-clause-known : goal.step_each-requires-clause-known
 step_each-requires-clause-known g c = All-take (Knows g.M.Machine.names c.args.book.now) c.len-count.result c.args.pool.now c.requires.known
 
+-- the moments of the states before the event are in range
 pub step_each-requires-clause-in_range : goal.step_each-requires-clause-in_range
 step_each-requires-clause-in_range g c = All-take g.M.Machine.in_range c.len-count.result c.args.pool.now c.requires.in_range
 
@@ -43,6 +45,7 @@ pub step_each-requires-2-clause-known : goal.step_each-requires-2-clause-known
 step_each-requires-2-clause-known g c =
     subst (All (Knows g.M.Machine.names c.args.book.now)) (sym (take-old c.args.pool.now (at_rest c.ended.result ∷ []) c.push.new.self c.len-count.result c.in_ok-push.ensures.ok c.len-count.ensures)) c.requires.known
 
+-- the states before the event are as they were, and so are their moments
 pub step_each-requires-2-clause-in_range : goal.step_each-requires-2-clause-in_range
 step_each-requires-2-clause-in_range g c =
     subst (All g.M.Machine.in_range) (sym (take-old c.args.pool.now (at_rest c.ended.result ∷ []) c.push.new.self c.len-count.result c.in_ok-push.ensures.ok c.len-count.ensures)) c.requires.in_range
@@ -52,6 +55,7 @@ pub returns-in_err-step_each-2-clause-before : goal.returns-in_err-step_each-2-c
 returns-in_err-step_each-2-clause-before g c =
     before-more c.args.pool.now c.push.new.self c.step_each-2.new.pool (at_rest c.ended.result ∷ []) c.in_ok-push.ensures.ok c.in_err-step_each-2.ensures.before
 
+-- the ended state names nothing, so the book has what it names
 pub successors-requires-clause-known : goal.successors-requires-clause-known
 successors-requires-clause-known g c = λ d.
     let m = c.args.machine.now in

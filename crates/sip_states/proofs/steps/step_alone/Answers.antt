@@ -8,9 +8,11 @@ use Rattle.sip_states.proofs.sets.Following.{Follows}
 use Rattle.sip_states.proofs.sets.Stepping.{gives_alone, only}
 use Rattle.sip_states.proofs.steps.step_alone.Goals as goal
 
+-- the book has what the one state names
 pub step-requires-clause-known : goal.step-requires-clause-known
 step-requires-clause-known g c = λ d. All-get_or (Knows g.M.Machine.names c.args.book.now) c.args.pool.now 0 d (omega arith) c.requires.known
 
+-- the moments of the one state are in range
 pub step-requires-clause-in_range : goal.step-requires-clause-in_range
 step-requires-clause-in_range g c = λ d. All-get_or g.M.Machine.in_range c.args.pool.now 0 d (omega arith) c.requires.in_range
 

@@ -8,6 +8,7 @@ use Rattle.sip_states.specs.AnySet.{start_of}
 use Rattle.sip_states.proofs.keyed.TablesLemmas.{found-at, All-absent}
 use Rattle.sip_states.proofs.tables.find_or_start.Goals as goal
 
+-- the key was there, and the tables are as before
 pub returns-in-Occupied-clause-ok : goal.returns-in-Occupied-clause-ok
 returns-in-Occupied-clause-ok g c =
     let old = c.args.sets.now.entries in

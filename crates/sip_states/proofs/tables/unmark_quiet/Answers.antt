@@ -9,6 +9,7 @@ use Rattle.sip_states.proofs.keyed.ByMachine.{quiet_silent}
 use Rattle.sip_states.proofs.due.AdvanceLemmas.{item_among, unmarked, within_set}
 use Rattle.sip_states.proofs.tables.unmark_quiet.Goals as goal
 
+-- each marked index is one of the sets
 pub index-requires : goal.index-requires
 index-requires g c =
     let moved = c.loop-place.moved in

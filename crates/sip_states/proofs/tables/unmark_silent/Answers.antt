@@ -10,6 +10,7 @@ use Rattle.sip_states.proofs.keyed.NamesLemmas.{names_nothing}
 use Rattle.sip_states.proofs.due.AdvanceLemmas.{item_among, unmarked, not_unmarked}
 use Rattle.sip_states.proofs.tables.unmark_silent.Goals as goal
 
+-- each marked index is one of the sets
 pub index-requires : goal.index-requires
 index-requires g c =
     let marks = c.loop-place.marks in

@@ -4,6 +4,7 @@ use Rattle.std.proofs.lemmas.Slice.Eq.{bytes_eq-Decides}
 use Rattle.std.proofs.lemmas.Fmt.{parse-decimal}
 use Rattle.sip_survey_program.proofs.part_word.number_of.Goals as goal
 
+-- the word is no number of 32 bits
 pub returns-in_default : goal.returns-in_default
 returns-in_default c = λ number few same.
     let read = parse-decimal 32 number c.args.word.now c.parse.result few (omega (arith, few)) same c.parse.ensures.value.0 in

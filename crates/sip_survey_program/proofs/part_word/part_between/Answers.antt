@@ -5,9 +5,11 @@ use Rattle.sip_part.specs.Part.{PartOf}
 use Rattle.sip_survey_program.specs.PartWords.{IsPartBetween}
 use Rattle.sip_survey_program.proofs.part_word.part_between.Goals as goal
 
+-- what stands before the slash is no number
 pub returns-in_err-number : goal.returns-in_err-number
 returns-in_err-number c = rw c.from_residual.ensures (λ part is one two. c.in_err-number.ensures part.number (omega (arith, is)) one)
 
+-- what stands after the slash is no number
 pub returns-in_err-count : goal.returns-in_err-count
 returns-in_err-count c = rw c.from_residual-in_err-count.ensures (λ part is one two. c.in_err-count.ensures part.count (omega (arith, is)) two)
 

@@ -9,6 +9,7 @@ use Rattle.sip_text.proofs.host.is_name.Goals as goal
 pub returns-in_default : goal.returns-in_default
 returns-in_default c = sym (labels-other c.labels.rest.now (sym c.in_default.ensures.run)) ∙ c.labels.invariant
 
+-- a label and its dot have bytes, so less is left
 pub labels-smaller : goal.labels-smaller
 labels-smaller c =
     let label = c.in-Some.ensures in

@@ -9,6 +9,7 @@ use Rattle.sip_text.proofs.strings.BlanksLemmas.{blanks-longest}
 use Rattle.sip_text.proofs.strings.QuotedLemmas.{none-opens, none-closes, only-quoted}
 use Rattle.sip_text.proofs.quoted.read_quoted.Goals as goal
 
+-- no quote follows the blanks
 pub returns-in_err-inner-clause-reads : goal.returns-in_err-inner-clause-reads
 returns-in_err-inner-clause-reads c =
     let text = c.args.text.now in

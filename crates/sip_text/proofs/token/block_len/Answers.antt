@@ -7,6 +7,7 @@ use Rattle.sip_text.specs.Bytes.{is_token_byte}
 use Rattle.sip_text.proofs.texts.BlockLemmas.{shares, others, long-and, block-run}
 use Rattle.sip_text.proofs.token.block_len.Goals as goal
 
+-- all bytes of the block are bytes of tokens
 pub returns-then-others-eq0-clause-run : goal.returns-then-others-eq0-clause-run
 returns-then-others-eq0-clause-run c =
     let v = chunk c.args.at 16 c.args.text.now in

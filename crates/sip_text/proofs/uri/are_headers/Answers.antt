@@ -21,6 +21,7 @@ headers-smaller c =
     (each-past ampersand Header c.headers.rest.now c.cut.result.0.now c.in-Some.more.now c.cut.ensures.front
     (ap option_copied (sym c.in-Some.is) ∙ c.cut.ensures.rest) (c.is_header.ensures.0 c.if-not-is_header.false)).1
 
+-- after one header more, the text is headers exactly if what is left is
 pub headers-preserved : goal.headers-preserved
 headers-preserved c =
     let past = (each-past ampersand Header c.headers.rest.now c.cut.result.0.now c.in-Some.more.now c.cut.ensures.front

@@ -21,6 +21,7 @@ params-smaller c =
     (each-past semicolon UriParameter c.params.rest.now c.cut.result.0.now c.in-Some.more.now c.cut.ensures.front
     (ap option_copied (sym c.in-Some.is) ∙ c.cut.ensures.rest) (c.is_param.ensures.0 c.if-not-is_param.false)).1
 
+-- after one parameter more, the text is parameters exactly if what is left is
 pub params-preserved : goal.params-preserved
 params-preserved c =
     let past = (each-past semicolon UriParameter c.params.rest.now c.cut.result.0.now c.in-Some.more.now c.cut.ensures.front

@@ -5,6 +5,7 @@ use Rattle.sip_text.proofs.uris.UriPortLemmas.{port-there, no-port}
 use Rattle.sip_text.proofs.uri.cut_port.Goals as goal
 use Rattle.sip_text.proofs.uri.cut_port.Goals.{in_default-via-in-Some+else-is_port, in_default-via-in_default}
 
+-- what follows the last colon is a port
 pub returns-in-Some : goal.returns-in-Some
 returns-in-Some c =
     port-there c.args.text.now c.in-Some.host.now c.cut_last.result.1.now

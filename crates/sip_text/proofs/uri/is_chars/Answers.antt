@@ -3,6 +3,7 @@ use Rattle.sip_text.specs.inner.Class.{is_in}
 use Rattle.sip_text.proofs.uris.UriCharLemmas.{run-slice, chars-past, chars-stop}
 use Rattle.sip_text.proofs.uri.is_chars.Goals as goal
 
+-- an escape has bytes, so less is left
 pub chars-smaller : goal.chars-smaller
 chars-smaller c =
     let run = run-slice (is_in c.args.class) c.chars.rest.now c.run_len.result c.run_len.ensures.run in

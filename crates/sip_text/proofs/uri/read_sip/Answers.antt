@@ -8,6 +8,7 @@ use Rattle.sip_text.proofs.uris.UriSipLemmas.{no-host_cut, info-fits, parts-fit,
 use Rattle.sip_text.proofs.uri.read_sip.Goals as goal
 use Rattle.sip_text.proofs.uri.read_sip.Goals.{then-not-userinfo_fits-via-then-not-userinfo_fits, then-not-userinfo_fits-via-else-not-userinfo_fits+then-not-tail_fits}
 
+-- what stands in the place of the host is none
 pub returns-in_err-host : goal.returns-in_err-host
 returns-in_err-host c =
     subst (IsOnlyValue (SipText c.args.secure) uri_parts c.args.text.now) (sym c.from_residual.ensures)

@@ -9,6 +9,7 @@ use Rattle.sip_text.proofs.uris.UriLemmas.{scheme-at, read-sip, named-so, not-si
 use Rattle.sip_text.proofs.uri.read_uri.Goals as goal
 use Rattle.sip_text.proofs.uri.read_uri.Goals.{then-is_sip-via-then-is_sip, then-is_sip-via-else-is_sip+then-same_text, else-is_scheme-via-then-is_scheme+else-is_some_chars, else-is_scheme-via-else-is_scheme}
 
+-- no colon stands in the text, so it is no URI
 pub returns-in_err-rest : goal.returns-in_err-rest
 returns-in_err-rest c =
     subst (IsOnlyValue UriText uri_parts c.args.text.now) (sym c.from_residual.ensures)

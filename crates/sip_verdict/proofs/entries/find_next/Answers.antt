@@ -15,9 +15,11 @@ returns-then-kept-left-clause-found g c = λ es surveyed counts late.
     let (e, here, seen, now, found, added, tracks) = c.in_ok-find.ensures.found es surveyed.tracks counts late in
     (e, here, seen, found, added, surveyed_kept s.book mid.book s.tables mid.tables c.args.troubled.now.deaf.items c.find.new.troubled.deaf.items left es e c.in_ok-find.ensures.times surveyed few tracks)
 
+-- an entry without keys leaves the book no more than it had
 pub returns-then-kept-left-clause-keyless : goal.returns-then-kept-left-clause-keyless
 returns-then-kept-left-clause-keyless g c none = same_within c.args.standing.now.book c.find.new.standing.book (c.in_ok-find.ensures.keyless none)
 
+-- after the sweep the next entry may come
 pub returns-clause-may : goal.returns-clause-may
 returns-clause-may g c =
     let mid = c.find.new.standing in
@@ -30,6 +32,7 @@ returns-clause-may g c =
 pub returns-clause-keys : goal.returns-clause-keys
 returns-clause-keys g c = let same = ap length c.in_ok-sweep.ensures.keys in let few = c.in_ok-find.ensures.keys in omega arith
 
+-- no more messages are left than there are entries
 pub returns-clause-left : goal.returns-clause-left
 returns-clause-left g c =
     let may = c.in_ok-find.ensures.may in
@@ -37,9 +40,11 @@ returns-clause-left g c =
     let high = c.kept-2.ensures.few (c.args.entry.now.number + 1) (λ n keeps. may.numbered n (fewer n keeps)) in
     omega (arith, high, c.requires.count)
 
+-- the sweep leaves the book no more than it had
 pub returns-clause-keyless : goal.returns-clause-keyless
 returns-clause-keyless g c none = subst (λ b. All (Contains b) c.sweep.new.self.book) (c.in_ok-find.ensures.keyless none) c.in_ok-sweep.ensures.fewer
 
+-- the sweep leaves what is watched of each transaction
 pub returns-clause-watched : goal.returns-clause-watched
 returns-clause-watched g c =
     let h = c.in_ok-find.ensures.watched in

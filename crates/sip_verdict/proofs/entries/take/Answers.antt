@@ -13,6 +13,7 @@ use Rattle.sip_verdict.proofs.surveys.kept.Histories.{silent_histories, restart_
 use Rattle.sip_verdict.proofs.surveys.passing.Taken.{unheard_taken, fault_taken, restart_taken, heard_taken, dropped_passing, watched_touched}
 use Rattle.sip_verdict.proofs.entries.take.Goals as goal
 
+-- the grown book and the touched tables may pass the entry
 pub pass_each-requires-in-Heard-clause-may : goal.pass_each-requires-in-Heard-clause-may
 pass_each-requires-in-Heard-clause-may g c =
     let s = c.args.standing.now in
@@ -36,6 +37,7 @@ pass_each-requires-in-Heard-clause-watched g c =
     watched_touched (each c.in-Heard.concerned) (each c.in_ok-concerned-in-Heard.concerned) c.args.standing.now.tables c.touch_each.new.tables c.args.troubled.now c.grow.new.self grown.0
     c.in_ok-concerned-in-Heard.ensures.touched c.requires.may.passes.long c.requires.watched grown.1 grown.2 (c.in_ok-grow-in-Heard.ensures.long ∙ c.len.ensures)
 
+-- the keys that were touched have histories or come next
 pub note_each-requires : goal.note_each-requires
 note_each-requires g c =
     touched_low (each c.in-Heard.concerned) (each c.in_ok-concerned-in-Heard.concerned) c.args.standing.now.tables c.touch_each.new.tables c.in_ok-concerned-in-Heard.ensures.touched
@@ -64,6 +66,7 @@ returns-in_ok-pass_each-in-Unheard-clause-histories g c = λ es e told keys coun
     let (f, f_seen, (fine, at, none)) = (rw c.in-Unheard.is at c.in_ok-told.ensures.observed) es in
     silent_histories es e c.args.histories.now (ap (λ o. o.keys) (observes_one es (item c.args.entry.now) e f seen f_seen) ∙ none) told
 
+-- an entry with a fault concerns no key, so the histories stay
 pub returns-in_ok-pass_each-in-Fault-clause-histories : goal.returns-in_ok-pass_each-in-Fault-clause-histories
 returns-in_ok-pass_each-in-Fault-clause-histories g c = λ es e told keys counts seen.
     let (f, f_seen, is) = (rw c.in-Fault.is at c.in_ok-told.ensures.observed) es in
@@ -193,9 +196,11 @@ returns-in_ok-pass_each-in-Heard-clause-taken g c = λ es fresh tracks late.
 pub returns-in_ok-pass_each-in-Unheard-clause-keys : goal.returns-in_ok-pass_each-in-Unheard-clause-keys
 returns-in_ok-pass_each-in-Unheard-clause-keys g c = let same = ap length c.in_ok-pass_each-in-Unheard.ensures.keys in omega arith
 
+-- there are as many keys as before
 pub returns-in_ok-pass_each-in-Fault-clause-keys : goal.returns-in_ok-pass_each-in-Fault-clause-keys
 returns-in_ok-pass_each-in-Fault-clause-keys g c = let same = ap length c.in_ok-pass_each-in-Fault.ensures.keys in omega arith
 
+-- there are as many keys as before
 pub returns-in_ok-pass_each-in-Restart-clause-keys : goal.returns-in_ok-pass_each-in-Restart-clause-keys
 returns-in_ok-pass_each-in-Restart-clause-keys g c = let same = ap length c.in_ok-pass_each-in-Restart.ensures.keys in omega arith
 

@@ -6,6 +6,7 @@ use Rattle.sip_verdict.specs.inner.SurveyingLogs.{SurveysRead}
 use Rattle.sip_verdict.proofs.surveys.written.Gathering.{gathered_on, gathered_end, gathered_stop}
 use Rattle.sip_verdict.proofs.gathering.gather_entries.Goals as goal
 
+-- no entry was read yet
 pub loop-found-init : goal.loop-found-init
 loop-found-init g c = record {
   fine = refl;

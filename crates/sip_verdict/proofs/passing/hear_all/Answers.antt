@@ -5,6 +5,7 @@ use Rattle.sip_verdict.specs.inner.TablesTracking.{HearsEach}
 use Rattle.sip_verdict.proofs.tables.TablesPassing.{given_still, hears_more}
 use Rattle.sip_verdict.proofs.passing.hear_all.Goals as goal
 
+-- the tables still have the number
 pub hear_one-requires-clause-given : goal.hear_one-requires-clause-given
 hear_one-requires-clause-given g c =
     let numbers = c.args.numbers.now in

@@ -11,6 +11,7 @@ use Rattle.sip_verdict.proofs.passing.pass_all.Goals as goal
 pub returns-in_default-clause-recorded : goal.returns-in_default-clause-recorded
 returns-in_default-clause-recorded g c = on_record_if _ c.args.tables.now (λ fine. rw c.in_default.is at c.requires.recorded)
 
+-- the entry concerns no key, so what is overdue is the outcome
 pub returns-in_default-clause-outcome : goal.returns-in_default-clause-outcome
 returns-in_default-clause-outcome g c = λ p es e newest told ready.
     let t = c.args.tables.now in

@@ -8,6 +8,7 @@ use Rattle.sip_log.proofs.answers.StreamLemmas.{HasStreamed, streams_entry, stre
 use Rattle.sip_verdict.proofs.listings.StreamingLemmas.{counted_anew, streams_on, stream_fault}
 use Rattle.sip_verdict.proofs.reading.read_on.Goals as goal
 
+-- the reader has gone on by one entry, where any number may come
 pub returns-in-Ok-Some-clause-moves : goal.returns-in-Ok-Some-clause-moves
 returns-in-Ok-Some-clause-moves g c =
     streams_on c.args.count c.args.progress.now c.count_anew.new.self c.next_into.new.self (g.R.Source.left c.args.reader.now) (g.R.Source.has_failed c.args.reader.now)

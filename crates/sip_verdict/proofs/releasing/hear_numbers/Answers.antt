@@ -5,6 +5,7 @@ use Rattle.sip_verdict.proofs.tables.TablesPassing.{given_still}
 use Rattle.sip_verdict.proofs.surveys.found.Numbered.{next_number, next_apart, none_left, concerned_rest}
 use Rattle.sip_verdict.proofs.releasing.hear_numbers.Goals as goal
 
+-- the tables still have the number
 pub hear_or_release-requires-clause-given : goal.hear_or_release-requires-clause-given
 hear_or_release-requires-clause-given g c =
     let numbers = c.args.numbers.now in
@@ -37,6 +38,7 @@ pub returns-clause-watched : goal.returns-clause-watched
 returns-clause-watched g c = λ h.
     subst (λ ns. AreWatched ns c.loop-number.tables c.loop-number.troubled) (none_left c.args.numbers.now c.loop-number.number-index (omega arith)) (c.loop-number.invariant.watched h)
 
+-- no number is left, so all have heard the event
 pub returns-clause-heard : goal.returns-clause-heard
 returns-clause-heard g c = λ p es e times late apart concerned h.
     subst (λ ns. ArePassing c.args.book.now p es e (is_among ns) c.loop-number.tables c.loop-number.troubled) (none_left c.args.numbers.now c.loop-number.number-index (omega arith))

@@ -7,19 +7,24 @@ use Rattle.sip_verdict.proofs.surveys.passing.Watching.{watched_on, watched_off,
 use Rattle.sip_verdict.proofs.surveys.passing.Hearing.{deaf_on, heard_on, heard_broken, heard_wide}
 use Rattle.sip_verdict.proofs.releasing.hear_or_release.Goals as goal
 
+-- the transaction is in trouble already, and hears nothing more
 pub returns-then-has-clause-watched : goal.returns-then-has-clause-watched
 returns-then-has-clause-watched g c = λ waits h. watched_deaf c.args.tables.now c.args.troubled.now c.args.number waits c.requires.given h (c.has.ensures ∙ ap Some c.if-has.true)
 
+-- the transaction is in trouble already, so nothing changes for it
 pub returns-then-has-clause-heard : goal.returns-then-has-clause-heard
 returns-then-has-clause-heard g c = λ p es e waits times late once concerned h.
     deaf_on c.args.book.now p es e c.args.tables.now c.args.troubled.now c.args.number c.requires.given waits (c.has.ensures ∙ ap Some c.if-has.true) h
 
+-- the set is not later than the event
 pub hear-requires-clause-order : goal.hear-requires-clause-order
 hear-requires-clause-order g c = All-place (λ set. moment_of set ≤ c.args.event.now.moment) c.args.tables.now.sets (c.args.number - 1) c.set_mut.result.now c.set_mut.ensures.value c.requires.may.order
 
+-- the book has what the set names
 pub hear-requires-clause-known : goal.hear-requires-clause-known
 hear-requires-clause-known g c = All-place (IsKnownSet c.args.book.now) c.args.tables.now.sets (c.args.number - 1) c.set_mut.result.now c.set_mut.ensures.value c.requires.may.known
 
+-- a set that goes on has a state
 pub settle-requires-clause-state : goal.settle-requires-clause-state
 settle-requires-clause-state g c = λ set at.
     elim (set_place c.args.tables.now.sets (c.args.number - 1) (c.args.number - 1) c.hear.new.set set at) [

@@ -60,6 +60,7 @@ loop-found-preserved g c =
     let old : log.ReaderState = beside_source l.progress (g.R.Source.left l.reader) (g.R.Source.has_failed l.reader) in
     let new : log.ReaderState = beside_source c.read_on.new.progress (g.R.Source.left c.read_on.new.reader) (g.R.Source.has_failed c.read_on.new.reader) in
     let moves = rw c.in-Entry.is at c.in_ok-entry.ensures.moves in
+    -- what the calls of the loop did: entries were forgotten, one was cut and taken, and its lines were put
     let forgot = c.in_ok-forget_due-in-Entry.ensures in
     let taken = c.in_ok-entry-in-Entry.ensures in
     let put = c.in_ok-counts-in-Entry.ensures in
@@ -74,6 +75,7 @@ loop-found-preserved g c =
     let cut_moment = cut.moment in
     let is_room : IsTrue c.has_room.result = search rules in
     let has_room : HasRoom c.forget_due.new.survey.number (length c.forget_due.new.survey.tables.keys) = c.has_room.ensures.0 is_room in
+    -- what the loop keeps holds again
     record {
       read = c.in_ok-entry.ensures.ok ∙ l.invariant.read;
       written = put.fine ∙ l.invariant.written;
@@ -90,6 +92,7 @@ loop-found-preserved g c =
         told.1 ++ put.text.0,
         told_more told.0 items told.1 put.text.0 l.counts c.in_ok-counts-in-Entry.counts (g.W.Sink.written c.args.writer.now) (g.W.Sink.written l.writer) (g.W.Sink.written c.put_findings.new.writer) told.2
             (search rules) put.text.1,
+        -- what was read, forgotten and taken is told on
         λ start reads.
             let so = told.3 start reads in
             let more = (rw c.in-Entry.is at c.in_ok-entry.ensures.gives) start p so.0.items so.0.read in

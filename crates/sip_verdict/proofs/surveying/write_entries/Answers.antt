@@ -51,11 +51,13 @@ loop-found-preserved g c =
     let old : log.ReaderState = beside_source l.progress (g.R.Source.left l.reader) (g.R.Source.has_failed l.reader) in
     let new : log.ReaderState = beside_source c.read_next.new.progress (g.R.Source.left c.read_next.new.reader) (g.R.Source.has_failed c.read_next.new.reader) in
     let moves = rw c.in-Entry.is at c.in_ok-entry.ensures.moves in
+    -- what the calls of the loop did: an entry was taken, and its lines were put
     let taken = c.in_ok-entry-in-Entry.ensures in
     let put = c.in_ok-counts-in-Entry.ensures in
     let items : List Finding = c.entry.new.found.items in
     let lines : c.as_slice.result.now ≡ items = search rules in
     let told = l.invariant.told in
+    -- what the loop keeps holds again
     record {
       read = c.in_ok-entry.ensures.ok ∙ l.invariant.read;
       written = put.fine ∙ l.invariant.written;
@@ -73,6 +75,7 @@ loop-found-preserved g c =
         told.1 ++ put.text.0,
         told_more told.0 items told.1 put.text.0 l.counts c.in_ok-counts-in-Entry.counts (g.W.Sink.written c.args.writer.now) (g.W.Sink.written l.writer) (g.W.Sink.written c.put_findings.new.writer) told.2
             (search rules) put.text.1,
+        -- what was read and taken is told on
         λ start reads.
             let so = told.3 start reads in
             let read = so.read in

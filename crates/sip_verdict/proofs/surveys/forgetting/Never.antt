@@ -134,11 +134,13 @@ two_more es item e sees = by (direction_of item.action) refl sees
 never_after : (age : ℕ) (part : Option PartOf) (p : Times) (es : Entries) (items taken : List Item) (close : LogEnd) (found : List Finding) (end : SurveyEnd) (after : Entries) (lines : List ℕ) → AreTaken part items taken
     → length es + length items ≤ most_entries → length (keys_in es) ≤ length es + length es → IsSurveyAfter p es taken close found end → AreSeen es taken after
     → IsTextOf (es ++ after) found lines → IsToldAfter age part p es items close found end lines
+-- no item is left
 never_after age part p es [] [] Clean found end after lines are few keys is seen text = (is, subst (λ fs. IsTextOf (es ++ after) fs lines) is.0 text)
 never_after age part p es [] [] (Stops fault) found end after lines are few keys is seen text = (is, subst (λ fs. IsTextOf (es ++ after) fs lines) is.0 text)
 never_after age part p es [] (x ∷ taken) close found end after lines are few keys is seen text = absurd are
 never_after age part p es (item ∷ items) [] close found end after lines are few keys is seen text = absurd are
 never_after age part p es (item ∷ items) (x ∷ taken) close found end [] lines are few keys is seen text = absurd seen
+-- one item more, at which nothing is forgotten
 never_after age part p es (item ∷ items) (x ∷ taken) close found end (f ∷ after) lines (one, more) few keys (e, here, later, sees, both, are, left) (saw, seen) text =
     let same : f ≡ e = observes_one es x f e saw sees in
     let whole : IsTextOf ((es ++ e ∷ []) ++ after) (here ++ later) lines =

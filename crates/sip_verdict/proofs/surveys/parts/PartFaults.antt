@@ -53,6 +53,7 @@ at_place chosen done back items cuts [] cs seen saw cut n low = absurd (omega (a
 at_place chosen done back [] cuts (e ∷ es) cs seen saw cut n low = absurd seen
 at_place chosen done back (item ∷ items) [] (e ∷ es) cs seen saw cut n low = absurd cut
 at_place chosen done back (item ∷ items) (i ∷ cuts) (e ∷ es) [] seen saw cut n low = absurd saw
+-- the first place
 at_place chosen done back (item ∷ items) (i ∷ cuts) (e ∷ es) (c ∷ cs) seen saw cut zero low =
     record {
       front = [];
@@ -79,6 +80,7 @@ at_place chosen done back (item ∷ items) (i ∷ cuts) (e ∷ es) (c ∷ cs) se
       sees = subst (λ xs. Sees xs item e) (sym (append-nil done)) seen.0;
       saw = subst (λ xs. Sees xs i c) (sym (append-nil back)) saw.0;
     }
+-- a later place, which is one less in the logs without their first entries
 at_place chosen done back (item ∷ items) (i ∷ cuts) (e ∷ es) (c ∷ cs) seen saw cut (suc n) low =
     let at = at_place chosen (done ++ e ∷ []) (back ++ c ∷ []) items cuts es cs seen.1 saw.1 cut.1 n (omega (arith, low)) in
     record {

@@ -60,6 +60,7 @@ module _ (age : ℕ) (part : Option PartOf) (p : Times) (start : Option (List �
       → ((es : List (Observation KeyParts)) → IsHorizonOf a es → SurveysFor k es → IsHorizonOf b es)
       → (on : RemembersRead age part p k (found ++ items) (lines ++ text) start new) × IsHorizonOf b on.es
   remembers_on m horizon_is aged e cut new more is_taken f k a b f_times k_times moves forgets room items says text are_lines notes =
+      -- what is left after the forgetting, and what is seen and found at the entry
       let (left, left_is, f_stands, f_horizon) = forgets so.es so.follows horizon_is in
       let (seen, here, observed, are, same, k_stands) = says left f_stands in
       let is_left : IsLeftOf age p so.es left = subst (λ t. IsLeftOf age t so.es left) so.times (subst (λ n. IsLeftOf n s.tables.times so.es left) aged left_is) in
@@ -69,6 +70,7 @@ module _ (age : ℕ) (part : Option PartOf) (p : Times) (start : Option (List �
       let f_now = f_stands.moment in
       let k_now = k_stands.moment in
       let newest = newest_moment-push left seen in (
+        -- the survey has read the item, and its horizon goes on
         record {
           items = so.items ++ item e ∷ [];
           es = left ++ seen ∷ [];

@@ -15,6 +15,7 @@ returns-then-kept-left-clause-judged g c =
     let few : length mid.book ≤ left + left + 64 = omega (arith, c.kept.ensures.kept, c.if-kept-left.true) in
     followed_kept s.book mid.book s.tables mid.tables c.in_ok-verdict.ensures.times e.number (item e) (rw c.in_default.is at c.in_ok-verdict.ensures.judged) left few
 
+-- after the sweep the next entry may come
 pub returns-clause-may : goal.returns-clause-may
 returns-clause-may g c =
     let mid = c.judge.new.self in
@@ -23,6 +24,7 @@ returns-clause-may g c =
     let swept = c.in_ok-sweep.ensures in
     swept_take mid.book new.book mid.tables new.tables (e.number + 1) e.moment (rw c.in_default.is at c.in_ok-verdict.ensures.may) swept.may swept.recorded (within_keeps mid.book new.book swept.fewer) swept.keys
 
+-- no more messages are left than there are entries
 pub returns-clause-left : goal.returns-clause-left
 returns-clause-left g c =
     let may = rw c.in_default.is at c.in_ok-verdict.ensures.may in
@@ -30,6 +32,7 @@ returns-clause-left g c =
     let high = c.kept-2.ensures.few (c.args.entry.now.number + 1) (λ n keeps. may.numbered n (fewer n keeps)) in
     omega (arith, high, c.requires.count)
 
+-- an entry without keys leaves the book no more than it had
 pub returns-clause-keyless : goal.returns-clause-keyless
 returns-clause-keyless g c none =
     let old = c.args.standing.now.book in

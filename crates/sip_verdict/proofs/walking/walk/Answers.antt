@@ -10,11 +10,13 @@ use Rattle.sip_verdict.proofs.tables.JudgeTables.{first_may, next_may}
 use Rattle.sip_verdict.proofs.listings.WalksLemmas.{walks_start, walks_stop, none_listed, walks_on, walks_end, walks_fault, walks_trouble, walks_listed}
 use Rattle.sip_verdict.proofs.walking.walk.Goals as goal
 
+-- the log has no header that can be read
 pub returns-in-Err-clause-answer : goal.returns-in-Err-clause-answer
 returns-in-Err-clause-answer g c =
     let fault = rw c.in-Err.is at c.in_ok-opened.ensures.fault in
     walks_stop c.args.aim (g.R.Source.left c.args.reader.now) c.in-Err.verdict 0 fault.1 (λ n same. omega arith) fault.0
 
+-- entry 0 is asked for, which no log has
 pub returns-then-is_entry-clause-answer : goal.returns-then-is_entry-clause-answer
 returns-then-is_entry-clause-answer g c =
     let start = g.R.Source.left c.args.reader.now in
@@ -42,6 +44,7 @@ loop-standing-init g c =
       walks = walks_start c.args.aim start now opened.0 c.new-standing.result.book c.new-standing.result.tables c.new-standing.ensures.book c.new-standing.ensures.tables reads;
     }
 
+-- the entry may come next
 pub list-requires-clause-may : goal.list-requires-clause-may
 list-requires-clause-may g c =
     let l = c.loop-standing in
@@ -49,6 +52,7 @@ list-requires-clause-may g c =
     let moves = rw c.in-Entry.is at c.in_ok-entry.ensures.moves in
     next_may l.standing.book l.standing.tables l.count l.progress.last e.number e.moment (moves.1.number_is ∙ ap (λ n. n + 1) (sym l.invariant.counts)) moves.1.order l.invariant.may
 
+-- the entry may come next
 pub judge_on-requires-clause-may : goal.judge_on-requires-clause-may
 judge_on-requires-clause-may g c =
     let l = c.loop-standing in
@@ -56,6 +60,7 @@ judge_on-requires-clause-may g c =
     let moves = rw c.in-Entry.is at c.in_ok-entry.ensures.moves in
     next_may l.standing.book l.standing.tables l.count l.progress.last e.number e.moment (moves.1.number_is ∙ ap (λ n. n + 1) (sym l.invariant.counts)) moves.1.order l.invariant.may
 
+-- the entry is the aim, and what is listed of it is the answer
 pub returns-then-is_entry-2-clause-answer : goal.returns-then-is_entry-2-clause-answer
 returns-then-is_entry-2-clause-answer g c =
     let l = c.loop-standing in

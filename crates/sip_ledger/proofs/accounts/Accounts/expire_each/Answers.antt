@@ -5,6 +5,7 @@ use Rattle.sip_ledger.proofs.lists.EachLemmas.{changing-more, on_ok}
 use Rattle.sip_ledger.proofs.rows.GainEachLemmas.{none-past}
 use Rattle.sip_ledger.proofs.accounts.Accounts.expire_each.Goals as goal
 
+-- no debt has expired, so all rows stay as they are
 pub returns-then-all_count-clause-ok : goal.returns-then-all_count-clause-ok
 returns-then-all_count-clause-ok c =
     let s = c.self.inside in

@@ -8,10 +8,12 @@ use Rattle.sip_ledger.proofs.account.FirstLemmas.{first-account, none-account}
 use Rattle.sip_ledger.proofs.rows.SeenLemmas.{account-at}
 use Rattle.sip_ledger.proofs.accounts.Accounts.first_payable.Goals as goal
 
+-- the row is an account
 pub find_under-requires-clause-account : goal.find_under-requires-clause-account
 find_under-requires-clause-account c =
     rw c.deref.ensures.value (account-at c.args.row c.index-account.result.now c.self.invariant c.self.view_is c.requires c.index-account.ensures).0
 
+-- what an account owes is kept
 pub entry-requires-clause-kept : goal.entry-requires-clause-kept
 entry-requires-clause-kept c =
     let s = c.self.inside in

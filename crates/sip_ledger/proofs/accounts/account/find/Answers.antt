@@ -5,9 +5,11 @@ use Rattle.sip_ledger.proofs.account.FindLemmas.{first-payable, none-pays_late, 
 use Rattle.sip_ledger.proofs.account.WithoutLemmas.{before-start}
 use Rattle.sip_ledger.proofs.accounts.account.find.Goals as goal
 
+-- no place was looked at yet
 pub loop-place-init : goal.loop-place-init
 loop-place-init c = grind (arith, owed-within, first-payable, none-pays_late, none-pays_struck, none-pays_to, before-start)
 
+-- the place is past the end of the account, so none of its debts is paid
 pub returns-then-account-place-clause-none : goal.returns-then-account-place-clause-none
 returns-then-account-place-clause-none c = λ k owed.
     let within = owed-within c.args.gains.now c.args.strikes.now c.args.account k owed in

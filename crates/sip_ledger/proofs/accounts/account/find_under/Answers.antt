@@ -5,12 +5,14 @@ use Rattle.sip_ledger.proofs.account.FirstLemmas.{below, below-parts, found-kept
 use Rattle.sip_ledger.proofs.accounts.account.find_under.Goals.{then-left-message+else-is_newest+in_ok-from, else-left-message}
 use Rattle.sip_ledger.proofs.accounts.account.find_under.Goals as goal
 
+-- no message is below 0, so nothing is looked at yet
 pub loop-init : goal.loop-init
 loop-init c = λ k owed (passes, early).
     let m = (entry_at (entries_of c.args.gains.now) k).message in
     let low = (below-parts (holds c.args.index.now c.args.key m) m 0 passes).1 in
     absurd (omega (arith, low))
 
+-- the index has no greater message
 pub returns-in_default : goal.returns-in_default
 returns-in_default c =
     none-under c.args.gains.now c.args.strikes.now c.args.account c.args.index.now c.args.key c.args.moment c.loop.from c.loop.first c.loop.invariant c.in_default.ensures.none
@@ -21,6 +23,7 @@ returns-in_default-message_from c =
     none-left c.args.gains.now c.args.strikes.now c.args.account c.args.index.now c.args.key c.args.moment c.loop.from c.loop.first c.loop.invariant
     c.in-Some.message c.in-Some.ensures.found c.in_default-message_from.ensures.none
 
+-- the place that was found is kept
 pub is_newest-requires-clause-kept : goal.is_newest-requires-clause-kept
 is_newest-requires-clause-kept c =
     found-kept c.args.gains.now c.args.strikes.now c.args.account c.args.index.now c.args.key c.args.moment c.in-Some.message c.requires.gained c.find-place.result c.find-place.ensures.found

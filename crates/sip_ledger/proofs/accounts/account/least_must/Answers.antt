@@ -21,9 +21,11 @@ pub returns-then-account-place : goal.returns-then-account-place
 returns-then-account-place c =
     least-last c.args.gains.now c.args.strikes.now c.args.account c.loop-place.from c.in-Some.place c.loop-place.least c.loop-place.invariant c.in-Some.ensures.before c.if-account-place.true
 
+-- the first gain that must be sent has the least deadline, where deadlines rise
 pub returns-then-gains : goal.returns-then-gains
 returns-then-gains c = grind (arith, least-first_due, entries_long)
 
+-- what the account owes is kept
 pub entry-requires-clause-kept : goal.entry-requires-clause-kept
 entry-requires-clause-kept c =
     left-kept c.args.gains.now c.in-Some.place c.requires.gained (owed-left c.args.gains.now c.args.strikes.now c.args.account c.in-Some.place (sym c.owes.ensures ∙ c.if-owes.true))
@@ -42,5 +44,6 @@ loop-place-preserved c =
           (sym c.owes.ensures ∙ w.if-owes.false))
     ]
 
+-- all places were looked at
 pub returns : goal.returns
 returns c = grind (arith, least-last)

@@ -5,12 +5,15 @@ use Rattle.sip_ledger.proofs.account.ToldLemmas.{alike-debts, at-apart, at-more,
 use Rattle.sip_ledger.proofs.accounts.account.same.Goals.{then-loop-at-test+else-beside-other, else-loop-at-test}
 use Rattle.sip_ledger.proofs.accounts.account.same.Goals as goal
 
+-- both owe the same before their first places
 pub loop-at-init : goal.loop-at-init
 loop-at-init c = at-start c.requires.one c.requires.other
 
+-- each place of the one account is kept
 pub debt_for-requires-clause-kept : goal.debt_for-requires-clause-kept
 debt_for-requires-clause-kept c = kept-from c.loop-at.at c.requires.gained c.requires.one c.loop-at.invariant.told.low c.loop-at-test.true
 
+-- each place of the other account is kept
 pub debt_for-requires-in-loop-at-clause-kept : goal.debt_for-requires-in-loop-at-clause-kept
 debt_for-requires-in-loop-at-clause-kept c = kept-from c.loop-at.beside c.requires.gained c.requires.other c.loop-at.invariant.told_beside.low c.if-beside-other.true
 
@@ -18,6 +21,7 @@ debt_for-requires-in-loop-at-clause-kept c = kept-from c.loop-at.beside c.requir
 pub returns-then-is_alike : goal.returns-then-is_alike
 returns-then-is_alike c = (λ _. alike-debts c.args.gains.now c.args.strikes.now c.args.one c.args.other c.if-is_alike.ensures, λ _. refl)
 
+-- both owe one debt more that is the same
 pub loop-at-preserved : goal.loop-at-preserved
 loop-at-preserved c =
     let same : c.debt_for.result ≡ c.debt_for-in-loop-at.result = search rules in
@@ -30,6 +34,7 @@ loop-at-preserved c =
 pub returns-then-shares_rest : goal.returns-then-shares_rest
 returns-then-shares_rest c = (λ _. rest-same c.requires.one c.requires.other c.loop-at.invariant c.if-at-beside.true c.if-shares_rest.ensures, λ _. refl)
 
+-- the next debts of the two differ, so the two owe not the same
 pub returns-then-ne : goal.returns-then-ne
 returns-then-ne c =
     let apart : c.debt_for.result ≢ c.debt_for-in-loop-at.result = search rules in (

@@ -4,10 +4,12 @@ use Rattle.sip_ledger.proofs.rows.GainEachLemmas.{debts-count, gained-front, gai
 use Rattle.sip_ledger.proofs.rows.SeenLemmas.{on-error}
 use Rattle.sip_ledger.proofs.accounts.each.gain_some.Goals as goal
 
+-- where memory was refused for a gain, the rows are accounts still
 pub returns-in_err-place-clause-accounts : goal.returns-in_err-place-clause-accounts
 returns-in_err-place-clause-accounts c =
     (gained-over c.place_near.new.gains c.place_near.ensures.kept c.place_near.ensures.gained c.loop-row.invariant.gained).accounts
 
+-- where memory was refused for a gain, the rows before are as before
 pub returns-in_err-place-clause-err : goal.returns-in_err-place-clause-err
 returns-in_err-place-clause-err c = grind (arith, changing-all, debts-count, gained-front, gained-grown, gained-more, gained-over, with_debt, on-error)
 
@@ -16,6 +18,7 @@ pub returns-in_err-grown-clause-accounts : goal.returns-in_err-grown-clause-acco
 returns-in_err-grown-clause-accounts c =
     (gained-grown c.gained.new.strikes.items c.gained.ensures.kept (gained-over c.place_near.new.gains c.place_near.ensures.kept c.place_near.ensures.gained c.loop-row.invariant.gained)).accounts
 
+-- where memory was refused for a strike, the rows before are as before
 pub returns-in_err-grown-clause-err : goal.returns-in_err-grown-clause-err
 returns-in_err-grown-clause-err c = grind (arith, changing-all, debts-count, gained-front, gained-grown, gained-more, gained-over, with_debt, on-error)
 

@@ -6,9 +6,11 @@ use Rattle.sip_ledger.proofs.rows.PaidLemmas.{ArePaidTo, account-there, paid-fro
 use Rattle.sip_ledger.proofs.rows.SeenLemmas.{on-error}
 use Rattle.sip_ledger.proofs.accounts.each.push_some.Goals as goal
 
+-- the row is one of the rows
 pub index-requires : goal.index-requires
 index-requires c = grind (arith, from_to-end, debts_length, account-there, paid-front, paid-grown, paid-next, row-there, on-error)
 
+-- the row is an account
 pub paid-requires-clause-account : goal.paid-requires-clause-account
 paid-requires-clause-account c =
     let long = debts_length c.args.gains.now c.args.strikes.now.items c.args.rows.now.items in
@@ -18,9 +20,11 @@ paid-requires-clause-account c =
 pub returns-in_err-left-clause-accounts : goal.returns-in_err-left-clause-accounts
 returns-in_err-left-clause-accounts c = (paid-grown c.paid.new.strikes.items c.paid.ensures.kept c.loop-row.invariant.3).accounts
 
+-- where memory was refused, the old rows are as before
 pub returns-in_err-left-clause-err : goal.returns-in_err-left-clause-err
 returns-in_err-left-clause-err c = grind (arith, from_to-end, debts_length, account-there, paid-front, paid-grown, paid-next, row-there, on-error)
 
+-- where memory was refused, the rows are accounts over the strikes that were put besides
 pub returns-in_err-push_left-clause-accounts : goal.returns-in_err-push_left-clause-accounts
 returns-in_err-push_left-clause-accounts c =
     let grown = paid-grown c.paid.new.strikes.items c.paid.ensures.kept c.loop-row.invariant.3 in

@@ -6,6 +6,7 @@ use Rattle.sip_ledger.proofs.gains.LetGoLemmas.{start-more}
 use Rattle.sip_ledger.proofs.accounts.left.first_owed.Goals as goal
 use Rattle.sip_ledger.proofs.accounts.left.first_owed.Goals.{then-row, else-row}
 
+-- all rows were looked at
 pub returns-clause-start : goal.returns-clause-start
 returns-clause-start c =
     let full : c.loop-at.at ≡ length c.args.rows.now = omega arith in

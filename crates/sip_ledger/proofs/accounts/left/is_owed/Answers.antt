@@ -7,6 +7,7 @@ use Rattle.sip_ledger.specs.declared.accounts.account.Account.{Account}
 use Rattle.sip_ledger.specs.inner.Accounts.{owes_at}
 use Rattle.sip_ledger.proofs.accounts.left.is_owed.Goals as goal
 
+-- one row more does not owe what was gained at the place
 pub loop-at-preserved : goal.loop-at-preserved
 loop-at-preserved c =
     let none : Account = record { start = 0; end = 0; soft = 0; first = 0; last = 0; print = 0 } in

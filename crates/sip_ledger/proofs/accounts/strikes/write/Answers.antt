@@ -4,9 +4,11 @@ use Rattle.sip_ledger.proofs.gains.LeftLemmas.{entries_long}
 use Rattle.sip_ledger.proofs.strikes.StrikeLemmas.{written-more, written-none}
 use Rattle.sip_ledger.proofs.accounts.strikes.write.Goals as goal
 
+-- nothing was struck yet
 pub loop-place-init : goal.loop-place-init
 loop-place-init c = written-none c.args.gains.now c.args.from c.args.strikes.now.items c.copy_some.new.strikes.items c.args.account c.in_ok-copy_some.ensures.ok
 
+-- each place between the two is kept
 pub strike_too-requires-clause-kept : goal.strike_too-requires-clause-kept
 strike_too-requires-clause-kept c = c.requires.kept c.loop-place.place c.loop-place.auto.place (omega arith)
 

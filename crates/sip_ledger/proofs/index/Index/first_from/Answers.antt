@@ -5,6 +5,7 @@ use Rattle.sip_ledger.specs.Indexes.{pair_cmp, IsFirstFrom, NoneFrom}
 use Rattle.sip_ledger.proofs.lists.IndexLemmas.{range-first, range-none}
 use Rattle.sip_ledger.proofs.index.Index.first_from.Goals as goal
 
+-- the first pair in the range is the first number under the key
 pub returns-in-Some-clause-found : goal.returns-in-Some-clause-found
 returns-in-Some-clause-found c =
     let s = c.self.inside.pairs in

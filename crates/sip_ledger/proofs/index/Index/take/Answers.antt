@@ -3,6 +3,7 @@ use Rattle.sip_ledger.specs.Indexes.{holds}
 use Rattle.sip_ledger.proofs.lists.IndexLemmas.{at-pair}
 use Rattle.sip_ledger.proofs.index.Index.take.Goals as goal
 
+-- of all pairs of a key and a number this one alone is gone
 pub returns : goal.returns
 unfolding holds
 returns c k n =

@@ -6,6 +6,7 @@ use Rattle.sip_machine.proofs.acks.ToLemmas.{AreTos-some}
 use Rattle.sip_machine.proofs.texts.NewestLaws.{texts_split, kept_front}
 use Rattle.sip_machine.proofs.book.Book.forget_newest.Goals as goal
 
+-- without the To of the newest message, each To is still that of a kept message
 pub invariant_of-self : goal.invariant_of-self
 invariant_of-self c =
     let texts = texts_of c.self.inside.kept.items in

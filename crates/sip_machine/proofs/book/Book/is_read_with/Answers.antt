@@ -7,6 +7,7 @@ use Rattle.sip_machine.proofs.acks.AckLemmas.{Reads-fault}
 use Rattle.sip_machine.proofs.acks.ToLemmas.{IsToOf-same}
 use Rattle.sip_machine.proofs.book.Book.is_read_with.Goals as goal
 
+-- the message is read, and its To is compared
 pub returns-in_ok-solid_of-in-Some : goal.returns-in_ok-solid_of-in-Some
 returns-in_ok-solid_of-in-Some c =
     let bytes = text_of c.args.self.now c.args.number in

@@ -10,6 +10,7 @@ use Rattle.sip_machine.proofs.texts.RetainLemmas.{merged_is, IsBook-only}
 use Rattle.sip_machine.proofs.texts.NewestLaws.{placed_texts, stand_placed, retained_order}
 use Rattle.sip_machine.proofs.book.Book.retain_only.Goals as goal
 
+-- the messages that are kept are a book
 pub loosened-self-inside-requires-clause-book : goal.loosened-self-inside-requires-clause-book
 loosened-self-inside-requires-clause-book c =
     let texts = texts_of c.self.inside.kept.items in

@@ -9,6 +9,7 @@ use Rattle.sip_machine.specs.inner.Dues.{rows_in}
 use Rattle.sip_machine.proofs.debts.DueLemmas.{owed-none}
 use Rattle.sip_machine.proofs.dues.Dues.first_payable.Goals as goal
 
+-- no row owes anything, so nothing is paid
 pub returns-in-None : goal.returns-in-None
 returns-in-None c =
     let Unpaid : Debt → Type 0 = λ debt. ¬ (PaysSome (holds c.args.index.now c.args.key) c.args.moment debt) in

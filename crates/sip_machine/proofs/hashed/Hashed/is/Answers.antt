@@ -9,6 +9,7 @@ others-differ : (a b : List ℕ) → (hash_of a ≡ hash_of b → ⊥) → (s : 
 others-differ a b other true same = absurd (other (ap hash_of ((bytes_decides a b).0 same)))
 others-differ a b other false same = refl
 
+-- texts with two hashes are not the same
 pub returns-then-self-other : goal.returns-then-self-other
 returns-then-self-other c =
     others-differ c.args.self.now c.args.other.now (λ same.

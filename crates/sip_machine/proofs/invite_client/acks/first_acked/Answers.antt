@@ -9,11 +9,13 @@ use Rattle.sip_machine.proofs.acks.AckLemmas.{AckOf-by_to, AckOf-none}
 use Rattle.sip_machine.proofs.acks.HolderLemmas.{FindsFirst-same}
 use Rattle.sip_machine.proofs.invite_client.acks.first_acked.Goals as goal
 
+-- the bytes of the event are no message, so they are the ACK for nothing
 pub returns-in_default-clause-finds : goal.returns-in_default-clause-finds
 returns-in_default-clause-finds c =
     let fault = rw (c.in_default.is, c.number.ensures) at c.in_ok-ack.ensures in
     λ k d low pays. says-no_fault (text_of c.args.book.now c.args.event.now.number) pays.0.0 fault.0 pays.0.3 fault.1
 
+-- the bytes of the request are no message, so nothing acknowledges it
 pub returns-in_default-2-clause-finds : goal.returns-in_default-2-clause-finds
 returns-in_default-2-clause-finds c =
     let fault = rw c.in_default-2.is at c.in_ok-invite.ensures in

@@ -8,6 +8,7 @@ use Rattle.sip_machine.specs.inner.Single.{AnswersOne}
 use Rattle.sip_machine.proofs.rules.Rows3261.{sent-within}
 use Rattle.sip_machine.proofs.invite_server_3261.InviteServer3261Phases.sends.Goals as goal
 
+-- a 2xx is sent, which ends the transaction by RFC 3261
 pub returns-then-is_success : goal.returns-then-is_success
 returns-then-is_success c =
     let texts = c.args.book.now in

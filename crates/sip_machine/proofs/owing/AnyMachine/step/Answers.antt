@@ -4,6 +4,7 @@ use Rattle.sip_machine.specs.inner.Effects.{led_by, rests_at}
 use Rattle.sip_machine.proofs.pools.PoolLemmas.{alone-set, some-at}
 use Rattle.sip_machine.proofs.owing.AnyMachine.step.Goals as goal
 
+-- the event leads the one state to one state
 pub returns-in_ok-lead-in-Some-None-clause-one : goal.returns-in_ok-lead-in-Some-None-clause-one
 returns-in_ok-lead-in-Some-None-clause-one g c = λ d.
     let xs = c.args.pool.now in

@@ -6,6 +6,7 @@ use Rattle.sip_machine.specs.inner.Effects.{LeadsFrom}
 use Rattle.sip_machine.proofs.pools.CoversLemmas.{found-none, found-run, slice-kept, before-more}
 use Rattle.sip_machine.proofs.owing.each.leads_each.Goals as goal
 
+-- of no state nothing was found yet
 pub loop-at-init : goal.loop-at-init
 loop-at-init g c =
     let m = g.M.Phases in
@@ -19,6 +20,7 @@ leads_run-requires-clause-known g c =
     let (at_le, (found, is, covers)) = c.loop-at.invariant in
     slice-kept (Knows (owing_names g.M.Phases.names) c.args.book.now) c.loop-at.at c.run_end-end.result c.args.count c.args.pool.now found c.loop-at.pool is c.run_end-end.ensures.order.1 c.requires.count c.requires.known
 
+-- the moments of the states of the run are in range
 pub leads_run-requires-clause-in_range : goal.leads_run-requires-clause-in_range
 leads_run-requires-clause-in_range g c =
     let (at_le, (found, is, covers)) = c.loop-at.invariant in

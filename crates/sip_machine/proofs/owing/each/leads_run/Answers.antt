@@ -10,6 +10,7 @@ use Rattle.sip_machine.proofs.pools.PoolLemmas.{in-phases}
 use Rattle.sip_machine.proofs.steps.OwingEachLemmas.{closed-none, in-run, leads-none, leads-some}
 use Rattle.sip_machine.proofs.owing.each.leads_run.Goals as goal
 
+-- the run begins at an index of the phases
 pub index-requires : goal.index-requires
 index-requires g c =
     subst (λ n. c.args.from < n) (sym c.pool.inside.phases.ok.0)
@@ -29,6 +30,7 @@ turn_of-requires-clause-known g c =
     (in-run m.names m.in_range c.args.book.now c.pool.inside.phases.items c.pool.inside.dues c.args.pool.now c.args.from c.args.to c.index.result.now c.pool.view_is c.index.ensures
     c.requires.from c.requires.to c.requires.known c.requires.in_range c.requires.same).known
 
+-- the moments of the phase of the run are in range
 pub turn_of-requires-clause-in_range : goal.turn_of-requires-clause-in_range
 turn_of-requires-clause-in_range g c =
     let m = g.M.Phases in

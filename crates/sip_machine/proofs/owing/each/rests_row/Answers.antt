@@ -14,24 +14,30 @@ use Rattle.sip_machine.proofs.pools.CoversLemmas.{Covers-none, Covers-one, befor
 use Rattle.sip_machine.proofs.steps.OwingEachLemmas.{lasting-answers}
 use Rattle.sip_machine.proofs.owing.each.rests_row.Goals as goal
 
+-- the index is one of the phases
 pub index-requires : goal.index-requires
 index-requires g c =
     subst (λ n. c.args.at < n) (sym c.pool.inside.phases.ok.0) (in-phases c.pool.inside.phases.items c.pool.inside.dues c.args.pool.now c.args.at c.pool.view_is c.requires.at)
 
+-- the index is one of the rows that owe
 pub until-requires-clause-row : goal.until-requires-clause-row
 until-requires-clause-row g c = in-rows c.pool.inside.phases.items c.pool.inside.dues c.args.pool.now c.args.at c.pool.view_is c.pool.invariant c.requires.at
 
+-- the moments of the state are in range
 pub until-requires-clause-in_range : goal.until-requires-clause-in_range
 until-requires-clause-in_range g c =
     holds-here (OwingInRange g.M.Phases.in_range) c.pool.inside.phases.items c.pool.inside.dues c.args.pool.now c.args.at c.index.result.now c.pool.view_is c.requires.at c.index.ensures c.requires.in_range
 
+-- the index is one of the rows that owe
 pub rests-requires-clause-row : goal.rests-requires-clause-row
 rests-requires-clause-row g c = in-rows c.pool.inside.phases.items c.pool.inside.dues c.args.pool.now c.args.at c.pool.view_is c.pool.invariant c.requires.at
 
+-- the book has what the state names
 pub rests-requires-clause-known : goal.rests-requires-clause-known
 rests-requires-clause-known g c =
     holds-here (Knows (owing_names g.M.Phases.names) c.args.book.now) c.pool.inside.phases.items c.pool.inside.dues c.args.pool.now c.args.at c.index.result.now c.pool.view_is c.requires.at c.index.ensures c.requires.known
 
+-- the moments of the state are in range
 pub rests-requires-clause-in_range : goal.rests-requires-clause-in_range
 rests-requires-clause-in_range g c =
     holds-here (OwingInRange g.M.Phases.in_range) c.pool.inside.phases.items c.pool.inside.dues c.args.pool.now c.args.at c.index.result.now c.pool.view_is c.requires.at c.index.ensures c.requires.in_range

@@ -32,6 +32,7 @@ rests_row-requires-clause-known g c = λ d.
     let below = c.loop-at-test.true in
     slice-at (Knows (owing_names g.M.Phases.names) c.args.book.now) c.args.from c.args.to c.loop-at.at c.args.pool.now found c.loop-at.pool d is from_le below c.requires.to c.requires.known
 
+-- the moments of the state are in range
 pub rests_row-requires-clause-in_range : goal.rests_row-requires-clause-in_range
 rests_row-requires-clause-in_range g c = λ d.
     let (from_le, to_le, (found, is, covers)) = c.loop-at.invariant in

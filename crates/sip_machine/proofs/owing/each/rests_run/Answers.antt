@@ -11,6 +11,7 @@ use Rattle.sip_machine.proofs.pools.PoolLemmas.{in-phases}
 use Rattle.sip_machine.proofs.steps.OwingEachLemmas.{closed-none, in-run, rests-paid}
 use Rattle.sip_machine.proofs.owing.each.rests_run.Goals as goal
 
+-- the run begins at an index of the phases
 pub index-requires : goal.index-requires
 index-requires g c =
     subst (λ n. c.args.from < n) (sym c.pool.inside.phases.ok.0)
@@ -23,6 +24,7 @@ closes-requires g c =
     (in-run m.names m.in_range c.args.book.now c.pool.inside.phases.items c.pool.inside.dues c.args.pool.now c.args.from c.args.to c.index.result.now c.pool.view_is c.index.ensures
     c.requires.from c.requires.to c.requires.known c.requires.in_range c.requires.same).in_range
 
+-- the book keeps what the phase of the run names
 pub pays-requires-clause-known : goal.pays-requires-clause-known
 pays-requires-clause-known g c =
     let m = g.M.Phases in

@@ -9,6 +9,7 @@ use Rattle.sip_machine.proofs.pools.CoversLemmas.{HasFound, found-none, found-mo
 use Rattle.sip_machine.proofs.pools.PoolLemmas.{some-at}
 use Rattle.sip_machine.proofs.owing.each.steps_each.Goals as goal
 
+-- of no state nothing was found yet
 pub loop-at-init : goal.loop-at-init
 loop-at-init g c =
     let m = g.M.Phases in
@@ -22,6 +23,7 @@ successors-requires-clause-known g c = λ d.
     let (found, is, covers) = c.loop-at.invariant in
     slice-at (Knows (owing_names g.M.Phases.names) c.args.book.now) 0 c.args.count c.loop-at.at c.args.pool.now found c.loop-at.pool d is (omega arith) c.loop-at-test.true c.requires.count c.requires.known
 
+-- the moments of the state are in range
 pub successors-requires-clause-in_range : goal.successors-requires-clause-in_range
 successors-requires-clause-in_range g c = λ d.
     let (found, is, covers) = c.loop-at.invariant in

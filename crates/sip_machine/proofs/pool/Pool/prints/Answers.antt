@@ -7,14 +7,17 @@ use Rattle.sip_machine.proofs.pools.PoolLemmas.{beside-length, in-phases, state-
 use Rattle.sip_machine.proofs.pools.PoolEachLemmas.{some-at}
 use Rattle.sip_machine.proofs.pool.Pool.prints.Goals as goal
 
+-- there are as many phases as rows
 pub prints-requires : goal.prints-requires
 prints-requires g c = grind (arith, beside-length)
 
+-- there are as many phases as rows
 pub index-requires : goal.index-requires
 index-requires g c =
     subst (λ n. c.loop-at.at < n) (sym c.self.inside.phases.ok.0)
     (in-phases c.self.inside.phases.items c.self.inside.dues c.args.self.now c.loop-at.at c.self.view_is (omega arith))
 
+-- there are as many phases as prints
 pub mix-requires-clause-within : goal.mix-requires-clause-within
 mix-requires-clause-within g c = grind (arith, beside-length)
 

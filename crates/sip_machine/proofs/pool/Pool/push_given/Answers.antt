@@ -7,6 +7,7 @@ use Rattle.sip_machine.proofs.pools.PoolLemmas.{some-at, in-longer, take-old, on
 use Rattle.sip_machine.proofs.acks.ToLemmas.{on_ok}
 use Rattle.sip_machine.proofs.pool.Pool.push_given.Goals as goal
 
+-- the state is still at its index
 pub push_rested-requires : goal.push_rested-requires
 push_rested-requires g c =
     let xs = c.args.self.now in

@@ -5,6 +5,7 @@ use Rattle.sip_machine.proofs.pools.PoolLemmas.{some-at, last-in, set-last, take
 use Rattle.sip_machine.proofs.acks.ToLemmas.{on_ok}
 use Rattle.sip_machine.proofs.pool.Pool.push_led.Goals as goal
 
+-- the copy is the last state
 pub lead-requires-clause-at : goal.lead-requires-clause-at
 lead-requires-clause-at g c =
     let xs = c.args.self.now in

@@ -5,6 +5,7 @@ use Rattle.sip_machine.proofs.pools.PoolLemmas.{some-at, last-in, set-last, take
 use Rattle.sip_machine.proofs.acks.ToLemmas.{on_ok}
 use Rattle.sip_machine.proofs.pool.Pool.push_rested.Goals as goal
 
+-- the copy is the last state
 pub come_to_rest-requires : goal.come_to_rest-requires
 come_to_rest-requires g c =
     let xs = c.args.self.now in

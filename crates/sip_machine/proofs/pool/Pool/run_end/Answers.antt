@@ -4,11 +4,13 @@ use Rattle.sip_machine.proofs.pools.PoolLemmas.{in-phases, state-at}
 use Rattle.sip_machine.proofs.pools.PoolEachLemmas.{some-more}
 use Rattle.sip_machine.proofs.pool.Pool.run_end.Goals as goal
 
+-- the index is one of the phases
 pub index-requires : goal.index-requires
 index-requires g c =
     subst (λ n. c.args.at < n) (sym c.self.inside.phases.ok.0)
     (in-phases c.self.inside.phases.items c.self.inside.dues c.args.self.now c.args.at c.self.view_is (omega (arith, c.requires.at, c.requires.limit)))
 
+-- the place that is looked at is one of the phases
 pub index-requires-in-loop-end : goal.index-requires-in-loop-end
 index-requires-in-loop-end g c =
     subst (λ n. c.loop-end.end < n) (sym c.self.inside.phases.ok.0)

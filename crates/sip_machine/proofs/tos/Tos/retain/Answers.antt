@@ -8,6 +8,7 @@ use Rattle.sip_machine.proofs.tos.Tos.retain.Goals as goal
 abbrev below : To → To → Type 0
 below a b = a.number < b.number
 
+-- the To values that are left are still in order, and no hashes are kept
 pub invariant_of-self : goal.invariant_of-self
 invariant_of-self c =
     let kept = c.retain.ensures.filtered in
@@ -28,6 +29,7 @@ invariant_of-self-2 c =
     let kept = c.retain.ensures.filtered in
     (subst (AllPairs below) (sym kept.4) (AllPairs-picked below kept.0 c.self.inside.list.items c.self.invariant.0), rw c.deref.ensures.value at c.hashes_of.ensures)
 
+-- the To values that are left are those with these numbers
 pub returns : goal.returns
 returns c =
     let numbers = c.args.numbers.now in

@@ -7,6 +7,7 @@ use Rattle.sip_masks.specs.Marks.{is_plain}
 use Rattle.sip_masks.specs.Names.{OrdinaryName}
 use Rattle.sip_masks.proofs.masks.Masks.name_at.Goals as goal
 
+-- the bytes that are looked at are plain
 pub is_ordinary_name-requires : goal.is_ordinary_name-requires
 is_ordinary_name-requires c =
     let p = c.args.p in

@@ -8,6 +8,7 @@ use Rattle.sip_message.proofs.lemmas.message.Ordinary.{ordinary-whole}
 use Rattle.sip_message.proofs.lemmas.message.Stages.{found-keeps, found-reads}
 use Rattle.sip_message.proofs.message.Message.read.Goals as goal
 
+-- what is kept of Content-Length is digits
 pub body_len-requires : goal.body_len-requires
 body_len-requires c =
     let h = rw c.in-Some.is at c.in_ok-start.ensures.head in

@@ -33,6 +33,7 @@ returns-in_default-read_start c =
     let b = begins c.in-Some.ensures.0 (c.is_clean.ensures.0 c.if-not-is_clean.false) c.cut_first.ensures in
     fault-says _ _ (begun b.1 (stopped _ (c.in_default-read_start.ensures, refl) refl))
 
+-- a line of the head is at fault
 pub returns-in_err-fields : goal.returns-in_err-fields
 returns-in_err-fields c =
     let b = begins c.in-Some.ensures.0 (c.is_clean.ensures.0 c.if-not-is_clean.false) c.cut_first.ensures in

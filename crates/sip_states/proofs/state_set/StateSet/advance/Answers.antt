@@ -2,6 +2,7 @@ use Rattle.sip_states.proofs.sets.Following.{Follows, advances_stand}
 use Rattle.sip_states.proofs.sets.Taking.{advanced_kept}
 use Rattle.sip_states.proofs.state_set.StateSet.advance.Goals as goal
 
+-- the advanced states are kept as all states of a set are
 pub invariant_of-self-2 : goal.invariant_of-self-2
 invariant_of-self-2 g c =
     let m = c.self.inside.machine in

@@ -9,6 +9,7 @@ use Rattle.sip_states.specs.inner.Marks.{IsMarked}
 use Rattle.sip_states.proofs.due.AdvanceLemmas.{place_among, marked_advance, some_advance, marked_still, always_ok, always_err}
 use Rattle.sip_states.proofs.tables.Tables.advance_all.Goals as goal
 
+-- each marked index is one of the sets
 pub advance_each-requires-clause-inside : goal.advance_each-requires-clause-inside
 advance_each-requires-clause-inside g c =
     λ k d low.

@@ -8,12 +8,14 @@ use Rattle.sip_states.specs.inner.Marks.{IsMarked}
 use Rattle.sip_states.proofs.lists.Kept.{all_marked, kept_few, kept_keys, kept_long, kept_values}
 use Rattle.sip_states.proofs.tables.Tables.keep.Goals as goal
 
+-- no more places are kept in the agenda than flags are true
 pub all-requires : goal.all-requires
 all-requires g c =
     let few = kept_few c.args.flags.now c.self.inside.agenda in
     let is = c.len.ensures ∙ ap length c.in_ok-agenda.ensures in
     omega (arith, few, is, c.self.invariant.1, c.self.invariant.0)
 
+-- the same for the second marks
 pub all-requires-2 : goal.all-requires-2
 all-requires-2 g c =
     let few = kept_few c.args.flags.now c.self.inside.agenda in

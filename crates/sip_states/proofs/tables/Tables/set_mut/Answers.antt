@@ -26,6 +26,7 @@ invariant_of-self-lent g c w =
     rw (index_map_len-with_value_at sets index w, c.mark.ensures, c.mark-2.ensures)
     (inv.0, inv.1, length-set marks index true ∙ inv.2, marked, length-set moved index true ∙ inv.4, moves)
 
+-- the set may be changed, and nothing else with it
 pub returns : goal.returns
 returns g c = (
   (refl, λ w. rw (← c.self.view_is, keys-with_value_at c.self.inside.sets (c.args.number - 1) w, values_of-set_value_at c.self.inside.sets.entries (c.args.number - 1) w) refl),

@@ -9,6 +9,7 @@ use Rattle.sip_states.proofs.lists.Kept.{all_marked, marked_within}
 use Rattle.sip_states.proofs.due.AdvanceLemmas.{all_advance, always_err, place_among, some_advance}
 use Rattle.sip_states.proofs.tables.Tables.wait_all.Goals as goal
 
+-- each marked index is one of the sets
 pub advance_each-requires-clause-inside : goal.advance_each-requires-clause-inside
 advance_each-requires-clause-inside g c =
     λ k d low.

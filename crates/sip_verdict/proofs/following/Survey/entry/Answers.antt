@@ -7,6 +7,7 @@ use Rattle.sip_verdict.proofs.sweeps.FollowedLemmas.{observed_moment}
 use Rattle.sip_verdict.proofs.tables.JudgeTables.{next_may}
 use Rattle.sip_verdict.proofs.following.Survey.entry.Goals as goal
 
+-- the entry may come next
 pub find_next-taken-requires-clause-may : goal.find_next-taken-requires-clause-may
 find_next-taken-requires-clause-may g c =
     let s = c.self.inside in

@@ -15,6 +15,7 @@ use Rattle.sip_verdict.specs.declared.concerned.Concerned.TheVariants as concern
 use Rattle.sip_verdict.proofs.sweeps.NewestLemmas.{others_known}
 use Rattle.sip_verdict.proofs.standing.Standing.take.Goals as goal
 
+-- the book has not lost what the tables name
 pub pass-requires-in-Restart-clause-may : goal.pass-requires-in-Restart-clause-may
 pass-requires-in-Restart-clause-may g c =
     let s = c.args.self.now in
@@ -77,11 +78,13 @@ pass-requires-in-Heard-clause-hear g c =
     (may_hear c.observe.new.book e.moment c.in-Heard.event c.in-Heard.concerned c.in_ok-concerned-in-Heard.concerned c.args.self.now.tables c.touch_each.new.tables c.in_ok-concerned-in-Heard.ensures.touched
     is_heard.0 is_heard.1 is_heard.2 (c.in_ok-concerned-in-Heard.ensures.same ∙ is_heard.3))
 
+-- the new keys have a place in the agenda
 pub pass-requires-in-Heard-clause-recorded : goal.pass-requires-in-Heard-clause-recorded
 pass-requires-in-Heard-clause-recorded g c =
     touched_recorded (each c.in-Heard.concerned) (each c.in_ok-concerned-in-Heard.concerned) c.args.self.now.tables c.touch_each.new.tables c.in_ok-concerned-in-Heard.ensures.touched
     c.requires.may.passes.long c.requires.may.recorded
 
+-- after an entry that no transaction hears, the next entry may come
 pub returns-in_ok-verdict-in-Unheard-clause-may : goal.returns-in_ok-verdict-in-Unheard-clause-may
 returns-in_ok-verdict-in-Unheard-clause-may g c =
     let s = c.args.self.now in
@@ -101,6 +104,7 @@ returns-in_ok-verdict-in-Unheard-clause-numbered g c =
     unless_trouble (StaysNumbered (item e) e.number s.book new) c.in_ok-verdict-in-Unheard.verdict
     (numbered_none (item e) e.number s.book new (told.0, told.1, told.2.2) (c.in_ok-verdict-in-Unheard.ensures.book ∙ kept))
 
+-- an entry that no transaction hears is judged by those that are overdue
 pub returns-in_ok-verdict-in-Unheard-clause-judged : goal.returns-in_ok-verdict-in-Unheard-clause-judged
 returns-in_ok-verdict-in-Unheard-clause-judged g c =
     let s = c.args.self.now in
@@ -141,6 +145,7 @@ returns-in_ok-verdict-in-Heard-clause-numbered g c =
     (subst (StaysNumbered (item e) e.number s.book) (sym c.in_ok-verdict-in-Heard.ensures.book)
     (numbered_heard (item e) e.number c.in-Heard.event.number s.book mid kept.0 kept.1 kept.2 kept.3 c.requires.may.numbered c.known.ensures kept.4))
 
+-- the tables have the numbers of the keys that the entry concerns
 pub returns-in_ok-verdict-in-Heard-clause-given : goal.returns-in_ok-verdict-in-Heard-clause-given
 returns-in_ok-verdict-in-Heard-clause-given g c =
     let keys = each c.in-Heard.concerned in
@@ -166,11 +171,13 @@ returns-in_ok-verdict-in-Heard-clause-judged g c = λ es tracks counts newest.
       subst (λ ns. HaveNumbers new.tables.keys ns h.0.keys) (sym (listed_each (length new.tables.keys) c.in_ok-concerned-in-Heard.concerned some)) h.3,
     )
 
+-- no transaction hears the entry, so the others are all
 pub returns-in_ok-verdict-in-Unheard-clause-others : goal.returns-in_ok-verdict-in-Unheard-clause-others
 returns-in_ok-verdict-in-Unheard-clause-others g c =
     let s = c.args.self.now in
     others_known s.book concerned.None None s.tables c.pass.new.self.tables c.requires.may.passes.known c.in_ok-verdict-in-Unheard.ensures.others (λ n some among. refl)
 
+-- the tables are as before
 pub returns-in-Fault-clause-others : goal.returns-in-Fault-clause-others
 returns-in-Fault-clause-others g c =
     let s = c.args.self.now in
@@ -179,6 +186,7 @@ returns-in-Fault-clause-others g c =
 pub returns-in_ok-verdict-in-Restart-clause-others : goal.returns-in_ok-verdict-in-Restart-clause-others
 returns-in_ok-verdict-in-Restart-clause-others g c some = absurd (false≢true (sym some))
 
+-- the keys that the entry does not concern keep what is known of them
 pub returns-in_ok-verdict-in-Heard-clause-others : goal.returns-in_ok-verdict-in-Heard-clause-others
 returns-in_ok-verdict-in-Heard-clause-others g c =
     let s = c.args.self.now in

@@ -16,6 +16,7 @@ up_to-some : (n : ℕ) → 0 < n → up_to n ≢ []
 up_to-some zero low none = omega arith
 up_to-some (suc n) low none = omega (arith, ap length none, length-append (up_to n) (suc n ∷ []))
 
+-- the text of one transaction more is appended
 pub loop-number-preserved : goal.loop-number-preserved
 loop-number-preserved g c =
     let t = c.args.self.now.tables in

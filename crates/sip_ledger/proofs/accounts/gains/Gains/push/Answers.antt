@@ -11,6 +11,7 @@ use Rattle.sip_ledger.proofs.gains.LeftLemmas.{entries_long, gains-more, gains-s
 use Rattle.sip_ledger.proofs.rows.SeenLemmas.{on-error}
 use Rattle.sip_ledger.proofs.accounts.gains.Gains.push.Goals as goal
 
+-- more room for entries leaves the gains as they are
 pub returns-in_err-reserve : goal.returns-in_err-reserve
 returns-in_err-reserve c =
     let g = c.args.self.now in

@@ -177,6 +177,16 @@ module _ (gains : Gains) (strikes : List Strike) (a : Account) (pairs : List (�
       below-is (holds pairs key (entry_at (entries_of gains) k).message) (entry_at (entries_of gains) k).message (message + 1) passes (omega (arith, low, same)))
       is
 
+  -- where no gain that is kept has a greater message, nothing greater is owed
+  pub highest-first : (first : Option ℕ) → gains.highest ≤ message → IsFirstOf (entries_of gains) (owes_at gains strikes a) (below pairs key (message + 1)) t first →
+      IsFirstOf (entries_of gains) (owes_at gains strikes a) (holds pairs key) t first
+  highest-first first top is =
+      first-same (entries_of gains) (owes_at gains strikes a) (below pairs key (message + 1)) (holds pairs key) t (λ m passes. (below-parts (holds pairs key m) m (message + 1) passes).0) first
+      (λ k early owed passes.
+      let low = gained.highest k (left-kept gains k gained (owed-left gains strikes a k owed)) in
+      below-is (holds pairs key (entry_at (entries_of gains) k).message) (entry_at (entries_of gains) k).message (message + 1) passes (omega (arith, low, top)))
+      is
+
 module _ (gains : Gains) (strikes : List Strike) (a : Account) (test : ℕ → Bool) (t : ℕ) where
   abbrev owed : ℕ → Bool
   owed = owes_at gains strikes a

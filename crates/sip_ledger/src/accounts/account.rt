@@ -6,7 +6,7 @@ ghost use Rattle.sip_ledger.specs.Accounts.{worth_of};
 ghost use Rattle.sip_ledger.specs.Entries.{debt_of};
 ghost use Rattle.sip_ledger.specs.declared.accounts.account.Account.{Account};
 ghost use Rattle.sip_ledger.specs.inner.Accounts.{AreAlike, AreGains, IsAccount, IsExpiredTo, IsFirstOf, IsFirstPayable, IsGainAt, IsKept, IsNextGain, IsPlaceOf, IsSeek, IsStruck, IsWithout, KeepsAccounts, SharesRest, account_debts, entries_of, entry_at, is_gone, is_struck, must_at, owes_at, pays_at, sooner, strikes_of};
-ghost use Rattle.sip_ledger.specs.Indexes.{holds};
+ghost use Rattle.sip_ledger.specs.Indexes.{count_under, holds};
 
 use crate::accounts::gains::Gains;
 use crate::accounts::seek::Seek;
@@ -189,8 +189,8 @@ pub(crate) fn find(
 }
 
 /// The first place whose debt a send of a message at the moment pays that stands under the key. The messages that stand there and are left
-/// are gone through from the least on, until what is found stands before all greater ones. Where that takes more than `most` steps, the
-/// answer is None.
+/// are gone through from the least on, until what is found stands before all greater ones, or nothing greater was gained. Where that takes
+/// more than `most` steps, the answer is None. Each step passes a message that stands there.
 pub(crate) fn find_under(
     gains: &Gains,
     strikes: &[Strike],
@@ -202,11 +202,12 @@ pub(crate) fn find_under(
 ) -> Option<Option<usize>>
     requires gained { AreGains gains.now }
     requires account { IsAccount gains.now strikes.now account }
-    ensures { IfSome result (IsFirstOf (entries_of gains.now) (owes_at gains.now strikes.now account) (holds index.now key) moment) }
+    ensures first { IfSome result (IsFirstOf (entries_of gains.now) (owes_at gains.now strikes.now account) (holds index.now key) moment) }
+    ensures told { IfNone result (most ≤ count_under index.now key) }
 {
     let mut first = None;
     let mut from = 0;
-    for _ in 0..most {
+    for _step in 0..most {
         let Some(message) = index.next(key, from) else {
             return Some(first);
         };
@@ -221,7 +222,10 @@ pub(crate) fn find_under(
             if gains.is_newest(place) {
                 return Some(first);
             }
-            from = message.checked_add(1)?;
+            if gains.highest <= message {
+                return Some(first);
+            }
+            from = message + 1;
         }
     }
     None

@@ -301,7 +301,7 @@ impl Played {
         list: &[Debt],
         moment: u64,
     ) -> Result<(), Fail> {
-        for messages in [[2, 1], [0, 2]] {
+        for messages in [[2, 1], [0, 2], [1, 0]] {
             let [one, other] = messages;
             let mut index = Index::new(rt.alloc());
             index.put(7, one)?;

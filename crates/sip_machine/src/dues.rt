@@ -2,7 +2,7 @@
 ghost use Rattle.std.specs.Prelude.{◌≡◌, ◌↔◌, ◌<◌, ◌≤◌, ◌++◌, ◌∷◌, [], List, IsTrue, IfOk, IfSome, OnOk, OnErr, None, All, flat_map, length, set, map, filter, take, drop};
 ghost use Rattle.std.specs.List.{list_any};
 ghost use Rattle.sip_ledger.specs.Debts.{IsFirstPaid, PaysSome, counts_at, softened_debt, is_payable, debt_deadlines, paid_by};
-ghost use Rattle.sip_ledger.specs.Indexes.{holds};
+ghost use Rattle.sip_ledger.specs.Indexes.{count_under, holds};
 ghost use Rattle.sip_ledger.specs.Runs.{AreRuns};
 ghost use Rattle.sip_machine.specs.Deadlines.{earliest};
 ghost use Rattle.sip_machine.specs.Naming.{AppendsAll};
@@ -301,7 +301,7 @@ impl Dues {
     }
 
     /// The message of the first debt of the row whose message stands under the key and whose deadline is not before the moment, if there is
-    /// one. Where it is not found in `most` steps, the answer is None.
+    /// one. Where that is not told in `most` steps, the answer is None. It is told where fewer than `most` messages stand under the key.
     pub(crate) fn first_payable(
         &self,
         row: usize,
@@ -311,7 +311,8 @@ impl Dues {
         most: usize,
     ) -> Option<Option<u64>>
         requires { row < length self.now }
-        ensures { IfSome result (IsFirstPaid (PaysSome (holds index.now key) moment) moment (owed_in self.now row)) }
+        ensures first { IfSome result (IsFirstPaid (PaysSome (holds index.now key) moment) moment (owed_in self.now row)) }
+        ensures told { IfNone result (most ≤ count_under index.now key) }
     {
         match &self.accounts {
             Some(accounts) => accounts.first_payable(row, index, key, moment, most),

@@ -135,7 +135,6 @@ module _ (gains : Gains) (strikes : List Strike) (a : Account) (pairs : List (�
           below-is (holds pairs key m) m found parts.0 (omega (arith, parts.1, order, after)))
           (λ m passes. (below-parts (holds pairs key m) m found passes).0)
           (λ m k passes held left. elim (cases_lt m message) [
-            -- a message below the next one was passed, and one from it on is not left before the found one
             | inl low ↦ next-under m held low
             | inr high ↦
                 let least = (at.first m k left (record { keys = high; numbers = λ same. omega arith })).keys in
@@ -189,6 +188,16 @@ module _ (gains : Gains) (strikes : List Strike) (a : Account) (pairs : List (�
       below-is (holds pairs key (entry_at (entries_of gains) k).message) (entry_at (entries_of gains) k).message (message + 1) passes (omega (arith, low, same)))
       is
 
+  -- where no gain that is kept has a greater message, nothing greater is owed
+  pub highest-first : (first : Option ℕ) → gains.highest ≤ message → IsFirstOf (entries_of gains) (owes_at gains strikes a) (below pairs key (message + 1)) t first →
+      IsFirstOf (entries_of gains) (owes_at gains strikes a) (holds pairs key) t first
+  highest-first first top is =
+      first-same (entries_of gains) (owes_at gains strikes a) (below pairs key (message + 1)) (holds pairs key) t (λ m passes. (below-parts (holds pairs key m) m (message + 1) passes).0) first
+      (λ k early owed passes.
+      let low = gained.highest k (left-kept gains k gained (owed-left gains strikes a k owed)) in
+      below-is (holds pairs key (entry_at (entries_of gains) k).message) (entry_at (entries_of gains) k).message (message + 1) passes (omega (arith, low, top)))
+      is
+
 -- What follows is of one account, and what a send at the moment t of a message that passes the test pays of it.
 module _ (gains : Gains) (strikes : List Strike) (a : Account) (test : ℕ → Bool) (t : ℕ) where
   -- whether the account owes what was gained at a place
@@ -203,7 +212,6 @@ module _ (gains : Gains) (strikes : List Strike) (a : Account) (test : ℕ → B
       let entries = entries_of gains in
       let must = must_at gains a in
       let message = (entry_at entries place).message in
-      -- what is owed once the debt at the place is paid
       let less : ℕ → Bool = λ k. owed k && not (k == place) in
       let left = debts_from less must 0 entries in
       let inside : place < length entries = omega (arith, owed-within gains strikes a place found.0, is.end) in
@@ -211,7 +219,6 @@ module _ (gains : Gains) (strikes : List Strike) (a : Account) (test : ℕ → B
         gone = ap (λ b. owed place && not b) (eq-eqb place place refl) ∙ and-false (owed place);
         others = λ k other. ap (λ b. owed k && not b) (ne_eqb k place other) ∙ and-true (owed k);
       } in
-      -- the debt is the first that a message that passes the test pays, and the first that its own message pays
       let one = removed (PaysSome test t) entries owed must less must place inside found.0 without (λ k. refl) found.1 found.2 in
       let only = removed (λ debt. IsTrue (is_payable message t debt)) entries owed must less must place inside found.0 without (λ k. refl)
       (named-pays entries message t place refl found.1.1)

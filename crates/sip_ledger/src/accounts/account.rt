@@ -6,7 +6,7 @@ ghost use Rattle.sip_ledger.specs.Accounts.{worth_of};
 ghost use Rattle.sip_ledger.specs.Entries.{debt_of};
 ghost use Rattle.sip_ledger.specs.declared.accounts.account.Account.{Account};
 ghost use Rattle.sip_ledger.specs.inner.Accounts.{AreAlike, AreGains, IsAccount, IsExpiredTo, IsFirstOf, IsFirstPayable, IsGainAt, IsKept, IsNextGain, IsPlaceOf, IsSeek, IsStruck, IsWithout, KeepsAccounts, SharesRest, account_debts, entries_of, entry_at, is_gone, is_struck, must_at, owes_at, pays_at, sooner, strikes_of};
-ghost use Rattle.sip_ledger.specs.Indexes.{holds};
+ghost use Rattle.sip_ledger.specs.Indexes.{count_under, holds};
 
 use crate::accounts::gains::Gains;
 use crate::accounts::seek::Seek;
@@ -189,8 +189,9 @@ pub(crate) fn find(
 }
 
 /// The first place whose debt a send of one of the messages under the key pays at the moment. The index gives the messages under the key
-/// and the gains give those that are still owed. Both are asked in turn, so that each step goes to a greater message. The search ends where
-/// no gain of a greater message is left, or none stands before what was found. Where it takes more than `most` steps, the answer is None.
+/// and the gains give those that are still owed. Both are asked in turn, so that each step goes to a greater message, and passes one that
+/// stands under the key. The search ends where nothing greater is left or was gained, or where what is found stands before all greater ones.
+/// Where it takes more than `most` steps, the answer is None.
 pub(crate) fn find_under(
     gains: &Gains,
     strikes: &[Strike],
@@ -202,11 +203,12 @@ pub(crate) fn find_under(
 ) -> Option<Option<usize>>
     requires gained { AreGains gains.now }
     requires account { IsAccount gains.now strikes.now account }
-    ensures { IfSome result (IsFirstOf (entries_of gains.now) (owes_at gains.now strikes.now account) (holds index.now key) moment) }
+    ensures first { IfSome result (IsFirstOf (entries_of gains.now) (owes_at gains.now strikes.now account) (holds index.now key) moment) }
+    ensures told { IfNone result (most ≤ count_under index.now key) }
 {
     let mut first = None;
     let mut from = 0;
-    for _ in 0..most {
+    for _step in 0..most {
         let Some(message) = index.next(key, from) else {
             return Some(first);
         };
@@ -221,7 +223,10 @@ pub(crate) fn find_under(
             if gains.is_newest(place) {
                 return Some(first);
             }
-            from = message.checked_add(1)?;
+            if gains.highest <= message {
+                return Some(first);
+            }
+            from = message + 1;
         }
     }
     None

@@ -10,7 +10,7 @@ use Rattle.sip_machine.specs.Texts.{Texts, Keeps, text_of}
 use Rattle.sip_machine.specs.inner.Acks.{HasTo}
 use Rattle.sip_machine.specs.inner.DebtLaws.{All-back, All-front, IsWithoutFirst-alike}
 use Rattle.sip_machine.specs.inner.OwesLaws.{All-names}
-use Rattle.sip_machine.specs.inner.Order.{hash_of}
+use Rattle.sip_machine.specs.inner.Order.{full_hash}
 use Rattle.sip_machine.specs.inner.Paying.{FindsFirst}
 use Rattle.sip_machine.specs.inner.Dues.{AreBetween}
 use Rattle.sip_machine.specs.inner.Tos.{IsToOf, StandUnder}
@@ -29,7 +29,7 @@ module _ (texts : Texts) (to : List ℕ) (low high t : ℕ) (rows : List (List D
 
   -- the message of the debt stands under the hash of the To, and its deadline is not before t
   abbrev Under : Debt → Type 0
-  Under = PaysSome (holds pairs (hash_of to)) t
+  Under = PaysSome (holds pairs (full_hash to)) t
 
   -- the book has each message that the row owes
   known : All (λ d. Keeps texts d.message) debts

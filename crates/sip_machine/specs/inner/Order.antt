@@ -23,9 +23,13 @@ abbrev pub placed : {X : Type 0} → Bool → List X → List X
 placed false all = all
 placed true all = take (length all - 1) all
 
+-- the hash of all of these bytes
+abbrev pub full_hash : List ℕ → ℕ
+full_hash bytes = finish (write initial bytes)
+
 -- the hash of these bytes, by the first 256 of them
 abbrev pub hash_of : List ℕ → ℕ
-hash_of bytes = finish (write initial (take 256 bytes))
+hash_of bytes = full_hash (take 256 bytes)
 
 -- the bytes of the message at a position, and no bytes past the last message
 abbrev pub bytes_at : Texts → ℕ → List ℕ

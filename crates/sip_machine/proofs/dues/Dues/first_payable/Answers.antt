@@ -10,8 +10,8 @@ use Rattle.sip_machine.proofs.debts.DueLemmas.{owed-none}
 use Rattle.sip_machine.proofs.dues.Dues.first_payable.Goals as goal
 
 -- no row owes anything, so nothing is paid
-pub returns-in-None : goal.returns-in-None
-returns-in-None c =
+pub returns-in-None-clause-first : goal.returns-in-None-clause-first
+returns-in-None-clause-first c =
     let Unpaid : Debt → Type 0 = λ debt. ¬ (PaysSome (holds c.args.index.now c.args.key) c.args.moment debt) in
     let is : rows_in c.self.inside.rows None ≡ c.args.self.now = rw c.in-None.is at c.self.view_is in
     subst (λ rows. All Unpaid (owed_in rows c.args.row)) is (subst (All Unpaid) (sym (owed-none c.self.inside.rows c.args.row)) (All-nil Unpaid))

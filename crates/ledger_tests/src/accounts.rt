@@ -302,29 +302,33 @@ impl Played {
         moment: u64,
     ) -> Result<(), Fail> {
         for messages in [[2, 1], [0, 2]] {
-            let [one, other] = messages;
             let mut index = Index::new(rt.alloc());
-            index.put(7, one)?;
-            index.put(7, other)?;
-            index.put(6, 0)?;
-            index.put(8, 3)?;
-            let wants = list
-                .iter()
-                .find(|debt| {
-                    (debt.message == one || debt.message == other) && moment <= debt.deadline
-                })
-                .map(|debt| debt.message);
-            for most in 0..4 {
-                holds(rt, row < self.accounts.len(), "a row of the accounts");
-                let first = self.accounts.first_payable(row, &index, 7, moment, most);
-                let told = match first {
-                    Some(first) => first == wants && most > 0,
-                    None => most < 3,
-                };
-                holds_of(rt, told, "first payable", row);
-            }
+            put_each(&mut index, messages)?;
+            let wants = first_of(list, messages, moment);
+            self.pays_first(rt, row, &index, moment, wants);
         }
         Ok(())
+    }
+
+    /// The first debt that a send of a message pays that stands under the key 7 is the wanted one. It is found in three steps, perhaps in
+    /// fewer, and not in none.
+    fn pays_first(
+        &self,
+        rt: &impl Abort,
+        row: usize,
+        index: &Index,
+        moment: u64,
+        wants: Option<u64>,
+    ) {
+        for most in 0..4 {
+            holds(rt, row < self.accounts.len(), "a row of the accounts");
+            let first = self.accounts.first_payable(row, index, 7, moment, most);
+            let told = match first {
+                Some(first) => first == wants && most > 0,
+                None => most < 3,
+            };
+            holds_of(rt, told, "first payable", row);
+        }
     }
 
     /// Rows are told to owe the same where their lists are the same.
@@ -415,6 +419,23 @@ fn left_of(list: &Vec<Debt>, message: u64, moment: u64) -> Result<Option<Vec<Deb
     left.remove(first);
     left.retain(|debt| debt.must || moment <= debt.deadline);
     Ok(Some(left))
+}
+
+/// Puts two messages under the key 7, and others under the keys beside it.
+fn put_each(index: &mut Index, [one, other]: [u64; 2]) -> Result<(), AllocError> {
+    index.put(7, one)?;
+    index.put(7, other)?;
+    index.put(6, 0)?;
+    index.put(8, 3)
+}
+
+/// The message of the first debt of the list that a send of one of these messages pays.
+fn first_of(list: &[Debt], [one, other]: [u64; 2], moment: u64) -> Option<u64> {
+    let mut debts = list.iter();
+    let first = debts.find(|debt| {
+        (debt.message == one || debt.message == other) && moment <= debt.deadline
+    });
+    first.map(|debt| debt.message)
 }
 
 /// The least deadline of what must be sent.

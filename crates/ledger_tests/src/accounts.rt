@@ -1,4 +1,6 @@
 //! Steps by chance, on accounts and on plain lists of debts beside them.
+ghost use Rattle.std.specs.Prelude.{◌<◌, length};
+
 use crate::chance::{Chance, evens};
 use crate::wants::{holds, holds_of};
 use sip_ledger::{Accounts, Debt, Index};
@@ -23,6 +25,15 @@ impl Played {
         Ok(played)
     }
 
+    /// The row is one of the accounts, and one of the lists.
+    fn has(&self, rt: &impl Abort, row: usize)
+        ensures accounts { row < length self.now.accounts }
+        ensures lists { row < length self.now.lists.items }
+    {
+        holds(rt, row < self.accounts.len(), "a row of the accounts");
+        holds(rt, row < self.lists.len(), "a row of the lists");
+    }
+
     /// The number of a row.
     fn row(&self, rt: &impl Abort, chance: &mut Chance) -> usize {
         let row = chance.below(self.lists.len() as u64) as usize;
@@ -37,8 +48,7 @@ impl Played {
     }
 
     fn push_copy(&mut self, rt: &impl Abort, row: usize) -> Result<(), Fail> {
-        holds(rt, row < self.accounts.len(), "a row of the accounts");
-        holds(rt, row < self.lists.len(), "a row of the lists");
+        self.has(rt, row);
         self.accounts.push_copy(row)?;
         let copy = self.lists[row].clone()?;
         self.lists.push(copy)?;
@@ -46,10 +56,8 @@ impl Played {
     }
 
     fn copy(&mut self, rt: &impl Abort, from: usize, to: usize) -> Result<(), Fail> {
-        holds(rt, from < self.accounts.len(), "a row of the accounts");
-        holds(rt, to < self.accounts.len(), "a row of the accounts");
-        holds(rt, from < self.lists.len(), "a row of the lists");
-        holds(rt, to < self.lists.len(), "a row of the lists");
+        self.has(rt, from);
+        self.has(rt, to);
         self.accounts.copy(from, to);
         let copy = self.lists[from].clone()?;
         self.lists[to] = copy;
@@ -117,8 +125,7 @@ impl Played {
     }
 
     fn expire(&mut self, rt: &impl Abort, row: usize, moment: u64) -> Result<(), Fail> {
-        holds(rt, row < self.accounts.len(), "a row of the accounts");
-        holds(rt, row < self.lists.len(), "a row of the lists");
+        self.has(rt, row);
         self.accounts.expire(row, moment)?;
         self.lists[row].retain(|debt| debt.must || moment <= debt.deadline);
         Ok(())
@@ -131,8 +138,7 @@ impl Played {
         debt: Debt,
         moment: u64,
     ) -> Result<(), Fail> {
-        holds(rt, row < self.accounts.len(), "a row of the accounts");
-        holds(rt, row < self.lists.len(), "a row of the lists");
+        self.has(rt, row);
         self.accounts.gain_and_expire(row, debt, moment)?;
         self.lists[row].push(debt)?;
         self.lists[row].retain(|debt| debt.must || moment <= debt.deadline);
@@ -146,8 +152,7 @@ impl Played {
         message: u64,
         moment: u64,
     ) -> Result<(), Fail> {
-        holds(rt, row < self.accounts.len(), "a row of the accounts");
-        holds(rt, row < self.lists.len(), "a row of the lists");
+        self.has(rt, row);
         let first = self.lists[row]
             .iter()
             .position(|debt| debt.message == message && moment <= debt.deadline);
@@ -162,8 +167,7 @@ impl Played {
     }
 
     fn soften(&mut self, rt: &impl Abort, row: usize) {
-        holds(rt, row < self.accounts.len(), "a row of the accounts");
-        holds(rt, row < self.lists.len(), "a row of the lists");
+        self.has(rt, row);
         self.accounts.soften(row);
         for debt in self.lists[row].iter_mut() {
             debt.must = false;
@@ -171,8 +175,7 @@ impl Played {
     }
 
     fn clear(&mut self, rt: &impl Abort, row: usize) {
-        holds(rt, row < self.accounts.len(), "a row of the accounts");
-        holds(rt, row < self.lists.len(), "a row of the lists");
+        self.has(rt, row);
         self.accounts.clear(row);
         self.lists[row].clear();
     }
@@ -333,10 +336,8 @@ impl Played {
 
     /// Rows are told to owe the same where their lists are the same.
     fn compares(&self, rt: &impl Abort, prints: &[u64], row: usize, other: usize) {
-        holds(rt, row < self.accounts.len(), "a row of the accounts");
-        holds(rt, other < self.accounts.len(), "a row of the accounts");
-        holds(rt, row < self.lists.len(), "a row of the lists");
-        holds(rt, other < self.lists.len(), "a row of the lists");
+        self.has(rt, row);
+        self.has(rt, other);
         let same = self.lists[row] == self.lists[other];
         holds_of(
             rt,

@@ -1,4 +1,6 @@
 //! Steps by chance, on accounts and on plain lists of debts beside them.
+ghost use Rattle.std.specs.Prelude.{◌<◌, length};
+
 use crate::chance::{Chance, evens};
 use crate::wants::{holds, holds_of};
 use sip_ledger::{Accounts, Debt, Index};
@@ -23,6 +25,15 @@ impl Played {
         Ok(played)
     }
 
+    /// The row is one of the accounts, and one of the lists.
+    fn has(&self, rt: &impl Abort, row: usize)
+        ensures accounts { row < length self.now.accounts }
+        ensures lists { row < length self.now.lists.items }
+    {
+        holds(rt, row < self.accounts.len(), "a row of the accounts");
+        holds(rt, row < self.lists.len(), "a row of the lists");
+    }
+
     /// The number of a row.
     fn row(&self, rt: &impl Abort, chance: &mut Chance) -> usize {
         let row = chance.below(self.lists.len() as u64) as usize;
@@ -37,8 +48,7 @@ impl Played {
     }
 
     fn push_copy(&mut self, rt: &impl Abort, row: usize) -> Result<(), Fail> {
-        holds(rt, row < self.accounts.len(), "a row of the accounts");
-        holds(rt, row < self.lists.len(), "a row of the lists");
+        self.has(rt, row);
         self.accounts.push_copy(row)?;
         let copy = self.lists[row].clone()?;
         self.lists.push(copy)?;
@@ -46,10 +56,8 @@ impl Played {
     }
 
     fn copy(&mut self, rt: &impl Abort, from: usize, to: usize) -> Result<(), Fail> {
-        holds(rt, from < self.accounts.len(), "a row of the accounts");
-        holds(rt, to < self.accounts.len(), "a row of the accounts");
-        holds(rt, from < self.lists.len(), "a row of the lists");
-        holds(rt, to < self.lists.len(), "a row of the lists");
+        self.has(rt, from);
+        self.has(rt, to);
         self.accounts.copy(from, to);
         let copy = self.lists[from].clone()?;
         self.lists[to] = copy;
@@ -117,8 +125,7 @@ impl Played {
     }
 
     fn expire(&mut self, rt: &impl Abort, row: usize, moment: u64) -> Result<(), Fail> {
-        holds(rt, row < self.accounts.len(), "a row of the accounts");
-        holds(rt, row < self.lists.len(), "a row of the lists");
+        self.has(rt, row);
         self.accounts.expire(row, moment)?;
         self.lists[row].retain(|debt| debt.must || moment <= debt.deadline);
         Ok(())
@@ -131,8 +138,7 @@ impl Played {
         debt: Debt,
         moment: u64,
     ) -> Result<(), Fail> {
-        holds(rt, row < self.accounts.len(), "a row of the accounts");
-        holds(rt, row < self.lists.len(), "a row of the lists");
+        self.has(rt, row);
         self.accounts.gain_and_expire(row, debt, moment)?;
         self.lists[row].push(debt)?;
         self.lists[row].retain(|debt| debt.must || moment <= debt.deadline);
@@ -146,8 +152,7 @@ impl Played {
         message: u64,
         moment: u64,
     ) -> Result<(), Fail> {
-        holds(rt, row < self.accounts.len(), "a row of the accounts");
-        holds(rt, row < self.lists.len(), "a row of the lists");
+        self.has(rt, row);
         let first = self.lists[row]
             .iter()
             .position(|debt| debt.message == message && moment <= debt.deadline);
@@ -162,8 +167,7 @@ impl Played {
     }
 
     fn soften(&mut self, rt: &impl Abort, row: usize) {
-        holds(rt, row < self.accounts.len(), "a row of the accounts");
-        holds(rt, row < self.lists.len(), "a row of the lists");
+        self.has(rt, row);
         self.accounts.soften(row);
         for debt in self.lists[row].iter_mut() {
             debt.must = false;
@@ -171,8 +175,7 @@ impl Played {
     }
 
     fn clear(&mut self, rt: &impl Abort, row: usize) {
-        holds(rt, row < self.accounts.len(), "a row of the accounts");
-        holds(rt, row < self.lists.len(), "a row of the lists");
+        self.has(rt, row);
         self.accounts.clear(row);
         self.lists[row].clear();
     }
@@ -302,37 +305,39 @@ impl Played {
         moment: u64,
     ) -> Result<(), Fail> {
         for messages in [[2, 1], [0, 2], [1, 0]] {
-            let [one, other] = messages;
             let mut index = Index::new(rt.alloc());
-            index.put(7, one)?;
-            index.put(7, other)?;
-            index.put(6, 0)?;
-            index.put(8, 3)?;
-            let wants = list
-                .iter()
-                .find(|debt| {
-                    (debt.message == one || debt.message == other) && moment <= debt.deadline
-                })
-                .map(|debt| debt.message);
-            for most in 0..4 {
-                holds(rt, row < self.accounts.len(), "a row of the accounts");
-                let first = self.accounts.first_payable(row, &index, 7, moment, most);
-                let told = match first {
-                    Some(first) => first == wants && most > 0,
-                    None => most < 3,
-                };
-                holds_of(rt, told, "first payable", row);
-            }
+            put_each(&mut index, messages)?;
+            let wants = first_of(list, messages, moment);
+            self.pays_first(rt, row, &index, moment, wants);
         }
         Ok(())
     }
 
+    /// The first debt that a send of a message pays that stands under the key 7 is the wanted one. It is found in three steps, perhaps in
+    /// fewer, and not in none.
+    fn pays_first(
+        &self,
+        rt: &impl Abort,
+        row: usize,
+        index: &Index,
+        moment: u64,
+        wants: Option<u64>,
+    ) {
+        for most in 0..4 {
+            holds(rt, row < self.accounts.len(), "a row of the accounts");
+            let first = self.accounts.first_payable(row, index, 7, moment, most);
+            let told = match first {
+                Some(first) => first == wants && most > 0,
+                None => most < 3,
+            };
+            holds_of(rt, told, "first payable", row);
+        }
+    }
+
     /// Rows are told to owe the same where their lists are the same.
     fn compares(&self, rt: &impl Abort, prints: &[u64], row: usize, other: usize) {
-        holds(rt, row < self.accounts.len(), "a row of the accounts");
-        holds(rt, other < self.accounts.len(), "a row of the accounts");
-        holds(rt, row < self.lists.len(), "a row of the lists");
-        holds(rt, other < self.lists.len(), "a row of the lists");
+        self.has(rt, row);
+        self.has(rt, other);
         let same = self.lists[row] == self.lists[other];
         holds_of(
             rt,
@@ -415,6 +420,23 @@ fn left_of(list: &Vec<Debt>, message: u64, moment: u64) -> Result<Option<Vec<Deb
     left.remove(first);
     left.retain(|debt| debt.must || moment <= debt.deadline);
     Ok(Some(left))
+}
+
+/// Puts two messages under the key 7, and others under the keys beside it.
+fn put_each(index: &mut Index, [one, other]: [u64; 2]) -> Result<(), AllocError> {
+    index.put(7, one)?;
+    index.put(7, other)?;
+    index.put(6, 0)?;
+    index.put(8, 3)
+}
+
+/// The message of the first debt of the list that a send of one of these messages pays.
+fn first_of(list: &[Debt], [one, other]: [u64; 2], moment: u64) -> Option<u64> {
+    let mut debts = list.iter();
+    let first = debts.find(|debt| {
+        (debt.message == one || debt.message == other) && moment <= debt.deadline
+    });
+    first.map(|debt| debt.message)
 }
 
 /// The least deadline of what must be sent.

@@ -4,7 +4,8 @@ use crate::rows::{self, EndsRow, MAY, MUST, all_end, phase_ends};
 use crate::runs::Entry;
 use crate::times::params;
 use crate::wants::holds;
-use sip_machine::{Action, InviteServer, InviteServerPhase, Machine};
+use sip_machine::{Action, Book, InviteServer, InviteServerPhase, Machine};
+use std::alloc::Global;
 use std::process::Abort;
 use std::test::Fail;
 
@@ -53,12 +54,15 @@ fn server() -> Result<InviteServer, Fail> {
     Ok(InviteServer::new(params(500)?))
 }
 
+fn book(alloc: Global) -> Result<Book, Fail> {
+    book_of(alloc, &MESSAGES, "INVITE", "UDP")
+}
+
 type Row = rows::Row<InviteServerPhase>;
 
 /// Asserts that the entries of each row lead to the states of the row.
 fn all_lead(rt: &(impl Abort + AllocGlobal), rows: &[Row]) -> Result<(), Fail> {
-    let book = book_of(rt.alloc(), &MESSAGES, "INVITE", "UDP")?;
-    rows::all_lead(rt, &server()?, &book, rows)
+    rows::all_lead(rt, &server()?, &book(rt.alloc())?, rows)
 }
 
 /// No INVITE came yet.
@@ -554,10 +558,8 @@ static ENDS: &[EndsRow] = &[
 #[test]
 fn ends(rt: HostRuntime) -> Result<(), Fail> {
     let server = server()?;
-    let book = book_of(rt.alloc(), &MESSAGES, "INVITE", "UDP")?;
-    all_end(&rt, &server, &book, ENDS)?;
     holds(&rt, server.ended() == IDLE, "the end");
-    Ok(())
+    all_end(&rt, &server, &book(rt.alloc())?, ENDS)
 }
 
 /// The 486 was sent at 700, over TCP.

@@ -3,7 +3,8 @@ use crate::messages::{Numbered, Start, book_of};
 use crate::rows::{self, phase_ends};
 use crate::runs::Entry;
 use crate::times::params;
-use sip_machine::{Action, Machine, PlainClient, PlainClientPhase, Waiting};
+use sip_machine::{Action, Book, Machine, PlainClient, PlainClientPhase, Waiting};
+use std::alloc::Global;
 use std::process::Abort;
 use std::test::Fail;
 
@@ -28,12 +29,15 @@ fn client() -> Result<PlainClient, Fail> {
     Ok(PlainClient::new(params(500)?))
 }
 
+fn book(alloc: Global) -> Result<Book, Fail> {
+    book_of(alloc, &MESSAGES, "OPTIONS", "UDP")
+}
+
 type Row = rows::Row<PlainClientPhase>;
 
 /// Asserts that the entries of each row lead to the states of the row.
 fn all_lead(rt: &(impl Abort + AllocGlobal), rows: &[Row]) -> Result<(), Fail> {
-    let book = book_of(rt.alloc(), &MESSAGES, "OPTIONS", "UDP")?;
-    rows::all_lead(rt, &client()?, &book, rows)
+    rows::all_lead(rt, &client()?, &book(rt.alloc())?, rows)
 }
 
 /// The request was sent at moment 0, over an unreliable transport, and timer E was set then.

@@ -382,11 +382,15 @@ fn each_proceeds(states: &[State<PlainServerPhase>], wants: &[(u64, Turns)]) -> 
 
 /// Whether the entries lead to as many states as are wanted, each with its last response and its debts.
 fn all_proceed(alloc: Global, entries: &[Entry], wants: &[(u64, Turns)]) -> Result<bool, Fail> {
-    let server = server()?;
-    let book = book(alloc)?;
-    let pool = run(alloc, &server, &book, entries)?;
-    let states = states_of(alloc, &pool)?;
+    let states = states_after(alloc, entries)?;
     Ok(each_proceeds(&states, wants))
+}
+
+/// The states of the server after the entries.
+fn states_after(alloc: Global, entries: &[Entry]) -> Result<Vec<State<PlainServerPhase>>, Fail> {
+    let server = server()?;
+    let pool = run(alloc, &server, &book(alloc)?, entries)?;
+    states_of(alloc, &pool)
 }
 
 /// Asserts that something is so after the first of the entries, of which there are so many.

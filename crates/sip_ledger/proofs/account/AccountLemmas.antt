@@ -1,5 +1,5 @@
 -- Accounts stay accounts, and owe what they owed, while gains and strikes grow, are let go or are dropped.
-use Rattle.std.proofs.Common.{◌≡◌, ◌≢◌, ℕ, ◌+◌, ◌<◌, ◌≤◌, ◌&&◌, ◌||◌, Bool, true, false, not, List, [], ◌∷◌, ◌++◌, length, take, drop, get_or, set, append-nil, refl, sym, ap, ap₂, ◌∙◌, subst, arith}
+use Rattle.std.proofs.Common.{◌≡◌, ◌≢◌, ℕ, ◌+◌, ◌<◌, ◌≤◌, ◌&&◌, true, false, not, List, [], ◌∷◌, ◌++◌, length, take, drop, get_or, set, append-nil, refl, sym, ap, ◌∙◌, subst, arith}
 use Rattle.std.proofs.lemmas.Bool.Decides.{nat_tests}
 use Rattle.std.specs.Prelude.{All, nat_le, nat_lt}
 use Rattle.std.proofs.lemmas.Bool.{cases_eq, cases_lt, le-leb, le-ltb, lt-leb, true≢false}
@@ -7,7 +7,6 @@ use Rattle.std.proofs.Math.Bool.{and-false, and-true}
 use Rattle.std.proofs.lemmas.List.{drop-map, get_or_append_left, get_or-map, get_or-take, length-map, length-take, length-take-le, map-append, map-set, take-map, take-take}
 use Rattle.std.proofs.lemmas.List.Elements.{All-cons, All-drop, All-get_or, All-head, All-nil, All-push, All-set, All-tail, All-take, All-weaker}
 use Rattle.sip_ledger.specs.declared.debt.Debt.{Debt}
-use Rattle.sip_ledger.specs.declared.debt.Entry.{Entry}
 use Rattle.sip_ledger.specs.declared.accounts.account.Account.{Account}
 use Rattle.sip_ledger.specs.declared.accounts.gains.Gains.{Gains}
 use Rattle.sip_ledger.specs.declared.accounts.strikes.Strike.{Strike}
@@ -21,10 +20,6 @@ use Rattle.sip_ledger.proofs.gains.LeftLemmas.{entries_long, left-kept, listed-a
 -- an account keeps its strikes when others are put after them
 pub kept-strikes : (old new : List Strike) (a : Account) → take (length old) new ≡ old → a.last ≤ length old → strikes_of new a ≡ strikes_of old a
 kept-strikes old new a kept last = ap (drop a.first) (sym (take-take a.last (length old) new last) ∙ ap (take a.last) kept)
-
--- a list of strikes that keeps the old ones is at least as long
-pub kept-longer : (old new : List Strike) → take (length old) new ≡ old → length old ≤ length new
-kept-longer old new kept = omega (arith, ap length kept, length-take (length old) new)
 
 -- an account owes the same when strikes are put after the others
 pub kept-owes : (gains : Gains) (old new : List Strike) (a : Account) (k : ℕ) → take (length old) new ≡ old → a.last ≤ length old →
@@ -40,7 +35,7 @@ kept-debts gains old new a kept last = grind (arith, listed-same, kept-owes)
 
 -- an account stays one when strikes are put after the others
 pub kept-account : (gains : Gains) (old new : List Strike) (a : Account) → take (length old) new ≡ old → IsAccount gains old a → IsAccount gains new a
-kept-account gains old new a kept is = grind (arith, nat_tests, kept-longer, kept-strikes, kept-owes, kept-debts)
+kept-account gains old new a kept is = grind (arith, nat_tests, kept-strikes, kept-owes, kept-debts, length-take)
 
 -- the account is one over other gains and strikes too, and owes what it owed
 abbrev pub Stays : Gains → Gains → List Strike → List Strike → Account → Type 0
@@ -51,10 +46,7 @@ each-stays : (old new : Gains) (strikes strikes' : List Strike) (rows : List Acc
     All (IsAccount new strikes') rows × (accounts_debts new strikes' rows ≡ accounts_debts old strikes rows)
 unfolding accounts_debts
 each-stays old new strikes strikes' [] each = (All-nil (IsAccount new strikes'), refl)
-each-stays old new strikes strikes' (a ∷ rows) each =
-    let here = All-head (Stays old new strikes strikes') a rows each in
-    let rest = each-stays old new strikes strikes' rows (All-tail (Stays old new strikes strikes') a rows each) in
-    (All-cons (IsAccount new strikes') a rows here.0 rest.0, ap₂ (λ d ds. d ∷ ds) here.1 rest.1)
+each-stays old new strikes strikes' (a ∷ rows) each = grind (arith, nat_tests, All-head, All-tail, All-cons, each-stays old new strikes strikes' rows (All-tail (Stays old new strikes strikes') a rows each))
 
 -- where strikes are appended, accounts stay accounts and owe what they owed
 pub kept-all : (gains : Gains) (old new : List Strike) (rows : List Account) → take (length old) new ≡ old → All (IsAccount gains old) rows →
@@ -110,8 +102,7 @@ kept-from k are is low high = kept-passed k are is (omega (arith, low, high)) lo
 owes-over : (old new : Gains) (strikes : List Strike) (a : Account) (k : ℕ) → entry_at (entries_of new) k ≡ entry_at (entries_of old) k → is_left new k ≡ is_left old k →
     owes_at new strikes a k ≡ owes_at old strikes a k
 unfolding owes_at is_gone
-owes-over old new strikes a k entry left =
-    ap₂ (λ (l : Bool) (e : Entry). nat_le a.start k && (nat_lt k a.end && not (not l || is_struck (strikes_of strikes a) e.message k))) left entry
+owes-over old new strikes a k entry left = grind (arith, nat_tests)
 
 -- a gain whose place stands under no message is not left
 not-left : (gains : Gains) (k : ℕ) → ((m : ℕ) → holds gains.messages m k ≡ false) → is_left gains k ≡ false
@@ -137,15 +128,10 @@ over-debts old new strikes a long end alike =
     ∙ listed-alike (owes_at new strikes a) (must_at new a) (owes_at old strikes a) (must_at old a) 0 (take n (entries_of new)) (entries_of old) short
     (λ j below. grind arith) (λ j below is. grind (arith, get_or-take))
 
--- an account that owes alike over old and new gains stays one
-over-account : (old new : Gains) (strikes : List Strike) (a : Account) → length (entries_of old) ≤ length (entries_of new) → OwesAlike old new strikes a → IsAccount old strikes a →
-    IsAccount new strikes a
-over-account old new strikes a long alike is = grind (arith, nat_tests, over-debts)
-
 -- accounts that owe alike over old and new gains stay accounts, with the same debts
 pub over-all : (old new : Gains) (strikes : List Strike) (rows : List Account) → length (entries_of old) ≤ length (entries_of new) → All (OwesAlike old new strikes) rows →
     All (IsAccount old strikes) rows → All (IsAccount new strikes) rows × (accounts_debts new strikes rows ≡ accounts_debts old strikes rows)
-over-all old new strikes rows long alike each = grind (arith, nat_tests, each-stays, over-account, over-debts)
+over-all old new strikes rows long alike each = grind (arith, nat_tests, each-stays, over-debts)
 
 -- accounts are kept over gains that are the same
 pub same-keeps : (old new : Gains) → AreSameGains old new → KeepsAccounts old new

@@ -4,6 +4,7 @@ use Rattle.std.proofs.lemmas.Bool.Decides.{nat_tests}
 use Rattle.std.specs.Prelude.{nat_le}
 use Rattle.std.proofs.Math.Bool.{and-false, and-true, or-true}
 use Rattle.std.proofs.lemmas.Bool.{cases_eq, cases_lt, le-leb, lt-leb}
+use Rattle.std.proofs.Math.Seq.{take-length}
 use Rattle.std.proofs.lemmas.List.{get_or_default}
 use Rattle.sip_ledger.specs.declared.debt.Entry.{Entry}
 use Rattle.sip_ledger.specs.declared.accounts.account.Account.{Account}
@@ -13,7 +14,8 @@ use Rattle.sip_ledger.specs.Debts.{counts_at}
 use Rattle.sip_ledger.specs.inner.Accounts.{AreGains, IsAccount, IsExpiredTo, IsKept, IsWithout, account_debts, entries_of, entry_at, must_at, owes_at}
 use Rattle.sip_ledger.proofs.gains.LeftLemmas.{entries_long, rising_kept}
 use Rattle.sip_ledger.proofs.debts.ListedLemmas.{listed-counting, listed-same}
-use Rattle.sip_ledger.proofs.account.AccountLemmas.{past-end, soft-must}
+use Rattle.sip_ledger.proofs.account.AccountLemmas.{empty-debts, kept-passed, past-end, soft-must}
+use Rattle.sip_ledger.proofs.rows.GainEachLemmas.{none-goes}
 use Rattle.sip_ledger.proofs.account.WithoutLemmas.{before-start}
 
 -- whether what is owed at a place counts still at t: it must be sent, or its deadline is not past
@@ -32,11 +34,6 @@ counted t entries m o o' k same counts = same ∙ sym (ap (λ b. o k && b) count
 pub expired-start : (t : ℕ) (gains : Gains) (strikes : List Strike) (m : ℕ → Bool) (a : Account) →
     IsExpiredTo t (entries_of gains) m (owes_at gains strikes a) (owes_at gains strikes a) a.start
 expired-start t gains strikes m a = grind (arith, nat_tests, before-start)
-
--- where the gain at the place counts still at t, or is not owed, the account has expired one place further
-stays : (t : ℕ) (entries : List Entry) (m o o' : ℕ → Bool) (place : ℕ) → IsExpiredTo t entries m o o' place → o' place ≡ counting t entries m o place →
-    IsExpiredTo t entries m o o' (place + 1)
-stays t entries m o o' place was here = grind (arith, nat_tests, cases_eq)
 
 -- IsExpiredTo goes on over a gain that must be sent
 pub stays-must : (t : ℕ) (entries : List Entry) (m o o' : ℕ → Bool) (place : ℕ) → IsExpiredTo t entries m o o' place → m place ≡ true → IsExpiredTo t entries m o o' (place + 1)
@@ -88,3 +85,6 @@ pub record IsExpiring (gains : Gains) (old new : List Strike) (a b : Account) (t
   pub account : IsAccount gains new b
   pub soft : b.soft ≡ a.soft
   pub gone : IsExpiredTo t (entries_of gains) (must_at gains a) (owes_at gains old a) (owes_at gains new b) place
+
+-- what is owed once what is past is dropped
+pub ruleset expired_by_place = (soft-must, goes, stays-must, take-length, empty-debts, kept-passed, expired-end, expired-rising, expired-start, none-goes)

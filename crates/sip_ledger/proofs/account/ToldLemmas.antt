@@ -20,15 +20,6 @@ use Rattle.sip_ledger.proofs.debts.ListedLemmas.{back, back-none, back-same, bac
 use Rattle.sip_ledger.proofs.account.AccountLemmas.{must-below, must-from, past-end, soft-must}
 use Rattle.sip_ledger.proofs.account.WithoutLemmas.{before-start}
 
--- What follows is of all debts: what is told up to a place, and the next debt.
-pub front-start : (gains : Gains) (strikes : List Strike) (m : ℕ → Bool) (a : Account) → a.start ≤ length (entries_of gains) → front (owes_at gains strikes a) m (entries_of gains) a.start ≡ []
-front-start gains strikes m a within = grind (arith, listed-none, before-start, length-take-le)
-
--- up to the next place at which something is owed, one debt more is told: that of this place
-pub front-more : (entries : List Entry) (o m : ℕ → Bool) (at next : ℕ) → at < length entries → o at ≡ true → at < next → next ≤ length entries → IsGap o (at + 1) next →
-    front o m entries next ≡ front o m entries at ++ debt_of (entry_at entries at) (m at) ∷ []
-front-more entries o m at next inside is after within gap = grind (arith, front-gap, front-next)
-
 -- `next` is the next place after `at` at which the account owes something, or its end
 pub record IsAfter (gains : Gains) (strikes : List Strike) (a : Account) (at next : ℕ) : Type 0 where
   pub within : (at + 1 ≤ next) × (next ≤ a.end)
@@ -45,12 +36,12 @@ pub record IsToldTo (gains : Gains) (strikes : List Strike) (a : Account) (place
 module _ {gains : Gains} {strikes : List Strike} {a : Account} where
   -- an account owes nothing before its start
   pub told-none : {debts : List Debt} → IsAccount gains strikes a → debts ≡ [] → IsToldTo gains strikes a a.start debts
-  told-none is none = grind (arith, nat_tests, front-start)
+  told-none is none = grind (arith, nat_tests, listed-none, before-start, length-take-le)
 
   -- before the next place it owes one debt more: that of this place
   pub told-more : {place next : ℕ} {debt : Debt} {debts more : List Debt} → IsAccount gains strikes a → IsToldTo gains strikes a place debts → place < a.end → IsAfter gains strikes a place next →
       debt ≡ debt_of (entry_at (entries_of gains) place) (must_at gains a place) → more ≡ debts ++ debt ∷ [] → IsToldTo gains strikes a next more
-  told-more {place} {next} is was inside after debt_is more_is = grind (arith, nat_tests, front-more)
+  told-more {place} {next} is was inside after debt_is more_is = grind (arith, nat_tests, front-gap, front-next)
 
   -- what it owes is what it owes before a place and from there on
   pub told-split : {place : ℕ} {debts : List Debt} → IsAccount gains strikes a → IsToldTo gains strikes a place debts →
@@ -192,12 +183,7 @@ least_to entries m to = earliest (map (λ d. d.deadline) (front m m entries to))
 
 -- nothing has to be sent before a place below which nothing is due
 pub least-start : (entries : List Entry) (m : ℕ → Bool) (from : ℕ) → from ≤ length entries → ((k : ℕ) → k < from → m k ≡ false) → None ≡ least_to entries m from
-least-start entries m from within none =
-    sym (ap (λ l. earliest (map (λ (d : Debt). d.deadline) l)) (listed-none m m 0 (take from entries) (λ k _ below. none k (omega (arith, below, length-take-le from entries within)))))
-
--- the least deadline stays where nothing is due between two places
-pub least-over : (entries : List Entry) (m : ℕ → Bool) (from to : ℕ) → from ≤ to → to ≤ length entries → IsGap m from to → least_to entries m to ≡ least_to entries m from
-least-over entries m from to order within gap = ap (λ l. earliest (map (λ (d : Debt). d.deadline) l)) (front-gap m m entries from to order within gap)
+least-start entries m from within none = grind (arith, nat_tests, listed-none, length-take-le)
 
 -- the least deadline takes in that of the next place at which something is due
 pub least-more : (entries : List Entry) (m : ℕ → Bool) (from at : ℕ) → from ≤ at → at < length entries → IsGap m from at → m at ≡ true →
@@ -242,16 +228,10 @@ unmust : (gains : Gains) (a : Account) (k : ℕ) → holds gains.musts 0 k ≡ f
 unfolding must_at
 unmust gains a k none = and_left (holds gains.musts 0 k) (nat_le a.soft k) none
 
--- nothing is due before the start or the `soft` of an account
-not-due-before : (gains : Gains) (strikes : List Strike) (a : Account) (from k : ℕ) → from ≤ a.start ⊎ from ≤ a.soft → k < from →
-    due (owes_at gains strikes a) (must_at gains a) k ≡ false
-not-due-before gains strikes a from k (inl start) early = and_left (owes_at gains strikes a k) (must_at gains a k) (before-start gains strikes a k (omega (arith, start, early)))
-not-due-before gains strikes a from k (inr soft) early = and_right (owes_at gains strikes a k) (must_at gains a k) (sym (must-below gains a k (omega (arith, soft, early))))
-
 -- IsLeastTo holds at the later one of the start and the `soft` of an account, with no deadline
 pub least-first : (gains : Gains) (strikes : List Strike) (a : Account) (from : ℕ) → IsAccount gains strikes a → a.start ≤ from → a.soft ≤ from → from ≤ a.start ⊎ from ≤ a.soft →
     IsLeastTo gains strikes a from None
-least-first gains strikes a from is low soft one = grind (arith, nat_tests, least-start, not-due-before)
+least-first gains strikes a from is low soft one = grind (arith, nat_tests, least-start, and_left, before-start, and_right, must-below)
 
 -- nothing is due before the next place of a gain that must be sent
 gap-due : (gains : Gains) (strikes : List Strike) (a : Account) (from at : ℕ) → ((k : ℕ) → from ≤ k → k < at → holds gains.musts 0 k ≡ false) →
@@ -261,7 +241,7 @@ gap-due gains strikes a from at none k above below = and_right (owes_at gains st
 -- IsLeastTo goes on over places at which nothing has to be sent, and over one that the account does not owe
 pub least-passed : (gains : Gains) (strikes : List Strike) (a : Account) (from at : ℕ) (least : Option ℕ) → IsLeastTo gains strikes a from least → from ≤ at → at < length (entries_of gains) →
     ((k : ℕ) → from ≤ k → k < at → holds gains.musts 0 k ≡ false) → owes_at gains strikes a at ≡ false → IsLeastTo gains strikes a (at + 1) least
-least-passed gains strikes a from at least was above inside gap unowed = grind (arith, nat_tests, and_left, gap-due, least-over, cases_lt)
+least-passed gains strikes a from at least was above inside gap unowed = grind (arith, nat_tests, and_left, gap-due, cases_lt, front-gap)
 
 -- what an account owes at `soft` or after it is due if it must be sent as it was gained
 is-due : (gains : Gains) (strikes : List Strike) (a : Account) (at : ℕ) → a.soft ≤ at → holds gains.musts 0 at ≡ true → owes_at gains strikes a at ≡ true →

@@ -1,6 +1,6 @@
 -- An account loses one of its debts.
-use Rattle.std.proofs.Common.{◌≡◌, ◌≢◌, ℕ, ◌+◌, ◌-◌, ◌<◌, ◌≤◌, ◌%◌, ◌^◌, ◌==◌, ◌&&◌, Bool, true, false, not, List, ◌∷◌, length, refl, sym, ap, ◌∙◌, subst, arith, lit<}
-use Rattle.std.specs.Prelude.{nat_le, nat_lt}
+use Rattle.std.proofs.Common.{◌≡◌, ◌≢◌, ℕ, ◌+◌, ◌-◌, ◌<◌, ◌≤◌, ◌%◌, ◌^◌, ◌&&◌, Bool, true, false, not, List, ◌∷◌, length, refl, sym, ap, ◌∙◌, subst, arith, lit<}
+use Rattle.std.specs.Prelude.{nat_lt}
 use Rattle.std.specs.List.{sum_by}
 use Rattle.std.proofs.lemmas.Bool.{and_right, cases_lt, eq-eqb, le-leb, lt-leb, lt-ltb, ne_eqb, true≢false}
 use Rattle.std.proofs.Math.Bool.{and-false, or-false, or-true}
@@ -62,15 +62,11 @@ pub earlier-end : (gains : Gains) (strikes : List Strike) (a b : Account) (place
 unfolding owes_at
 earlier-end gains strikes a b place end now start first last = grind (arith, nat_tests, past-end, cases_lt, lt-ltb)
 
--- a place lies from `place` up to the one after it exactly if it is `place`
-one-place : (place k : ℕ) → (nat_le place k && nat_lt k (place + 1)) ≡ (k == place)
-one-place place k = grind (arith, nat_tests)
-
 -- where the gain at the place is struck, the account is without it
 pub struck-without : (gains : Gains) (old new : List Strike) (a b c : Account) (place : ℕ) → IsStruck gains place (place + 1) old new a b →
     a.start ≤ place → c.start ≡ b.start → c.end ≡ b.end → c.first ≡ b.first → c.last ≡ b.last → IsWithout place (owes_at gains old a) (owes_at gains new c)
 unfolding owes_at
-struck-without gains old new a b c place s low start end first last = grind (arith, nat_tests, gone-struck, one-place, eq-eqb, or-true, and_right, and-false, cases_lt, before-start, gone-same, ne_eqb, or-false)
+struck-without gains old new a b c place s low start end first last = grind (arith, nat_tests, gone-struck, eq-eqb, or-true, and_right, and-false, cases_lt, before-start, gone-same, ne_eqb, or-false)
 
 -- an account without one of its gains is an account, and owes the debts without that one
 pub without-account : (gains : Gains) (old new : List Strike) (a b : Account) (place w : ℕ) → IsAccount gains old a → owes_at gains old a place ≡ true →

@@ -1,4 +1,5 @@
 -- The debts of a list of entries: `o` tells which places are owed, and `m` which of them must be sent.
+use Rattle.std.proofs.lemmas.Bool.Decides.{nat_tests}
 use Rattle.std.proofs.Common.{◌≡◌, ℕ, zero, suc, ◌+◌, ◌-◌, ◌<◌, ◌≤◌, Bool, true, false, ◌&&◌, ◌||◌, cond, List, [], ◌∷◌, ◌++◌, length, take, drop, get_or, map, filter, refl, sym, ap, ◌∙◌, subst, arith}
 use Rattle.std.specs.Prelude.{All, nat_le, Some, option_to_list, min}
 use Rattle.std.specs.List.{fold}
@@ -20,8 +21,7 @@ cond-append false d all xs ys e = e
 
 -- where tests, debts and lists are the same, what the test lets stand is the same
 cond-same : (b b' : Bool) (d d' : Debt) (xs xs' : List Debt) → b ≡ b' → d ≡ d' → xs ≡ xs' → cond b (d ∷ xs) xs ≡ cond b' (d' ∷ xs') xs'
-cond-same b b' d d' xs xs' same_b same_d same_xs =
-    ap (λ a. cond a (d ∷ xs) xs) same_b ∙ ap (λ x. cond b' (x ∷ xs) xs) same_d ∙ ap (λ l. cond b' (d' ∷ l) l) same_xs
+cond-same b b' d d' xs xs' same_b same_d same_xs = grind (arith, nat_tests)
 
 -- where a list is filtered, a first debt that a test lets stand stays if it passes both tests
 cond-filter : (p : Debt → Bool) (b : Bool) (d : Debt) (xs : List Debt) → filter p (cond b (d ∷ xs) xs) ≡ cond (b && p d) (d ∷ filter p xs) (filter p xs)
@@ -41,26 +41,18 @@ cond-All P false d xs here rest = rest
 -- the debts of two lists of entries together are those of the first list and those of the second, whose places follow
 pub listed-append : (o m : ℕ → Bool) (i : ℕ) (xs ys : List Entry) → debts_from o m i (xs ++ ys) ≡ debts_from o m i xs ++ debts_from o m (i + length xs) ys
 listed-append o m i [] ys = let none : i ≡ i + 0 = omega arith in ap (λ n. debts_from o m n ys) none
-listed-append o m i (x ∷ xs) ys =
-    let next : i + 1 + length xs ≡ i + suc (length xs) = omega arith in
-    cond-append (o i) (debt_of x (m i)) (debts_from o m (i + 1) (xs ++ ys)) (debts_from o m (i + 1) xs) (debts_from o m (i + suc (length xs)) ys)
-    (listed-append o m (i + 1) xs ys ∙ ap (λ n. debts_from o m (i + 1) xs ++ debts_from o m n ys) next)
+listed-append o m i (x ∷ xs) ys = grind (arith, nat_tests, cond-append, listed-append o m (i + 1) xs ys)
 
 -- where the same places are owed and must be sent, the debts are the same
 pub listed-same : (o m o' m' : ℕ → Bool) (i : ℕ) (xs : List Entry) → ((k : ℕ) → i ≤ k → k < i + length xs → (o k ≡ o' k) × (m k ≡ m' k)) →
     debts_from o m i xs ≡ debts_from o' m' i xs
 listed-same o m o' m' i [] agree = refl
-listed-same o m o' m' i (x ∷ xs) agree =
-    let here = agree i (omega arith) (omega arith) in
-    cond-same (o i) (o' i) (debt_of x (m i)) (debt_of x (m' i)) (debts_from o m (i + 1) xs) (debts_from o' m' (i + 1) xs) here.0
-    (ap (debt_of x) here.1) (listed-same o m o' m' (i + 1) xs (λ k from below. agree k (omega (arith, from)) (omega (arith, below))))
+listed-same o m o' m' i (x ∷ xs) agree = grind (arith, nat_tests, cond-same, listed-same o m o' m' (i + 1) xs)
 
 -- where no place of the entries is owed, there are no debts
 pub listed-none : (o m : ℕ → Bool) (i : ℕ) (xs : List Entry) → ((k : ℕ) → i ≤ k → k < i + length xs → o k ≡ false) → debts_from o m i xs ≡ []
 listed-none o m i [] none = refl
-listed-none o m i (x ∷ xs) none =
-    ap (λ b. cond b (debt_of x (m i) ∷ debts_from o m (i + 1) xs) (debts_from o m (i + 1) xs)) (none i (omega arith) (omega arith))
-    ∙ listed-none o m (i + 1) xs (λ k from below. none k (omega (arith, from)) (omega (arith, below)))
+listed-none o m i (x ∷ xs) none = grind (arith, nat_tests, listed-none o m (i + 1) xs)
 
 -- there are no more debts than entries
 pub listed-few : (o m : ℕ → Bool) (i : ℕ) (xs : List Entry) → length (debts_from o m i xs) ≤ length xs
@@ -118,8 +110,7 @@ back-none o m entries k none = listed-none o m k (drop k entries) (λ j from bel
 -- where the same places before k are owed and must be sent, the debts before k are the same
 pub front-same : (o m o' m' : ℕ → Bool) (entries : List Entry) (k : ℕ) → k ≤ length entries → ((j : ℕ) → j < k → (o j ≡ o' j) × (m j ≡ m' j)) →
     front o m entries k ≡ front o' m' entries k
-front-same o m o' m' entries k within agree =
-    listed-same o m o' m' 0 (take k entries) (λ j from below. agree j (omega (arith, below, length-take-le k entries within)))
+front-same o m o' m' entries k within agree = grind (arith, nat_tests, listed-same, length-take-le)
 
 -- where the same places from k on are owed and must be sent, the debts from k on are the same
 pub back-same : (o m o' m' : ℕ → Bool) (entries : List Entry) (k : ℕ) → ((j : ℕ) → k ≤ j → (o j ≡ o' j) × (m j ≡ m' j)) →
@@ -129,11 +120,7 @@ back-same o m o' m' entries k agree = listed-same o m o' m' k (drop k entries) (
 -- where no place from i up to i + n is owed, the debts from i on are those from i + n on
 pub back-gap : (o m : ℕ → Bool) (entries : List Entry) (i n : ℕ) → i + n ≤ length entries → IsGap o i (i + n) → back o m entries i ≡ back o m entries (i + n)
 back-gap o m entries i zero within gap = let none : i ≡ i + 0 = omega arith in ap (back o m entries) none
-back-gap o m entries i (suc n) within gap =
-    let next : i + 1 + n ≡ i + suc n = omega arith in
-    back-unset o m entries i (omega (arith, within)) (gap i (omega arith) (omega arith))
-    ∙ back-gap o m entries (i + 1) n (omega (arith, within)) (λ j from below. gap j (omega (arith, from)) (omega (arith, below)))
-    ∙ ap (back o m entries) next
+back-gap o m entries i (suc n) within gap = grind (arith, nat_tests, back-unset, back-gap o m entries (i + 1) n)
 
 -- where no place from i up to k is owed, the debts from i on are those from k on
 pub back-over : (o m : ℕ → Bool) (entries : List Entry) (i k : ℕ) → i ≤ k → k ≤ length entries → IsGap o i k → back o m entries i ≡ back o m entries k
@@ -161,10 +148,7 @@ listed-counting t o m o' i (x ∷ xs) each =
 pub listed-softened : (o m m' : ℕ → Bool) (i : ℕ) (xs : List Entry) → ((k : ℕ) → m' k ≡ false) →
     debts_from o m' i xs ≡ map softened_debt (debts_from o m i xs)
 listed-softened o m m' i [] none = refl
-listed-softened o m m' i (x ∷ xs) none =
-    cond-same (o i) (o i) (debt_of x (m' i)) (softened_debt (debt_of x (m i))) (debts_from o m' (i + 1) xs)
-    (map softened_debt (debts_from o m (i + 1) xs)) refl (ap (debt_of x) (none i)) (listed-softened o m m' (i + 1) xs none)
-    ∙ sym (cond-map softened_debt (o i) (debt_of x (m i)) (debts_from o m (i + 1) xs))
+listed-softened o m m' i (x ∷ xs) none = grind (arith, nat_tests, cond-same, cond-map, listed-softened o m m' (i + 1) xs none)
 
 -- where no place from `from` up to `at` is owed, the debts before `at` are those before `from`
 pub front-gap : (o m : ℕ → Bool) (entries : List Entry) (from at : ℕ) → from ≤ at → at ≤ length entries → IsGap o from at →
@@ -198,14 +182,7 @@ must-of false false among = refl
 pub listed-must : (o m : ℕ → Bool) (i : ℕ) (xs : List Entry) → ((k : ℕ) → m k ≡ true → o k ≡ true) →
     debt_deadlines (debts_from o m i xs) ≡ map (λ d. d.deadline) (debts_from m m i xs)
 listed-must o m i [] among = refl
-listed-must o m i (x ∷ xs) among =
-    let debt = debt_of x (m i) in
-    let rest = debts_from o m (i + 1) xs in
-    ap (map (λ (d : Debt). d.deadline)) (cond-filter (λ d. d.must) (o i) debt rest)
-    ∙ cond-map (λ d. d.deadline) (o i && m i) debt (filter (λ d. d.must) rest)
-    ∙ ap (λ b. cond b (x.deadline ∷ debt_deadlines rest) (debt_deadlines rest)) (must-of (o i) (m i) (among i))
-    ∙ ap (λ l. cond (m i) (x.deadline ∷ l) l) (listed-must o m (i + 1) xs among)
-    ∙ sym (cond-map (λ d. d.deadline) (m i) debt (debts_from m m (i + 1) xs))
+listed-must o m i (x ∷ xs) among = grind (arith, nat_tests, cond-filter, cond-map, must-of, listed-must o m (i + 1) xs among)
 
 -- the least of some moments and a further one is the lesser of their least and of that one
 fold-push : (a m : ℕ) (ms : List ℕ) → fold min a (ms ++ m ∷ []) ≡ min (fold min a ms) m

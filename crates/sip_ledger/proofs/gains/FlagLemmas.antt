@@ -14,10 +14,6 @@ pub left-as : (old new : Gains) (k : ℕ) → entry_at (entries_of new) k ≡ en
 unfolding is_left
 left-as old new k same messages = ap (λ (e : Entry). holds new.messages e.message k) same ∙ messages (entry_at (entries_of old) k).message
 
--- where nothing was gained, no flags are right flags
-pub flags-none : (gains : Gains) → gains.entries.items ≡ [] → gains.flags.items ≡ [] → AreFlags gains
-flags-none gains entries flags = grind (arith, nat_tests)
-
 -- flags stay right where entries, flags and index stay the same
 pub flags-same : (old new : Gains) → AreFlags old → new.entries.items ≡ old.entries.items → new.flags.items ≡ old.flags.items → new.end ≡ old.end → AreSameGains old new → AreFlags new
 flags-same old new are entries flags end same = grind (arith, nat_tests, left-as)

@@ -14,7 +14,6 @@ use Rattle.sip_ledger.specs.Entries.{debts_from}
 use Rattle.sip_ledger.specs.inner.Accounts.{AreFlags, AreGains, AreSameGains, IsDropped, IsGain, IsKept, IsLetGo, IsNoted, IsPlaceOf, blank, entries_of, entry_at, is_gone, is_left, is_struck, owes_at}
 use Rattle.sip_ledger.specs.Indexes.{holds}
 use Rattle.sip_ledger.specs.inner.Deadlines.{AreRising}
-use Rattle.sip_ledger.proofs.gains.FlagLemmas.{flags-none}
 use Rattle.sip_ledger.proofs.debts.ListedLemmas.{no_entry}
 
 -- there are as many entries as there were gains
@@ -54,7 +53,7 @@ not-noted gains m k are past = grind (arith, false_from_ne_true)
 -- empty lists are right gains
 pub none-gained : (gains : Gains) → gains.entries.items ≡ [] → gains.flags.items ≡ [] → gains.end ≡ 0 → gains.messages ≡ [] → gains.musts ≡ [] → AreGains gains
 unfolding holds
-none-gained gains entries flags end messages musts = grind (arith, nat_tests, true≢false, flags-none)
+none-gained gains entries flags end messages musts = grind (arith, nat_tests, true≢false)
 
 -- where nothing was gained there are no entries
 pub none-entries : (gains : Gains) → gains.entries.items ≡ [] → gains.end ≡ 0 → entries_of gains ≡ []
@@ -88,15 +87,10 @@ pub gone-struck : (gains : Gains) (own : List Strike) (k : ℕ) → (is_left gai
 unfolding is_gone
 gone-struck gains own k struck = grind (arith, nat_tests)
 
--- a gain that is not gone is left
-pub not-gone : (gains : Gains) (own : List Strike) (k : ℕ) → is_gone gains own k ≡ false → is_left gains k ≡ true
-unfolding is_gone
-not-gone gains own k is = grind (arith, nat_tests)
-
 -- a gain that is owed is left
 pub owed-left : (gains : Gains) (strikes : List Strike) (a : Account) (k : ℕ) → owes_at gains strikes a k ≡ true → is_left gains k ≡ true
-unfolding owes_at
-owed-left gains strikes a k is = grind (arith, nat_tests, not-gone, true≢false)
+unfolding owes_at is_gone
+owed-left gains strikes a k is = grind (arith, nat_tests, true≢false)
 
 -- a gain that is not left is not owed
 pub unleft-unowed : (gains : Gains) (strikes : List Strike) (a : Account) (k : ℕ) → is_left gains k ≡ false → owes_at gains strikes a k ≡ false

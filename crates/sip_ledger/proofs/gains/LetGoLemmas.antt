@@ -27,8 +27,7 @@ unowed-before gains strikes a place k from early = grind (arith, nat_tests, case
 
 -- no account owes anything before the place from which on all start
 pub none-before : (gains : Gains) (strikes : List Strike) (rows : List Account) (place k : ℕ) → StartFrom place rows → k < place → All (λ a. owes_at gains strikes a k ≡ false) rows
-none-before gains strikes rows place k from early =
-    All-weaker (λ (a : Account). a.start < a.end → place ≤ a.start) (λ a. owes_at gains strikes a k ≡ false) (λ a low. unowed-before gains strikes a place k low early) rows from
+none-before gains strikes rows place k from early = grind (arith, nat_tests, All-weaker, unowed-before)
 
 -- where the gain at the next place is let go, and all accounts start after it, the gains are cleared one place further
 pub cleared-more : (first old new : Gains) (strikes : List Strike) (rows : List Account) (start place : ℕ) → IsClearedTo place strikes rows first old → IsLetGo place old new → AreGains new →

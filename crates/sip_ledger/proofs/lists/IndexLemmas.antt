@@ -41,8 +41,7 @@ key-not_lt a b c d h = grind (arith, nat_tests)
 pub span-held : (s : BTreeSet (ℕ × ℕ)) (first last : ℕ × ℕ) → IsLowerBound pair_cmp s first → IsUpperBound pair_cmp s last →
     (k n : ℕ) → holds s.keys k n ≡ true → (first.0 ≤ k) × (k ≤ last.0)
 unfolding holds
-span-held s first last least greatest k n held =
-    ((from-not_gt first.0 first.1 k n (least (k, n) held)).keys, key-not_lt last.0 last.1 k n (greatest (k, n) held))
+span-held s first last least greatest k n held = grind (arith, nat_tests, from-not_gt, key-not_lt)
 
 -- where there are no pairs, nothing stands under a key
 pub none-held : (pairs : List (ℕ × ℕ)) → ¬ (0 < length pairs) → (k n : ℕ) → ¬ (holds pairs k n ≡ true)

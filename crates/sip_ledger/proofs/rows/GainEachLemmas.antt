@@ -12,10 +12,10 @@ use Rattle.sip_ledger.specs.declared.debt.Entry.{Entry}
 use Rattle.sip_ledger.specs.Debts.{counts_at, debt_deadlines, earliest, is_timely, is_within}
 use Rattle.sip_ledger.specs.inner.Accounts.{AreAccounts, AreGains, IsAccount, IsKept, KeepsAccounts, account_debts, accounts_debts, entries_of, entry_at, must_at, owes_at}
 use Rattle.sip_ledger.proofs.debts.ListedLemmas.{listed-All, no_entry}
-use Rattle.sip_ledger.proofs.lists.EachLemmas.{changing, changing-front, changing-length, changing-more, unchanged-each}
+use Rattle.sip_ledger.proofs.lists.EachLemmas.{changing, changing-front, changing-length, changing-more, changing-all, unchanged-each}
 use Rattle.sip_ledger.proofs.account.AccountLemmas.{debts_length}
 use Rattle.sip_ledger.proofs.gains.LeftLemmas.{left-kept, owed-left}
-use Rattle.sip_ledger.proofs.rows.SeenLemmas.{changed-by, over-to, unchanged}
+use Rattle.sip_ledger.proofs.rows.SeenLemmas.{changed-by, on-error, over-to, unchanged}
 
 -- what is owed, with one debt more
 abbrev pub with_debt : Debt → List Debt → List Debt
@@ -113,3 +113,6 @@ none_late gains strikes a t are late =
     let must = filter (λ (d : Debt). d.must) (account_debts gains strikes a) in
     within-all t (debt_deadlines (account_debts gains strikes a))
     (All-map (λ m. t ≤ m) (λ (d : Debt). d.deadline) must (All-filter (λ (d : Debt). d.must) (λ (d : Debt). t ≤ d.deadline) (account_debts gains strikes a) (debts-late gains strikes a t are late)))
+
+-- what rows owe once some of them have gained a debt
+pub ruleset gained_by_rows = (changing-all, debts-count, gained-front, gained-grown, gained-more, gained-over, on-error)

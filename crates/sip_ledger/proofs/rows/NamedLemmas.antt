@@ -1,5 +1,5 @@
 -- Which messages the accounts owe.
-use Rattle.std.proofs.Common.{◌≡◌, ℕ, ◌+◌, ◌-◌, ◌<◌, ◌≤◌, ◌==◌, ◌&&◌, ◌||◌, true, false, List, [], ◌∷◌, ◌++◌, length, get_or, map, refl, sym, ap, ap₂, ◌∙◌, subst, inl, inr, arith}
+use Rattle.std.proofs.Common.{◌≡◌, ℕ, ◌+◌, ◌-◌, ◌<◌, ◌≤◌, ◌==◌, true, false, List, [], ◌∷◌, ◌++◌, length, get_or, map, refl, sym, ap, ◌∙◌, subst, inl, inr, arith}
 use Rattle.std.proofs.lemmas.Bool.Decides.{nat_tests}
 use Rattle.std.specs.Prelude.{All, Contains}
 use Rattle.std.specs.List.{list_any}
@@ -21,12 +21,12 @@ use Rattle.sip_ledger.specs.Indexes.{holds}
 use Rattle.sip_ledger.proofs.debts.ListedLemmas.{listed-All, no_entry}
 use Rattle.sip_ledger.proofs.account.AccountLemmas.{debts_length, row-debts}
 use Rattle.sip_ledger.proofs.gains.LeftLemmas.{held_left, owed-left}
+use Rattle.sip_ledger.proofs.rows.SeenLemmas.{can-pay}
 
 -- a send at moment 0 can pay each debt of its message
 pub payable-owes : (message : ℕ) (debts : List Debt) → list_any (is_payable message 0) debts ≡ owes_message message debts
 payable-owes message [] = refl
-payable-owes message (debt ∷ debts) =
-    ap₂ (λ a b. a || b) (ap (λ late. debt.message == message && late) (le-leb 0 debt.deadline (omega arith)) ∙ and-true (debt.message == message)) (payable-owes message debts)
+payable-owes message (debt ∷ debts) = grind (arith, nat_tests, le-leb, and-true, payable-owes message debts)
 
 -- where one of the accounts owes the message, some row does
 pub named-here : (gains : Gains) (strikes : List Strike) (rows : List Account) (message at : ℕ) (none : Account) → at < length rows →
@@ -156,4 +156,4 @@ spanned gains strikes rows low high within =
     (λ k d below. spanned-account gains strikes (get_or rows k d) low high within)
 
 -- what is named, message by message
-pub ruleset named_by_message = (named-all, named-more, named-past, unleft-unnamed)
+pub ruleset named_by_message = (named-all, named-more, named-past, unleft-unnamed, payable-owes, can-pay)

@@ -1,4 +1,5 @@
 -- Rows that a send pays are put after the others, without the debt that it pays.
+use Rattle.std.proofs.lemmas.Bool.Decides.{nat_tests}
 use Rattle.std.proofs.Common.{◌≡◌, ◌<◌, ◌≤◌, ℕ, ◌+◌, Bool, true, false, cond, List, [], ◌∷◌, ◌++◌, length, take, get_or, map, filter, refl, sym, ap, ◌∙◌, subst, arith}
 use Rattle.std.specs.Prelude.{◌&&◌, Option, Some, None, IfSome, option_to_list}
 use Rattle.std.specs.List.{list_any}
@@ -12,8 +13,11 @@ use Rattle.sip_ledger.specs.Accounts.{owed_in, paid_rows}
 use Rattle.sip_ledger.specs.Debts.{counts_at, is_payable, is_timely, paid_by}
 use Rattle.sip_ledger.specs.Lists.{from_to}
 use Rattle.sip_ledger.specs.inner.Accounts.{AreAccounts, IsAccount, account_debts, accounts_debts}
-use Rattle.sip_ledger.proofs.lists.EachLemmas.{passing-more}
-use Rattle.sip_ledger.proofs.rows.SeenLemmas.{account-at, pushed-to, row-inside, unchanged}
+use Rattle.sip_ledger.proofs.debts.PayLemmas.{unpaid-is}
+use Rattle.sip_ledger.proofs.lists.EachLemmas.{from_to-end, passing-more}
+use Rattle.sip_ledger.proofs.account.AccountLemmas.{debts_length}
+use Rattle.sip_ledger.proofs.account.FindLemmas.{paid-account, unpaid-account}
+use Rattle.sip_ledger.proofs.rows.SeenLemmas.{account-at, can-pay, on-error, pushed-to, row-inside, unchanged}
 
 -- whether a row is paid, and what is left to it
 abbrev pub is_paid : ℕ → ℕ → List Debt → Bool
@@ -47,8 +51,7 @@ paid-more message t from k rows low within =
 -- the paid rows up to the next one are those up to this one, and this one if it is paid
 next-left : (message t from k : ℕ) (old : List (List Debt)) (owes : List Debt) (d : List (List Debt)) → d ≡ paid_rows message t (owes ∷ []) → owes ≡ owed_in old k → from ≤ k →
     k < length old → paid_rows message t (from_to from k old) ++ d ≡ paid_rows message t (from_to from (k + 1) old)
-next-left message t from k old owes d debts same low within =
-    ap (λ l. paid_rows message t (from_to from k old) ++ l) (debts ∙ ap (λ o. paid_rows message t (o ∷ [])) same) ∙ sym (paid-more message t from k old low within)
+next-left message t from k old owes d debts same low within = grind (arith, nat_tests, paid-more)
 
 -- the accounts owe what the old rows owed, and after them what is left to each paid row from `from` up to k
 pub record ArePaidTo (gains : Gains) (message t from k : ℕ) (old : List (List Debt)) (strikes : List Strike) (rows : List Account) : Type 0 where
@@ -96,3 +99,9 @@ module _ {gains : Gains} {message t from k : ℕ} {old : List (List Debt)} {stri
   -- the first rows are the old ones still
   pub paid-front : (n : ℕ) → ArePaidTo gains message t from k old strikes rows → n ≡ length old → take n (accounts_debts gains strikes rows) ≡ old
   paid-front n are is = grind (arith, take-append_seam)
+
+-- what a send pays of one row
+pub ruleset paid_of_row = (paid-account, unpaid-account, unpaid-is, other-row, paid-row, can-pay)
+
+-- what a send pays of many rows
+pub ruleset paid_of_rows = (from_to-end, debts_length, account-there, paid-front, paid-grown, paid-next, row-there, on-error)

@@ -1,5 +1,5 @@
 -- Accounts as contracts see them: a list of what each row owes.
-use Rattle.std.proofs.Common.{◌≡◌, ◌≢◌, ℕ, ◌+◌, ◌<◌, ◌≤◌, ◌%◌, ◌^◌, ◌==◌, true, false, List, [], ◌∷◌, ◌++◌, length, take, get_or, set, map, refl, sym, ap, ap₂, ◌∙◌, arith}
+use Rattle.std.proofs.Common.{◌≡◌, ◌≢◌, ℕ, ◌+◌, ◌<◌, ◌≤◌, ◌^◌, ◌==◌, true, false, List, [], ◌∷◌, ◌++◌, length, take, get_or, set, map, refl, sym, ap, ap₂, ◌∙◌, arith}
 use Rattle.std.proofs.lemmas.Bool.Decides.{nat_tests}
 use Rattle.std.specs.Prelude.{IsTrue, Option, Some, None, IfSome, IfNone, Result, Ok, Err, IsErr, OnErr, ◌↔◌, is_err, is_some}
 use Rattle.std.specs.List.{list_any, sum_by}
@@ -110,11 +110,6 @@ soft-worths (debt ∷ debts) =
     ∙ ap (λ n. worth_of debt.message debt.deadline + n) (soft-worths debts)
     ∙ sym (sum_by-cons (λ (d : Debt). worth_of d.message d.deadline) debt debts)
 
--- debts that need not be sent any more have the same print
-soft-print : (debts : List Debt) → debts_print (map softened_debt debts) ≡ debts_print debts
-unfolding debts_print
-soft-print debts = ap (λ n. n % 2 ^ 64) (soft-worths debts)
-
 -- the debts of a softened account are the softened ones
 soft-debts : (gains : Gains) (strikes : List Strike) (a : Account) → account_debts gains strikes (softened_account (length (entries_of gains)) a) ≡ map softened_debt (account_debts gains strikes a)
 unfolding account_debts
@@ -129,7 +124,8 @@ soft-debts gains strikes a =
 pub softened-account : (gains : Gains) (strikes : List Strike) (a : Account) → IsAccount gains strikes a →
     IsAccount gains strikes (softened_account (length (entries_of gains)) a) ×
     (account_debts gains strikes (softened_account (length (entries_of gains)) a) ≡ map softened_debt (account_debts gains strikes a))
-softened-account gains strikes a is = grind (arith, nat_tests, soft-debts, soft-owes, soft-print)
+unfolding debts_print
+softened-account gains strikes a is = grind (arith, nat_tests, soft-debts, soft-owes, soft-worths)
 
 -- an account that does not end where it starts owes something
 nothing-owed : (gains : Gains) (strikes : List Strike) (a : Account) → IsAccount gains strikes a → a.start ≢ a.end → account_debts gains strikes a ≢ []
@@ -149,12 +145,8 @@ pub can-pay : (gains : Gains) (strikes : List Strike) (a : Account) (message t :
     IfNone found ((k : ℕ) → owes_at gains strikes a k ≡ true → pays_at (entries_of gains) message t k ≡ false) →
     is_some found ≡ list_any (is_payable message t) (account_debts gains strikes a)
 unfolding account_debts
-can-pay gains strikes a message t (Some place) is some none =
-    sym (listed-any (is_payable message t) (entries_of gains) (owes_at gains strikes a) (must_at gains a) place
-    (omega (arith, owed-within gains strikes a place some.owed, is.end)) some.owed some.pays)
-can-pay gains strikes a message t None is some none =
-    sym (list_any_none (is_payable message t) (account_debts gains strikes a) (All-weaker (λ debt. ¬ (IsTrue (is_payable message t debt))) (λ debt. is_payable message t debt ≡ false) (λ debt no. false_from_ne_true (is_payable message t debt) no) (account_debts gains strikes a)
-    (unpaid-account gains strikes a message t none)))
+can-pay gains strikes a message t (Some place) is some none = grind (arith, nat_tests, listed-any, owed-within)
+can-pay gains strikes a message t None is some none = grind (arith, nat_tests, list_any_none, All-weaker, false_from_ne_true, unpaid-account)
 
 -- what contracts see of rows, by their accounts
 pub ruleset of_rows = (debts_length, account-at, can-pay, truncated, on-err, without-first_rows, drop_min)

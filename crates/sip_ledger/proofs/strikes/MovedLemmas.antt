@@ -6,7 +6,7 @@ use Rattle.std.proofs.Math.Bool.{or-false}
 use Rattle.std.proofs.lemmas.Bool.{cases_lt, false_from_ne_true, or_parts, true≢false}
 use Rattle.std.proofs.lemmas.List.{append_assoc, map-append, take_more}
 use Rattle.std.proofs.lemmas.List.Elements.{All-get_or, All-nil, All-push}
-use Rattle.sip_ledger.proofs.strikes.StrikeLemmas.{out-high, out-is, out-low, struck-next, struck-push}
+use Rattle.sip_ledger.proofs.strikes.StrikeLemmas.{out-parts, struck-next, struck-push}
 use Rattle.sip_ledger.specs.declared.accounts.account.Account.{Account}
 use Rattle.sip_ledger.specs.declared.accounts.gains.Gains.{Gains}
 use Rattle.sip_ledger.specs.declared.accounts.strikes.Strike.{Strike}
@@ -58,9 +58,8 @@ pub strikes-none : (gains : Gains) (place low : ℕ) (s : Strike) → low ≤ ma
 strikes-none gains place low s within none k above left =
     let m = (entry_at (entries_of gains) k).message in
     false_from_ne_true (is_out m k s) (λ out.
-    let from = out-low m s.message s.from s.to k out in
-    let same : m ≡ s.message = sym (out-is m s.message s.from s.to k out) in
-    true≢false (sym (held_left gains s.message k same ∙ left) ∙ none k (omega (arith, from, above, within)) (out-high m s.message s.from s.to k out)))
+    let (same, from, high) = out-parts m s.message s.from s.to k out in
+    true≢false (sym (held_left gains s.message k (sym same) ∙ left) ∙ none k (omega (arith, from, above, within)) high))
 
 -- a moved account owes the same at each place
 moved-owes : (gains : Gains) (strikes old new : List Strike) (a b : Account) (k : ℕ) → IsMoved gains strikes old new a b → owes_at gains new b k ≡ owes_at gains strikes a k

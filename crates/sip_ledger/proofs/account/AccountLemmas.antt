@@ -1,8 +1,9 @@
 -- Accounts stay accounts, and owe what they owed, while gains and strikes grow, are let go or are dropped.
+use Rattle.std.proofs.lemmas.Grind.{common_steps}
 use Rattle.std.proofs.Common.{◌≡◌, ◌≢◌, ℕ, ◌+◌, ◌<◌, ◌≤◌, ◌&&◌, true, false, not, List, [], ◌∷◌, ◌++◌, length, take, drop, get_or, set, append-nil, refl, sym, ap, ◌∙◌, subst, arith}
 use Rattle.std.proofs.lemmas.Bool.Decides.{nat_tests}
-use Rattle.std.specs.Prelude.{All, nat_le, nat_lt}
-use Rattle.std.proofs.lemmas.Bool.{cases_eq, cases_lt, le-leb, le-ltb, lt-leb, true≢false}
+use Rattle.std.specs.Prelude.{All, nat_le}
+use Rattle.std.proofs.lemmas.Bool.{cases_eq, cases_lt, le-leb, le-ltb, lt-leb, true≢false, false_from_ne_true}
 use Rattle.std.proofs.Math.Bool.{and-false, and-true}
 use Rattle.std.proofs.lemmas.List.{drop-map, get_or_append_left, get_or-map, get_or-take, length-map, length-take, length-take-le, map-append, map-set, take-map, take-take}
 use Rattle.std.proofs.lemmas.List.Elements.{All-cons, All-drop, All-get_or, All-head, All-nil, All-push, All-set, All-tail, All-take, All-weaker}
@@ -15,27 +16,22 @@ use Rattle.sip_ledger.specs.inner.Accounts.{AreAccounts, AreGains, AreSameGains,
 use Rattle.sip_ledger.specs.Indexes.{holds}
 use Rattle.sip_ledger.proofs.debts.ListedLemmas.{back-none, front, listed-same, listed-none, parts}
 use Rattle.sip_ledger.proofs.gains.FlagLemmas.{left-as}
-use Rattle.sip_ledger.proofs.gains.LeftLemmas.{entries_long, left-kept, listed-alike, owed-left, unleft-unowed}
+use Rattle.sip_ledger.proofs.gains.LeftLemmas.{entries_long, left-kept, listed-alike, owed-left}
 
 -- an account keeps its strikes when others are put after them
 pub kept-strikes : (old new : List Strike) (a : Account) → take (length old) new ≡ old → a.last ≤ length old → strikes_of new a ≡ strikes_of old a
 kept-strikes old new a kept last = ap (drop a.first) (sym (take-take a.last (length old) new last) ∙ ap (take a.last) kept)
 
--- an account owes the same when strikes are put after the others
-pub kept-owes : (gains : Gains) (old new : List Strike) (a : Account) (k : ℕ) → take (length old) new ≡ old → a.last ≤ length old →
-    owes_at gains new a k ≡ owes_at gains old a k
-unfolding owes_at
-kept-owes gains old new a k kept last = ap (λ own. nat_le a.start k && (nat_lt k a.end && not (is_gone gains own k))) (kept-strikes old new a kept last)
-
 -- the debts of an account stay when strikes are put after the others
 pub kept-debts : (gains : Gains) (old new : List Strike) (a : Account) → take (length old) new ≡ old → a.last ≤ length old →
     account_debts gains new a ≡ account_debts gains old a
-unfolding account_debts
-kept-debts gains old new a kept last = grind (arith, listed-same, kept-owes)
+unfolding account_debts owes_at
+kept-debts gains old new a kept last = grind (arith, listed-same, nat_tests, kept-strikes)
 
 -- an account stays one when strikes are put after the others
 pub kept-account : (gains : Gains) (old new : List Strike) (a : Account) → take (length old) new ≡ old → IsAccount gains old a → IsAccount gains new a
-kept-account gains old new a kept is = grind (arith, nat_tests, kept-strikes, kept-owes, kept-debts, length-take)
+unfolding owes_at
+kept-account gains old new a kept is = grind (arith, nat_tests, kept-strikes, kept-debts, length-take)
 
 -- the account is one over other gains and strikes too, and owes what it owed
 abbrev pub Stays : Gains → Gains → List Strike → List Strike → Account → Type 0
@@ -104,11 +100,6 @@ owes-over : (old new : Gains) (strikes : List Strike) (a : Account) (k : ℕ) �
 unfolding owes_at is_gone
 owes-over old new strikes a k entry left = grind (arith, nat_tests)
 
--- a gain whose place stands under no message is not left
-not-left : (gains : Gains) (k : ℕ) → ((m : ℕ) → holds gains.messages m k ≡ false) → is_left gains k ≡ false
-unfolding is_left
-not-left gains k none = none (entry_at (entries_of gains) k).message
-
 -- an account owes over the new gains what it owes over the old ones
 pub record OwesAlike (old new : Gains) (strikes : List Strike) (a : Account) : Type 0 where
   pub owes : (k : ℕ) → owes_at new strikes a k ≡ owes_at old strikes a k
@@ -141,12 +132,14 @@ same-keeps old new same = record {
 
 -- an account owes alike where a gain is let go that it does not owe
 pub let_go-alike : (old new : Gains) (strikes : List Strike) (a : Account) (place : ℕ) → IsLetGo place old new → owes_at old strikes a place ≡ false → OwesAlike old new strikes a
-let_go-alike old new strikes a place gone unowed = grind (arith, nat_tests, cases_eq, unleft-unowed, not-left, owes-over, left-as, true≢false)
+unfolding is_left
+let_go-alike old new strikes a place gone unowed = grind (arith, nat_tests, cases_eq, owes-over, left-as, true≢false, false_from_ne_true, owed-left)
 
 -- an account owes alike where gains are dropped of which nothing is left
 pub dropped-alike : (old new : Gains) (strikes : List Strike) (a : Account) (place : ℕ) → IsDropped place old new → ((m k : ℕ) → k < place → holds old.messages m k ≡ false) →
     OwesAlike old new strikes a
-dropped-alike old new strikes a place dropped none = grind (arith, nat_tests, cases_lt, unleft-unowed, not-left, owes-over, left-as, true≢false)
+unfolding is_left
+dropped-alike old new strikes a place dropped none = grind (arith, nat_tests, cases_lt, owes-over, left-as, true≢false, false_from_ne_true, owed-left)
 
 -- an account that ends before a new gain owes alike with it
 pub grown-alike : (old new : Gains) (debt : Debt) (strikes : List Strike) (a : Account) → IsGain debt old new → a.end ≤ length (entries_of old) → OwesAlike old new strikes a
@@ -182,28 +175,19 @@ empty-account gains strikes = grind (arith, nat_tests, empty-debts)
 pub pushed : (gains : Gains) (strikes : List Strike) (rows : List Account) (a : Account) → AreAccounts gains strikes rows → IsAccount gains strikes a →
     AreAccounts gains strikes (rows ++ a ∷ []) × (accounts_debts gains strikes (rows ++ a ∷ []) ≡ accounts_debts gains strikes rows ++ account_debts gains strikes a ∷ [])
 unfolding accounts_debts
-pushed gains strikes rows a are is = (
-  record { gained = are.gained; each = All-push (IsAccount gains strikes) rows a are.each is },
-  map-append (account_debts gains strikes) rows (a ∷ []),
-)
+pushed gains strikes rows a are is = grind (arith, nat_tests, common_steps, All-push, map-append)
 
 -- the first n accounts are accounts, and have the first n lists of debts
 pub truncated : (gains : Gains) (strikes : List Strike) (rows : List Account) (n : ℕ) → AreAccounts gains strikes rows →
     AreAccounts gains strikes (take n rows) × (accounts_debts gains strikes (take n rows) ≡ take n (accounts_debts gains strikes rows))
 unfolding accounts_debts
-truncated gains strikes rows n are = (
-  record { gained = are.gained; each = All-take (IsAccount gains strikes) n rows are.each },
-  sym (take-map (account_debts gains strikes) n rows),
-)
+truncated gains strikes rows n are = grind (arith, nat_tests, common_steps, All-take, take-map)
 
 -- the accounts after the first n are accounts, and have the lists of debts after the first n
 pub without-first_rows : (gains : Gains) (strikes : List Strike) (rows : List Account) (n : ℕ) → AreAccounts gains strikes rows →
     AreAccounts gains strikes (drop n rows) × (accounts_debts gains strikes (drop n rows) ≡ drop n (accounts_debts gains strikes rows))
 unfolding accounts_debts
-without-first_rows gains strikes rows n are = (
-  record { gained = are.gained; each = All-drop (IsAccount gains strikes) n rows are.each },
-  sym (drop-map (account_debts gains strikes) n rows),
-)
+without-first_rows gains strikes rows n are = grind (arith, nat_tests, common_steps, All-drop, drop-map)
 
 -- accounts that are kept over new gains are accounts there, and owe what they owed
 pub over : (old new : Gains) (strikes : List Strike) (rows : List Account) → KeepsAccounts old new → AreGains new → AreAccounts old strikes rows →

@@ -49,7 +49,7 @@ module _ (entries : List Entry) (owes few more : ℕ → Bool) (t : ℕ) (wider 
     first-more None None none found other = λ k owed. of-none k (none k owed) (other k owed)
     first-more None (Some q) none found other = (found.owed, of-last q found.pays, λ k early owed. of-none k (none k owed) (found.before k early owed))
     first-more (Some p) None is found other = (is.0, of-more p is.1, λ k early owed. of-none k (is.2 k early owed) (other k owed))
-    first-more (Some p) (Some q) is found other = grind (arith, nat_tests, cases_lt, of-last, of-none, of-more)
+    first-more (Some p) (Some q) is found other = grind (arith, nat_tests, cases_lt, of-none, of-more, pays-parts)
 
 -- whether the number stands under the key, and is below another one
 abbrev pub below : List (ℕ × ℕ) → ℕ → ℕ → ℕ → Bool
@@ -82,17 +82,13 @@ module _ (gains : Gains) (strikes : List Strike) (a : Account) (pairs : List (�
     none-under none = grind (arith, nat_tests, goes-to, below-parts, cases_lt, true≢false)
 
     module _ (message : ℕ) (next : IsNextUnder pairs key from message) where
-      -- what stands under the key is below `from`, or not below the next message
-      next-under : (m : ℕ) → holds pairs key m ≡ true → m < message → m < from
-      next-under m held low = grind (arith, nat_tests, cases_lt, true≢false)
-
       -- nothing is left from the next message on
       pub none-left : NoneFrom gains.messages message 0 → IsFirst (holds pairs key) first
-      none-left none = grind (arith, nat_tests, goes-to, below-parts, cases_lt, next-under, true≢false)
+      none-left none = grind (arith, nat_tests, goes-to, below-parts, cases_lt, true≢false)
 
       -- nothing is left from the next message up to another one
       pub left-next : (found place : ℕ) → IsFirstFrom gains.messages message 0 (found, place) → IsFirst (below pairs key found) first
-      left-next found place at = grind (arith, nat_tests, goes-to, below-parts, below-is, cases_lt, next-under)
+      left-next found place at = grind (arith, nat_tests, goes-to, below-parts, below-is, cases_lt, true≢false)
 
   module _ (message : ℕ) (first place : Option ℕ) (held : holds pairs key message ≡ true) (is : IsFirst (below pairs key message) first)
       (found : IfSome place (IsFirstPayable (entries_of gains) (owes_at gains strikes a) message t))
@@ -100,11 +96,6 @@ module _ (gains : Gains) (strikes : List Strike) (a : Account) (pairs : List (�
     -- the message itself is gone through too
     pub one-more : IsFirst (below pairs key (message + 1)) (sooner first place)
     one-more = grind (arith, nat_tests, first-more, below-parts, below-is, cases_lt)
-
--- the first place of two is not after the second one
-sooner-low : (first : Option ℕ) (p k : ℕ) → IfSome (sooner first (Some p)) (λ at. k < at) → k < p
-sooner-low None p k low = low
-sooner-low (Some q) p k low = omega (arith, low)
 
 module _ (gains : Gains) (strikes : List Strike) (a : Account) (pairs : List (ℕ × ℕ)) (key t message : ℕ) (gained : AreGains gains) where
   -- the place of a debt that is found is kept
@@ -118,7 +109,7 @@ module _ (gains : Gains) (strikes : List Strike) (a : Account) (pairs : List (�
       IsFirstOf (entries_of gains) (owes_at gains strikes a) (below pairs key (message + 1)) t (sooner first place) →
       IsFirstOf (entries_of gains) (owes_at gains strikes a) (holds pairs key) t (sooner first place)
   newest-first first None found newest is = absurd newest
-  newest-first first (Some p) found newest is = grind (arith, nat_tests, pays-parts, first-same, below-parts, sooner-low, left-kept, owed-left, below-is)
+  newest-first first (Some p) found newest is = grind (arith, nat_tests, pays-parts, first-same, below-parts, left-kept, owed-left, below-is)
 
 module _ (gains : Gains) (strikes : List Strike) (a : Account) (test : ℕ → Bool) (t : ℕ) where
   abbrev owed : ℕ → Bool

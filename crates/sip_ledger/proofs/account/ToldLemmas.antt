@@ -243,16 +243,11 @@ pub least-passed : (gains : Gains) (strikes : List Strike) (a : Account) (from a
     ((k : ℕ) → from ≤ k → k < at → holds gains.musts 0 k ≡ false) → owes_at gains strikes a at ≡ false → IsLeastTo gains strikes a (at + 1) least
 least-passed gains strikes a from at least was above inside gap unowed = grind (arith, nat_tests, and_left, gap-due, cases_lt, front-gap)
 
--- what an account owes at `soft` or after it is due if it must be sent as it was gained
-is-due : (gains : Gains) (strikes : List Strike) (a : Account) (at : ℕ) → a.soft ≤ at → holds gains.musts 0 at ≡ true → owes_at gains strikes a at ≡ true →
-    due (owes_at gains strikes a) (must_at gains a) at ≡ true
-is-due gains strikes a at soft held owed = ap₂ (λ x y. x && y) owed (sym (must-from gains a at soft) ∙ held)
-
 -- IsLeastTo goes on over a place that is due, with its deadline among the others
 pub least-found : (gains : Gains) (strikes : List Strike) (a : Account) (from at moment : ℕ) (least : Option ℕ) → IsLeastTo gains strikes a from least → from ≤ at → at < length (entries_of gains) →
     ((k : ℕ) → from ≤ k → k < at → holds gains.musts 0 k ≡ false) → holds gains.musts 0 at ≡ true → owes_at gains strikes a at ≡ true →
     Some moment ≡ earliest ((entry_at (entries_of gains) at).deadline ∷ option_to_list least) → gains.rises ≡ false → IsLeastTo gains strikes a (at + 1) (Some moment)
-least-found gains strikes a from at moment least was above inside gap held owed is falls = grind (arith, nat_tests, least-more, gap-due, is-due, true≢false)
+least-found gains strikes a from at moment least was above inside gap held owed is falls = grind (arith, nat_tests, least-more, gap-due, true≢false, must-from)
 
 -- where deadlines rise, the first one that is found is the least of all
 pub least-first_due : (gains : Gains) (strikes : List Strike) (a : Account) (from at moment : ℕ) (least : Option ℕ) → AreGains gains → IsLeastTo gains strikes a from least → from ≤ at →
@@ -260,7 +255,7 @@ pub least-first_due : (gains : Gains) (strikes : List Strike) (a : Account) (fro
     Some moment ≡ earliest ((entry_at (entries_of gains) at).deadline ∷ option_to_list least) → gains.rises ≡ true →
     Some moment ≡ earliest (debt_deadlines (account_debts gains strikes a))
 unfolding account_debts
-least-first_due gains strikes a from at moment least gained was above inside gap held owed is rises = grind (arith, nat_tests, least-start, least-rising, rising_kept, left-kept, owed-left, entries_long, cases_lt, gap-due, is-due, due-deadlines)
+least-first_due gains strikes a from at moment least gained was above inside gap held owed is rises = grind (arith, nat_tests, least-start, least-rising, rising_kept, left-kept, owed-left, entries_long, cases_lt, gap-due, due-deadlines, must-from)
 
 -- where nothing is due from a place on, the least deadline so far is that of all
 pub least-last : (gains : Gains) (strikes : List Strike) (a : Account) (from at : ℕ) (least : Option ℕ) → IsLeastTo gains strikes a from least →

@@ -1,5 +1,6 @@
 -- An account loses one of its debts.
-use Rattle.std.proofs.Common.{◌≡◌, ◌≢◌, ℕ, ◌+◌, ◌-◌, ◌<◌, ◌≤◌, ◌%◌, ◌^◌, ◌&&◌, Bool, true, false, not, List, ◌∷◌, length, refl, sym, ap, ◌∙◌, subst, arith, lit<}
+use Rattle.std.proofs.lemmas.Grind.{common_steps}
+use Rattle.std.proofs.Common.{◌≡◌, ◌≢◌, ℕ, ◌+◌, ◌-◌, ◌<◌, ◌≤◌, ◌%◌, ◌^◌, ◌&&◌, Bool, true, false, not, List, length, refl, sym, ap, ◌∙◌, subst, arith, lit<}
 use Rattle.std.specs.Prelude.{nat_lt}
 use Rattle.std.specs.List.{sum_by}
 use Rattle.std.proofs.lemmas.Bool.{and_right, cases_lt, eq-eqb, le-leb, lt-leb, lt-ltb, ne_eqb, true≢false}
@@ -27,10 +28,7 @@ worths debts = sum_by (λ debt. worth_of debt.message debt.deadline) debts
 pub cut-print : {before after : List Debt} (debt : Debt) (old new : List Debt) → IsCut before debt after old new → (w : ℕ) → w ≡ worth_of debt.message debt.deadline →
     (debts_print new + w) % 2 ^ 64 ≡ debts_print old
 unfolding debts_print
-cut-print {before} {after} debt old new cut w is =
-    mod-add-mod (worths new) (2 ^ 64) w
-    ∙ ap (λ n. n % 2 ^ 64) (let whole = sum_by-append (λ debt. worth_of debt.message debt.deadline) before (debt ∷ after) in let rest = sum_by-append (λ debt. worth_of debt.message debt.deadline) before after in
-    let one = sum_by-cons (λ debt. worth_of debt.message debt.deadline) debt after in omega (arith, ap worths cut.rest, ap worths cut.whole, whole, rest, one, is))
+cut-print {before} {after} debt old new cut w is = grind (arith, nat_tests, common_steps, mod-add-mod, sum_by-append, sum_by-cons)
 
 -- a print is a number of 64 bits
 pub print-fits : (debts : List Debt) → debts_print debts < 2 ^ 64

@@ -1,4 +1,5 @@
 -- The debts of a list of entries: `o` tells which places are owed, and `m` which of them must be sent.
+use Rattle.std.proofs.lemmas.Grind.{common_steps}
 use Rattle.std.proofs.lemmas.Bool.Decides.{nat_tests}
 use Rattle.std.proofs.Common.{◌≡◌, ℕ, zero, suc, ◌+◌, ◌-◌, ◌<◌, ◌≤◌, Bool, true, false, ◌&&◌, ◌||◌, cond, List, [], ◌∷◌, ◌++◌, length, take, drop, get_or, map, filter, refl, sym, ap, ◌∙◌, subst, arith}
 use Rattle.std.specs.Prelude.{All, nat_le, Some, option_to_list, min}
@@ -14,11 +15,6 @@ use Rattle.sip_ledger.specs.Entries.{debt_of, debts_from, IsGap}
 abbrev pub no_entry : Entry
 no_entry = record { message = 0; deadline = 0 }
 
--- where all debts are xs and ys, it comes to the same to put d before all, or before xs, or to leave it out of both
-cond-append : (b : Bool) (d : Debt) (all xs ys : List Debt) → all ≡ xs ++ ys → cond b (d ∷ all) all ≡ cond b (d ∷ xs) xs ++ ys
-cond-append true d all xs ys e = ap (λ l. d ∷ l) e
-cond-append false d all xs ys e = e
-
 -- where tests, debts and lists are the same, what the test lets stand is the same
 cond-same : (b b' : Bool) (d d' : Debt) (xs xs' : List Debt) → b ≡ b' → d ≡ d' → xs ≡ xs' → cond b (d ∷ xs) xs ≡ cond b' (d' ∷ xs') xs'
 cond-same b b' d d' xs xs' same_b same_d same_xs = grind (arith, nat_tests)
@@ -28,11 +24,6 @@ cond-filter : (p : Debt → Bool) (b : Bool) (d : Debt) (xs : List Debt) → fil
 cond-filter p true d xs = refl
 cond-filter p false d xs = refl
 
--- what a map gives of a list whose first debt a test lets stand
-cond-map : {X : Type 0} (f : Debt → X) (b : Bool) (d : Debt) (xs : List Debt) → map f (cond b (d ∷ xs) xs) ≡ cond b (f d ∷ map f xs) (map f xs)
-cond-map f true d xs = refl
-cond-map f false d xs = refl
-
 -- where P holds of all of a list, and of a first debt if the test lets it stand, it holds of all that stands
 cond-All : (P : Debt → Type 0) (b : Bool) (d : Debt) (xs : List Debt) → (b ≡ true → P d) → All P xs → All P (cond b (d ∷ xs) xs)
 cond-All P true d xs here rest = All-cons P d xs (here refl) rest
@@ -41,7 +32,7 @@ cond-All P false d xs here rest = rest
 -- the debts of two lists of entries together are those of the first list and those of the second, whose places follow
 pub listed-append : (o m : ℕ → Bool) (i : ℕ) (xs ys : List Entry) → debts_from o m i (xs ++ ys) ≡ debts_from o m i xs ++ debts_from o m (i + length xs) ys
 listed-append o m i [] ys = let none : i ≡ i + 0 = omega arith in ap (λ n. debts_from o m n ys) none
-listed-append o m i (x ∷ xs) ys = grind (arith, nat_tests, cond-append, listed-append o m (i + 1) xs ys)
+listed-append o m i (x ∷ xs) ys = grind (arith, nat_tests, listed-append o m (i + 1) xs ys)
 
 -- where the same places are owed and must be sent, the debts are the same
 pub listed-same : (o m o' m' : ℕ → Bool) (i : ℕ) (xs : List Entry) → ((k : ℕ) → i ≤ k → k < i + length xs → (o k ≡ o' k) × (m k ≡ m' k)) →
@@ -94,8 +85,7 @@ back-at o m entries k e within = ap (debts_from o m k) (drop_more entries k e wi
 -- where k is owed, the debts from k on are its debt and those from k + 1 on
 pub back-set : (o m : ℕ → Bool) (entries : List Entry) (k : ℕ) (e : Entry) → k < length entries → o k ≡ true →
     back o m entries k ≡ debt_of (get_or entries k e) (m k) ∷ back o m entries (k + 1)
-back-set o m entries k e within is =
-    back-at o m entries k e within ∙ ap (λ b. cond b (debt_of (get_or entries k e) (m k) ∷ back o m entries (k + 1)) (back o m entries (k + 1))) is
+back-set o m entries k e within is = grind (arith, nat_tests, common_steps, back-at)
 
 -- where k is not owed, the debts from k on are those from k + 1 on
 pub back-unset : (o m : ℕ → Bool) (entries : List Entry) (k : ℕ) → k < length entries → o k ≡ false → back o m entries k ≡ back o m entries (k + 1)
@@ -148,7 +138,7 @@ listed-counting t o m o' i (x ∷ xs) each =
 pub listed-softened : (o m m' : ℕ → Bool) (i : ℕ) (xs : List Entry) → ((k : ℕ) → m' k ≡ false) →
     debts_from o m' i xs ≡ map softened_debt (debts_from o m i xs)
 listed-softened o m m' i [] none = refl
-listed-softened o m m' i (x ∷ xs) none = grind (arith, nat_tests, cond-same, cond-map, listed-softened o m m' (i + 1) xs none)
+listed-softened o m m' i (x ∷ xs) none = grind (arith, nat_tests, cond-same, listed-softened o m m' (i + 1) xs none)
 
 -- where no place from `from` up to `at` is owed, the debts before `at` are those before `from`
 pub front-gap : (o m : ℕ → Bool) (entries : List Entry) (from at : ℕ) → from ≤ at → at ≤ length entries → IsGap o from at →
@@ -161,28 +151,13 @@ front-gap o m entries from at order within gap =
 -- where the next place from `from` on that is owed is `at`, the debts before `at + 1` are those before `from` and its own
 pub front-next : (o m : ℕ → Bool) (entries : List Entry) (from at : ℕ) (e : Entry) → from ≤ at → at < length entries → IsGap o from at → o at ≡ true →
     front o m entries (at + 1) ≡ front o m entries from ++ debt_of (get_or entries at e) (m at) ∷ []
-front-next o m entries from at e order within gap set =
-    let entry = get_or entries at e in
-    let debt = debt_of entry (m at) in
-    let less : at ≤ length entries = omega (arith, within) in
-    let long : 0 + length (take at entries) ≡ at = omega (arith, length-take-le at entries less) in
-    ap (debts_from o m 0) (take_more entries at e within)
-    ∙ listed-append o m 0 (take at entries) (entry ∷ [])
-    ∙ ap (λ n. front o m entries at ++ debts_from o m n (entry ∷ [])) long
-    ∙ ap (λ b. front o m entries at ++ cond b (debt ∷ []) []) set
-    ∙ ap (λ l. l ++ debt ∷ []) (front-gap o m entries from at order less gap)
-
--- where what must be sent is owed, a place is owed and must be sent exactly if it must be sent
-must-of : (b c : Bool) → (c ≡ true → b ≡ true) → (b && c) ≡ c
-must-of true c among = refl
-must-of false true among = among refl
-must-of false false among = refl
+front-next o m entries from at e order within gap set = grind (arith, nat_tests, common_steps, length-take-le, take_more, listed-append, front-gap)
 
 -- where what must be sent is owed, the deadlines of the debts that must be sent are those of the places that must be sent
 pub listed-must : (o m : ℕ → Bool) (i : ℕ) (xs : List Entry) → ((k : ℕ) → m k ≡ true → o k ≡ true) →
     debt_deadlines (debts_from o m i xs) ≡ map (λ d. d.deadline) (debts_from m m i xs)
 listed-must o m i [] among = refl
-listed-must o m i (x ∷ xs) among = grind (arith, nat_tests, cond-filter, cond-map, must-of, listed-must o m (i + 1) xs among)
+listed-must o m i (x ∷ xs) among = grind (arith, nat_tests, cond-filter, listed-must o m (i + 1) xs among)
 
 -- the least of some moments and a further one is the lesser of their least and of that one
 fold-push : (a m : ℕ) (ms : List ℕ) → fold min a (ms ++ m ∷ []) ≡ min (fold min a ms) m

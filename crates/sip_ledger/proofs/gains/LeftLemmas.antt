@@ -92,10 +92,6 @@ pub owed-left : (gains : Gains) (strikes : List Strike) (a : Account) (k : ℕ) 
 unfolding owes_at is_gone
 owed-left gains strikes a k is = grind (arith, nat_tests, true≢false)
 
--- a gain that is not left is not owed
-pub unleft-unowed : (gains : Gains) (strikes : List Strike) (a : Account) (k : ℕ) → is_left gains k ≡ false → owes_at gains strikes a k ≡ false
-unleft-unowed gains strikes a k none = false_from_ne_true (owes_at gains strikes a k) (λ is. true≢false (sym (owed-left gains strikes a k is) ∙ none))
-
 -- all gains with one more are the gains and this one after them
 pub more-entries : (old new : Gains) (entry : Entry) → length old.entries.items ≤ old.end → new.entries.items ≡ old.entries.items ++ entry ∷ [] → new.end ≡ old.end + 1 →
     entries_of new ≡ entries_of old ++ entry ∷ []

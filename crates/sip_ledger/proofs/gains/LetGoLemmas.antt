@@ -21,13 +21,9 @@ kept-less first old new strikes rows place was gone are unowed =
     let all = over-all old new strikes rows (omega (arith, ap length gone.entries)) alike was.accounts.each in
     record { accounts = record { gained = are; each = all.0 }; debts = all.1 ∙ was.debts }
 
--- before the place at which it starts an account owes nothing
-unowed-before : (gains : Gains) (strikes : List Strike) (a : Account) (place k : ℕ) → (a.start < a.end → place ≤ a.start) → k < place → owes_at gains strikes a k ≡ false
-unowed-before gains strikes a place k from early = grind (arith, nat_tests, cases_lt, before-start, past-end)
-
 -- no account owes anything before the place from which on all start
 pub none-before : (gains : Gains) (strikes : List Strike) (rows : List Account) (place k : ℕ) → StartFrom place rows → k < place → All (λ a. owes_at gains strikes a k ≡ false) rows
-none-before gains strikes rows place k from early = grind (arith, nat_tests, All-weaker, unowed-before)
+none-before gains strikes rows place k from early = grind (arith, nat_tests, All-weaker, cases_lt, before-start, past-end)
 
 -- where the gain at the next place is let go, and all accounts start after it, the gains are cleared one place further
 pub cleared-more : (first old new : Gains) (strikes : List Strike) (rows : List Account) (start place : ℕ) → IsClearedTo place strikes rows first old → IsLetGo place old new → AreGains new →

@@ -1,7 +1,7 @@
 -- Lists of which each element from one on changes, or after which some of them come once more.
 use Rattle.std.proofs.lemmas.Bool.Decides.{nat_tests}
 use Prim.Native.Nat.{suc, zero}
-use Rattle.std.proofs.Common.{Result, Ok, Err, OnOk, is_err, true≢false, ◌≡◌, ◌<◌, ◌≤◌, ◌⊎◌, inl, inr, ℕ, ◌+◌, Bool, false, List, [], ◌∷◌, ◌++◌, length, drop, take, get_or, set, map, filter, refl, ap, ap₂, sym, ◌∙◌, arith, cond}
+use Rattle.std.proofs.Common.{Result, Ok, Err, OnOk, is_err, true≢false, ◌≡◌, ◌<◌, ◌≤◌, ◌⊎◌, inl, inr, ℕ, ◌+◌, Bool, false, List, [], ◌∷◌, ◌++◌, length, drop, take, get_or, set, map, filter, refl, ap, sym, ◌∙◌, arith, cond}
 use Rattle.std.proofs.lemmas.List.{append-nil, drop_all, length-append, length-drop, length-map, length-take, take-append-drop, take-append-le, take-take, take_all}
 use Rattle.std.proofs.lemmas.List.Elements.{All-drop, filter_more}
 use Rattle.std.proofs.lemmas.List.Folds.{map_fixed}
@@ -16,10 +16,6 @@ module _ {X : Type 0} where
   -- the list with the elements from one index up to another changed by f
   abbrev pub changing : (X → X) → ℕ → ℕ → List X → List X
   changing f from k xs = take from xs ++ map f (from_to from k xs) ++ drop k xs
-
-  -- no elements stand from one index up to another that is not after it
-  pub from_to-none : (from to : ℕ) (xs : List X) → to ≤ from → from_to from to xs ≡ []
-  from_to-none from to xs le = grind (arith, nat_tests, drop_all, length-take)
 
   -- where the element at k is changed as well, the elements up to the next index are changed
   changing-next : (f : X → X) (from k : ℕ) (xs : List X) (d : X) → from ≤ k → k < length xs →
@@ -67,4 +63,4 @@ module _ {X : Type 0} where
   -- where the loop ended at k, which is `to`, or `from` where that is after `to`, the elements up to k are those up to `to`
   pub from_to-end : (from to k : ℕ) (xs : List X) → from ≤ k → to ≤ k → k ≤ to ⊎ k ≤ from → from_to from k xs ≡ from_to from to xs
   from_to-end from to k xs le past (inl within) = let same : k ≡ to = omega (arith, past, within) in ap (λ n. from_to from n xs) same
-  from_to-end from to k xs le past (inr none) = grind (arith, nat_tests, from_to-none)
+  from_to-end from to k xs le past (inr none) = grind (arith, nat_tests, drop_all, length-take)

@@ -1,4 +1,5 @@
 -- Rows that a send pays are put after the others, without the debt that it pays.
+use Rattle.std.proofs.lemmas.Grind.{common_steps}
 use Rattle.std.proofs.lemmas.Bool.Decides.{nat_tests}
 use Rattle.std.proofs.Common.{◌≡◌, ◌<◌, ◌≤◌, ℕ, ◌+◌, Bool, true, false, cond, List, [], ◌∷◌, ◌++◌, length, take, get_or, map, filter, refl, sym, ap, ◌∙◌, subst, arith}
 use Rattle.std.specs.Prelude.{◌&&◌, Option, Some, None, IfSome, option_to_list}
@@ -43,10 +44,7 @@ paid-row message t owes debts some timely same = grind (arith)
 -- paid rows up to the next row are those up to it, and that row if it is paid
 paid-more : (message t from k : ℕ) (rows : List (List Debt)) → from ≤ k → k < length rows →
     paid_rows message t (from_to from (k + 1) rows) ≡ paid_rows message t (from_to from k rows) ++ paid_rows message t (owed_in rows k ∷ [])
-paid-more message t from k rows low within =
-    let o = owed_in rows k in
-    ap (map (left_by message t)) (passing-more (is_paid message t) from k rows [] low within)
-    ∙ map-append (left_by message t) (filter (is_paid message t) (from_to from k rows)) (cond (is_paid message t o) (o ∷ []) [])
+paid-more message t from k rows low within = grind (arith, nat_tests, common_steps, passing-more, map-append)
 
 -- the paid rows up to the next one are those up to this one, and this one if it is paid
 next-left : (message t from k : ℕ) (old : List (List Debt)) (owes : List Debt) (d : List (List Debt)) → d ≡ paid_rows message t (owes ∷ []) → owes ≡ owed_in old k → from ≤ k →

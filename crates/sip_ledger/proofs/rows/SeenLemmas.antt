@@ -1,4 +1,5 @@
 -- Accounts as contracts see them: a list of what each row owes.
+use Rattle.std.proofs.lemmas.Grind.{common_steps}
 use Rattle.std.proofs.Common.{◌≡◌, ◌≢◌, ℕ, ◌+◌, ◌<◌, ◌≤◌, ◌^◌, ◌==◌, true, false, List, [], ◌∷◌, ◌++◌, length, take, get_or, set, map, refl, sym, ap, ap₂, ◌∙◌, arith}
 use Rattle.std.proofs.lemmas.Bool.Decides.{nat_tests}
 use Rattle.std.specs.Prelude.{IsTrue, Option, Some, None, IfSome, IfNone, Result, Ok, Err, IsErr, OnErr, ◌↔◌, is_err, is_some}
@@ -88,9 +89,7 @@ module _ {gains : Gains} {strikes : List Strike} {rows : List Account} {seen : L
   pub pushed-to : (a : Account) (debts : List Debt) → AreAccounts gains strikes rows →
       accounts_debts gains strikes rows ≡ seen → IsAccount gains strikes a → account_debts gains strikes a ≡ debts →
       AreAccounts gains strikes (rows ++ a ∷ []) × (accounts_debts gains strikes (rows ++ a ∷ []) ≡ seen ++ debts ∷ [])
-  pushed-to a debts are view is owes =
-      let all = pushed gains strikes rows a are is in
-      (all.0, all.1 ∙ ap₂ (λ l d. l ++ d ∷ []) view owes)
+  pushed-to a debts are view is owes = grind (arith, nat_tests, common_steps, pushed)
 
 -- the account, of which no gain below the place must be sent any more
 abbrev pub softened_account : ℕ → Account → Account
@@ -105,10 +104,7 @@ soft-owes gains strikes a place k = refl
 -- debts that need not be sent any more have the same worths
 soft-worths : (debts : List Debt) → sum_by (λ debt. worth_of debt.message debt.deadline) (map softened_debt debts) ≡ sum_by (λ debt. worth_of debt.message debt.deadline) debts
 soft-worths [] = refl
-soft-worths (debt ∷ debts) =
-    sum_by-cons (λ (d : Debt). worth_of d.message d.deadline) (softened_debt debt) (map softened_debt debts)
-    ∙ ap (λ n. worth_of debt.message debt.deadline + n) (soft-worths debts)
-    ∙ sym (sum_by-cons (λ (d : Debt). worth_of d.message d.deadline) debt debts)
+soft-worths (debt ∷ debts) = grind (arith, nat_tests, common_steps, sum_by-cons, soft-worths debts)
 
 -- the debts of a softened account are the softened ones
 soft-debts : (gains : Gains) (strikes : List Strike) (a : Account) → account_debts gains strikes (softened_account (length (entries_of gains)) a) ≡ map softened_debt (account_debts gains strikes a)

@@ -1,4 +1,5 @@
 -- Accounts whose strikes are written anew owe what they owed.
+use Rattle.std.proofs.lemmas.Grind.{common_steps}
 use Rattle.std.proofs.Common.{◌≡◌, ℕ, ◌+◌, ◌<◌, ◌≤◌, ◌||◌, false, List, [], ◌∷◌, ◌++◌, length, take, get_or, map, refl, sym, ap, ap₂, ◌∙◌, arith}
 use Rattle.std.proofs.lemmas.Bool.Decides.{nat_tests}
 use Rattle.std.specs.Prelude.{All, max}
@@ -20,22 +21,7 @@ use Rattle.sip_ledger.proofs.account.WithoutLemmas.{before-start}
 -- AreAppended goes on with a strike that is written
 pub appended-more : (gains : Gains) (from : ℕ) (strikes old new new' : List Strike) (at : ℕ) (d : Strike) → at < length strikes → AreAppended gains from (take at strikes) old new →
     new' ≡ new ++ get_or strikes at d ∷ [] → AreAppended gains from (take (at + 1) strikes) old new'
-appended-more gains from strikes old new new' at d within was is =
-    let s = get_or strikes at d in
-    let more = was.more in
-    record {
-      more = more ++ s ∷ [];
-      whole = is ∙ ap (λ l. l ++ s ∷ []) was.whole ∙ append_assoc old more (s ∷ []);
-      thinned = record {
-        same = λ k low left.
-            let m = (entry_at (entries_of gains) k).message in
-            struck-push more s m k ∙ ap (λ b. b || is_out m k s) (was.thinned.same k low left) ∙ sym (struck-next strikes at m k d within);
-        among = λ m k none.
-            let both = or_parts (is_struck (take at strikes) m k) (is_out m k s) (sym (struck-next strikes at m k d within) ∙ none) in
-            struck-push more s m k
-            ∙ ap₂ (λ a b. a || b) (was.thinned.among m k both.0) both.1;
-      };
-    }
+appended-more gains from strikes old new new' at d within was is = grind (arith, nat_tests, common_steps, append_assoc, struck-push, struck-next, or_parts)
 
 -- AreAppended goes on with a strike that is left out, since it strikes nothing that is left
 pub appended-fewer : (gains : Gains) (from : ℕ) (strikes old new : List Strike) (at : ℕ) (d : Strike) → at < length strikes → AreAppended gains from (take at strikes) old new →
@@ -61,19 +47,15 @@ strikes-none gains place low s within none k above left =
     let (same, from, high) = out-parts m s.message s.from s.to k out in
     true≢false (sym (held_left gains s.message k (sym same) ∙ left) ∙ none k (omega (arith, from, above, within)) high))
 
--- a moved account owes the same at each place
-moved-owes : (gains : Gains) (strikes old new : List Strike) (a b : Account) (k : ℕ) → IsMoved gains strikes old new a b → owes_at gains new b k ≡ owes_at gains strikes a k
-unfolding owes_at
-moved-owes gains strikes old new a b k moved = grind (arith, nat_tests, cases_lt, before-start, gone-same)
-
 -- a moved account has the same debts
 moved-debts : (gains : Gains) (strikes old new : List Strike) (a b : Account) → IsMoved gains strikes old new a b → account_debts gains new b ≡ account_debts gains strikes a
-unfolding account_debts
-moved-debts gains strikes old new a b moved = grind (arith, listed-same, moved-owes, soft-must)
+unfolding account_debts owes_at
+moved-debts gains strikes old new a b moved = grind (arith, listed-same, soft-must, nat_tests, cases_lt, before-start, gone-same)
 
 -- a moved account is an account over the new strikes
 moved-account : (gains : Gains) (strikes old new : List Strike) (a b : Account) → IsMoved gains strikes old new a b → IsAccount gains strikes a → IsAccount gains new b
-moved-account gains strikes old new a b moved is = grind (arith, nat_tests, moved-owes, moved-debts)
+unfolding owes_at
+moved-account gains strikes old new a b moved is = grind (arith, nat_tests, moved-debts, cases_lt, before-start, gone-same)
 
 -- AreMoved holds of no accounts
 pub moved-none : (gains : Gains) (strikes : List Strike) (rows : List Account) → AreMoved gains strikes (take 0 rows) [] []

@@ -123,10 +123,6 @@ more-too gains place first old new within is =
       bound = λ m' k past none. ap (λ x. is_struck x m' k) rest ∙ added-bound m' m place k (drop first old) past none;
     }
 
--- no place lies from one place up to an earlier one
-none-between : (from to k : ℕ) → to ≤ from → (nat_le from k && nat_lt k to) ≡ false
-none-between from to k order = grind (arith, nat_tests)
-
 -- a place lies up to `at` or is `at` exactly if it lies up to the one after `at`
 one-more : (from at k : ℕ) → from ≤ at → ((nat_le from k && nat_lt k at) || k == at) ≡ (nat_le from k && nat_lt k (at + 1))
 one-more from at k low = grind (arith, nat_tests)
@@ -134,7 +130,7 @@ one-more from at k low = grind (arith, nat_tests)
 -- IsWritten holds once the account's strikes are written
 pub written-none : (gains : Gains) (from : ℕ) (old new : List Strike) (a : Account) → new ≡ old ++ ending a.start (strikes_of old a) → IsWritten gains from from old new a
 unfolding is_struck
-written-none gains from old new a is = grind (arith, nat_tests, drop-append_seam, take-append_seam, any-ending, none-ending, none-between, or-false)
+written-none gains from old new a is = grind (arith, nat_tests, drop-append_seam, take-append_seam, any-ending, none-ending, or-false)
 
 -- IsWritten goes on with the gain at the next place, where it is struck too
 pub written-more : (gains : Gains) (from at : ℕ) (old one new : List Strike) (a : Account) → IsWritten gains from at old one a → StrikeToo gains at (length old) one new → from ≤ at →
@@ -151,10 +147,6 @@ pub struck-more : (xs : List Strike) (i m k : ℕ) (s : Strike) → i < length x
     is_struck (take (i + 1) xs) m k ≡ false
 struck-more xs i m k s within none not = struck-next xs i m k s within ∙ ap₂ (λ a b. a || b) none not
 
--- a strike strikes a place between its own places, under its message
-out-yes : (m from to sm k : ℕ) → sm ≡ m → from ≤ k → k < to → (sm == m && (nat_le from k && nat_lt k to)) ≡ true
-out-yes m from to sm k is low high = grind (arith, nat_tests)
-
 -- what a strike strikes is of its message, and stands at its places
 pub out-parts : (m sm from to k : ℕ) → (sm == m && (nat_le from k && nat_lt k to)) ≡ true → (sm ≡ m) × (from ≤ k) × (k < to)
 out-parts m sm from to k is = (grind (arith, nat_tests), grind (arith, nat_tests), grind (arith, nat_tests))
@@ -163,7 +155,7 @@ out-parts m sm from to k is = (grind (arith, nat_tests), grind (arith, nat_tests
 pub out-struck : (xs : List Strike) (i m k : ℕ) (s : Strike) → i < length xs → is_out m k (get_or xs i s) ≡ true →
     (k < (get_or xs i s).to) × ((j : ℕ) → k ≤ j → j < (get_or xs i s).to → is_struck xs m j ≡ true)
 unfolding is_struck
-out-struck xs i m k s within out = grind (arith, nat_tests, list_any_at, out-yes, out-parts m (get_or xs i s).message (get_or xs i s).from (get_or xs i s).to k out)
+out-struck xs i m k s within out = grind (arith, nat_tests, list_any_at, out-parts m (get_or xs i s).message (get_or xs i s).from (get_or xs i s).to k out)
 
 -- what some of the strikes strike
 pub ruleset struck_by_some = (none-struck, out-struck, struck-more)

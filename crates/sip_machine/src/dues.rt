@@ -372,6 +372,7 @@ fn blank(alloc: Global, rows: usize) -> Result<Accounts, AllocError>
 }
 
 /// Whether no row of the accounts owes anything.
+#[tactic(auto, using(crate::proofs::debts::DueLemmas::blank_rows))]
 fn is_blank(accounts: &Accounts) -> bool
     ensures { IsTrue result → (accounts.now ≡ rows_in (length accounts.now) None) }
 {

@@ -151,3 +151,6 @@ module _ {X : Type 0} where
   -- where elements were put after the old ones, the first as many as there were are the old ones
   pub take-old : (old added new : List X) (n : ℕ) → new ≡ old ++ added → n ≡ length old → take n new ≡ old
   take-old old added new n is at = ap₂ take at is ∙ take-append_seam old added
+
+-- what stands beside what in a pool
+pub ruleset of_pool = (beside-length, beside_push, beside-set, beside-take, empty-length, in-phases, in-rows, state-at, same-state)

@@ -14,7 +14,7 @@ use Rattle.sip_ledger.specs.declared.accounts.strikes.Strike.{Strike}
 use Rattle.sip_ledger.specs.Accounts.{debts_print}
 use Rattle.sip_ledger.specs.inner.Accounts.{AreAccounts, AreGains, AreSameGains, IsAccount, IsDropped, IsGain, IsKept, IsLetGo, KeepsAccounts, account_debts, accounts_debts, entries_of, entry_at, is_gone, is_left, is_struck, must_at, owes_at, strikes_of}
 use Rattle.sip_ledger.specs.Indexes.{holds}
-use Rattle.sip_ledger.proofs.debts.ListedLemmas.{back-none, front, listed-same, listed-none, parts}
+use Rattle.sip_ledger.proofs.debts.ListedLemmas.{back-none, front, listed-same, listed-none, parts, back}
 use Rattle.sip_ledger.proofs.gains.FlagLemmas.{left-as}
 use Rattle.sip_ledger.proofs.gains.LeftLemmas.{entries_long, left-kept, listed-alike, owed-left}
 
@@ -56,10 +56,8 @@ pub changed : (gains : Gains) (old new : List Strike) (rows : List Account) (row
     AreAccounts gains new (set rows row a) × (accounts_debts gains new (set rows row a) ≡ set (accounts_debts gains old rows) row (account_debts gains new a))
 unfolding accounts_debts
 changed gains old new rows row a kept are is =
-    let all = kept-all gains old new rows kept are.each in (
-      record { gained = are.gained; each = All-set (IsAccount gains new) rows row a is all.0 },
-      map-set (account_debts gains new) rows row a ∙ ap (λ l. set l row (account_debts gains new a)) all.1,
-    )
+    let all = kept-all gains old new rows kept are.each in
+    grind (arith, all, All-set (IsAccount gains new) rows row a is, map-set)
 
 -- two accounts with the same `soft` must send the same gains
 pub soft-must : (gains : Gains) (a b : Account) (k : ℕ) → b.soft ≡ a.soft → must_at gains b k ≡ must_at gains a k
@@ -111,13 +109,10 @@ over-debts : (old new : Gains) (strikes : List Strike) (a : Account) → length 
 unfolding account_debts must_at
 over-debts old new strikes a long end alike =
     let n = length (entries_of old) in
-    let short : length (take n (entries_of new)) ≡ n = length-take-le n (entries_of new) long in
-    parts (owes_at new strikes a) (must_at new a) (entries_of new) n long
-    ∙ ap (λ l. front (owes_at new strikes a) (must_at new a) (entries_of new) n ++ l)
-    (back-none (owes_at new strikes a) (must_at new a) (entries_of new) n (λ k past. past-end new strikes a k (omega (arith, past, end))))
-    ∙ append-nil (front (owes_at new strikes a) (must_at new a) (entries_of new) n)
-    ∙ listed-alike (owes_at new strikes a) (must_at new a) (owes_at old strikes a) (must_at old a) 0 (take n (entries_of new)) (entries_of old) short
-    (λ j below. grind arith) (λ j below is. grind (arith, get_or-take))
+    let short = length-take-le n (entries_of new) long in
+    let none : back (owes_at new strikes a) (must_at new a) (entries_of new) n ≡ [] = back-none _ _ (entries_of new) n (λ k past. past-end new strikes a k (omega (arith, past, end))) in
+    parts (owes_at new strikes a) (must_at new a) (entries_of new) n long ∙ ap (λ l. front (owes_at new strikes a) (must_at new a) (entries_of new) n ++ l) none ∙ append-nil _
+    ∙ listed-alike _ _ _ _ 0 (take n (entries_of new)) (entries_of old) short (λ j below. grind arith) (λ j below is. grind (arith, get_or-take))
 
 -- accounts that owe alike over old and new gains stay accounts, with the same debts
 pub over-all : (old new : Gains) (strikes : List Strike) (rows : List Account) → length (entries_of old) ≤ length (entries_of new) → All (OwesAlike old new strikes) rows →

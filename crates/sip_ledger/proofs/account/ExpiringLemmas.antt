@@ -1,9 +1,9 @@
 -- An account drops what is past, place by place.
-use Rattle.std.proofs.Common.{◌≡◌, ℕ, ◌+◌, ◌<◌, ◌≤◌, ◌&&◌, ◌||◌, Bool, true, false, List, length, take, filter, sym, ap, ◌∙◌, inl, inr, arith}
+use Rattle.std.proofs.Common.{◌≡◌, ℕ, ◌+◌, ◌<◌, ◌≤◌, ◌&&◌, ◌||◌, Bool, true, false, List, length, take, filter, sym, ap, ◌∙◌, arith}
 use Rattle.std.proofs.lemmas.Bool.Decides.{nat_tests}
 use Rattle.std.specs.Prelude.{nat_le}
-use Rattle.std.proofs.Math.Bool.{and-false, and-true, or-true}
-use Rattle.std.proofs.lemmas.Bool.{cases_eq, cases_lt, le-leb, lt-leb}
+use Rattle.std.proofs.Math.Bool.{and-false}
+use Rattle.std.proofs.lemmas.Bool.{cases_eq, cases_lt, lt-leb}
 use Rattle.std.proofs.Math.Seq.{take-length}
 use Rattle.std.proofs.lemmas.List.{get_or_default}
 use Rattle.sip_ledger.specs.declared.debt.Entry.{Entry}
@@ -21,14 +21,6 @@ use Rattle.sip_ledger.proofs.account.WithoutLemmas.{before-start}
 -- whether what is owed at a place counts still at t: it must be sent, or its deadline is not past
 abbrev counting : ℕ → List Entry → (ℕ → Bool) → (ℕ → Bool) → ℕ → Bool
 counting t entries m o k = o k && (m k || nat_le t (entry_at entries k).deadline)
-
--- what is not owed is not owed once what is past is dropped
-unowed : (t : ℕ) (entries : List Entry) (m o o' : ℕ → Bool) (k : ℕ) → o' k ≡ o k → o k ≡ false → o' k ≡ counting t entries m o k
-unowed t entries m o o' k same none = same ∙ none ∙ sym (ap (λ b. b && (m k || nat_le t (entry_at entries k).deadline)) none)
-
--- what is owed and counts still is owed once what is past is dropped
-counted : (t : ℕ) (entries : List Entry) (m o o' : ℕ → Bool) (k : ℕ) → o' k ≡ o k → (m k || nat_le t (entry_at entries k).deadline) ≡ true → o' k ≡ counting t entries m o k
-counted t entries m o o' k same counts = same ∙ sym (ap (λ b. o k && b) counts ∙ and-true (o k))
 
 -- IsExpiredTo holds at the start of an account: nothing is owed before it
 pub expired-start : (t : ℕ) (gains : Gains) (strikes : List Strike) (m : ℕ → Bool) (a : Account) →
@@ -56,27 +48,15 @@ pub expired-end : (gains : Gains) (old new : List Strike) (a b : Account) (t pla
     IsExpiredTo t (entries_of gains) (must_at gains a) (owes_at gains old a) (owes_at gains new b) place →
     account_debts gains new b ≡ filter (counts_at t) (account_debts gains old a)
 expired-end gains old new a b t place soft end is =
-    finished gains old new a b t soft (λ k within. elim (cases_lt k place) [
-      | inl early ↦ is.gone k early
-      | inr late ↦
-          let none = past-end gains new b k (omega (arith, late, end)) in
-          unowed t (entries_of gains) (must_at gains a) (owes_at gains old a) (owes_at gains new b) k (is.later k late) (sym (is.later k late) ∙ none)
-    ])
+    finished gains old new a b t soft (λ k within. grind (arith, nat_tests, cases_lt, past-end, is.gone k, is.later k))
 
 -- where deadlines rise, and that of this place is not past, the account has expired whole
 pub expired-rising : (gains : Gains) (old new : List Strike) (a b : Account) (t place : ℕ) → b.soft ≡ a.soft → AreGains gains → gains.rises ≡ true → IsKept gains place →
     t ≤ (entry_at (entries_of gains) place).deadline → IsExpiredTo t (entries_of gains) (must_at gains a) (owes_at gains old a) (owes_at gains new b) place →
     account_debts gains new b ≡ filter (counts_at t) (account_debts gains old a)
 expired-rising gains old new a b t place soft gained rises kept early is =
-    finished gains old new a b t soft (λ k within. elim (cases_lt k place) [
-      | inl first ↦ is.gone k first
-      | inr late ↦
-          let count = entries_long gains gained.long in
-          let above = rising_kept gains place k gained rises kept late (omega (arith, within, count)) in
-          let counts : (must_at gains a k || nat_le t (entry_at (entries_of gains) k).deadline) ≡ true =
-          ap (λ b. must_at gains a k || b) (le-leb t (entry_at (entries_of gains) k).deadline (omega (arith, early, above))) ∙ or-true (must_at gains a k) in
-          counted t (entries_of gains) (must_at gains a) (owes_at gains old a) (owes_at gains new b) k (is.later k late) counts
-    ])
+    let count = entries_long gains gained.long in
+    finished gains old new a b t soft (λ k within. grind (arith, nat_tests, cases_lt, count, rising_kept gains place k gained rises kept, is.gone k, is.later k))
 
 -- the account b is a, without what is past at t before the place
 pub record IsExpiring (gains : Gains) (old new : List Strike) (a b : Account) (t place : ℕ) : Type 0 where

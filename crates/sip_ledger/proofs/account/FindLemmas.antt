@@ -1,10 +1,9 @@
 -- The first debt of an account that a send pays.
-use Rattle.std.proofs.Common.{◌≡◌, ◌≢◌, ℕ, ◌+◌, ◌<◌, ◌≤◌, ◌==◌, ◌&&◌, Bool, true, false, not, List, get_or, sym, ap, ap₂, ◌∙◌, inl, inr, arith}
+use Rattle.std.proofs.Common.{◌≡◌, ◌≢◌, ℕ, ◌+◌, ◌<◌, ◌≤◌, ◌&&◌, Bool, true, false, not, List, sym, ap, ap₂, ◌∙◌, inl, inr, arith}
 use Rattle.std.proofs.lemmas.Bool.Decides.{nat_tests}
 use Rattle.std.specs.Prelude.{All, IsTrue, nat_le}
 use Rattle.std.proofs.Math.Bool.{and-false}
 use Rattle.std.proofs.lemmas.Bool.{and_right, cases_eq, cases_lt, eq-eqb, le-leb, lt-leb, lt-ltb, ne_eqb, true≢false}
-use Rattle.std.proofs.lemmas.List.{get_or_default}
 use Rattle.sip_ledger.specs.declared.debt.Entry.{Entry}
 use Rattle.sip_ledger.specs.declared.accounts.account.Account.{Account}
 use Rattle.sip_ledger.specs.declared.accounts.gains.Gains.{Gains}
@@ -13,7 +12,7 @@ use Rattle.sip_ledger.specs.Debts.{is_payable, paid_by}
 use Rattle.sip_ledger.specs.inner.Accounts.{IsAccount, IsFirstPayable, IsWithout, account_debts, entries_of, entry_at, is_gone, is_struck, must_at, owes_at, pays_at, strikes_of}
 use Rattle.sip_ledger.specs.Indexes.{holds}
 use Rattle.sip_ledger.proofs.gains.LeftLemmas.{gone-left, gone-struck, held_left, owed-left}
-use Rattle.sip_ledger.proofs.debts.ListedLemmas.{no_entry, listed-All}
+use Rattle.sip_ledger.proofs.debts.ListedLemmas.{listed-each}
 use Rattle.sip_ledger.proofs.debts.OwedLemmas.{removed}
 use Rattle.sip_ledger.proofs.debts.PayLemmas.{paid-is}
 use Rattle.sip_ledger.proofs.account.AccountLemmas.{owed-within, soft-must}
@@ -77,11 +76,7 @@ pub unpaid-account : (gains : Gains) (strikes : List Strike) (a : Account) (mess
     All (λ debt. ¬ (IsTrue (is_payable message t debt))) (account_debts gains strikes a)
 unfolding account_debts
 unpaid-account gains strikes a message t none =
-    listed-All (λ debt. ¬ (IsTrue (is_payable message t debt))) (owes_at gains strikes a) (must_at gains a) 0 (entries_of gains)
-    (λ j e below owed pays.
-    let here : 0 + j ≡ j = omega arith in
-    let same : get_or (entries_of gains) j e ≡ entry_at (entries_of gains) j = get_or_default (entries_of gains) j e no_entry below in
-    true≢false (sym pays ∙ ap (λ (x : Entry). x.message == message && nat_le t x.deadline) same ∙ none j (ap (owes_at gains strikes a) (sym here) ∙ owed)))
+    listed-each (λ debt. ¬ (IsTrue (is_payable message t debt))) (owes_at gains strikes a) (must_at gains a) (entries_of gains) (λ k below owed pays. true≢false (sym pays ∙ none k owed))
 
 -- from its start on and before its end an account owes what is not gone
 pub owes-inside : (gains : Gains) (strikes : List Strike) (a : Account) (k : ℕ) → a.start ≤ k → k < a.end → owes_at gains strikes a k ≡ not (is_gone gains (strikes_of strikes a) k)

@@ -1,10 +1,8 @@
 -- The first debt of an account that a send of a message pays that stands under a key.
-use Rattle.std.proofs.Common.{◌≡◌, ◌≢◌, ℕ, ◌<◌, ◌≤◌, ◌==◌, ◌&&◌, Bool, true, false, not, List, length, get_or, ◌+◌, refl, sym, ap, ◌∙◌, subst, arith}
+use Rattle.std.proofs.Common.{◌≡◌, ◌≢◌, ℕ, ◌<◌, ◌≤◌, ◌==◌, ◌&&◌, Bool, true, false, not, List, length, ◌+◌, refl, sym, ap, ◌∙◌, subst, arith}
 use Rattle.std.specs.Prelude.{◌⊎◌, All, IfNone, IfSome, IsTrue, MatchOption, Option, None, Some, nat_le, nat_lt}
-use Rattle.std.proofs.Math.Bool.{and-false, and-true}
-use Rattle.std.proofs.lemmas.Bool.{cases_lt, eq-eqb, lt-ltb, ltb-true, ne_eqb, true≢false}
+use Rattle.std.proofs.lemmas.Bool.{cases_lt, lt-ltb, ltb-true, true≢false}
 use Rattle.std.proofs.lemmas.Bool.Decides.{nat_tests}
-use Rattle.std.proofs.lemmas.List.{get_or_default}
 use Rattle.sip_ledger.specs.declared.debt.Entry.{Entry}
 use Rattle.sip_ledger.specs.declared.accounts.account.Account.{Account}
 use Rattle.sip_ledger.specs.declared.accounts.gains.Gains.{Gains}
@@ -13,7 +11,7 @@ use Rattle.sip_ledger.specs.Debts.{IsFirstPaid, PaysSome, is_payable}
 use Rattle.sip_ledger.specs.Entries.{debts_from}
 use Rattle.sip_ledger.specs.inner.Accounts.{AreGains, IsAccount, IsFirstOf, IsFirstPayable, IsKept, IsWithout, PaysSomeAt, account_debts, entries_of, entry_at, must_at, owes_at, pays_at, sooner}
 use Rattle.sip_ledger.specs.Indexes.{IsFirstFrom, IsNextUnder, NoneFrom, holds}
-use Rattle.sip_ledger.proofs.debts.ListedLemmas.{no_entry, listed-All}
+use Rattle.sip_ledger.proofs.debts.ListedLemmas.{listed-each}
 use Rattle.sip_ledger.proofs.debts.OwedLemmas.{removed}
 use Rattle.sip_ledger.proofs.debts.PayLemmas.{paid-is}
 use Rattle.sip_ledger.proofs.gains.LeftLemmas.{held_left, left-kept, owed-left}
@@ -124,12 +122,8 @@ module _ (gains : Gains) (strikes : List Strike) (a : Account) (test : ℕ → B
       let must = must_at gains a in
       let message = (entry_at entries place).message in
       let less : ℕ → Bool = λ k. owed k && not (k == place) in
-      let left = debts_from less must 0 entries in
       let inside : place < length entries = omega (arith, owed-within gains strikes a place found.0, is.end) in
-      let without : IsWithout place owed less = record {
-        gone = ap (λ b. owed place && not b) (eq-eqb place place refl) ∙ and-false (owed place);
-        others = λ k other. ap (λ b. owed k && not b) (ne_eqb k place other) ∙ and-true (owed k);
-      } in
+      let without : IsWithout place owed less = grind (arith, nat_tests) in
       let one = removed (PaysSome test t) entries owed must less must place inside found.0 without (λ k. refl) found.1 found.2 in
       let only = removed (λ debt. IsTrue (is_payable message t debt)) entries owed must less must place inside found.0 without (λ k. refl)
       (named-pays entries message t place refl found.1.1)
@@ -143,7 +137,7 @@ module _ (gains : Gains) (strikes : List Strike) (a : Account) (test : ℕ → B
           whole = one.whole;
           holds = one.holds;
           none_before = one.none_before;
-          rest = sym (paid-is message t (debts_from owed must 0 entries) left only) ∙ one.rest;
+          rest = sym (paid-is message t (debts_from owed must 0 entries) (debts_from less must 0 entries) only) ∙ one.rest;
         },
         refl,
       )
@@ -151,9 +145,4 @@ module _ (gains : Gains) (strikes : List Strike) (a : Account) (test : ℕ → B
   -- where no message that passes the test pays a gain that is owed, none pays a debt
   pub none-account : IsFirstOf (entries_of gains) owed test t None → All (λ debt. ¬ (PaysSome test t debt)) (account_debts gains strikes a)
   unfolding account_debts
-  none-account none =
-      listed-All (λ debt. ¬ (PaysSome test t debt)) owed (must_at gains a) 0 (entries_of gains)
-      (λ j e below here pays.
-      let at : 0 + j ≡ j = omega arith in
-      let same : get_or (entries_of gains) j e ≡ entry_at (entries_of gains) j = get_or_default (entries_of gains) j e no_entry below in
-      none j (ap owed (sym at) ∙ here) (subst (λ (x : Entry). (test x.message ≡ true) × (t ≤ x.deadline)) same pays))
+  none-account none = listed-each (λ debt. ¬ (PaysSome test t debt)) owed (must_at gains a) (entries_of gains) (λ k below here. none k here)

@@ -1,5 +1,5 @@
 -- What an account owes, place by place: its debts, whether another account owes the same, and the least deadline of what it must send.
-use Rattle.std.proofs.Common.{◌≡◌, ◌≢◌, ℕ, ◌+◌, ◌<◌, ◌≤◌, ◌==◌, ◌&&◌, Bool, true, false, not, List, [], ◌∷◌, ◌++◌, length, take, drop, map, refl, sym, ap, ap₂, ◌∙◌, inl, inr, ◌⊎◌, arith, append-nil}
+use Rattle.std.proofs.Common.{◌≡◌, ◌≢◌, ℕ, ◌+◌, ◌<◌, ◌≤◌, ◌==◌, ◌&&◌, Bool, true, false, not, List, [], ◌∷◌, ◌++◌, length, take, drop, map, refl, sym, ap, ap₂, ◌∙◌, inl, ◌⊎◌, arith, append-nil}
 use Rattle.std.proofs.lemmas.Bool.Decides.{nat_tests}
 use Rattle.std.specs.Prelude.{IsTrue, Option, Some, None, ◌↔◌, nat_le, option_to_list}
 use Rattle.std.specs.Bool.{OnTrue}
@@ -127,11 +127,7 @@ module _ {gains : Gains} {strikes : List Strike} {one other : Account} (is : IsA
   pub end-same : {at beside : ℕ} → AreAt gains strikes one other at beside → at ≡ one.end → IsTrue (beside == other.end) ↔ (account_debts gains strikes one ≡ account_debts gains strikes other)
   end-same {at} {beside} are here = (
     λ same. sym (told-all is are.told (omega (arith, here))) ∙ told-all is_other are.told_beside (let there = eqb-true beside other.end same in omega (arith, there)),
-    λ same. elim (cases_eq beside other.end) [
-      | inl there ↦ eq-eqb beside other.end there
-      | inr short ↦
-          absurd (longer is_other is are.told_beside are.told (omega (arith, short, are.told_beside.end)) (omega (arith, here)) (sym same))
-    ],
+    λ same. grind (arith, nat_tests, cases_eq, eq-eqb, longer is_other is are.told_beside are.told),
   )
 
   -- where one account is not at its end and the other is, they do not owe the same
@@ -204,11 +200,10 @@ least-end entries m from within none =
 pub least-rising : (entries : List Entry) (m : ℕ → Bool) (at : ℕ) → ((k : ℕ) → at ≤ k → k < length entries → (entry_at entries at).deadline ≤ (entry_at entries k).deadline) →
     at < length entries → ((k : ℕ) → k < at → m k ≡ false) → m at ≡ true → Some (entry_at entries at).deadline ≡ earliest (map (λ d. d.deadline) (debts_from m m 0 entries))
 least-rising entries m at rising inside none is =
-    let d = debt_of (entry_at entries at) (m at) in
     let later = back m m entries (at + 1) in
-    let whole : debts_from m m 0 entries ≡ d ∷ later =
-    parts m m entries at (omega (arith, inside))
-    ∙ ap₂ (λ a b. a ++ b) (listed-none m m 0 (take at entries) (λ k _ below. none k (omega (arith, below, length-take-le at entries (omega (arith, inside)))))) (back-set m m entries at no_entry inside is) in
+    let nothing : front m m entries at ≡ [] = grind (arith, listed-none, length-take-le) in
+    let whole : debts_from m m 0 entries ≡ debt_of (entry_at entries at) (m at) ∷ later =
+    parts m m entries at (omega (arith, inside)) ∙ ap₂ (λ a b. a ++ b) nothing (back-set m m entries at no_entry inside is) in
     earliest-first (entry_at entries at).deadline (map (λ (x : Debt). x.deadline) later)
     (All-map (λ y. (entry_at entries at).deadline ≤ y) (λ (x : Debt). x.deadline) later
     (listed-All (λ x. (entry_at entries at).deadline ≤ x.deadline) m m (at + 1) (drop (at + 1) entries)

@@ -1,6 +1,6 @@
 -- An account loses one of its debts.
 use Rattle.std.proofs.lemmas.Grind.{common_steps}
-use Rattle.std.proofs.Common.{◌≡◌, ◌≢◌, ℕ, ◌+◌, ◌-◌, ◌<◌, ◌≤◌, ◌%◌, ◌^◌, ◌&&◌, Bool, true, false, not, List, length, refl, sym, ap, ◌∙◌, subst, arith, lit<}
+use Rattle.std.proofs.Common.{◌≡◌, ◌≢◌, ℕ, ◌+◌, ◌-◌, ◌<◌, ◌≤◌, ◌%◌, ◌^◌, ◌&&◌, Bool, true, false, not, List, length, refl, sym, ap, ◌∙◌, arith, lit<}
 use Rattle.std.specs.Prelude.{nat_lt}
 use Rattle.std.specs.List.{sum_by}
 use Rattle.std.proofs.lemmas.Bool.{and_right, cases_lt, eq-eqb, le-leb, lt-leb, lt-ltb, ne_eqb, true≢false}
@@ -98,14 +98,10 @@ pub without-first : (gains : Gains) (strikes : List Strike) (a : Account) (place
     IsWithout place (owes_at gains strikes a) (owes_at gains strikes (record a { start = next; print = print }))
 without-first gains strikes a place w next print is owed here worth printed order none begins =
     let b : Account = record a { start = next; print = print } in
-    let entries = (entries_of gains) in
     let without : IsWithout place (owes_at gains strikes a) (owes_at gains strikes b) =
     later-start gains strikes a b place (sym here) (omega (arith, order.0)) refl refl refl (λ k above below. none k (omega (arith, above)) below) in
-    let other : next ≢ place = omega (arith, order.0) in (
-      without-account gains strikes strikes a b place w is owed without refl order.1 (omega arith) is.first is.last (λ m k past. is.bound m k past)
-          (λ some. without.others next other ∙ begins some) worth printed (subst (λ n. n < 2 ^ 64) (sym worth) (worth-fits (entry_at entries place).message (entry_at entries place).deadline)),
-      without,
-    )
+    let account : IsAccount gains strikes b = grind (arith, nat_tests, without-account gains strikes strikes a b place w, without, worth-fits, without.others next) in
+    (account, without)
 
 -- an account without its last debt is an account, and owes the others
 pub without-last : (gains : Gains) (strikes : List Strike) (a : Account) (place w print : ℕ) → IsAccount gains strikes a → owes_at gains strikes a place ≡ true →
@@ -115,15 +111,10 @@ pub without-last : (gains : Gains) (strikes : List Strike) (a : Account) (place 
     IsWithout place (owes_at gains strikes a) (owes_at gains strikes (record a { end = place; print = print }))
 without-last gains strikes a place w print is owed later last worth printed =
     let b : Account = record a { end = place; print = print } in
-    let entries = (entries_of gains) in
     let from = owed-from gains strikes a place owed in
     let without : IsWithout place (owes_at gains strikes a) (owes_at gains strikes b) = earlier-end gains strikes a b place last refl refl refl refl in
-    let other : a.start ≢ place = λ same. later (sym same) in (
-      without-account gains strikes strikes a b place w is owed without refl from (omega (arith, last)) is.first is.last (λ m k past. is.bound m k past)
-          (λ some. without.others a.start other ∙ is.begins (omega (arith, some, last))) worth printed
-          (subst (λ n. n < 2 ^ 64) (sym worth) (worth-fits (entry_at entries place).message (entry_at entries place).deadline)),
-      without,
-    )
+    let account : IsAccount gains strikes b = grind (arith, nat_tests, without-account gains strikes strikes a b place w, without, worth-fits, without.others a.start) in
+    (account, without)
 
 -- an account without a debt between others is an account, and owes the others
 pub without-middle : (gains : Gains) (old new : List Strike) (a b : Account) (place w print : ℕ) → IsAccount gains old a → owes_at gains old a place ≡ true →
@@ -133,14 +124,7 @@ pub without-middle : (gains : Gains) (old new : List Strike) (a b : Account) (pl
     IsWithout place (owes_at gains old a) (owes_at gains new (record b { print = print }))
 without-middle gains old new a b place w print is owed later struck worth printed =
     let c : Account = record b { print = print } in
-    let entries = (entries_of gains) in
     let from = owed-from gains old a place owed in
-    let start = struck.start in
     let without : IsWithout place (owes_at gains old a) (owes_at gains new c) = struck-without gains old new a b c place struck from refl refl refl refl in
-    let other : a.start ≢ place = λ same. later (sym same) in (
-      without-account gains old new a c place w is owed without struck.soft (omega (arith, start, struck.end, is.order)) (omega (arith, struck.end)) struck.first struck.last
-          (λ m k past. struck.bound m k past (is.bound m k past))
-          (λ some. ap (owes_at gains new c) start ∙ without.others a.start other ∙ is.begins (omega (arith, some, start, struck.end))) worth printed
-          (subst (λ n. n < 2 ^ 64) (sym worth) (worth-fits (entry_at entries place).message (entry_at entries place).deadline)),
-      without,
-    )
+    let account : IsAccount gains new c = grind (arith, nat_tests, without-account gains old new a c place w, without, worth-fits, without.others a.start) in
+    (account, without)

@@ -1,10 +1,10 @@
 -- The debts of a list of entries: `o` tells which places are owed, and `m` which of them must be sent.
 use Rattle.std.proofs.lemmas.Grind.{common_steps}
 use Rattle.std.proofs.lemmas.Bool.Decides.{nat_tests}
-use Rattle.std.proofs.Common.{◌≡◌, ℕ, zero, suc, ◌+◌, ◌-◌, ◌<◌, ◌≤◌, Bool, true, false, ◌&&◌, ◌||◌, cond, List, [], ◌∷◌, ◌++◌, length, take, drop, get_or, map, filter, refl, sym, ap, ◌∙◌, subst, arith}
+use Rattle.std.proofs.Common.{◌≡◌, ℕ, zero, suc, ◌+◌, ◌-◌, ◌<◌, ◌≤◌, Bool, true, false, ◌&&◌, ◌||◌, cond, List, [], ◌∷◌, ◌++◌, length, take, drop, get_or, map, filter, refl, sym, ap, ◌∙◌, subst, arith, ap₂}
 use Rattle.std.specs.Prelude.{All, nat_le, Some, option_to_list, min}
 use Rattle.std.specs.List.{fold}
-use Rattle.std.proofs.lemmas.List.{append_cancel_right, drop_more, length-take-le, take-append-drop, take_more}
+use Rattle.std.proofs.lemmas.List.{append_cancel_right, drop_more, length-take-le, take-append-drop, take_more, get_or_default}
 use Rattle.std.proofs.lemmas.List.Elements.{All-nil, All-cons, All-head, All-tail}
 use Rattle.sip_ledger.specs.declared.debt.Debt.{Debt}
 use Rattle.sip_ledger.specs.declared.debt.Entry.{Entry}
@@ -58,9 +58,14 @@ listed-All P o m i (x ∷ xs) each =
     let none : i + 0 ≡ i = omega arith in
     cond-All P (o i) (debt_of x (m i)) (debts_from o m (i + 1) xs)
     (λ is. subst (λ n. P (debt_of x (m n))) none (each 0 x (omega arith) (ap o none ∙ is)))
-    (listed-All P o m (i + 1) xs (λ j e below is.
-    let next : i + 1 + j ≡ i + suc j = omega arith in
-    subst (λ n. P (debt_of (get_or xs j e) (m n))) (sym next) (each (suc j) e (omega (arith, below)) (ap o (sym next) ∙ is))))
+    (listed-All P o m (i + 1) xs (λ j e below is. grind (arith, each (suc j) e)))
+
+-- where P holds of the debt of each place that is owed, it holds of all debts that these places have
+pub listed-each : (P : Debt → Type 0) (o m : ℕ → Bool) (entries : List Entry) → ((k : ℕ) → k < length entries → o k ≡ true → P (debt_of (get_or entries k no_entry) (m k))) →
+    All P (debts_from o m 0 entries)
+listed-each P o m entries each = listed-All P o m 0 entries (λ j e below set.
+    let here : 0 + j ≡ j = omega arith in
+    subst P (ap₂ debt_of (get_or_default entries j no_entry e below) (ap m (sym here))) (each j below (ap o (sym here) ∙ set)))
 
 -- the debts of the places before k
 abbrev pub front : (ℕ → Bool) → (ℕ → Bool) → List Entry → ℕ → List Debt
@@ -114,9 +119,7 @@ back-gap o m entries i (suc n) within gap = grind (arith, nat_tests, back-unset,
 
 -- where no place from i up to k is owed, the debts from i on are those from k on
 pub back-over : (o m : ℕ → Bool) (entries : List Entry) (i k : ℕ) → i ≤ k → k ≤ length entries → IsGap o i k → back o m entries i ≡ back o m entries k
-back-over o m entries i k order within gap =
-    let is : i + (k - i) ≡ k = omega (arith, order) in
-    back-gap o m entries i (k - i) (omega (arith, within, is)) (λ j from below. gap j from (omega (arith, below, is))) ∙ ap (back o m entries) is
+back-over o m entries i k order within gap = let is : i + (k - i) ≡ k = omega (arith, order) in grind (arith, is, back-gap o m entries i (k - i))
 
 -- where the places that stay owed are those whose debts count still at t, the debts are those that count still
 pub listed-counting : (t : ℕ) (o m o' : ℕ → Bool) (i : ℕ) (xs : List Entry) →
@@ -125,14 +128,9 @@ pub listed-counting : (t : ℕ) (o m o' : ℕ → Bool) (i : ℕ) (xs : List Ent
 listed-counting t o m o' i [] each = refl
 listed-counting t o m o' i (x ∷ xs) each =
     let none : i ≡ i + 0 = omega arith in
-    let here : o' i ≡ (o i && (m i || nat_le t x.deadline)) =
-    subst (λ n. o' n ≡ (o n && (m n || nat_le t x.deadline))) (sym none) (each 0 x (omega arith)) in
-    let rest = listed-counting t o m o' (i + 1) xs (λ j e below.
-    let next : i + 1 + j ≡ i + suc j = omega arith in
-    subst (λ n. o' n ≡ (o n && (m n || nat_le t (get_or xs j e).deadline))) (sym next) (each (suc j) e (omega (arith, below)))) in
-    cond-same (o' i) (o i && (m i || nat_le t x.deadline)) (debt_of x (m i)) (debt_of x (m i)) (debts_from o' m (i + 1) xs)
-    (filter (counts_at t) (debts_from o m (i + 1) xs)) here refl rest
-    ∙ sym (cond-filter (counts_at t) (o i) (debt_of x (m i)) (debts_from o m (i + 1) xs))
+    let here : o' i ≡ (o i && (m i || nat_le t x.deadline)) = subst (λ n. o' n ≡ (o n && (m n || nat_le t x.deadline))) (sym none) (each 0 x (omega arith)) in
+    let rest : debts_from o' m (i + 1) xs ≡ filter (counts_at t) (debts_from o m (i + 1) xs) = listed-counting t o m o' (i + 1) xs (λ j e below. grind (arith, each (suc j) e)) in
+    grind (arith, nat_tests, here, rest)
 
 -- where no place must be sent any more, the debts are the softened ones
 pub listed-softened : (o m m' : ℕ → Bool) (i : ℕ) (xs : List Entry) → ((k : ℕ) → m' k ≡ false) →
@@ -173,8 +171,7 @@ earliest-push (x ∷ xs) m = let turned : min (fold min x xs) m ≡ min m (fold 
 fold-first : (x : ℕ) (xs : List ℕ) → All (λ y. x ≤ y) xs → fold min x xs ≡ x
 fold-first x [] above = refl
 fold-first x (y ∷ ys) above =
-    let here : min x y ≡ x = omega (arith, All-head (λ z. x ≤ z) y ys above) in
-    ap (λ n. fold min n ys) here ∙ fold-first x ys (All-tail (λ z. x ≤ z) y ys above)
+    let here : min x y ≡ x = omega (arith, All-head (λ z. x ≤ z) y ys above) in grind (arith, here, fold-first x ys (All-tail (λ z. x ≤ z) y ys above))
 
 -- a moment that none of the others is before is the earliest
 pub earliest-first : (x : ℕ) (xs : List ℕ) → All (λ y. x ≤ y) xs → Some x ≡ earliest (x ∷ xs)

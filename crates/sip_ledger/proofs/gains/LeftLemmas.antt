@@ -1,5 +1,5 @@
 -- Which gains are left, and what changes of that when gains come, are let go or are dropped.
-use Rattle.std.proofs.Common.{◌≡◌, ◌≢◌, ℕ, suc, ◌+◌, ◌-◌, ◌^◌, ◌<◌, ◌≤◌, ◌==◌, ◌&&◌, ◌||◌, Bool, true, false, cond, not, List, [], ◌∷◌, ◌++◌, length, drop, get_or, refl, sym, ap, ap₂, ◌∙◌, subst, inl, inr, arith}
+use Rattle.std.proofs.Common.{◌≡◌, ◌≢◌, ℕ, suc, ◌+◌, ◌-◌, ◌^◌, ◌<◌, ◌≤◌, ◌==◌, ◌&&◌, ◌||◌, Bool, true, false, cond, not, List, [], ◌∷◌, ◌++◌, length, drop, get_or, refl, sym, ap, ap₂, subst, arith}
 use Rattle.std.proofs.lemmas.Bool.Decides.{nat_tests}
 use Rattle.std.specs.Prelude.{replicate}
 use Rattle.std.proofs.lemmas.Bool.{cases_eq, cases_lt, eq-eqb, false_from_ne_true, ne_eqb, true≢false}
@@ -104,65 +104,21 @@ pub gains-more : (old new : Gains) (debt : Debt) → AreGains old → new.entrie
     (new.rises ≡ true → AreRising (old.entries.items ++ (record { message = debt.message; deadline = debt.deadline }) ∷ [])) → old.highest ≤ new.highest → debt.message ≤ new.highest →
     (IsGain debt old new → AreFlags new) → AreGains new × IsGain debt old new
 gains-more old new debt are entries end small noted rises higher own flags =
-    let n = old.end in
-    let e : Entry = record { message = debt.message; deadline = debt.deadline } in
-    let long = are.long in
-    let all : entries_of new ≡ entries_of old ++ e ∷ [] = more-entries old new e long entries end in
-    let count = entries_long old long in
-    let longer = length-append old.entries.items (e ∷ []) in
-    let some : length new.entries.items ≡ length old.entries.items + 1 = ap length entries ∙ longer in
-    let here : entry_at (entries_of new) n ≡ e = ap (λ l. entry_at l n) all ∙ get_or_push (entries_of old) e blank n count in
-    let others : (m k : ℕ) → k ≢ n → holds new.messages m k ≡ holds old.messages m k = λ m k other.
-    noted.messages m k ∙ ap (λ b. cond (m == debt.message && b) true (holds old.messages m k)) (ne_eqb k n other)
-    ∙ ap (λ b. cond b true (holds old.messages m k)) (and-false (m == debt.message)) in
-    let gain : IsGain debt old new = record {
-      entries = all;
-      message = ap (holds new.messages debt.message) count ∙ noted.messages debt.message n ∙ ap₂ (λ a b. cond (a && b) true (holds old.messages debt.message n)) (eq-eqb debt.message debt.message refl) (eq-eqb n n refl);
-      messages = λ m k other. others m k (λ same. other (same ∙ sym count));
-      must = ap (holds new.musts 0) count ∙ noted.must;
-      musts = λ k other. noted.musts k (λ same. other (same ∙ sym count));
-    } in (
+    let all : entries_of new ≡ entries_of old ++ (record { message = debt.message; deadline = debt.deadline }) ∷ [] = more-entries old new (record { message = debt.message; deadline = debt.deadline }) are.long entries end in
+    let count = entries_long old are.long in
+    let longer = length-append old.entries.items ((record { message = debt.message; deadline = debt.deadline }) ∷ []) in
+    let gain : IsGain debt old new = grind (arith, nat_tests, all, count, ne_eqb, and-false, eq-eqb) in (
       record {
-        long = omega (arith, some, end, long);
+        long = omega (arith, ap length entries, longer, end, are.long);
         small = small;
-        messages = λ m k is. elim (cases_eq k n) [
-          | inl there ↦
-              let same : m ≡ debt.message = named m k there is in
-              record {
-                kept = record { from = omega (arith, there, some, end); within = omega (arith, there, end) };
-                message = ap (λ i. (entry_at (entries_of new) i).message) there ∙ ap (λ (x : Entry). x.message) here ∙ sym same;
-              }
-          | inr other ↦
-              let was = are.messages m k (sym (others m k other) ∙ is) in
-              let from = was.kept.from in
-              let within = was.kept.within in
-              record {
-                kept = record { from = omega (arith, from, some, end); within = omega (arith, within, end) };
-                message = ap (λ (l : List Entry). (entry_at l k).message) all
-                    ∙ ap (λ (x : Entry). x.message) (get_or_append_left (entries_of old) (e ∷ []) blank k (omega (arith, within, count))) ∙ was.message;
-              }
-        ];
-        musts = λ k is. elim (cases_eq k n) [
-          | inl there ↦ omega (arith, there, end)
-          | inr other ↦
-              let within = are.musts k (sym (noted.musts k other) ∙ is) in
-              omega (arith, within, end)
-        ];
+        messages = λ m k is. grind (arith, nat_tests, cases_eq, ne_eqb, and-false, not-noted, get_or_push, get_or_append_left, all, count, ap length entries, longer);
+        musts = λ k is. grind (arith, nat_tests, cases_eq);
         rises = λ said. subst AreRising (sym entries) (rises said);
         highest = λ k is. grind (arith, more-entries, entries_long, length-append, get_or_push, cases_eq, get_or_append_left);
         flags = flags gain;
       },
       gain,
     )
-  where
-    named : (m k : ℕ) → k ≡ old.end → holds new.messages m k ≡ true → m ≡ debt.message
-    named m k there is = elim (cases_eq m debt.message) [
-      | inl same ↦ same
-      | inr other ↦ absurd (true≢false (sym is
-          ∙ noted.messages m k
-          ∙ ap (λ b. cond (b && k == old.end) true (holds old.messages m k)) (ne_eqb m debt.message other)
-          ∙ not-noted old m k are (omega (arith, there))))
-    ]
 
 -- where the entries and the places under the messages stay, the gains are right still, and the same
 pub gains-same : (old new : Gains) → AreGains old → new.entries.items ≡ old.entries.items → new.end ≡ old.end → ((m k : ℕ) → holds new.messages m k ≡ holds old.messages m k) →

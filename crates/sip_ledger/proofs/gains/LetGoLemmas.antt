@@ -1,5 +1,5 @@
 -- Gains that no account owes any more are let go.
-use Rattle.std.proofs.Common.{◌≡◌, ℕ, ◌+◌, ◌<◌, ◌≤◌, false, List, length, take, get_or, sym, ap, ◌∙◌, subst, inl, inr, arith}
+use Rattle.std.proofs.Common.{◌≡◌, ℕ, ◌+◌, ◌<◌, ◌≤◌, false, List, length, take, get_or, sym, ap, ◌∙◌, subst, arith}
 use Rattle.std.proofs.lemmas.Bool.Decides.{nat_tests}
 use Rattle.std.specs.Prelude.{All}
 use Rattle.std.proofs.lemmas.Bool.{cases_eq, cases_lt}
@@ -9,7 +9,6 @@ use Rattle.sip_ledger.specs.declared.accounts.account.Account.{Account}
 use Rattle.sip_ledger.specs.declared.accounts.gains.Gains.{Gains}
 use Rattle.sip_ledger.specs.declared.accounts.strikes.Strike.{Strike}
 use Rattle.sip_ledger.specs.inner.Accounts.{AreGains, AreKept, IsClearedTo, IsDropped, IsLetGo, StartFrom, owes_at}
-use Rattle.sip_ledger.specs.Indexes.{holds}
 use Rattle.sip_ledger.proofs.account.AccountLemmas.{OwesAlike, dropped-alike, let_go-alike, over-all, past-end}
 use Rattle.sip_ledger.proofs.account.WithoutLemmas.{before-start}
 
@@ -32,10 +31,7 @@ cleared-more first old new strikes rows start place was gone are from early = re
   kept = kept-less first old new strikes rows place was.kept gone are (none-before old strikes rows start place from early);
   end = gone.end ∙ was.end;
   long = gone.long ∙ was.long;
-  none = λ m k below. elim (cases_eq k place) [
-    | inl is ↦ ap (holds new.messages m) is ∙ gone.here m
-    | inr other ↦ gone.others m k other ∙ was.none m k (omega (arith, below, other))
-  ];
+  none = λ m k below. grind (arith, nat_tests, cases_eq, gone.here m, gone.others m k, was.none m k);
 }
 
 -- all accounts are kept where gains are dropped that are cleared

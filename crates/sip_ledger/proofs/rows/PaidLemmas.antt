@@ -1,7 +1,7 @@
 -- Rows that a send pays are put after the others, without the debt that it pays.
 use Rattle.std.proofs.lemmas.Grind.{common_steps}
 use Rattle.std.proofs.lemmas.Bool.Decides.{nat_tests}
-use Rattle.std.proofs.Common.{◌≡◌, ◌<◌, ◌≤◌, ℕ, ◌+◌, Bool, true, false, cond, List, [], ◌∷◌, ◌++◌, length, take, get_or, map, filter, refl, sym, ap, ◌∙◌, subst, arith}
+use Rattle.std.proofs.Common.{◌≡◌, ◌<◌, ◌≤◌, ℕ, ◌+◌, Bool, true, false, cond, List, [], ◌∷◌, ◌++◌, length, take, get_or, map, filter, refl, sym, ap, ◌∙◌, arith}
 use Rattle.std.specs.Prelude.{◌&&◌, Option, Some, None, IfSome, option_to_list}
 use Rattle.std.specs.List.{list_any}
 use Rattle.std.proofs.Math.Seq.{take-append_seam}
@@ -71,27 +71,18 @@ module _ {gains : Gains} {message t from k : ℕ} {old : List (List Debt)} {stri
 
   -- ArePaidTo stays true where strikes are put after the others
   pub paid-grown : (new : List Strike) → take (length strikes) new ≡ strikes → ArePaidTo gains message t from k old strikes rows → ArePaidTo gains message t from k old new rows
-  paid-grown new kept are =
-      let over = unchanged new kept are.accounts are.debts in
-      record { accounts = over.0; debts = over.1 }
+  paid-grown new kept are = let all = unchanged new kept are.accounts are.debts in grind (arith, all)
 
   -- ArePaidTo goes on with the next row, which is put after the others if it is paid
   pub paid-next : (owes : List Debt) (left : Option Account) → ArePaidTo gains message t from k old strikes rows → IfSome left (IsAccount gains strikes) →
       map (account_debts gains strikes) (option_to_list left) ≡ paid_rows message t (owes ∷ []) → owes ≡ owed_in old k → from ≤ k → k < length old →
       ArePaidTo gains message t from (k + 1) old strikes (rows ++ option_to_list left)
-  paid-next owes None are is debts same low within =
-      let more = paid_rows message t (from_to from k old) in
-      subst (λ r. ArePaidTo gains message t from (k + 1) old strikes r) (sym (append-nil rows)) (record {
-        accounts = are.accounts;
-        debts = are.debts ∙ ap (λ l. old ++ l) (sym (append-nil more) ∙ next-left message t from k old owes [] debts same low within);
-      })
+  paid-next owes None are is debts same low within = grind (arith, append-nil, next-left message t from k old owes [])
   paid-next owes (Some b) are is debts same low within =
-      let more = paid_rows message t (from_to from k old) in
-      let d = account_debts gains strikes b in
-      let put = pushed-to b d are.accounts are.debts is refl in
+      let put = pushed-to b (account_debts gains strikes b) are.accounts are.debts is refl in
       record {
         accounts = put.0;
-        debts = put.1 ∙ append_assoc old more (d ∷ []) ∙ ap (λ l. old ++ l) (next-left message t from k old owes (d ∷ []) debts same low within);
+        debts = grind (arith, put, append_assoc, next-left message t from k old owes (account_debts gains strikes b ∷ []));
       }
 
   -- the first rows are the old ones still

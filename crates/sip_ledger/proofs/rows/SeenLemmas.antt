@@ -1,6 +1,6 @@
 -- Accounts as contracts see them: a list of what each row owes.
 use Rattle.std.proofs.lemmas.Grind.{common_steps}
-use Rattle.std.proofs.Common.{◌≡◌, ◌≢◌, ℕ, ◌+◌, ◌<◌, ◌≤◌, ◌^◌, ◌==◌, true, false, List, [], ◌∷◌, ◌++◌, length, take, get_or, set, map, refl, sym, ap, ap₂, ◌∙◌, arith}
+use Rattle.std.proofs.Common.{◌≡◌, ◌≢◌, ℕ, ◌+◌, ◌<◌, ◌≤◌, ◌^◌, ◌==◌, true, false, List, [], ◌∷◌, ◌++◌, length, take, get_or, set, map, refl, sym, ap, ◌∙◌, arith}
 use Rattle.std.proofs.lemmas.Bool.Decides.{nat_tests}
 use Rattle.std.specs.Prelude.{IsTrue, Option, Some, None, IfSome, IfNone, Result, Ok, Err, IsErr, OnErr, ◌↔◌, is_err, is_some}
 use Rattle.std.specs.List.{list_any, sum_by}
@@ -41,10 +41,9 @@ module _ {gains : Gains} {strikes : List Strike} {rows : List Account} {seen : L
   pub account-at : (row : ℕ) (a : Account) → AreAccounts gains strikes rows → accounts_debts gains strikes rows ≡ seen → row < length seen → a ≡ get_or rows row a →
       IsAccount gains strikes a × (account_debts gains strikes a ≡ owed_in seen row)
   account-at row a are view inside is =
-      let within = row-inside row are view inside in (
-        row-account gains strikes rows row a within is are.each,
-        sym (row-debts gains strikes rows row a within is) ∙ ap (λ l. owed_in l row) view,
-      )
+      let within = row-inside row are view inside in
+      let debts = row-debts gains strikes rows row a within is in
+      grind (arith, row-account, debts)
 
   -- a row owes no more debts than were gained
   pub row-few : (row : ℕ) → AreAccounts gains strikes rows → accounts_debts gains strikes rows ≡ seen → row < length seen → length (owed_in seen row) < 2 ^ 64
@@ -61,9 +60,7 @@ module _ {gains : Gains} {strikes : List Strike} {rows : List Account} {seen : L
   pub changed-to : (new : List Strike) (row : ℕ) (a : Account) (debts : List Debt) → take (length strikes) new ≡ strikes →
       AreAccounts gains strikes rows → accounts_debts gains strikes rows ≡ seen → IsAccount gains new a → account_debts gains new a ≡ debts →
       AreAccounts gains new (set rows row a) × (accounts_debts gains new (set rows row a) ≡ set seen row debts)
-  changed-to new row a debts kept are view is owes =
-      let all = changed gains strikes new rows row a kept are is in
-      (all.0, all.1 ∙ ap₂ (λ l d. set l row d) view owes)
+  changed-to new row a debts kept are view is owes = let all = changed gains strikes new rows row a kept are is in grind (arith, all)
 
   -- where an account of a row becomes one whose debts are its by f, contracts see the row changed by f
   pub changed-by : (f : List Debt → List Debt) (new : List Strike) (row : ℕ) (a b : Account) → take (length strikes) new ≡ strikes →
@@ -76,9 +73,7 @@ module _ {gains : Gains} {strikes : List Strike} {rows : List Account} {seen : L
   -- where no account changes, and the strikes may have grown, contracts see the same rows
   pub unchanged : (new : List Strike) → take (length strikes) new ≡ strikes → AreAccounts gains strikes rows →
       accounts_debts gains strikes rows ≡ seen → AreAccounts gains new rows × (accounts_debts gains new rows ≡ seen)
-  unchanged new kept are view =
-      let all = kept-all gains strikes new rows kept are.each in
-      (record { gained = are.gained; each = all.0 }, all.1 ∙ view)
+  unchanged new kept are view = let all = kept-all gains strikes new rows kept are.each in grind (arith, all)
 
   -- where the gains may have grown, contracts see the same rows
   pub over-to : (new : Gains) → KeepsAccounts gains new → AreGains new → AreAccounts gains strikes rows → accounts_debts gains strikes rows ≡ seen →
@@ -126,9 +121,7 @@ softened-account gains strikes a is = grind (arith, nat_tests, soft-debts, soft-
 -- an account that does not end where it starts owes something
 nothing-owed : (gains : Gains) (strikes : List Strike) (a : Account) → IsAccount gains strikes a → a.start ≢ a.end → account_debts gains strikes a ≢ []
 unfolding account_debts
-nothing-owed gains strikes a is other none =
-    let early : a.start < a.end = omega (arith, is.order, other) in
-    some-debt (entries_of gains) (owes_at gains strikes a) (must_at gains a) a.start (omega (arith, early, is.end)) (is.begins early) none
+nothing-owed gains strikes a is other none = some-debt (entries_of gains) (owes_at gains strikes a) (must_at gains a) a.start (omega (arith, is.order, is.end, other)) (is.begins (omega (arith, is.order, other))) none
 
 -- an account owes nothing exactly if it ends where it starts
 pub owes-nothing : (gains : Gains) (strikes : List Strike) (a : Account) (debts : List Debt) → IsAccount gains strikes a → account_debts gains strikes a ≡ debts →

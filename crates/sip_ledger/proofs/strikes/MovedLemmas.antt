@@ -3,7 +3,6 @@ use Rattle.std.proofs.lemmas.Grind.{common_steps}
 use Rattle.std.proofs.Common.{◌≡◌, ℕ, ◌+◌, ◌<◌, ◌≤◌, ◌||◌, false, List, [], ◌∷◌, ◌++◌, length, take, get_or, map, refl, sym, ap, ap₂, ◌∙◌, arith}
 use Rattle.std.proofs.lemmas.Bool.Decides.{nat_tests}
 use Rattle.std.specs.Prelude.{All, max}
-use Rattle.std.proofs.Math.Bool.{or-false}
 use Rattle.std.proofs.lemmas.Bool.{cases_lt, false_from_ne_true, or_parts, true≢false}
 use Rattle.std.proofs.lemmas.List.{append_assoc, map-append, take_more}
 use Rattle.std.proofs.lemmas.List.Elements.{All-get_or, All-nil, All-push}
@@ -26,18 +25,9 @@ appended-more gains from strikes old new new' at d within was is = grind (arith,
 -- AreAppended goes on with a strike that is left out, since it strikes nothing that is left
 pub appended-fewer : (gains : Gains) (from : ℕ) (strikes old new : List Strike) (at : ℕ) (d : Strike) → at < length strikes → AreAppended gains from (take at strikes) old new →
     StrikesNoneFrom gains from (get_or strikes at d) → AreAppended gains from (take (at + 1) strikes) old new
-appended-fewer gains from strikes old new at d within was free = record {
-  more = was.more;
-  whole = was.whole;
-  thinned = record {
-    same = λ k low left.
-        let m = (entry_at (entries_of gains) k).message in
-        was.thinned.same k low left
-        ∙ sym (struck-next strikes at m k d within ∙ ap (λ b. is_struck (take at strikes) m k || b) (free k low left) ∙ or-false (is_struck (take at strikes) m k));
-    among = λ m k none.
-        was.thinned.among m k (or_parts (is_struck (take at strikes) m k) (is_out m k (get_or strikes at d)) (sym (struck-next strikes at m k d within) ∙ none)).0;
-  };
-}
+appended-fewer gains from strikes old new at d within was free =
+    let next : (m k : ℕ) → is_struck (take (at + 1) strikes) m k ≡ (is_struck (take at strikes) m k || is_out m k (get_or strikes at d)) = λ m k. struck-next strikes at m k d within in
+    record { more = was.more; whole = was.whole; thinned = grind (arith, nat_tests, next, was.thinned, free) }
 
 -- a strike strikes nothing that is left from the place on, where nothing of its message is left at its places from there on
 pub strikes-none : (gains : Gains) (place low : ℕ) (s : Strike) → low ≤ max s.from place → ((k : ℕ) → low ≤ k → k < s.to → holds gains.messages s.message k ≡ false) → StrikesNoneFrom gains place s
@@ -67,12 +57,11 @@ pub moved-more : (gains : Gains) (strikes old new : List Strike) (rows rows' : L
     IsMoved gains strikes old new (get_or rows at d) b → All (IsAccount gains strikes) rows → AreMoved gains strikes (take (at + 1) rows) new (rows' ++ b ∷ [])
 unfolding accounts_debts
 moved-more gains strikes old new rows rows' at d b within was moved each =
-    let a = get_or rows at d in
     let is = All-get_or (IsAccount gains strikes) rows at d within each in
     let kept = kept-all gains old new rows' moved.kept was.each in
     record {
-      each = All-push (IsAccount gains new) rows' b kept.0 (moved-account gains strikes old new a b moved is);
+      each = All-push (IsAccount gains new) rows' b kept.0 (moved-account gains strikes old new (get_or rows at d) b moved is);
       debts = map-append (account_debts gains new) rows' (b ∷ [])
-          ∙ ap₂ (λ l d. l ++ d ∷ []) (kept.1 ∙ was.debts) (moved-debts gains strikes old new a b moved)
-          ∙ sym (ap (map (account_debts gains strikes)) (take_more rows at d within) ∙ map-append (account_debts gains strikes) (take at rows) (a ∷ []));
+          ∙ ap₂ (λ l d. l ++ d ∷ []) (kept.1 ∙ was.debts) (moved-debts gains strikes old new (get_or rows at d) b moved)
+          ∙ sym (ap (map (account_debts gains strikes)) (take_more rows at d within) ∙ map-append (account_debts gains strikes) (take at rows) (get_or rows at d ∷ []));
     }

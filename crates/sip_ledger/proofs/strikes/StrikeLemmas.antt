@@ -114,13 +114,12 @@ longer-too gains place first old new l =
 pub more-too : (gains : Gains) (place first : ℕ) (old new : List Strike) → first ≤ length old →
     new ≡ old ++ (record { message = (entry_at (entries_of gains) place).message; from = place; to = place + 1 }) ∷ [] → StrikeToo gains place first old new
 more-too gains place first old new within is =
-    let m = (entry_at (entries_of gains) place).message in
-    let s : Strike = record { message = m; from = place; to = place + 1 } in
+    let s : Strike = record { message = (entry_at (entries_of gains) place).message; from = place; to = place + 1 } in
     let rest : drop first new ≡ drop first old ++ s ∷ [] = ap (drop first) is ∙ drop-append-le first old (s ∷ []) within in
     record {
       before = ap (take first) is ∙ take-append-le first old (s ∷ []) within;
-      struck = λ k left. ap (λ x. is_struck x (entry_at (entries_of gains) k).message k) rest ∙ added gains place k (drop first old);
-      bound = λ m' k past none. ap (λ x. is_struck x m' k) rest ∙ added-bound m' m place k (drop first old) past none;
+      struck = λ k left. grind (arith, rest, added gains place k (drop first old));
+      bound = λ m k past none. grind (arith, rest, added-bound);
     }
 
 -- a place lies up to `at` or is `at` exactly if it lies up to the one after `at`

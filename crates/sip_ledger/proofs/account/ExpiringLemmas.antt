@@ -1,17 +1,5 @@
 -- An account drops what is past, place by place.
-use Rattle.std.proofs.Common.{◌≡◌, ℕ, ◌+◌, ◌<◌, ◌≤◌, ◌&&◌, ◌||◌, Bool, true, false, List, length, take, filter, sym, ap, ◌∙◌, arith}
-use Rattle.std.proofs.lemmas.Bool.Decides.{nat_tests}
-use Rattle.std.specs.Prelude.{nat_le}
-use Rattle.std.proofs.Math.Bool.{and-false}
-use Rattle.std.proofs.lemmas.Bool.{cases_eq, cases_lt, lt-leb}
-use Rattle.std.proofs.Math.Seq.{take-length}
-use Rattle.std.proofs.lemmas.List.{get_or_default}
-use Rattle.sip_ledger.specs.declared.debt.Entry.{Entry}
-use Rattle.sip_ledger.specs.declared.accounts.account.Account.{Account}
-use Rattle.sip_ledger.specs.declared.accounts.gains.Gains.{Gains}
-use Rattle.sip_ledger.specs.declared.accounts.strikes.Strike.{Strike}
-use Rattle.sip_ledger.specs.Debts.{counts_at}
-use Rattle.sip_ledger.specs.inner.Accounts.{AreGains, IsAccount, IsExpiredTo, IsKept, IsWithout, account_debts, entries_of, entry_at, must_at, owes_at}
+use Rattle.sip_ledger.proofs.Words.{◌≡◌, ℕ, ◌+◌, ◌<◌, ◌≤◌, ◌&&◌, ◌||◌, Bool, true, false, List, length, take, filter, sym, ap, ◌∙◌, arith, nat_tests, nat_le, and-false, cases_eq, cases_lt, lt-leb, take-length, get_or_default, Entry, Account, Gains, Strike, counts_at, AreGains, IsAccount, IsExpiredTo, IsKept, IsWithout, account_debts, entries_of, entry_at, must_at, owes_at}
 use Rattle.sip_ledger.proofs.gains.LeftLemmas.{entries_long, rising_kept}
 use Rattle.sip_ledger.proofs.debts.ListedLemmas.{listed-counting, listed-same}
 use Rattle.sip_ledger.proofs.account.AccountLemmas.{empty-debts, kept-passed, past-end, soft-must}

@@ -1,16 +1,5 @@
 -- The first debt of an account that a send pays.
-use Rattle.std.proofs.Common.{◌≡◌, ◌≢◌, ℕ, ◌+◌, ◌<◌, ◌≤◌, ◌&&◌, Bool, true, false, not, List, sym, ap, ap₂, ◌∙◌, inl, inr, arith}
-use Rattle.std.proofs.lemmas.Bool.Decides.{nat_tests}
-use Rattle.std.specs.Prelude.{All, IsTrue, nat_le}
-use Rattle.std.proofs.Math.Bool.{and-false}
-use Rattle.std.proofs.lemmas.Bool.{and_right, cases_eq, cases_lt, eq-eqb, le-leb, lt-leb, lt-ltb, ne_eqb, true≢false}
-use Rattle.sip_ledger.specs.declared.debt.Entry.{Entry}
-use Rattle.sip_ledger.specs.declared.accounts.account.Account.{Account}
-use Rattle.sip_ledger.specs.declared.accounts.gains.Gains.{Gains}
-use Rattle.sip_ledger.specs.declared.accounts.strikes.Strike.{Strike}
-use Rattle.sip_ledger.specs.Debts.{is_payable, paid_by}
-use Rattle.sip_ledger.specs.inner.Accounts.{IsAccount, IsFirstPayable, IsWithout, account_debts, entries_of, entry_at, is_gone, is_struck, must_at, owes_at, pays_at, strikes_of}
-use Rattle.sip_ledger.specs.Indexes.{holds}
+use Rattle.sip_ledger.proofs.Words.{◌≡◌, ◌≢◌, ℕ, ◌+◌, ◌<◌, ◌≤◌, ◌&&◌, Bool, true, false, not, List, sym, ap, ap₂, ◌∙◌, inl, inr, arith, nat_tests, All, IsTrue, nat_le, and-false, and_right, cases_eq, cases_lt, eq-eqb, le-leb, lt-leb, lt-ltb, ne_eqb, true≢false, Entry, Account, Gains, Strike, is_payable, paid_by, IsAccount, IsFirstPayable, IsWithout, account_debts, entries_of, entry_at, is_gone, is_struck, must_at, owes_at, pays_at, strikes_of, holds}
 use Rattle.sip_ledger.proofs.gains.LeftLemmas.{gone-left, gone-struck, held_left, owed-left}
 use Rattle.sip_ledger.proofs.debts.ListedLemmas.{listed-each}
 use Rattle.sip_ledger.proofs.debts.OwedLemmas.{removed}

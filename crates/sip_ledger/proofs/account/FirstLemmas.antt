@@ -1,16 +1,5 @@
 -- The first debt of an account that a send of a message pays that stands under a key.
-use Rattle.std.proofs.Common.{◌≡◌, ◌≢◌, ℕ, ◌<◌, ◌≤◌, ◌==◌, ◌&&◌, Bool, true, false, not, List, length, ◌+◌, refl, sym, ap, ◌∙◌, subst, arith}
-use Rattle.std.specs.Prelude.{◌⊎◌, All, IfNone, IfSome, IsTrue, MatchOption, Option, None, Some, nat_le, nat_lt}
-use Rattle.std.proofs.lemmas.Bool.{cases_lt, lt-ltb, ltb-true, true≢false}
-use Rattle.std.proofs.lemmas.Bool.Decides.{nat_tests}
-use Rattle.sip_ledger.specs.declared.debt.Entry.{Entry}
-use Rattle.sip_ledger.specs.declared.accounts.account.Account.{Account}
-use Rattle.sip_ledger.specs.declared.accounts.gains.Gains.{Gains}
-use Rattle.sip_ledger.specs.declared.accounts.strikes.Strike.{Strike}
-use Rattle.sip_ledger.specs.Debts.{IsFirstPaid, PaysSome, is_payable}
-use Rattle.sip_ledger.specs.Entries.{debts_from}
-use Rattle.sip_ledger.specs.inner.Accounts.{AreGains, IsAccount, IsFirstOf, IsFirstPayable, IsKept, IsWithout, PaysSomeAt, account_debts, entries_of, entry_at, must_at, owes_at, pays_at, sooner}
-use Rattle.sip_ledger.specs.Indexes.{IsFirstFrom, IsNextUnder, NoneFrom, holds}
+use Rattle.sip_ledger.proofs.Words.{◌≡◌, ◌≢◌, ℕ, ◌<◌, ◌≤◌, ◌==◌, ◌&&◌, Bool, true, false, not, List, length, ◌+◌, refl, sym, ap, ◌∙◌, subst, arith, ◌⊎◌, All, IfNone, IfSome, IsTrue, MatchOption, Option, None, Some, nat_le, nat_lt, cases_lt, lt-ltb, ltb-true, true≢false, nat_tests, Entry, Account, Gains, Strike, IsFirstPaid, PaysSome, is_payable, debts_from, AreGains, IsAccount, IsFirstOf, IsFirstPayable, IsKept, IsWithout, PaysSomeAt, account_debts, entries_of, entry_at, must_at, owes_at, pays_at, sooner, IsFirstFrom, IsNextUnder, NoneFrom, holds}
 use Rattle.sip_ledger.proofs.debts.ListedLemmas.{listed-each}
 use Rattle.sip_ledger.proofs.debts.OwedLemmas.{removed}
 use Rattle.sip_ledger.proofs.debts.PayLemmas.{paid-is}

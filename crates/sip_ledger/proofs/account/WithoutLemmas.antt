@@ -1,21 +1,5 @@
 -- An account loses one of its debts.
-use Rattle.std.proofs.lemmas.Grind.{common_steps}
-use Rattle.std.proofs.Common.{◌≡◌, ◌≢◌, ℕ, ◌+◌, ◌-◌, ◌<◌, ◌≤◌, ◌%◌, ◌^◌, ◌&&◌, Bool, true, false, not, List, length, refl, sym, ap, ◌∙◌, arith, lit<}
-use Rattle.std.specs.Prelude.{nat_lt}
-use Rattle.std.specs.List.{sum_by}
-use Rattle.std.proofs.lemmas.Bool.{and_right, cases_lt, eq-eqb, le-leb, lt-leb, lt-ltb, ne_eqb, true≢false}
-use Rattle.std.proofs.Math.Bool.{and-false, or-false, or-true}
-use Rattle.std.proofs.lemmas.Bool.Decides.{nat_tests}
-use Rattle.std.proofs.lemmas.List.Sums.{sum_by-append, sum_by-cons}
-use Rattle.std.proofs.lemmas.Nat.{mod_below}
-use Rattle.std.proofs.Math.Nat.{add-mod_right, mod-add-mod, mod-eq_of_lt}
-use Rattle.sip_ledger.specs.declared.debt.Debt.{Debt}
-use Rattle.sip_ledger.specs.declared.accounts.account.Account.{Account}
-use Rattle.sip_ledger.specs.declared.accounts.gains.Gains.{Gains}
-use Rattle.sip_ledger.specs.declared.accounts.strikes.Strike.{Strike}
-use Rattle.sip_ledger.specs.Accounts.{debts_print, worth_of}
-use Rattle.sip_ledger.specs.Entries.{debt_of}
-use Rattle.sip_ledger.specs.inner.Accounts.{IsAccount, IsStruck, IsWithout, account_debts, entries_of, entry_at, is_gone, is_struck, must_at, owes_at, strikes_of}
+use Rattle.sip_ledger.proofs.Words.{common_steps, ◌≡◌, ◌≢◌, ℕ, ◌+◌, ◌-◌, ◌<◌, ◌≤◌, ◌%◌, ◌^◌, ◌&&◌, Bool, true, false, not, List, length, refl, sym, ap, ◌∙◌, arith, lit<, nat_lt, sum_by, and_right, cases_lt, eq-eqb, le-leb, lt-leb, lt-ltb, ne_eqb, true≢false, and-false, or-false, or-true, nat_tests, sum_by-append, sum_by-cons, mod_below, add-mod_right, mod-add-mod, mod-eq_of_lt, Debt, Account, Gains, Strike, debts_print, worth_of, debt_of, IsAccount, IsStruck, IsWithout, account_debts, entries_of, entry_at, is_gone, is_struck, must_at, owes_at, strikes_of}
 use Rattle.sip_ledger.proofs.debts.OwedLemmas.{IsCut, cut-at}
 use Rattle.sip_ledger.proofs.gains.LeftLemmas.{gone-same, gone-struck}
 use Rattle.sip_ledger.proofs.account.AccountLemmas.{owed-within, past-end, soft-must}

@@ -1,15 +1,5 @@
 -- The debts of a list of entries: `o` tells which places are owed, and `m` which of them must be sent.
-use Rattle.std.proofs.lemmas.Grind.{common_steps}
-use Rattle.std.proofs.lemmas.Bool.Decides.{nat_tests}
-use Rattle.std.proofs.Common.{◌≡◌, ℕ, zero, suc, ◌+◌, ◌-◌, ◌<◌, ◌≤◌, Bool, true, false, ◌&&◌, ◌||◌, cond, List, [], ◌∷◌, ◌++◌, length, take, drop, get_or, map, filter, refl, sym, ap, ◌∙◌, subst, arith, ap₂}
-use Rattle.std.specs.Prelude.{All, nat_le, Some, option_to_list, min}
-use Rattle.std.specs.List.{fold}
-use Rattle.std.proofs.lemmas.List.{append_cancel_right, drop_more, length-take-le, take-append-drop, take_more, get_or_default}
-use Rattle.std.proofs.lemmas.List.Elements.{All-nil, All-cons, All-head, All-tail}
-use Rattle.sip_ledger.specs.declared.debt.Debt.{Debt}
-use Rattle.sip_ledger.specs.declared.debt.Entry.{Entry}
-use Rattle.sip_ledger.specs.Debts.{counts_at, softened_debt, debt_deadlines, earliest}
-use Rattle.sip_ledger.specs.Entries.{debt_of, debts_from, IsGap}
+use Rattle.sip_ledger.proofs.Words.{common_steps, nat_tests, ◌≡◌, ℕ, zero, suc, ◌+◌, ◌-◌, ◌<◌, ◌≤◌, Bool, true, false, ◌&&◌, ◌||◌, cond, List, [], ◌∷◌, ◌++◌, length, take, drop, get_or, map, filter, refl, sym, ap, ◌∙◌, subst, arith, ap₂, All, nat_le, Some, option_to_list, min, fold, append_cancel_right, drop_more, length-take-le, take-append-drop, take_more, get_or_default, All-nil, All-cons, All-head, All-tail, Debt, Entry, counts_at, softened_debt, debt_deadlines, earliest, debt_of, debts_from, IsGap}
 
 -- what stands where there is no entry
 abbrev pub no_entry : Entry

@@ -1,11 +1,5 @@
 -- What debts a payment leaves.
-use Rattle.std.proofs.lemmas.Bool.Decides.{nat_tests}
-use Rattle.std.proofs.Common.{◌≡◌, ◌∙◌, ℕ, List, [], ◌∷◌, ◌++◌, All, refl, sym, ap, cond, arith}
-use Rattle.std.specs.Prelude.{IsTrue}
-use Rattle.std.proofs.lemmas.Bool.{false_from_ne_true}
-use Rattle.std.proofs.lemmas.List.Elements.{All-head, All-tail}
-use Rattle.sip_ledger.specs.declared.debt.Debt.{Debt}
-use Rattle.sip_ledger.specs.Debts.{IsWithoutFirst, is_payable, paid_by}
+use Rattle.sip_ledger.proofs.Words.{nat_tests, ◌≡◌, ◌∙◌, ℕ, List, [], ◌∷◌, ◌++◌, All, refl, sym, ap, cond, arith, IsTrue, false_from_ne_true, All-head, All-tail, Debt, IsWithoutFirst, is_payable, paid_by}
 
 module _ (message t : ℕ) where
   abbrev Unpaid : Debt → Type 0

@@ -1,14 +1,5 @@
 -- Gains that no account owes any more are let go.
-use Rattle.std.proofs.Common.{◌≡◌, ℕ, ◌+◌, ◌<◌, ◌≤◌, false, List, length, take, get_or, sym, ap, ◌∙◌, subst, arith}
-use Rattle.std.proofs.lemmas.Bool.Decides.{nat_tests}
-use Rattle.std.specs.Prelude.{All}
-use Rattle.std.proofs.lemmas.Bool.{cases_eq, cases_lt}
-use Rattle.std.proofs.lemmas.List.{take_more}
-use Rattle.std.proofs.lemmas.List.Elements.{All-push, All-weaker}
-use Rattle.sip_ledger.specs.declared.accounts.account.Account.{Account}
-use Rattle.sip_ledger.specs.declared.accounts.gains.Gains.{Gains}
-use Rattle.sip_ledger.specs.declared.accounts.strikes.Strike.{Strike}
-use Rattle.sip_ledger.specs.inner.Accounts.{AreGains, AreKept, IsClearedTo, IsDropped, IsLetGo, StartFrom, owes_at}
+use Rattle.sip_ledger.proofs.Words.{◌≡◌, ℕ, ◌+◌, ◌<◌, ◌≤◌, false, List, length, take, get_or, sym, ap, ◌∙◌, subst, arith, nat_tests, All, cases_eq, cases_lt, take_more, All-push, All-weaker, Account, Gains, Strike, AreGains, AreKept, IsClearedTo, IsDropped, IsLetGo, StartFrom, owes_at}
 use Rattle.sip_ledger.proofs.account.AccountLemmas.{OwesAlike, dropped-alike, let_go-alike, over-all, past-end}
 use Rattle.sip_ledger.proofs.account.WithoutLemmas.{before-start}
 

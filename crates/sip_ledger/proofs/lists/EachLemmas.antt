@@ -1,11 +1,6 @@
 -- Lists of which each element from one on changes, or after which some of them come once more.
-use Rattle.std.proofs.lemmas.Bool.Decides.{nat_tests}
+use Rattle.sip_ledger.proofs.Words.{nat_tests, Result, Ok, Err, OnOk, is_err, true≢false, ◌≡◌, ◌<◌, ◌≤◌, ◌⊎◌, inl, inr, ℕ, ◌+◌, Bool, false, List, [], ◌∷◌, ◌++◌, length, drop, take, get_or, set, map, filter, refl, ap, sym, ◌∙◌, arith, cond, append-nil, drop_all, length-append, length-drop, length-map, length-take, take-append-drop, take-append-le, take-take, take_all, All-drop, filter_more, map_fixed, from_to}
 use Prim.Native.Nat.{suc, zero}
-use Rattle.std.proofs.Common.{Result, Ok, Err, OnOk, is_err, true≢false, ◌≡◌, ◌<◌, ◌≤◌, ◌⊎◌, inl, inr, ℕ, ◌+◌, Bool, false, List, [], ◌∷◌, ◌++◌, length, drop, take, get_or, set, map, filter, refl, ap, sym, ◌∙◌, arith, cond}
-use Rattle.std.proofs.lemmas.List.{append-nil, drop_all, length-append, length-drop, length-map, length-take, take-append-drop, take-append-le, take-take, take_all}
-use Rattle.std.proofs.lemmas.List.Elements.{All-drop, filter_more}
-use Rattle.std.proofs.lemmas.List.Folds.{map_fixed}
-use Rattle.sip_ledger.specs.Lists.{from_to}
 
 -- what a result that is no error tells holds
 pub on_ok : {T E : Type 0} (r : Result T E) (P : Type 0) → is_err r ≡ false → OnOk r P → P

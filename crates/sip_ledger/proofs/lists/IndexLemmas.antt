@@ -1,10 +1,5 @@
 -- Indexes as pairs of a key and a number, and the order of the pairs.
-use Rattle.std.proofs.Common.{◌≡◌, ◌==◌, ◌&&◌, ◌<◌, ◌≤◌, ℕ, Bool, true, false, List, [], ◌∷◌, cond, length, refl, sym, ap, arith, true≢false}
-use Rattle.std.specs.Ordering.{is_eq, is_gt}
-use Rattle.std.specs.BTreeSet.{BTreeSet, IsKeyRangeOf, IsLowerBound, IsUpperBound}
-use Rattle.std.specs.declared.ops.Bound.TheVariants.{Included, Unbounded}
-use Rattle.std.proofs.lemmas.Bool.Decides.{nat_tests}
-use Rattle.sip_ledger.specs.Indexes.{pair_cmp, holds, IsFrom, IsFirstFrom, NoneFrom}
+use Rattle.sip_ledger.proofs.Words.{◌≡◌, ◌==◌, ◌&&◌, ◌<◌, ◌≤◌, ℕ, Bool, true, false, List, [], ◌∷◌, cond, length, refl, sym, ap, arith, true≢false, is_eq, is_gt, BTreeSet, IsKeyRangeOf, IsLowerBound, IsUpperBound, Included, Unbounded, nat_tests, pair_cmp, holds, IsFrom, IsFirstFrom, NoneFrom}
 
 -- two pairs compare as equal exactly if both their numbers are equal
 pub is_pair : (a b c d : ℕ) → is_eq (pair_cmp (a, b) (c, d)) ≡ (c == a && d == b)

@@ -1,11 +1,5 @@
 -- Some elements of a list, at rising places, are kept and come to its front.
-use Rattle.std.proofs.Common.{◌≡◌, ℕ, zero, suc, ◌+◌, ◌-◌, ◌<◌, ◌≤◌, List, length, take, get_or, set, map, arith}
-use Rattle.std.proofs.lemmas.Bool.Decides.{nat_tests}
-use Rattle.std.specs.Prelude.{All}
-use Rattle.std.proofs.lemmas.Bool.{cases_eq, cases_lt}
-use Rattle.std.proofs.lemmas.List.{length-set, get_or-map, get_or_default, length-map, get_or-set_same, get_or-set_other, get_or-take, length-take-le, same_lists}
-use Rattle.std.proofs.lemmas.List.Elements.{All-get_or}
-use Rattle.sip_ledger.specs.Lists.{Rise}
+use Rattle.sip_ledger.proofs.Words.{◌≡◌, ℕ, zero, suc, ◌+◌, ◌-◌, ◌<◌, ◌≤◌, List, length, take, get_or, set, map, arith, nat_tests, All, cases_eq, cases_lt, length-set, get_or-map, get_or_default, length-map, get_or-set_same, get_or-set_other, get_or-take, length-take-le, same_lists, All-get_or, Rise}
 
 -- each number of a list that rises is at least its place in the list
 pub rise-above : (places : List ℕ) (i : ℕ) → Rise places → i < length places → i ≤ get_or places i 0

@@ -1,15 +1,5 @@
 -- Many rows gain a debt, and rows of which nothing is past lose nothing.
-use Rattle.std.proofs.lemmas.Bool.Decides.{nat_tests}
-use Rattle.std.proofs.Common.{◌≡◌, ◌<◌, ◌≤◌, ℕ, ◌+◌, true, List, [], ◌∷◌, ◌++◌, length, drop, take, get_or, set, map, filter, refl, sym, ap, ◌∙◌, arith}
-use Rattle.std.specs.Prelude.{All, fold, min, nat_le}
-use Rattle.std.proofs.lemmas.Bool.{le-leb, or_right}
-use Rattle.std.proofs.lemmas.List.Elements.{All-filter, All-get_or, All-head, All-map, All-tail, All-weaker}
-use Rattle.sip_ledger.specs.declared.debt.Debt.{Debt}
-use Rattle.sip_ledger.specs.declared.accounts.account.Account.{Account}
-use Rattle.sip_ledger.specs.declared.accounts.gains.Gains.{Gains}
-use Rattle.sip_ledger.specs.declared.accounts.strikes.Strike.{Strike}
-use Rattle.sip_ledger.specs.Debts.{counts_at, debt_deadlines, earliest, is_timely, is_within}
-use Rattle.sip_ledger.specs.inner.Accounts.{AreAccounts, AreGains, IsAccount, IsKept, KeepsAccounts, account_debts, accounts_debts, entries_of, entry_at, must_at, owes_at}
+use Rattle.sip_ledger.proofs.Words.{nat_tests, ◌≡◌, ◌<◌, ◌≤◌, ℕ, ◌+◌, true, List, [], ◌∷◌, ◌++◌, length, drop, take, get_or, set, map, filter, refl, sym, ap, ◌∙◌, arith, All, fold, min, nat_le, le-leb, or_right, All-filter, All-get_or, All-head, All-map, All-tail, All-weaker, Debt, Account, Gains, Strike, counts_at, debt_deadlines, earliest, is_timely, is_within, AreAccounts, AreGains, IsAccount, IsKept, KeepsAccounts, account_debts, accounts_debts, entries_of, entry_at, must_at, owes_at}
 use Rattle.sip_ledger.proofs.debts.ListedLemmas.{listed-each}
 use Rattle.sip_ledger.proofs.lists.EachLemmas.{changing, changing-front, changing-length, changing-more, changing-all, unchanged-each}
 use Rattle.sip_ledger.proofs.account.AccountLemmas.{debts_length}

@@ -1,22 +1,5 @@
 -- Which messages the accounts owe.
-use Rattle.std.proofs.Common.{◌≡◌, ℕ, ◌+◌, ◌-◌, ◌<◌, ◌≤◌, ◌==◌, true, false, List, [], ◌∷◌, ◌++◌, length, get_or, map, refl, sym, ap, ◌∙◌, subst, inl, inr, arith}
-use Rattle.std.proofs.lemmas.Bool.Decides.{nat_tests}
-use Rattle.std.specs.Prelude.{All, Contains}
-use Rattle.std.specs.List.{list_any}
-use Rattle.std.proofs.Math.Bool.{and-true}
-use Rattle.std.proofs.lemmas.Bool.{cases_eq, cases_lt, eqb-true, false_from_ne_true, le-leb, true≢false}
-use Rattle.std.proofs.lemmas.List.{append_assoc, get_or_append_left, get_or_default, get_or_push, length_push}
-use Rattle.std.proofs.lemmas.List.Elements.{All-map, Contains-append_left, Contains-push, Contains-push_cases}
-use Rattle.std.proofs.lemmas.List.Folds.{list_any_at, list_any_none}
-use Rattle.sip_ledger.specs.declared.debt.Debt.{Debt}
-use Rattle.sip_ledger.specs.declared.accounts.account.Account.{Account}
-use Rattle.sip_ledger.specs.declared.accounts.gains.Gains.{Gains}
-use Rattle.sip_ledger.specs.declared.accounts.strikes.Strike.{Strike}
-use Rattle.sip_ledger.specs.Accounts.{AppendsOwed, owes_message, some_owes}
-use Rattle.sip_ledger.specs.Debts.{is_payable}
-use Rattle.sip_ledger.specs.Lists.{Rise}
-use Rattle.sip_ledger.specs.inner.Accounts.{account_debts, accounts_debts, entries_of, entry_at, must_at, owes_at}
-use Rattle.sip_ledger.specs.Indexes.{holds}
+use Rattle.sip_ledger.proofs.Words.{◌≡◌, ℕ, ◌+◌, ◌-◌, ◌<◌, ◌≤◌, ◌==◌, true, false, List, [], ◌∷◌, ◌++◌, length, get_or, map, refl, sym, ap, ◌∙◌, subst, inl, inr, arith, nat_tests, All, Contains, list_any, and-true, cases_eq, cases_lt, eqb-true, false_from_ne_true, le-leb, true≢false, append_assoc, get_or_append_left, get_or_default, get_or_push, length_push, All-map, Contains-append_left, Contains-push, Contains-push_cases, list_any_at, list_any_none, Debt, Account, Gains, Strike, AppendsOwed, owes_message, some_owes, is_payable, Rise, account_debts, accounts_debts, entries_of, entry_at, must_at, owes_at, holds}
 use Rattle.sip_ledger.proofs.debts.ListedLemmas.{listed-each}
 use Rattle.sip_ledger.proofs.account.AccountLemmas.{debts_length, row-debts}
 use Rattle.sip_ledger.proofs.gains.LeftLemmas.{held_left, owed-left}

@@ -1,19 +1,5 @@
 -- Rows that a send pays are put after the others, without the debt that it pays.
-use Rattle.std.proofs.lemmas.Grind.{common_steps}
-use Rattle.std.proofs.lemmas.Bool.Decides.{nat_tests}
-use Rattle.std.proofs.Common.{◌≡◌, ◌<◌, ◌≤◌, ℕ, ◌+◌, Bool, true, false, cond, List, [], ◌∷◌, ◌++◌, length, take, get_or, map, filter, refl, sym, ap, ◌∙◌, arith}
-use Rattle.std.specs.Prelude.{◌&&◌, Option, Some, None, IfSome, option_to_list}
-use Rattle.std.specs.List.{list_any}
-use Rattle.std.proofs.Math.Seq.{take-append_seam}
-use Rattle.std.proofs.lemmas.List.{append-nil, append_assoc, get_or_append_left, length-append, map-append}
-use Rattle.sip_ledger.specs.declared.debt.Debt.{Debt}
-use Rattle.sip_ledger.specs.declared.accounts.account.Account.{Account}
-use Rattle.sip_ledger.specs.declared.accounts.gains.Gains.{Gains}
-use Rattle.sip_ledger.specs.declared.accounts.strikes.Strike.{Strike}
-use Rattle.sip_ledger.specs.Accounts.{owed_in, paid_rows}
-use Rattle.sip_ledger.specs.Debts.{counts_at, is_payable, is_timely, paid_by}
-use Rattle.sip_ledger.specs.Lists.{from_to}
-use Rattle.sip_ledger.specs.inner.Accounts.{AreAccounts, IsAccount, account_debts, accounts_debts}
+use Rattle.sip_ledger.proofs.Words.{common_steps, nat_tests, ◌≡◌, ◌<◌, ◌≤◌, ℕ, ◌+◌, Bool, true, false, cond, List, [], ◌∷◌, ◌++◌, length, take, get_or, map, filter, refl, sym, ap, ◌∙◌, arith, ◌&&◌, Option, Some, None, IfSome, option_to_list, list_any, take-append_seam, append-nil, append_assoc, get_or_append_left, length-append, map-append, Debt, Account, Gains, Strike, owed_in, paid_rows, counts_at, is_payable, is_timely, paid_by, from_to, AreAccounts, IsAccount, account_debts, accounts_debts}
 use Rattle.sip_ledger.proofs.debts.PayLemmas.{unpaid-is}
 use Rattle.sip_ledger.proofs.lists.EachLemmas.{from_to-end, passing-more}
 use Rattle.sip_ledger.proofs.account.AccountLemmas.{debts_length}

@@ -1,17 +1,6 @@
 -- Accounts whose strikes are written anew owe what they owed.
-use Rattle.std.proofs.lemmas.Grind.{common_steps}
-use Rattle.std.proofs.Common.{◌≡◌, ℕ, ◌+◌, ◌<◌, ◌≤◌, ◌||◌, false, List, [], ◌∷◌, ◌++◌, length, take, get_or, map, refl, sym, ap, ap₂, ◌∙◌, arith}
-use Rattle.std.proofs.lemmas.Bool.Decides.{nat_tests}
-use Rattle.std.specs.Prelude.{All, max}
-use Rattle.std.proofs.lemmas.Bool.{cases_lt, false_from_ne_true, or_parts, true≢false}
-use Rattle.std.proofs.lemmas.List.{append_assoc, map-append, take_more}
-use Rattle.std.proofs.lemmas.List.Elements.{All-get_or, All-nil, All-push}
+use Rattle.sip_ledger.proofs.Words.{common_steps, ◌≡◌, ℕ, ◌+◌, ◌<◌, ◌≤◌, ◌||◌, false, List, [], ◌∷◌, ◌++◌, length, take, get_or, map, refl, sym, ap, ap₂, ◌∙◌, arith, nat_tests, All, max, cases_lt, false_from_ne_true, or_parts, true≢false, append_assoc, map-append, take_more, All-get_or, All-nil, All-push, Account, Gains, Strike, AreAppended, AreMoved, IsAccount, IsMoved, StrikesNoneFrom, account_debts, accounts_debts, entries_of, entry_at, is_out, is_struck, owes_at, holds}
 use Rattle.sip_ledger.proofs.strikes.StrikeLemmas.{out-parts, struck-next, struck-push}
-use Rattle.sip_ledger.specs.declared.accounts.account.Account.{Account}
-use Rattle.sip_ledger.specs.declared.accounts.gains.Gains.{Gains}
-use Rattle.sip_ledger.specs.declared.accounts.strikes.Strike.{Strike}
-use Rattle.sip_ledger.specs.inner.Accounts.{AreAppended, AreMoved, IsAccount, IsMoved, StrikesNoneFrom, account_debts, accounts_debts, entries_of, entry_at, is_out, is_struck, owes_at}
-use Rattle.sip_ledger.specs.Indexes.{holds}
 use Rattle.sip_ledger.proofs.gains.LeftLemmas.{gone-same, held_left}
 use Rattle.sip_ledger.proofs.debts.ListedLemmas.{listed-same}
 use Rattle.sip_ledger.proofs.account.AccountLemmas.{kept-all, soft-must}

@@ -1,4 +1,4 @@
-use Rattle.std.proofs.Common.{◌≡◌, length, arith}
+use Rattle.sip_ledger.proofs.Words.{◌≡◌, length, arith}
 use Rattle.sip_ledger.proofs.debts.RunLemmas.{widened-run}
 use Rattle.sip_ledger.proofs.run.append.Goals as goal
 

@@ -1,6 +1,4 @@
-use Rattle.std.proofs.Common.{false}
-use Rattle.std.proofs.lemmas.List.{take_more}
-use Rattle.sip_ledger.specs.declared.debt.Debt.{Debt}
+use Rattle.sip_ledger.proofs.Words.{false, take_more, Debt}
 use Rattle.sip_ledger.proofs.run.runs_of.Goals as goal
 
 abbrev no_debt : Debt

@@ -1,4 +1,4 @@
-use Rattle.std.proofs.Common.{sym, arith}
+use Rattle.sip_ledger.proofs.Words.{sym, arith}
 use Rattle.sip_ledger.proofs.account.AccountLemmas.{kept-passed}
 use Rattle.sip_ledger.proofs.account.ExpiringLemmas.{expired-rising}
 use Rattle.sip_ledger.proofs.rows.GainEachLemmas.{none-goes}

@@ -1,6 +1,4 @@
-use Rattle.std.proofs.Common.{◌+◌, subst, arith}
-use Rattle.sip_ledger.specs.Indexes.{holds}
-use Rattle.sip_ledger.specs.inner.Accounts.{IsFirstOf, entries_of, entry_at, owes_at}
+use Rattle.sip_ledger.proofs.Words.{◌+◌, subst, arith, holds, IsFirstOf, entries_of, entry_at, owes_at}
 use Rattle.sip_ledger.proofs.account.FirstLemmas.{below, below-parts, found-kept, left-next, newest-first, none-left, none-under, one-more}
 use Rattle.sip_ledger.proofs.accounts.account.find_under.Goals.{then-left-message+else-is_newest+in_ok-from, else-left-message}
 use Rattle.sip_ledger.proofs.accounts.account.find_under.Goals as goal

@@ -1,4 +1,4 @@
-use Rattle.sip_ledger.specs.inner.Accounts.{IsFirstOf, entries_of, owes_at}
+use Rattle.sip_ledger.proofs.Words.{IsFirstOf, entries_of, owes_at}
 use Rattle.sip_ledger.proofs.account.FirstLemmas.{below}
 use Rattle.sip_ledger.proofs.accounts.account.find_under.Given as goal
 

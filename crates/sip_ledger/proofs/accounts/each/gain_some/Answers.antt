@@ -1,4 +1,4 @@
-use Rattle.std.proofs.Common.{◌∙◌, arith}
+use Rattle.sip_ledger.proofs.Words.{◌∙◌, arith}
 use Rattle.sip_ledger.proofs.rows.GainEachLemmas.{debts-count, gained-grown, gained-more, gained-over}
 use Rattle.sip_ledger.proofs.accounts.each.gain_some.Goals as goal
 

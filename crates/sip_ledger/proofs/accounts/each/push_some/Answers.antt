@@ -1,5 +1,4 @@
-use Rattle.std.proofs.Common.{◌+◌, inl, sym, subst, arith}
-use Rattle.sip_ledger.specs.inner.Accounts.{AreAccounts, account_debts, accounts_debts}
+use Rattle.sip_ledger.proofs.Words.{◌+◌, inl, sym, subst, arith, AreAccounts, account_debts, accounts_debts}
 use Rattle.sip_ledger.proofs.account.AccountLemmas.{debts_length}
 use Rattle.sip_ledger.proofs.rows.PaidLemmas.{ArePaidTo, account-there, paid-grown, paid-next}
 use Rattle.sip_ledger.proofs.accounts.each.push_some.Goals as goal

@@ -1,4 +1,4 @@
-use Rattle.std.proofs.Common.{◌≡◌, ◌∙◌, length, arith}
+use Rattle.sip_ledger.proofs.Words.{◌≡◌, ◌∙◌, length, arith}
 use Rattle.sip_ledger.proofs.gains.LeftLemmas.{entries_long}
 use Rattle.sip_ledger.proofs.strikes.StrikeLemmas.{written-more, written-none}
 use Rattle.sip_ledger.proofs.accounts.strikes.write.Goals as goal

@@ -1,5 +1,4 @@
-use Rattle.std.proofs.Common.{subst}
-use Rattle.sip_ledger.specs.Indexes.{IsFirstFrom, NoneFrom}
+use Rattle.sip_ledger.proofs.Words.{subst, IsFirstFrom, NoneFrom}
 use Rattle.sip_ledger.proofs.lists.IndexLemmas.{range-first, range-none}
 use Rattle.sip_ledger.proofs.index.Index.first_from.Goals as goal
 

@@ -455,6 +455,15 @@ fn is_timely(list: &[Debt], moment: u64) -> bool {
     earliest_must(list).is_none_or(|deadline| moment <= deadline)
 }
 
+/// A debt of the message.
+pub(crate) fn owed(message: u64, deadline: u64, must: bool) -> Debt {
+    Debt {
+        message,
+        deadline,
+        must,
+    }
+}
+
 /// Some rows gain, each one of three messages.
 fn gain_some(
     rt: &impl Abort,
@@ -466,12 +475,7 @@ fn gain_some(
     for row in 0..played.lists.len() {
         if chance.below(3) != 0 {
             let message = chance.below(3);
-            let debt = Debt {
-                message,
-                deadline,
-                must,
-            };
-            played.gain_and_expire(rt, row, debt, 0)?;
+            played.gain_and_expire(rt, row, owed(message, deadline, must), 0)?;
         }
     }
     Ok(())
@@ -486,23 +490,15 @@ fn change_rows(
     let row = played.row(rt, chance);
     let other = played.row(rt, chance);
     match chance.below(8) {
-        0 if played.lists.len() < 12 => played.push(rt),
-        1 | 2 if played.lists.len() < 12 => played.push_copy(rt, row),
-        3 => played.copy(rt, row, other),
-        4 if played.lists.len() > 6 => {
-            played.truncate();
-            Ok(())
-        }
-        5 if played.lists.len() > 3 => played.keep_some(rt),
-        6 if chance.below(8) == 0 => {
-            played.clear(rt, row);
-            Ok(())
-        }
-        _ => {
-            played.accounts.tidy();
-            Ok(())
-        }
+        0 if played.lists.len() < 12 => played.push(rt)?,
+        1 | 2 if played.lists.len() < 12 => played.push_copy(rt, row)?,
+        3 => played.copy(rt, row, other)?,
+        4 if played.lists.len() > 6 => played.truncate(),
+        5 if played.lists.len() > 3 => played.keep_some(rt)?,
+        6 if chance.below(8) == 0 => played.clear(rt, row),
+        _ => played.accounts.tidy(),
     }
+    Ok(())
 }
 
 /// Many rows change at once.
@@ -516,26 +512,17 @@ fn change_many(
     let to = played.row(rt, chance);
     let message = chance.below(3);
     match chance.below(6) {
-        0 if played.lists.len() < 12 => played.push_timely(rt, from, to, moment),
-        1 => played.expire_each(rt, from, moment),
+        0 if played.lists.len() < 12 => played.push_timely(rt, from, to, moment)?,
+        1 => played.expire_each(rt, from, moment)?,
         2 => {
-            let debt = Debt {
-                message,
-                deadline: moment.saturating_add(5),
-                must: chance.below(2) == 0,
-            };
-            played.gain_each(rt, from, debt)
+            let must = chance.below(2) == 0;
+            played.gain_each(rt, from, owed(message, moment.saturating_add(5), must))?;
         }
-        3 if played.lists.len() > 6 => {
-            played.drop_first(rt);
-            Ok(())
-        }
-        _ if played.lists.len() < 12 => played.push_paid(rt, from, to, message, moment),
-        _ => {
-            played.truncate();
-            Ok(())
-        }
+        3 if played.lists.len() > 6 => played.drop_first(rt),
+        _ if played.lists.len() < 12 => played.push_paid(rt, from, to, message, moment)?,
+        _ => played.truncate(),
     }
+    Ok(())
 }
 
 /// A step by chance. Deadlines rise, or do not.
@@ -586,16 +573,10 @@ fn steps(
     Ok(())
 }
 
-/// So many steps from this number on, on new accounts.
-fn play(rt: &(impl Abort + AllocGlobal), seed: u64, count: u64, rises: bool) -> Result<(), Fail> {
-    let mut played = Played::new(rt)?;
-    steps(rt, &mut played, seed, count, rises)
-}
-
 #[test]
 fn accounts_owe_what_plain_lists_have(rt: HostRuntime) -> Result<(), Fail> {
     for seed in 0..12 {
-        play(&rt, seed, 80, seed % 2 == 0)?;
+        steps(&rt, &mut Played::new(&rt)?, seed, 80, seed % 2 == 0)?;
     }
     Ok(())
 }
@@ -614,11 +595,7 @@ fn step_with_past(
         1 if played.lists.len() < 6 => played.push_copy(rt, row)?,
         1 => played.soften(rt, row),
         2 | 3 => {
-            let debt = Debt {
-                message,
-                deadline: now.saturating_add(5),
-                must: chance.below(2) == 0,
-            };
+            let debt = owed(message, now.saturating_add(5), chance.below(2) == 0);
             played.gain_and_expire(rt, row, debt, *now)?;
         }
         _ => played.pay_and_expire(rt, row, message, *now)?,
@@ -641,16 +618,10 @@ fn steps_with_past(
     Ok(())
 }
 
-/// So many steps from this number on, on new accounts.
-fn play_with_past(rt: &(impl Abort + AllocGlobal), seed: u64, count: u64) -> Result<(), Fail> {
-    let mut played = Played::new(rt)?;
-    steps_with_past(rt, &mut played, seed, count)
-}
-
 #[test]
 fn rows_gain_and_pay_and_lose_what_is_past(rt: HostRuntime) -> Result<(), Fail> {
     for seed in 0..4 {
-        play_with_past(&rt, seed, 100)?;
+        steps_with_past(&rt, &mut Played::new(&rt)?, seed, 100)?;
     }
     Ok(())
 }
@@ -661,13 +632,8 @@ fn gains_and_pays(
     played: &mut Played,
     count: usize,
 ) -> Result<(), Fail> {
-    let debt = Debt {
-        message: 7,
-        deadline: 10,
-        must: true,
-    };
     for _ in 0..count {
-        played.gain_and_expire(rt, 0, debt, 0)?;
+        played.gain_and_expire(rt, 0, owed(7, 10, true), 0)?;
     }
     played.agree(rt)?;
     for _ in 0..count {
@@ -677,28 +643,18 @@ fn gains_and_pays(
     played.agree(rt)
 }
 
-/// A row of new accounts gains so many equal debts, and pays them and one more.
-fn gains_and_pays_anew(rt: &(impl Abort + AllocGlobal), count: usize) -> Result<(), Fail> {
-    let mut played = Played::new(rt)?;
-    gains_and_pays(rt, &mut played, count)
-}
-
 /// A row owes equal debts as often as it gained them, also about the counts at which a word of 64 bits would end.
 #[test]
 fn equal_debts_count_as_often_as_they_were_gained(rt: HostRuntime) -> Result<(), Fail> {
     for count in [0, 1, 63, 64, 65] {
-        gains_and_pays_anew(&rt, count)?;
+        gains_and_pays(&rt, &mut Played::new(&rt)?, count)?;
     }
     Ok(())
 }
 
 /// A moment at which debts come to both rows, and the rows pay or let others expire.
 fn lives(rt: &(impl Abort + AllocGlobal), played: &mut Played, moment: u64) -> Result<(), Fail> {
-    let debt = Debt {
-        message: moment % 5,
-        deadline: moment.saturating_add(3),
-        must: moment % 7 == 0,
-    };
+    let debt = owed(moment % 5, moment.saturating_add(3), moment % 7 == 0);
     played.gain_and_expire(rt, 0, debt, 0)?;
     played.gain_and_expire(rt, 1, debt, 0)?;
     played.pay_and_expire(rt, 0, moment.saturating_add(3) % 5, moment)?;
@@ -709,35 +665,21 @@ fn lives(rt: &(impl Abort + AllocGlobal), played: &mut Played, moment: u64) -> R
     played.agree(rt)
 }
 
-/// Two rows live for so many moments.
-fn lives_long(
-    rt: &(impl Abort + AllocGlobal),
-    played: &mut Played,
-    moments: u64,
-) -> Result<(), Fail> {
-    played.push_copy(rt, 0)?;
-    for moment in 0..moments {
-        lives(rt, played, moment)?;
-    }
-    Ok(())
-}
-
 /// Two rows to which debts come at each moment, and that pay them or let them expire: what was gained long ago is dropped.
 #[test]
 fn what_is_owed_is_told_after_a_long_life(rt: HostRuntime) -> Result<(), Fail> {
     let mut played = Played::new(&rt)?;
-    lives_long(&rt, &mut played, 150)
+    played.push_copy(&rt, 0)?;
+    for moment in 0..150 {
+        lives(&rt, &mut played, moment)?;
+    }
+    Ok(())
 }
 
 /// The first row comes to owe a hundred messages, and pays them in a mixed order.
 fn pays_in_any_order(rt: &(impl Abort + AllocGlobal), played: &mut Played) -> Result<(), Fail> {
     for message in 0..100 {
-        let debt = Debt {
-            message,
-            deadline: 10,
-            must: message % 2 == 0,
-        };
-        played.gain_and_expire(rt, 0, debt, 0)?;
+        played.gain_and_expire(rt, 0, owed(message, 10, message % 2 == 0), 0)?;
     }
     for step in 0..100_u64 {
         played.pay_and_expire(rt, 0, step * 37 % 100, 5)?;

@@ -353,26 +353,12 @@ impl Accounts {
     pub fn tidy(&mut self)
         ensures { self.new ≡ self.old }
     {
-        self.let_go_paid();
-        self.drop_front();
-        self.thin();
-    }
-
-    /// Lets the first gains of the message that was paid go, as far as no row owes them.
-    fn let_go_paid(&mut self)
-        ensures { self.new ≡ self.old }
-    {
         if let Some(message) = self.paid {
             let_go(&mut self.gains, &self.strikes, &self.rows, message);
             self.paid = None;
         }
-    }
-
-    /// Drops the gains before all that is owed, where they are more than half of those that are kept.
-    fn drop_front(&mut self)
-        ensures { self.new ≡ self.old }
-    {
         drop_front(&mut self.gains, &self.strikes, &self.rows);
+        self.thin();
     }
 
     /// Lets strikes go that no row has, or that strike nothing that is left, where there are four times as many as rows have. Where there

@@ -124,7 +124,11 @@ impl Dues {
     {
         match &mut self.accounts {
             Some(accounts) => accounts.gain_and_expire(row, debt, moment)?,
-            None => self.accounts = Some(opened(alloc, self.rows, row, debt, moment)?),
+            None => {
+                let mut accounts = blank(alloc, self.rows)?;
+                accounts.gain_and_expire(row, debt, moment)?;
+                self.accounts = Some(Box::new(alloc, accounts)?);
+            }
         }
         Ok(())
     }
@@ -239,7 +243,11 @@ impl Dues {
                 let prints = accounts.prints(alloc, from)?;
                 Ok(prints)
             }
-            None => zeros(alloc, self.rows, from),
+            None => {
+                let mut prints = Vec::with_capacity(alloc, self.rows - from)?;
+                prints.resize(self.rows - from, 0)?;
+                Ok(prints)
+            }
         }
     }
 
@@ -345,22 +353,6 @@ impl Dues {
     }
 }
 
-/// Accounts of `rows` rows, of which the row `row` owes this debt, as far as it counts at the moment, and no other owes anything.
-fn opened(
-    alloc: Global,
-    rows: usize,
-    row: usize,
-    debt: Debt,
-    moment: u64,
-) -> Result<Box<Accounts>, AllocError>
-    requires { row < rows }
-    ensures { IfOk result (λ boxed. boxed.value ≡ set (rows_in rows None) row (filter (counts_at moment) (owed_in (rows_in rows None) row ++ debt ∷ []))) }
-{
-    let mut accounts = blank(alloc, rows)?;
-    accounts.gain_and_expire(row, debt, moment)?;
-    Ok(Box::new(alloc, accounts)?)
-}
-
 /// Accounts of `rows` rows that owe nothing.
 fn blank(alloc: Global, rows: usize) -> Result<Accounts, AllocError>
     ensures { IfOk result (λ accounts. accounts ≡ rows_in rows None) }
@@ -373,6 +365,7 @@ fn blank(alloc: Global, rows: usize) -> Result<Accounts, AllocError>
 }
 
 /// Whether no row of the accounts owes anything.
+#[tactic(auto, using(crate::proofs::debts::DueLemmas::blank_rows))]
 fn is_blank(accounts: &Accounts) -> bool
     ensures { IsTrue result → (accounts.now ≡ rows_in (length accounts.now) None) }
 {
@@ -382,14 +375,4 @@ fn is_blank(accounts: &Accounts) -> bool
         }
     }
     true
-}
-
-/// A print for each row from `from` on of `rows` rows that owe nothing: the same for all.
-fn zeros(alloc: Global, rows: usize, from: usize) -> Result<Vec<u64>, AllocError>
-    requires { from ≤ rows }
-    ensures { IfOk result (λ prints. ArePrints (rows_in rows None) from prints.items) }
-{
-    let mut prints = Vec::with_capacity(alloc, rows - from)?;
-    prints.resize(rows - from, 0)?;
-    Ok(prints)
 }

@@ -1,15 +1,5 @@
 -- Gains that no account owes any more are let go.
-use Rattle.std.proofs.Common.{◌≡◌, ℕ, ◌+◌, ◌<◌, ◌≤◌, false, List, length, take, get_or, sym, ap, ◌∙◌, subst, inl, inr, arith}
-use Rattle.std.proofs.lemmas.Bool.Decides.{nat_tests}
-use Rattle.std.specs.Prelude.{All}
-use Rattle.std.proofs.lemmas.Bool.{cases_eq, cases_lt}
-use Rattle.std.proofs.lemmas.List.{take_more}
-use Rattle.std.proofs.lemmas.List.Elements.{All-push, All-weaker}
-use Rattle.sip_ledger.specs.declared.accounts.account.Account.{Account}
-use Rattle.sip_ledger.specs.declared.accounts.gains.Gains.{Gains}
-use Rattle.sip_ledger.specs.declared.accounts.strikes.Strike.{Strike}
-use Rattle.sip_ledger.specs.inner.Accounts.{AreGains, AreKept, IsClearedTo, IsDropped, IsLetGo, StartFrom, owes_at}
-use Rattle.sip_ledger.specs.Indexes.{holds}
+use Rattle.sip_ledger.proofs.Words.{◌≡◌, ℕ, ◌+◌, ◌<◌, ◌≤◌, false, List, length, take, get_or, sym, ap, ◌∙◌, subst, arith, nat_tests, All, cases_eq, cases_lt, take_more, All-push, All-weaker, Account, Gains, Strike, AreGains, AreKept, IsClearedTo, IsDropped, IsLetGo, StartFrom, owes_at}
 use Rattle.sip_ledger.proofs.account.AccountLemmas.{OwesAlike, dropped-alike, let_go-alike, over-all, past-end}
 use Rattle.sip_ledger.proofs.account.WithoutLemmas.{before-start}
 
@@ -21,14 +11,9 @@ kept-less first old new strikes rows place was gone are unowed =
     let all = over-all old new strikes rows (omega (arith, ap length gone.entries)) alike was.accounts.each in
     record { accounts = record { gained = are; each = all.0 }; debts = all.1 ∙ was.debts }
 
--- before the place at which it starts an account owes nothing
-unowed-before : (gains : Gains) (strikes : List Strike) (a : Account) (place k : ℕ) → (a.start < a.end → place ≤ a.start) → k < place → owes_at gains strikes a k ≡ false
-unowed-before gains strikes a place k from early = grind (arith, nat_tests, cases_lt, before-start, past-end)
-
 -- no account owes anything before the place from which on all start
 pub none-before : (gains : Gains) (strikes : List Strike) (rows : List Account) (place k : ℕ) → StartFrom place rows → k < place → All (λ a. owes_at gains strikes a k ≡ false) rows
-none-before gains strikes rows place k from early =
-    All-weaker (λ (a : Account). a.start < a.end → place ≤ a.start) (λ a. owes_at gains strikes a k ≡ false) (λ a low. unowed-before gains strikes a place k low early) rows from
+none-before gains strikes rows place k from early = grind (arith, nat_tests, All-weaker, cases_lt, before-start, past-end)
 
 -- where the gain at the next place is let go, and all accounts start after it, the gains are cleared one place further
 pub cleared-more : (first old new : Gains) (strikes : List Strike) (rows : List Account) (start place : ℕ) → IsClearedTo place strikes rows first old → IsLetGo place old new → AreGains new →
@@ -37,10 +22,7 @@ cleared-more first old new strikes rows start place was gone are from early = re
   kept = kept-less first old new strikes rows place was.kept gone are (none-before old strikes rows start place from early);
   end = gone.end ∙ was.end;
   long = gone.long ∙ was.long;
-  none = λ m k below. elim (cases_eq k place) [
-    | inl is ↦ ap (holds new.messages m) is ∙ gone.here m
-    | inr other ↦ gone.others m k other ∙ was.none m k (omega (arith, below, other))
-  ];
+  none = λ m k below. grind (arith, nat_tests, cases_eq, gone.here m, gone.others m k, was.none m k);
 }
 
 -- all accounts are kept where gains are dropped that are cleared

@@ -257,6 +257,7 @@ fn must(gains: &Gains, account: Account, place: usize) -> bool
 }
 
 /// The account without what was gained at the place, if it owes and may send that and its deadline is below the moment.
+#[tactic(auto, using(crate::proofs::account::ExpiringLemmas::expired_by_place))]
 fn expired_at(
     gains: &Gains,
     strikes: &mut Vec<Strike>,
@@ -289,6 +290,7 @@ fn expired_at(
 
 /// The account without what it may send and whose deadline is below the moment. On an error what is left of the others' strikes is
 /// as before.
+#[tactic(auto, using(crate::proofs::account::ExpiringLemmas::expired_by_place))]
 #[inline(always)]
 pub(crate) fn expired(
     gains: &Gains,
@@ -341,6 +343,7 @@ pub(crate) fn paid_and_expired(
 }
 
 /// The account without the first debt that a send of the message at the moment pays, if there is one. The strikes that were there stay.
+#[tactic(auto, using(crate::proofs::rows::PaidLemmas::paid_of_row))]
 fn without_paid(
     gains: &Gains,
     strikes: &mut Vec<Strike>,

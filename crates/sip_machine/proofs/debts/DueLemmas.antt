@@ -75,9 +75,9 @@ owed-none (suc count) zero = refl
 owed-none (suc count) (suc row) = owed-none count row
 
 -- rows that each owe nothing are the rows that there are without accounts
-pub blank-rows : (rows : List (List Debt)) → ((k : ℕ) → k < length rows → owed_in rows k ≡ []) → rows ≡ rows_in (length rows) None
-blank-rows [] none = refl
-blank-rows (row ∷ rows) none = ap₂ (λ r rs. r ∷ rs) (none 0 (omega arith)) (blank-rows rows (λ k low. none (suc k) (omega (arith, low))))
+pub blank_rows : (rows : List (List Debt)) → ((k : ℕ) → k < length rows → owed_in rows k ≡ []) → rows ≡ rows_in (length rows) None
+blank_rows [] none = refl
+blank_rows (row ∷ rows) none = ap₂ (λ r rs. r ∷ rs) (none 0 (omega arith)) (blank_rows rows (λ k low. none (suc k) (omega (arith, low))))
 
 -- where a row that owes nothing is put in the place of one, rows without accounts stay as they are
 pub set_none : (count row : ℕ) (debts : List Debt) → debts ≡ [] → rows_in count None ≡ set (rows_in count None) row debts

@@ -100,9 +100,9 @@ run-of rows rising some near =
     }
 
 -- what is picked by a run of indices is a part of the list
-pub run-picked : {X : Type 0} (xs : List X) (rows : List ℕ) (first : ℕ) (x : X) → IsRun first rows → All (λ row. row < length xs) rows →
+pub run_picked : {X : Type 0} (xs : List X) (rows : List ℕ) (first : ℕ) (x : X) → IsRun first rows → All (λ row. row < length xs) rows →
     take (length rows) (drop first xs) ≡ picked xs x rows
-run-picked xs rows first x run within =
+run_picked xs rows first x run within =
     let last = within (length rows - 1) 0 (omega (arith, run.some)) in
     let end = run.each (length rows - 1) (omega (arith, run.some)) in
     let behind = length-drop first xs in

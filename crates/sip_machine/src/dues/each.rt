@@ -1,14 +1,13 @@
 //! What many states owe, when many of them change at once.
-ghost use Rattle.std.specs.Prelude.{◌≡◌, ◌<◌, ◌≤◌, ◌++◌, ◌∷◌, [], List, None, All, IfOk, OnOk, OnErr, drop, filter, length, map, take};
+ghost use Rattle.std.specs.Prelude.{◌≡◌, ◌<◌, ◌≤◌, ◌++◌, ◌∷◌, [], All, OnOk, OnErr, drop, filter, length, map, take};
 ghost use Rattle.sip_ledger.specs.declared.debt.Debt.{Debt};
 ghost use Rattle.sip_ledger.specs.Accounts.{paid_rows};
 ghost use Rattle.sip_ledger.specs.Debts.{counts_at, is_timely};
 ghost use Rattle.sip_ledger.specs.Lists.{Rise, from_to};
 ghost use Rattle.sip_machine.specs.Owes.{owed_in};
-ghost use Rattle.sip_machine.specs.inner.Dues.{rows_in};
 
 use crate::dues::{Dues, blank};
-use sip_ledger::{Accounts, Debt};
+use sip_ledger::Debt;
 use std::alloc::{AllocError, Global};
 
 impl Dues {
@@ -93,7 +92,11 @@ impl Dues {
                     return Err(AllocError);
                 }
             }
-            None => self.accounts = Some(opened_from(alloc, self.rows, from, debt)?),
+            None => {
+                let mut accounts = blank(alloc, self.rows)?;
+                accounts.gain_each(from, debt)?;
+                self.accounts = Some(Box::new(alloc, accounts)?);
+            }
         }
         Ok(())
     }
@@ -113,18 +116,4 @@ impl Dues {
         }
         Ok(())
     }
-}
-
-/// Accounts of `rows` rows, of which each from `from` on owes this debt, and no other owes anything.
-fn opened_from(
-    alloc: Global,
-    rows: usize,
-    from: usize,
-    debt: Debt,
-) -> Result<Box<Accounts>, AllocError>
-    ensures { IfOk result (λ boxed. boxed.value ≡ take from (rows_in rows None) ++ map (λ owes. owes ++ debt ∷ []) (drop from (rows_in rows None))) }
-{
-    let mut accounts = blank(alloc, rows)?;
-    accounts.gain_each(from, debt)?;
-    Ok(Box::new(alloc, accounts)?)
 }

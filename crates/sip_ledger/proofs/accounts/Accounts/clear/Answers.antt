@@ -1,5 +1,4 @@
-use Rattle.std.proofs.Common.{[], arith}
-use Rattle.std.proofs.Math.Seq.{take-length}
+use Rattle.sip_ledger.proofs.Words.{[], arith, take-length}
 use Rattle.sip_ledger.proofs.account.AccountLemmas.{empty-account, empty-debts}
 use Rattle.sip_ledger.proofs.rows.SeenLemmas.{changed-to}
 use Rattle.sip_ledger.proofs.accounts.Accounts.clear.Goals as goal

@@ -1,5 +1,4 @@
-use Rattle.std.proofs.Math.Seq.{take-length}
-use Rattle.sip_ledger.specs.Accounts.{owed_in}
+use Rattle.sip_ledger.proofs.Words.{take-length, owed_in}
 use Rattle.sip_ledger.proofs.rows.SeenLemmas.{account-at, changed-to}
 use Rattle.sip_ledger.proofs.accounts.Accounts.copy.Goals as goal
 

@@ -1,6 +1,4 @@
-use Rattle.std.proofs.Common.{ap, ◌∙◌, List}
-use Rattle.sip_ledger.specs.declared.debt.Debt.{Debt}
-use Rattle.sip_ledger.specs.Debts.{debt_deadlines, earliest}
+use Rattle.sip_ledger.proofs.Words.{ap, ◌∙◌, List, Debt, debt_deadlines, earliest}
 use Rattle.sip_ledger.proofs.rows.SeenLemmas.{account-at}
 use Rattle.sip_ledger.proofs.accounts.Accounts.earliest_must.Goals as goal
 

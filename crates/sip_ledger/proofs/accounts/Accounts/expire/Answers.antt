@@ -1,5 +1,4 @@
-use Rattle.std.proofs.Common.{filter}
-use Rattle.sip_ledger.specs.Debts.{counts_at}
+use Rattle.sip_ledger.proofs.Words.{filter, counts_at}
 use Rattle.sip_ledger.proofs.rows.SeenLemmas.{changed-by, on-error, unchanged}
 use Rattle.sip_ledger.proofs.accounts.Accounts.expire.Goals as goal
 

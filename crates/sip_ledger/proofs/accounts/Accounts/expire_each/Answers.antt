@@ -1,6 +1,4 @@
-use Rattle.std.proofs.Common.{arith, ◌∙◌, ap, get_or, set, []}
-use Rattle.std.specs.Prelude.{filter}
-use Rattle.sip_ledger.specs.Debts.{counts_at}
+use Rattle.sip_ledger.proofs.Words.{arith, ◌∙◌, ap, get_or, set, [], filter, counts_at}
 use Rattle.sip_ledger.proofs.lists.EachLemmas.{changing-more, on_ok}
 use Rattle.sip_ledger.proofs.rows.GainEachLemmas.{none-past}
 use Rattle.sip_ledger.proofs.accounts.Accounts.expire_each.Goals as goal

@@ -1,5 +1,4 @@
-use Rattle.std.proofs.Common.{take, ap, ◌∙◌}
-use Rattle.std.proofs.lemmas.Result.{IfOk-weaker}
+use Rattle.sip_ledger.proofs.Words.{take, ap, ◌∙◌, IfOk-weaker}
 use Rattle.sip_ledger.proofs.rows.SeenLemmas.{account-at}
 use Rattle.sip_ledger.proofs.accounts.Accounts.first_debts.Goals as goal
 

@@ -1,8 +1,4 @@
-use Rattle.std.proofs.Common.{List, None, Some, subst}
-use Rattle.sip_ledger.specs.declared.debt.Debt.{Debt}
-use Rattle.sip_ledger.specs.Debts.{IsFirstPaid, PaysSome}
-use Rattle.sip_ledger.specs.Indexes.{holds}
-use Rattle.sip_ledger.specs.inner.Accounts.{entries_of, entry_at}
+use Rattle.sip_ledger.proofs.Words.{List, None, Some, subst, Debt, IsFirstPaid, PaysSome, holds, entries_of, entry_at}
 use Rattle.sip_ledger.proofs.gains.LeftLemmas.{left-kept, owed-left}
 use Rattle.sip_ledger.proofs.account.FirstLemmas.{first-account, none-account}
 use Rattle.sip_ledger.proofs.rows.SeenLemmas.{account-at}

@@ -1,5 +1,4 @@
-use Rattle.std.proofs.Common.{filter, [], ◌∷◌, ◌++◌, arith}
-use Rattle.sip_ledger.specs.Debts.{counts_at}
+use Rattle.sip_ledger.proofs.Words.{filter, [], ◌∷◌, ◌++◌, arith, counts_at}
 use Rattle.sip_ledger.proofs.rows.SeenLemmas.{changed-by, on-error, over-to, unchanged}
 use Rattle.sip_ledger.proofs.accounts.Accounts.gain_and_expire.Goals as goal
 

@@ -1,6 +1,4 @@
-use Rattle.std.proofs.Common.{List, ap, ◌∙◌}
-use Rattle.sip_ledger.specs.declared.debt.Debt.{Debt}
-use Rattle.sip_ledger.specs.Debts.{is_timely}
+use Rattle.sip_ledger.proofs.Words.{List, ap, ◌∙◌, Debt, is_timely}
 use Rattle.sip_ledger.proofs.rows.SeenLemmas.{account-at}
 use Rattle.sip_ledger.proofs.accounts.Accounts.is_timely.Goals as goal
 

@@ -1,4 +1,4 @@
-use Rattle.std.proofs.Common.{◌<◌, [], length, ◌∙◌, arith}
+use Rattle.sip_ledger.proofs.Words.{◌<◌, [], length, ◌∙◌, arith}
 use Rattle.sip_ledger.proofs.lists.KeepLemmas.{rise-above, rise-few, kept-more, kept-all}
 use Rattle.sip_ledger.proofs.accounts.Accounts.keep.Goals as goal
 

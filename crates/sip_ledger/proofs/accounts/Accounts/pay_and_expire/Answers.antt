@@ -1,5 +1,4 @@
-use Rattle.std.proofs.Common.{filter}
-use Rattle.sip_ledger.specs.Debts.{counts_at, paid_by}
+use Rattle.sip_ledger.proofs.Words.{filter, counts_at, paid_by}
 use Rattle.sip_ledger.proofs.rows.SeenLemmas.{changed-by, on-error, unchanged}
 use Rattle.sip_ledger.proofs.accounts.Accounts.pay_and_expire.Goals as goal
 

@@ -1,4 +1,4 @@
-use Rattle.std.proofs.Common.{[], arith}
+use Rattle.sip_ledger.proofs.Words.{[], arith}
 use Rattle.sip_ledger.proofs.account.AccountLemmas.{empty-account, empty-debts}
 use Rattle.sip_ledger.proofs.rows.SeenLemmas.{pushed-to}
 use Rattle.sip_ledger.proofs.accounts.Accounts.push.Goals as goal

@@ -1,4 +1,4 @@
-use Rattle.sip_ledger.specs.Accounts.{owed_in}
+use Rattle.sip_ledger.proofs.Words.{owed_in}
 use Rattle.sip_ledger.proofs.rows.SeenLemmas.{account-at, pushed-to}
 use Rattle.sip_ledger.proofs.accounts.Accounts.push_copy.Goals as goal
 

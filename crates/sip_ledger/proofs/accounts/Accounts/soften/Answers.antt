@@ -1,8 +1,4 @@
-use Rattle.std.proofs.Common.{◌≡◌, length, map, set, subst, sym}
-use Rattle.std.proofs.Math.Seq.{take-length}
-use Rattle.sip_ledger.specs.Accounts.{owed_in}
-use Rattle.sip_ledger.specs.Debts.{softened_debt}
-use Rattle.sip_ledger.specs.inner.Accounts.{AreAccounts, accounts_debts, entries_of}
+use Rattle.sip_ledger.proofs.Words.{◌≡◌, length, map, set, subst, sym, take-length, owed_in, softened_debt, AreAccounts, accounts_debts, entries_of}
 use Rattle.sip_ledger.proofs.gains.LeftLemmas.{entries_long}
 use Rattle.sip_ledger.proofs.rows.SeenLemmas.{account-at, changed-by, softened-account, softened_account}
 use Rattle.sip_ledger.proofs.accounts.Accounts.soften.Goals as goal

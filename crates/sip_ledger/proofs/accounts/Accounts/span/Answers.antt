@@ -1,6 +1,4 @@
-use Rattle.std.proofs.Common.{◌≤◌, subst}
-use Rattle.std.specs.Prelude.{All}
-use Rattle.sip_ledger.specs.declared.debt.Debt.{Debt}
+use Rattle.sip_ledger.proofs.Words.{◌≤◌, subst, All, Debt}
 use Rattle.sip_ledger.proofs.rows.NamedLemmas.{spanned}
 use Rattle.sip_ledger.proofs.accounts.Accounts.span.Goals as goal
 

@@ -1,4 +1,4 @@
-use Rattle.std.proofs.Common.{arith}
+use Rattle.sip_ledger.proofs.Words.{arith}
 use Rattle.sip_ledger.proofs.account.AccountLemmas.{kept-from}
 use Rattle.sip_ledger.proofs.account.ToldLemmas.{leading}
 use Rattle.sip_ledger.proofs.accounts.account.earliest_must.Goals as goal

@@ -1,5 +1,4 @@
-use Rattle.std.proofs.Common.{length, arith}
-use Rattle.sip_ledger.specs.inner.Accounts.{entries_of, owes_at}
+use Rattle.sip_ledger.proofs.Words.{length, arith, entries_of, owes_at}
 use Rattle.sip_ledger.proofs.account.AccountLemmas.{owed-within}
 use Rattle.sip_ledger.proofs.account.FindLemmas.{first-payable, none-pays_late, none-pays_struck, none-pays_to}
 use Rattle.sip_ledger.proofs.account.WithoutLemmas.{before-start}

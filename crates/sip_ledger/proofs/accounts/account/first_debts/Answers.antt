@@ -1,5 +1,4 @@
-use Rattle.std.proofs.Common.{arith}
-use Rattle.std.proofs.lemmas.List.{take_all}
+use Rattle.sip_ledger.proofs.Words.{arith, take_all}
 use Rattle.sip_ledger.proofs.account.AccountLemmas.{kept-from}
 use Rattle.sip_ledger.proofs.account.ToldLemmas.{told-all, told-first, told-more, told-none}
 use Rattle.sip_ledger.proofs.accounts.account.first_debts.Goals as goal

@@ -1,5 +1,4 @@
-use Rattle.std.proofs.Common.{◌%◌, ◌+◌, ◌^◌, ap, refl}
-use Rattle.std.proofs.Math.Seq.{take-length}
+use Rattle.sip_ledger.proofs.Words.{◌%◌, ◌+◌, ◌^◌, ap, refl, take-length}
 use Rattle.sip_ledger.proofs.account.GainedLemmas.{first-gain, more-gain}
 use Rattle.sip_ledger.proofs.accounts.account.gained.Goals as goal
 

@@ -1,6 +1,4 @@
-use Rattle.std.proofs.Common.{◌<◌, inl, inr, length, sym, ◌∙◌, arith}
-use Rattle.std.proofs.lemmas.Bool.{cases_lt}
-use Rattle.sip_ledger.specs.inner.Accounts.{entries_of}
+use Rattle.sip_ledger.proofs.Words.{◌<◌, inl, inr, length, sym, ◌∙◌, arith, cases_lt, entries_of}
 use Rattle.sip_ledger.proofs.gains.LeftLemmas.{entries_long, left-kept, owed-left}
 use Rattle.sip_ledger.proofs.account.ToldLemmas.{least-first, least-first_due, least-found, least-last, least-passed}
 use Rattle.sip_ledger.proofs.accounts.account.least_must.Goals.{then-owes+else-gains, else-owes}

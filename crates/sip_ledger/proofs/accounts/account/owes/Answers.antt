@@ -1,5 +1,4 @@
-use Rattle.std.proofs.Common.{sym, arith}
-use Rattle.std.specs.Prelude.{false, true}
+use Rattle.sip_ledger.proofs.Words.{sym, arith, false, true}
 use Rattle.sip_ledger.proofs.account.AccountLemmas.{kept-from, past-end}
 use Rattle.sip_ledger.proofs.account.FindLemmas.{owes-inside}
 use Rattle.sip_ledger.proofs.account.WithoutLemmas.{before-start}

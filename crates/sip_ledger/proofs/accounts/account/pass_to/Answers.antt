@@ -1,4 +1,4 @@
-use Rattle.std.proofs.Common.{arith}
+use Rattle.sip_ledger.proofs.Words.{arith}
 use Rattle.sip_ledger.proofs.account.AccountLemmas.{kept-passed}
 use Rattle.sip_ledger.proofs.accounts.account.pass_to.Goals as goal
 

@@ -1,6 +1,4 @@
-use Rattle.std.proofs.Common.{arith}
-use Rattle.std.proofs.lemmas.Grind.{common_steps}
-use Rattle.std.proofs.lemmas.Bool.Decides.{nat_tests}
+use Rattle.sip_ledger.proofs.Words.{arith, common_steps, nat_tests}
 use Rattle.sip_ledger.proofs.gains.LeftLemmas.{entries_long}
 use Rattle.sip_ledger.proofs.account.AccountLemmas.{same-keeps}
 use Rattle.sip_ledger.proofs.account.GainedLemmas.{gain-keeps, new-gain}

@@ -1,5 +1,4 @@
-use Rattle.std.proofs.Common.{refl, rules, ◌≡◌, ◌≢◌, ◌∙◌, sym, arith}
-use Rattle.std.proofs.lemmas.Bool.{false≢true}
+use Rattle.sip_ledger.proofs.Words.{refl, rules, ◌≡◌, ◌≢◌, ◌∙◌, sym, arith, false≢true}
 use Rattle.sip_ledger.proofs.account.AccountLemmas.{kept-from}
 use Rattle.sip_ledger.proofs.account.ToldLemmas.{alike-debts, at-apart, at-more, at-start, end-other, end-same, rest-same}
 use Rattle.sip_ledger.proofs.accounts.account.same.Goals.{then-loop-at-test+else-beside-other, else-loop-at-test}

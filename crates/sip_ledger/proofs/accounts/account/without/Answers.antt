@@ -1,7 +1,4 @@
-use Rattle.std.proofs.Common.{◌≡◌, ◌+◌, ◌∙◌, ap, refl, arith}
-use Rattle.std.proofs.Math.Seq.{take-length}
-use Rattle.sip_ledger.specs.declared.debt.Entry.{Entry}
-use Rattle.sip_ledger.specs.Accounts.{worth_of}
+use Rattle.sip_ledger.proofs.Words.{◌≡◌, ◌+◌, ◌∙◌, ap, refl, arith, take-length, Entry, worth_of}
 use Rattle.sip_ledger.proofs.gains.LeftLemmas.{entries_long, left-kept, owed-left}
 use Rattle.sip_ledger.proofs.account.AccountLemmas.{owed-within}
 use Rattle.sip_ledger.proofs.account.WithoutLemmas.{without-first, without-last, without-middle}

@@ -1,4 +1,4 @@
-use Rattle.std.proofs.Common.{arith}
+use Rattle.sip_ledger.proofs.Words.{arith}
 use Rattle.sip_ledger.proofs.gains.LetGoLemmas.{cleared-more}
 use Rattle.sip_ledger.proofs.accounts.left.clear_to.Goals as goal
 

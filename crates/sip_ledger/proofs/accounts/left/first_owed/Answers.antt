@@ -1,7 +1,4 @@
-use Rattle.std.proofs.Common.{◌≡◌, ◌<◌, ◌∙◌, length, take, ap, subst, arith}
-use Rattle.std.proofs.Math.Seq.{take-length}
-use Rattle.sip_ledger.specs.declared.accounts.account.Account.{Account}
-use Rattle.sip_ledger.specs.inner.Accounts.{StartFrom}
+use Rattle.sip_ledger.proofs.Words.{◌≡◌, ◌<◌, ◌∙◌, length, take, ap, subst, arith, take-length, Account, StartFrom}
 use Rattle.sip_ledger.proofs.gains.LetGoLemmas.{start-more}
 use Rattle.sip_ledger.proofs.accounts.left.first_owed.Goals as goal
 use Rattle.sip_ledger.proofs.accounts.left.first_owed.Goals.{then-row, else-row}

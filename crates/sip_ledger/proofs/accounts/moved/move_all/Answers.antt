@@ -1,5 +1,4 @@
-use Rattle.std.proofs.Common.{◌<◌, length, arith}
-use Rattle.sip_ledger.specs.declared.accounts.account.Account.{Account}
+use Rattle.sip_ledger.proofs.Words.{◌<◌, length, arith, Account}
 use Rattle.sip_ledger.proofs.strikes.MovedLemmas.{moved-more, moved-none}
 use Rattle.sip_ledger.proofs.accounts.moved.move_all.Goals as goal
 

@@ -1,5 +1,4 @@
-use Rattle.std.proofs.Common.{arith}
-use Rattle.std.proofs.lemmas.Bool.{OnFalse_from, ltb-false}
+use Rattle.sip_ledger.proofs.Words.{arith, OnFalse_from, ltb-false}
 use Rattle.sip_ledger.proofs.strikes.MovedLemmas.{strikes-none}
 use Rattle.sip_ledger.proofs.accounts.moved.strikes_some.Goals as goal
 

@@ -1,11 +1,4 @@
-use Rattle.std.proofs.Common.{◌≡◌, ◌<◌, ◌∙◌, false, length, take, get_or, ap, subst, sym, arith}
-use Rattle.std.specs.Prelude.{All}
-use Rattle.std.proofs.Math.Seq.{take-length}
-use Rattle.std.proofs.lemmas.List.{take_more}
-use Rattle.std.proofs.lemmas.List.Elements.{All-push}
-use Rattle.sip_ledger.specs.declared.accounts.account.Account.{Account}
-use Rattle.sip_ledger.specs.Accounts.{owes_message}
-use Rattle.sip_ledger.specs.inner.Accounts.{account_debts}
+use Rattle.sip_ledger.proofs.Words.{◌≡◌, ◌<◌, ◌∙◌, false, length, take, get_or, ap, subst, sym, arith, All, take-length, take_more, All-push, Account, owes_message, account_debts}
 use Rattle.sip_ledger.proofs.rows.NamedLemmas.{named-here, named-nowhere}
 use Rattle.sip_ledger.proofs.accounts.named.is_named.Goals as goal
 

@@ -1,5 +1,4 @@
-use Rattle.std.proofs.Common.{arith}
-use Rattle.sip_ledger.specs.declared.accounts.strikes.Strike.{Strike}
+use Rattle.sip_ledger.proofs.Words.{arith, Strike}
 use Rattle.sip_ledger.proofs.strikes.StrikeLemmas.{none-struck, struck-by_end, struck-more}
 use Rattle.sip_ledger.proofs.accounts.strikes.end_by.Goals as goal
 

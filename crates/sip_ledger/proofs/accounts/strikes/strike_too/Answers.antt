@@ -1,5 +1,4 @@
-use Rattle.std.proofs.Common.{◌∙◌, arith}
-use Rattle.std.proofs.lemmas.List.{with_items_is}
+use Rattle.sip_ledger.proofs.Words.{◌∙◌, arith, with_items_is}
 use Rattle.sip_ledger.proofs.strikes.StrikeLemmas.{longer-too, more-too}
 use Rattle.sip_ledger.proofs.accounts.strikes.strike_too.Goals as goal
 

@@ -1,5 +1,4 @@
-use Rattle.std.proofs.Common.{◌≡◌, ◌==◌, ◌&&◌, cond, true, ◌∙◌, subst}
-use Rattle.sip_ledger.specs.Indexes.{holds}
+use Rattle.sip_ledger.proofs.Words.{◌≡◌, ◌==◌, ◌&&◌, cond, true, ◌∙◌, subst, holds}
 use Rattle.sip_ledger.proofs.lists.IndexLemmas.{at-pair}
 use Rattle.sip_ledger.proofs.index.Index.put.Goals as goal
 

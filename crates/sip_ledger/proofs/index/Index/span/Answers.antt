@@ -1,5 +1,4 @@
-use Rattle.std.proofs.Common.{◌≡◌, ◌≤◌, ℕ, true, subst, sym, true≢false}
-use Rattle.sip_ledger.specs.Indexes.{holds}
+use Rattle.sip_ledger.proofs.Words.{◌≡◌, ◌≤◌, ℕ, true, subst, sym, true≢false, holds}
 use Rattle.sip_ledger.proofs.lists.IndexLemmas.{none-held, span-held}
 use Rattle.sip_ledger.proofs.index.Index.span.Goals as goal
 

@@ -1,6 +1,4 @@
-use Rattle.std.proofs.Common.{ap, sym, ◌∙◌}
-use Rattle.std.proofs.lemmas.Bool.{OnTrue_from}
-use Rattle.sip_ledger.specs.declared.accounts.gains.Flags.{Flags}
+use Rattle.sip_ledger.proofs.Words.{ap, sym, ◌∙◌, OnTrue_from, Flags}
 use Rattle.sip_ledger.proofs.accounts.gains.Gains.is_newest.Goals as goal
 
 -- the place is kept

@@ -1,7 +1,4 @@
-use Rattle.std.proofs.Common.{◌≡◌, ◌-◌, ◌==◌, ◌&&◌, ℕ, false, cond, length, set, refl, ap, ◌∙◌}
-use Rattle.std.proofs.lemmas.Bool.{eq-eqb}
-use Rattle.sip_ledger.specs.inner.Accounts.{no_flags}
-use Rattle.sip_ledger.specs.Indexes.{holds}
+use Rattle.sip_ledger.proofs.Words.{◌≡◌, ◌-◌, ◌==◌, ◌&&◌, ℕ, false, cond, length, set, refl, ap, ◌∙◌, eq-eqb, no_flags, holds}
 use Rattle.sip_ledger.proofs.gains.FlagLemmas.{flags-let_go}
 use Rattle.sip_ledger.proofs.gains.LeftLemmas.{gains-let_go}
 use Rattle.sip_ledger.proofs.accounts.gains.Gains.let_go.Goals as goal

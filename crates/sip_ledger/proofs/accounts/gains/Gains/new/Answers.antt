@@ -1,4 +1,4 @@
-use Rattle.std.proofs.Common.{refl, true}
+use Rattle.sip_ledger.proofs.Words.{refl, true}
 use Rattle.sip_ledger.proofs.gains.LeftLemmas.{none-entries, none-gained}
 use Rattle.sip_ledger.proofs.accounts.gains.Gains.new.Goals as goal
 

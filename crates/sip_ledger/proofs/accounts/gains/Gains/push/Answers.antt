@@ -1,11 +1,4 @@
-use Rattle.std.specs.Prelude.{nat_le}
-use Rattle.std.proofs.lemmas.Bool.{leb-true}
-use Rattle.std.proofs.Common.{◌≡◌, ◌+◌, ◌++◌, ◌∷◌, [], ap, refl, rules, true, ◌∙◌, arith}
-use Rattle.std.proofs.lemmas.Grind.{common_steps}
-use Rattle.sip_ledger.specs.declared.accounts.gains.Flags.{Flags}
-use Rattle.sip_ledger.specs.declared.accounts.gains.Gains.{Gains}
-use Rattle.sip_ledger.specs.declared.debt.Entry.{Entry}
-use Rattle.sip_ledger.specs.Indexes.{holds}
+use Rattle.sip_ledger.proofs.Words.{nat_le, leb-true, ◌≡◌, ◌+◌, ◌++◌, ◌∷◌, [], ap, refl, rules, true, ◌∙◌, arith, common_steps, Flags, Gains, Entry, holds}
 use Rattle.sip_ledger.proofs.gains.FlagLemmas.{flags-more, flags-same}
 use Rattle.sip_ledger.proofs.gains.LeftLemmas.{entries_long, gains-more, gains-same}
 use Rattle.sip_ledger.proofs.rows.SeenLemmas.{on-error}

@@ -1,6 +1,6 @@
 -- Which messages states name: what their phases name, and what they owe.
 use Prim.Native.Nat.{suc, zero}
-use Rattle.std.specs.Prelude.{◌≡◌, ◌||◌, ◌<◌, ◌≤◌, ◌==◌, ℕ, Bool, true, false, None, List, [], ◌∷◌, ◌++◌, All, Contains, flat_map, length, take}
+use Rattle.std.specs.Prelude.{◌≡◌, ◌||◌, ◌<◌, ◌≤◌, ◌==◌, ℕ, Bool, true, false, List, [], ◌∷◌, ◌++◌, All, Contains, flat_map, length, take}
 use Rattle.std.proofs.Common.{refl, sym, ◌∙◌, ap, subst, inl, inr, arith, append-nil, append_assoc, take-append-drop, true≢false}
 use Rattle.std.proofs.lemmas.Bool.{cases_eq, eq-eqb, ne_eqb, or_left, or_right}
 use Rattle.std.proofs.lemmas.List.{length-drop, length-take-le, take-take}
@@ -12,7 +12,7 @@ use Rattle.sip_ledger.specs.Lists.{from_to}
 use Rattle.sip_machine.specs.Naming.{AppendsAll}
 use Rattle.sip_machine.specs.Owes.{owes_names}
 use Rattle.sip_machine.specs.Owing.{CodeOwing, owing_names}
-use Rattle.sip_machine.specs.inner.Dues.{rows_in}
+use Rattle.sip_machine.specs.inner.Dues.{blank_rows}
 use Rattle.sip_machine.specs.inner.Pools.{beside}
 use Rattle.sip_machine.proofs.texts.TextLaws.{Contains-nil, Contains-cons_cases}
 
@@ -56,12 +56,12 @@ pub owed-appends : (rows : List (List Debt)) (old new : List ℕ) → AppendsOwe
 owed-appends rows old new a = (a.names, a.whole, λ m. (λ there. some-named m rows ((a.each m).0 there), λ there. (a.each m).1 (named-some m rows there)))
 
 -- rows that owe nothing name nothing
-none-named : (count : ℕ) → flat_map owes_names (rows_in count None) ≡ []
+none-named : (count : ℕ) → flat_map owes_names (blank_rows count) ≡ []
 none-named zero = refl
 none-named (suc count) = none-named count
 
 -- rows that owe nothing append no name
-pub none-appends : (count : ℕ) (old : List ℕ) → AppendsAll (flat_map owes_names (rows_in count None)) old old
+pub none-appends : (count : ℕ) (old : List ℕ) → AppendsAll (flat_map owes_names (blank_rows count)) old old
 none-appends count old =
     ([], sym (append-nil old), λ m. (λ there. absurd (Contains-nil m there), λ there. absurd (Contains-nil m (subst (λ ns. Contains ns m) (none-named count) there))))
 

@@ -16,8 +16,8 @@ pub invariant_of-self-2 : goal.invariant_of-self-2
 invariant_of-self-2 g c =
     let inv = c.self.invariant in
     let sets = c.self.inside.sets in
-    let marks = c.self.inside.marks in
-    let moved = c.self.inside.moved in
+    let marks = c.self.inside.marks.named in
+    let moved = c.self.inside.marks.moved in
     let index = c.args.number - 1 in
     let set = c.in_ok-set.set in
     let now = c.put_at.ensures in

@@ -1,5 +1,5 @@
 -- The first debt of an account that a send pays.
-use Rattle.sip_ledger.proofs.Words.{◌≡◌, ◌≢◌, ℕ, ◌+◌, ◌<◌, ◌≤◌, ◌&&◌, Bool, true, false, not, List, sym, ap, ap₂, ◌∙◌, inl, inr, arith, nat_tests, All, IsTrue, nat_le, and-false, and_right, cases_eq, cases_lt, eq-eqb, le-leb, lt-leb, lt-ltb, ne_eqb, true≢false, Entry, Account, Gains, Strike, is_payable, paid_by, IsAccount, IsFirstPayable, IsWithout, account_debts, entries_of, entry_at, is_gone, is_struck, must_at, owes_at, pays_at, strikes_of, holds}
+use Rattle.sip_ledger.proofs.Words.{◌≡◌, ◌≢◌, ℕ, ◌+◌, ◌<◌, ◌≤◌, ◌&&◌, Bool, true, false, not, List, sym, ap, ap₂, ◌∙◌, arith, nat_tests, All, IsTrue, nat_le, and-false, and_right, cases_eq, cases_lt, eq-eqb, le-leb, lt-leb, lt-ltb, ne_eqb, true≢false, Entry, Account, Gains, Strike, is_payable, paid_by, IsAccount, IsFirstPayable, IsWithout, account_debts, entries_of, entry_at, is_gone, is_struck, must_at, owes_at, pays_at, strikes_of, holds}
 use Rattle.sip_ledger.proofs.gains.LeftLemmas.{gone-left, gone-struck, held_left, owed-left}
 use Rattle.sip_ledger.proofs.debts.ListedLemmas.{listed-each}
 use Rattle.sip_ledger.proofs.debts.OwedLemmas.{removed}
@@ -21,13 +21,8 @@ NonePays entries owes message t to = (k : ℕ) → k < to → owes k ≡ true �
 -- NonePays goes on from one place to another where the message is left at no place between
 pub none-pays_to : (gains : Gains) (strikes : List Strike) (a : Account) (message t from at : ℕ) → NonePays (entries_of gains) (owes_at gains strikes a) message t from →
     ((k : ℕ) → from ≤ k → k < at → holds gains.messages message k ≡ false) → NonePays (entries_of gains) (owes_at gains strikes a) message t at
-none-pays_to gains strikes a message t from at before others k early owed = elim (cases_lt k from) [
-  | inl first ↦ before k first owed
-  | inr behind ↦ elim (cases_eq (entry_at (entries_of gains) k).message message) [
-    | inl is ↦ absurd (true≢false (sym (held_left gains message k is ∙ owed-left gains strikes a k owed) ∙ others k behind early))
-    | inr other ↦ unnamed-unpaid (entries_of gains) message t k other
-  ]
-]
+none-pays_to gains strikes a message t from at before others k early owed =
+    grind (arith, nat_tests, cases_lt, cases_eq, true≢false, held_left gains message k, owed-left gains strikes a k owed, unnamed-unpaid, before k, others k)
 
 -- NonePays goes on over places at which the message is struck
 pub none-pays_struck : (gains : Gains) (strikes : List Strike) (a : Account) (message t at to : ℕ) → NonePays (entries_of gains) (owes_at gains strikes a) message t at →
@@ -54,10 +49,8 @@ pub paid-account : (gains : Gains) (old new : List Strike) (a b : Account) (mess
     account_debts gains new b ≡ paid_by message t (account_debts gains old a)
 unfolding account_debts
 paid-account gains old new a b message t place is found without soft =
-    paid-is message t (account_debts gains old a) (account_debts gains new b)
-    (removed (λ debt. IsTrue (is_payable message t debt)) (entries_of gains) (owes_at gains old a) (must_at gains a) (owes_at gains new b) (must_at gains b) place
-    (omega (arith, owed-within gains old a place found.owed, is.end)) found.owed without (λ k. soft-must gains a b k soft) found.pays
-    (λ k early owed pays. true≢false (sym pays ∙ found.before k early owed)))
+    let one = removed (λ debt. IsTrue (is_payable message t debt)) (entries_of gains) (owes_at gains old a) (must_at gains a) (owes_at gains new b) (must_at gains b) place in
+    grind (arith, nat_tests, one, paid-is message t, owed-within, soft-must, true≢false)
 
 -- where a send pays nothing that an account owes, it pays none of its debts
 pub unpaid-account : (gains : Gains) (strikes : List Strike) (a : Account) (message t : ℕ) →

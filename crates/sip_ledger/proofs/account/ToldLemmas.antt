@@ -1,5 +1,5 @@
 -- What an account owes, place by place: its debts, whether another account owes the same, and the least deadline of what it must send.
-use Rattle.sip_ledger.proofs.Words.{◌≡◌, ◌≢◌, ℕ, ◌+◌, ◌<◌, ◌≤◌, ◌==◌, ◌&&◌, Bool, true, false, not, List, [], ◌∷◌, ◌++◌, length, take, drop, map, refl, sym, ap, ap₂, ◌∙◌, inl, ◌⊎◌, arith, append-nil, nat_tests, IsTrue, Option, Some, None, ◌↔◌, nat_le, option_to_list, OnTrue, and_left, and_right, cases_eq, cases_lt, eq-eqb, eqb-true, le-leb, true≢false, append_cancel_left, get_or-drop, get_or_default, length-append, length-drop, length-take-le, map-append, take-append-le, take_all, All-map, Debt, Entry, Account, Gains, Strike, debt_deadlines, earliest, debt_of, debts_from, IsGap, AreAlike, AreGains, IsAccount, SharesRest, account_debts, entries_of, entry_at, is_struck, must_at, owes_at, strikes_of, holds}
+use Rattle.sip_ledger.proofs.Words.{max, ◌≡◌, ◌≢◌, ℕ, ◌+◌, ◌<◌, ◌≤◌, ◌==◌, ◌&&◌, Bool, true, false, not, List, [], ◌∷◌, ◌++◌, length, take, drop, map, refl, sym, ap, ap₂, ◌∙◌, inl, ◌⊎◌, arith, append-nil, nat_tests, IsTrue, Option, Some, None, ◌↔◌, nat_le, option_to_list, OnTrue, and_left, and_right, cases_eq, cases_lt, eq-eqb, eqb-true, le-leb, true≢false, append_cancel_left, get_or-drop, get_or_default, length-append, length-drop, length-take-le, map-append, take-append-le, take_all, All-map, Debt, Entry, Account, Gains, Strike, debt_deadlines, earliest, debt_of, debts_from, IsGap, AreAlike, AreGains, IsAccount, SharesRest, account_debts, entries_of, entry_at, is_struck, must_at, owes_at, strikes_of, holds}
 use Rattle.sip_ledger.proofs.gains.LeftLemmas.{entries_long, gone-same, left-kept, owed-left, rising_kept}
 use Rattle.sip_ledger.proofs.debts.ListedLemmas.{back, back-none, back-same, back-set, earliest-first, earliest-push, front, front-gap, front-next, listed-All, listed-must, listed-none, listed-same, no_entry, parts}
 use Rattle.sip_ledger.proofs.account.AccountLemmas.{must-below, must-from, past-end, soft-must}
@@ -39,22 +39,17 @@ module _ {gains : Gains} {strikes : List Strike} {a : Account} where
   pub told-here : {place : ℕ} {debts : List Debt} → IsAccount gains strikes a → IsToldTo gains strikes a place debts → place < a.end →
       account_debts gains strikes a
       ≡ debts ++ debt_of (entry_at (entries_of gains) place) (must_at gains a place) ∷ back (owes_at gains strikes a) (must_at gains a) (entries_of gains) (place + 1)
-  told-here {place} {debts} is was inside =
-      told-split is was ∙ ap (λ l. debts ++ l) (back-set (owes_at gains strikes a) (must_at gains a) (entries_of gains) place no_entry (omega (arith, inside, is.end)) (was.owed inside))
+  told-here {place} {debts} is was inside = grind (arith, told-split is was, back-set (owes_at gains strikes a) (must_at gains a) (entries_of gains) place no_entry)
 
   -- before its end it owes all of its debts
   pub told-all : {place : ℕ} {debts : List Debt} → IsAccount gains strikes a → IsToldTo gains strikes a place debts → a.end ≤ place → debts ≡ account_debts gains strikes a
   told-all {place} {debts} is was past =
-      sym (told-split is was
-      ∙ ap (λ l. debts ++ l) (back-none (owes_at gains strikes a) (must_at gains a) (entries_of gains) place (λ k above. past-end gains strikes a k (omega (arith, above, past))))
-      ∙ append-nil debts)
+      let none : back (owes_at gains strikes a) (must_at gains a) (entries_of gains) place ≡ [] = grind (arith, back-none, past-end) in
+      sym (told-split is was ∙ ap (λ l. debts ++ l) none ∙ append-nil debts)
 
   -- before a place of it, it owes the first of its debts
   pub told-first : {place n : ℕ} {debts : List Debt} → IsAccount gains strikes a → IsToldTo gains strikes a place debts → length debts ≡ n → debts ≡ take n (account_debts gains strikes a)
-  told-first {place} {n} {debts} is was long =
-      sym (take_all n debts (omega (arith, long)))
-      ∙ sym (take-append-le n debts (back (owes_at gains strikes a) (must_at gains a) (entries_of gains) place) (omega (arith, long)))
-      ∙ ap (take n) (sym (told-split is was))
+  told-first {place} {n} {debts} is was long = grind (arith, told-split is was, take_all, take-append-le)
 
 -- an account with something left does not owe what an account at its end owes
 longer : {gains : Gains} {strikes : List Strike} {one other : Account} {at beside : ℕ} {debts : List Debt} → IsAccount gains strikes one → IsAccount gains strikes other →
@@ -103,13 +98,7 @@ module _ {gains : Gains} {strikes : List Strike} {one other : Account} (is : IsA
 
   -- accounts at one place that owe the same from there on owe the same
   pub rest-same : {at beside : ℕ} → AreAt gains strikes one other at beside → at ≡ beside → SharesRest strikes one other at → account_debts gains strikes one ≡ account_debts gains strikes other
-  rest-same {at} are here shared =
-      told-split is are.told
-      ∙ ap (λ l. are.debts ++ l)
-      (back-same (owes_at gains strikes one) (must_at gains one) (owes_at gains strikes other) (must_at gains other) (entries_of gains) at
-      (λ k above. (shared.owes gains k above, soft-must gains other one k shared.soft))
-      ∙ ap (back (owes_at gains strikes other) (must_at gains other) (entries_of gains)) here)
-      ∙ sym (told-split is_other are.told_beside)
+  rest-same {at} are here shared = grind (arith, told-split is are.told, told-split is_other are.told_beside, back-same, soft-must)
 
   -- where one account is at its end, both owe the same exactly if the other one is at its end too
   pub end-same : {at beside : ℕ} → AreAt gains strikes one other at beside → at ≡ one.end → IsTrue (beside == other.end) ↔ (account_debts gains strikes one ≡ account_debts gains strikes other)
@@ -121,11 +110,7 @@ module _ {gains : Gains} {strikes : List Strike} {one other : Account} (is : IsA
   -- where one account is not at its end and the other is, they do not owe the same
   pub end-other : {at beside : ℕ} → AreAt gains strikes one other at beside → at ≢ one.end → other.end ≤ beside →
       IsTrue (at == one.end) ↔ (account_debts gains strikes one ≡ account_debts gains strikes other)
-  end-other {at} are short past =
-      let end = are.told.end in (
-        λ here. absurd (short (eqb-true at one.end here)),
-        λ same. absurd (longer is is_other are.told are.told_beside (omega (arith, short, end)) past same),
-      )
+  end-other {at} are short past = grind (arith, nat_tests, longer is is_other are.told are.told_beside)
 
 -- accounts that begin and end alike and have the same strikes owe the same
 pub alike-debts : (gains : Gains) (strikes : List Strike) (one other : Account) → AreAlike strikes one other → account_debts gains strikes one ≡ account_debts gains strikes other
@@ -212,7 +197,7 @@ unfolding must_at
 unmust gains a k none = and_left (holds gains.musts 0 k) (nat_le a.soft k) none
 
 -- IsLeastTo holds at the later one of the start and the `soft` of an account, with no deadline
-pub least-first : (gains : Gains) (strikes : List Strike) (a : Account) (from : ℕ) → IsAccount gains strikes a → a.start ≤ from → a.soft ≤ from → from ≤ a.start ⊎ from ≤ a.soft →
+pub least-first : (gains : Gains) (strikes : List Strike) (a : Account) (from : ℕ) → IsAccount gains strikes a → a.start ≤ from → a.soft ≤ from → from ≤ max a.start a.soft →
     IsLeastTo gains strikes a from None
 least-first gains strikes a from is low soft one = grind (arith, nat_tests, least-start, and_left, before-start, and_right, must-below)
 
@@ -255,7 +240,5 @@ pub leading : (gains : Gains) (strikes : List Strike) (a : Account) (moment : �
     must_at gains a a.start ≡ true → moment ≡ (entry_at (entries_of gains) a.start).deadline → Some moment ≡ earliest (debt_deadlines (account_debts gains strikes a))
 leading gains strikes a moment are is some rises must here =
     let parts = must-parts gains a a.start must in
-    let deadline = (entry_at (entries_of gains) a.start).deadline in
-    ap Some here
-    ∙ least-first_due gains strikes a a.start a.start deadline None are (least-first gains strikes a a.start is (omega arith) parts.1 (inl (omega arith))) (omega arith) (omega (arith, some, is.end))
-    (λ k above below. absurd (omega (arith, above, below))) parts.0 (is.begins some) refl rises
+    let least = least-first gains strikes a a.start is (omega arith) parts.1 (omega arith) in
+    grind (arith, nat_tests, parts, least, least-first_due gains strikes a a.start a.start moment None)

@@ -5,15 +5,6 @@ use Rattle.sip_ledger.proofs.Words.{common_steps, nat_tests, ◌≡◌, ℕ, zer
 abbrev pub no_entry : Entry
 no_entry = record { message = 0; deadline = 0 }
 
--- where tests, debts and lists are the same, what the test lets stand is the same
-cond-same : (b b' : Bool) (d d' : Debt) (xs xs' : List Debt) → b ≡ b' → d ≡ d' → xs ≡ xs' → cond b (d ∷ xs) xs ≡ cond b' (d' ∷ xs') xs'
-cond-same b b' d d' xs xs' same_b same_d same_xs = grind (arith, nat_tests)
-
--- where a list is filtered, a first debt that a test lets stand stays if it passes both tests
-cond-filter : (p : Debt → Bool) (b : Bool) (d : Debt) (xs : List Debt) → filter p (cond b (d ∷ xs) xs) ≡ cond (b && p d) (d ∷ filter p xs) (filter p xs)
-cond-filter p true d xs = refl
-cond-filter p false d xs = refl
-
 -- where P holds of all of a list, and of a first debt if the test lets it stand, it holds of all that stands
 cond-All : (P : Debt → Type 0) (b : Bool) (d : Debt) (xs : List Debt) → (b ≡ true → P d) → All P xs → All P (cond b (d ∷ xs) xs)
 cond-All P true d xs here rest = All-cons P d xs (here refl) rest
@@ -28,7 +19,7 @@ listed-append o m i (x ∷ xs) ys = grind (arith, nat_tests, listed-append o m (
 pub listed-same : (o m o' m' : ℕ → Bool) (i : ℕ) (xs : List Entry) → ((k : ℕ) → i ≤ k → k < i + length xs → (o k ≡ o' k) × (m k ≡ m' k)) →
     debts_from o m i xs ≡ debts_from o' m' i xs
 listed-same o m o' m' i [] agree = refl
-listed-same o m o' m' i (x ∷ xs) agree = grind (arith, nat_tests, cond-same, listed-same o m o' m' (i + 1) xs)
+listed-same o m o' m' i (x ∷ xs) agree = grind (arith, nat_tests, listed-same o m o' m' (i + 1) xs)
 
 -- where no place of the entries is owed, there are no debts
 pub listed-none : (o m : ℕ → Bool) (i : ℕ) (xs : List Entry) → ((k : ℕ) → i ≤ k → k < i + length xs → o k ≡ false) → debts_from o m i xs ≡ []
@@ -126,7 +117,7 @@ listed-counting t o m o' i (x ∷ xs) each =
 pub listed-softened : (o m m' : ℕ → Bool) (i : ℕ) (xs : List Entry) → ((k : ℕ) → m' k ≡ false) →
     debts_from o m' i xs ≡ map softened_debt (debts_from o m i xs)
 listed-softened o m m' i [] none = refl
-listed-softened o m m' i (x ∷ xs) none = grind (arith, nat_tests, cond-same, listed-softened o m m' (i + 1) xs none)
+listed-softened o m m' i (x ∷ xs) none = grind (arith, nat_tests, listed-softened o m m' (i + 1) xs none)
 
 -- where no place from `from` up to `at` is owed, the debts before `at` are those before `from`
 pub front-gap : (o m : ℕ → Bool) (entries : List Entry) (from at : ℕ) → from ≤ at → at ≤ length entries → IsGap o from at →
@@ -145,7 +136,7 @@ front-next o m entries from at e order within gap set = grind (arith, nat_tests,
 pub listed-must : (o m : ℕ → Bool) (i : ℕ) (xs : List Entry) → ((k : ℕ) → m k ≡ true → o k ≡ true) →
     debt_deadlines (debts_from o m i xs) ≡ map (λ d. d.deadline) (debts_from m m i xs)
 listed-must o m i [] among = refl
-listed-must o m i (x ∷ xs) among = grind (arith, nat_tests, cond-filter, listed-must o m (i + 1) xs among)
+listed-must o m i (x ∷ xs) among = grind (arith, nat_tests, listed-must o m (i + 1) xs among)
 
 -- the least of some moments and a further one is the lesser of their least and of that one
 fold-push : (a m : ℕ) (ms : List ℕ) → fold min a (ms ++ m ∷ []) ≡ min (fold min a ms) m

@@ -57,15 +57,11 @@ gained-debts entries o m o' m' at inside last here others must_others =
 -- where the debt of a place that is owed passes a test, one of the debts does
 pub listed-any : (test : Debt → Bool) (entries : List Entry) (o m : ℕ → Bool) (at : ℕ) → at < length entries → o at ≡ true →
     test (debt_of (get_or entries at no_entry) (m at)) ≡ true → list_any test (debts_from o m 0 entries) ≡ true
-listed-any test entries o m at within is passes =
-    let whole = parts o m entries at (omega (arith, within)) ∙ ap (λ l. front o m entries at ++ l) (back-set o m entries at no_entry within is) in
-    ap (list_any test) whole ∙ grind (arith, nat_tests, list_any-append)
+listed-any test entries o m at within is passes = grind (arith, nat_tests, parts o m entries at, back-set o m entries at no_entry, list_any-append)
 
 -- where a place is owed, there is a debt
 pub some-debt : (entries : List Entry) (o m : ℕ → Bool) (k : ℕ) → k < length entries → o k ≡ true → debts_from o m 0 entries ≢ []
 some-debt entries o m k within is none =
-    let debt = debt_of (get_or entries k no_entry) (m k) in
-    let before = front o m entries k in
-    let behind = back o m entries (k + 1) in
-    let whole = sym (parts o m entries k (omega (arith, within)) ∙ ap (λ l. before ++ l) (back-set o m entries k no_entry within is)) ∙ none in
-    absurd (omega (arith, ap length whole, length-append before (debt ∷ behind)))
+    let whole = parts o m entries k (omega (arith, within)) ∙ ap (λ l. front o m entries k ++ l) (back-set o m entries k no_entry within is) in
+    let long = length-append (front o m entries k) (debt_of (get_or entries k no_entry) (m k) ∷ back o m entries (k + 1)) in
+    absurd (omega (arith, ap length (sym whole ∙ none), long))

@@ -1,5 +1,5 @@
 -- Which gains are left, and what changes of that when gains come, are let go or are dropped.
-use Rattle.sip_ledger.proofs.Words.{◌≡◌, ◌≢◌, ℕ, suc, ◌+◌, ◌-◌, ◌^◌, ◌<◌, ◌≤◌, ◌==◌, ◌&&◌, ◌||◌, Bool, true, false, cond, not, List, [], ◌∷◌, ◌++◌, length, drop, get_or, refl, sym, ap, ap₂, subst, arith, nat_tests, replicate, cases_eq, cases_lt, eq-eqb, false_from_ne_true, ne_eqb, true≢false, and-false, append_assoc, get_or-append_right, get_or_append_left, get_or-drop, get_or_default, get_or_past, get_or_push, length-append, length-drop, length-replicate, Debt, Entry, Account, Gains, Strike, debts_from, AreFlags, AreGains, AreSameGains, IsDropped, IsGain, IsKept, IsLetGo, IsNoted, IsPlaceOf, blank, entries_of, entry_at, is_gone, is_left, is_struck, owes_at, holds, AreRising}
+use Rattle.sip_ledger.proofs.Words.{◌≡◌, ◌≢◌, ℕ, suc, ◌+◌, ◌-◌, ◌^◌, ◌<◌, ◌≤◌, ◌==◌, ◌&&◌, ◌||◌, Bool, true, false, cond, not, List, [], ◌∷◌, ◌++◌, length, drop, get_or, refl, sym, ap, ap₂, arith, nat_tests, replicate, cases_eq, cases_lt, eq-eqb, false_from_ne_true, ne_eqb, true≢false, and-false, append_assoc, get_or-append_right, get_or_append_left, get_or-drop, get_or_default, get_or_past, get_or_push, length-append, length-drop, length-replicate, Debt, Entry, Account, Gains, Strike, debts_from, AreFlags, AreGains, AreSameGains, IsDropped, IsGain, IsKept, IsLetGo, IsNoted, IsPlaceOf, blank, entries_of, entry_at, is_gone, is_left, is_struck, owes_at, holds, AreRising}
 use Rattle.sip_ledger.proofs.debts.ListedLemmas.{no_entry}
 
 -- there are as many entries as there were gains
@@ -93,18 +93,9 @@ gains-more old new debt are entries end small noted rises higher own flags =
     let all : entries_of new ≡ entries_of old ++ (record { message = debt.message; deadline = debt.deadline }) ∷ [] = more-entries old new (record { message = debt.message; deadline = debt.deadline }) are.long entries end in
     let count = entries_long old are.long in
     let longer = length-append old.entries.items ((record { message = debt.message; deadline = debt.deadline }) ∷ []) in
-    let gain : IsGain debt old new = grind (arith, nat_tests, all, count, ne_eqb, and-false, eq-eqb) in (
-      record {
-        long = omega (arith, ap length entries, longer, end, are.long);
-        small = small;
-        messages = λ m k is. grind (arith, nat_tests, cases_eq, ne_eqb, and-false, not-noted, get_or_push, get_or_append_left, all, count, ap length entries, longer);
-        musts = λ k is. grind (arith, nat_tests, cases_eq);
-        rises = λ said. subst AreRising (sym entries) (rises said);
-        highest = λ k is. grind (arith, more-entries, entries_long, length-append, get_or_push, cases_eq, get_or_append_left);
-        flags = flags gain;
-      },
-      gain,
-    )
+    let gain : IsGain debt old new = grind (arith, nat_tests, all, count, ne_eqb, and-false, eq-eqb) in
+    let right = flags gain in
+    (grind (arith, nat_tests, cases_eq, ne_eqb, and-false, not-noted, get_or_push, get_or_append_left, all, count, entries, longer, rises, right), gain)
 
 -- where the entries and the places under the messages stay, the gains are right still, and the same
 pub gains-same : (old new : Gains) → AreGains old → new.entries.items ≡ old.entries.items → new.end ≡ old.end → ((m k : ℕ) → holds new.messages m k ≡ holds old.messages m k) →
@@ -125,18 +116,9 @@ pub gains-dropped : (old new : Gains) (place count : ℕ) → AreGains old → c
     new.entries.items ≡ drop count old.entries.items → new.end ≡ old.end → new.messages ≡ old.messages → new.musts ≡ old.musts → new.rises ≡ old.rises → new.highest ≡ old.highest →
     ((m k : ℕ) → k < place → holds old.messages m k ≡ false) → (IsDropped place old new → AreFlags new) → AreGains new × IsDropped place old new
 gains-dropped old new place count are here within entries end messages musts rises highest none flags =
-    let dropped : IsDropped place old new = grind (arith, nat_tests, length-drop, cases_lt, entry-kept, get_or-drop, entries_long, true≢false, get_or_past) in (
-      record {
-        long = grind (arith, length-drop);
-        small = grind (arith);
-        messages = grind (arith, nat_tests, length-drop, cases_lt, entry-kept, get_or-drop, entries_long, true≢false, get_or_past);
-        musts = grind (arith, nat_tests, length-drop, cases_lt, entry-kept, get_or-drop, entries_long, true≢false, get_or_past);
-        rises = grind (arith, length-drop, get_or-drop);
-        highest = λ k is. grind (arith, length-drop, entry-kept, get_or-drop, entries_long);
-        flags = flags dropped;
-      },
-      dropped,
-    )
+    let dropped : IsDropped place old new = grind (arith, nat_tests, length-drop, cases_lt, entry-kept, get_or-drop, entries_long, true≢false, get_or_past) in
+    let right = flags dropped in
+    (grind (arith, nat_tests, length-drop, cases_lt, entry-kept, get_or-drop, entries_long, true≢false, get_or_past, right), dropped)
 
 -- debts that are told over two lists of entries are the same where the entries that are owed are
 pub listed-alike : (o m o' m' : ℕ → Bool) (i : ℕ) (xs ys : List Entry) → length xs ≡ length ys → ((j : ℕ) → j < length xs → o (i + j) ≡ o' (i + j)) →

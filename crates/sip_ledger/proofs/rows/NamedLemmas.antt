@@ -14,9 +14,7 @@ payable-owes message (debt ∷ debts) = grind (arith, nat_tests, le-leb, and-tru
 pub named-here : (gains : Gains) (strikes : List Strike) (rows : List Account) (message at : ℕ) (none : Account) → at < length rows →
     owes_message message (account_debts gains strikes (get_or rows at none)) ≡ true → some_owes message (accounts_debts gains strikes rows) ≡ true
 named-here gains strikes rows message at none inside is =
-    let a = get_or rows at none in
-    list_any_at (owes_message message) (accounts_debts gains strikes rows) at [] (omega (arith, inside, debts_length gains strikes rows))
-    (ap (owes_message message) (row-debts gains strikes rows at a inside (get_or_default rows at none a inside)) ∙ is)
+    grind (arith, debts_length, list_any_at (owes_message message) (accounts_debts gains strikes rows) at [], row-debts gains strikes rows at (get_or rows at none), get_or_default rows at none)
 
 -- where none of the accounts owes the message, none of their lists of debts has it
 pub named-nowhere : (gains : Gains) (strikes : List Strike) (rows : List Account) (message : ℕ) → All (λ a. owes_message message (account_debts gains strikes a) ≡ false) rows →
@@ -52,14 +50,9 @@ pub record AreNamedTo (rows : List (List Debt)) (low : ℕ) (old new : List ℕ)
 -- AreNamedTo goes on over messages that are not owed
 pub named-past : (rows : List (List Debt)) (low message : ℕ) (old new : List ℕ) → AreNamedTo rows low old new → low ≤ message →
     ((m : ℕ) → low ≤ m → m < message → some_owes m rows ≡ false) → some_owes message rows ≡ false → AreNamedTo rows (message + 1) old new
-named-past rows low message old new are order between none = record {
-  names = are.names;
-  whole = are.whole;
-  rise = are.rise;
-  below = λ m there. let early = are.below m there in omega (arith, early, order);
-  owed = are.owed;
-  all = λ m early is. grind (arith, nat_tests, cases_lt, cases_eq, true≢false, are.all m, between m);
-}
+named-past rows low message old new are order between none =
+    let all : (m : ℕ) → m < message + 1 → some_owes m rows ≡ true → Contains are.names m = λ m early is. grind (arith, nat_tests, cases_lt, cases_eq, true≢false, are.all m, between m) in
+    record { names = are.names; whole = are.whole; rise = are.rise; below = λ m there. grind (arith, are.below m there); owed = are.owed; all = all }
 
 -- numbers rise with one more that is above all of them
 rise-more : (names : List ℕ) (low message : ℕ) → Rise names → ((m : ℕ) → Contains names m → m < low) → low ≤ message → Rise (names ++ message ∷ [])

@@ -27,15 +27,10 @@ pub paid-row : (message t : ℕ) (owes debts : List Debt) → list_any (is_payab
     debts ∷ [] ≡ paid_rows message t (owes ∷ [])
 paid-row message t owes debts some timely same = grind (arith)
 
--- paid rows up to the next row are those up to it, and that row if it is paid
-paid-more : (message t from k : ℕ) (rows : List (List Debt)) → from ≤ k → k < length rows →
-    paid_rows message t (from_to from (k + 1) rows) ≡ paid_rows message t (from_to from k rows) ++ paid_rows message t (owed_in rows k ∷ [])
-paid-more message t from k rows low within = grind (arith, nat_tests, common_steps, passing-more, map-append)
-
 -- the paid rows up to the next one are those up to this one, and this one if it is paid
 next-left : (message t from k : ℕ) (old : List (List Debt)) (owes : List Debt) (d : List (List Debt)) → d ≡ paid_rows message t (owes ∷ []) → owes ≡ owed_in old k → from ≤ k →
     k < length old → paid_rows message t (from_to from k old) ++ d ≡ paid_rows message t (from_to from (k + 1) old)
-next-left message t from k old owes d debts same low within = grind (arith, nat_tests, paid-more)
+next-left message t from k old owes d debts same low within = grind (arith, nat_tests, common_steps, passing-more, map-append)
 
 -- the accounts owe what the old rows owed, and after them what is left to each paid row from `from` up to k
 pub record ArePaidTo (gains : Gains) (message t from k : ℕ) (old : List (List Debt)) (strikes : List Strike) (rows : List Account) : Type 0 where

@@ -1,9 +1,9 @@
 -- Accounts as contracts see them: a list of what each row owes.
-use Rattle.sip_ledger.proofs.Words.{common_steps, ◌≡◌, ◌≢◌, ℕ, ◌+◌, ◌<◌, ◌≤◌, ◌^◌, ◌==◌, true, false, List, [], ◌∷◌, ◌++◌, length, take, get_or, set, map, refl, sym, ap, ◌∙◌, arith, nat_tests, IsTrue, Option, Some, None, IfSome, IfNone, Result, Ok, Err, IsErr, OnErr, ◌↔◌, is_err, is_some, list_any, sum_by, cases_eq, eq-eqb, eqb-true, false_from_ne_true, true≢false, drop_min, get_or_default, All-weaker, list_any_none, sum_by-cons, Debt, Account, Gains, Strike, debts_print, owed_in, worth_of, is_payable, softened_debt, AreAccounts, AreGains, IsAccount, IsFirstPayable, KeepsAccounts, account_debts, accounts_debts, entries_of, must_at, owes_at, pays_at}
+use Rattle.sip_ledger.proofs.Words.{common_steps, ◌≡◌, ◌≢◌, ℕ, ◌+◌, ◌<◌, ◌^◌, ◌==◌, true, false, List, [], ◌∷◌, ◌++◌, length, take, get_or, set, map, refl, sym, ap, ◌∙◌, arith, nat_tests, IsTrue, Option, Some, None, IfSome, IfNone, Result, Ok, Err, IsErr, OnErr, ◌↔◌, is_err, is_some, list_any, cases_eq, eq-eqb, eqb-true, false_from_ne_true, true≢false, drop_min, get_or_default, All-weaker, list_any_none, sum_by-cons, Debt, Account, Gains, Strike, debts_print, owed_in, is_payable, softened_debt, AreAccounts, AreGains, IsAccount, IsFirstPayable, KeepsAccounts, account_debts, accounts_debts, entries_of, must_at, owes_at, pays_at, map-append, All-push}
 use Rattle.sip_ledger.proofs.debts.ListedLemmas.{listed-few, listed-same, listed-softened}
 use Rattle.sip_ledger.proofs.debts.OwedLemmas.{listed-any, some-debt}
 use Rattle.sip_ledger.proofs.gains.LeftLemmas.{entries_long}
-use Rattle.sip_ledger.proofs.account.AccountLemmas.{changed, debts_length, empty-debts, kept-all, must-below, over, owed-within, pushed, row-account, row-debts, truncated, without-first_rows}
+use Rattle.sip_ledger.proofs.account.AccountLemmas.{changed, debts_length, empty-debts, kept-all, must-below, over, owed-within, row-account, row-debts, truncated, without-first_rows}
 use Rattle.sip_ledger.proofs.account.FindLemmas.{unpaid-account}
 
 -- what holds is said of an answer that is an error
@@ -35,11 +35,8 @@ module _ {gains : Gains} {strikes : List Strike} {rows : List Account} {seen : L
   unfolding account_debts
   row-few row are view inside =
       let none : Account = record { start = 0; end = 0; soft = 0; first = 0; last = 0; print = 0 } in
-      let a = get_or rows row none in
-      let at = account-at row a are view inside (get_or_default rows row none a (row-inside row are view inside)) in
-      let few : length (account_debts gains strikes a) ≤ length (entries_of gains) = listed-few (owes_at gains strikes a) (must_at gains a) 0 (entries_of gains) in
-      let count = entries_long gains are.gained.long in
-      omega (arith, ap length at.1, few, count, are.gained.small)
+      let at = account-at row (get_or rows row none) are view inside (get_or_default rows row none (get_or rows row none) (row-inside row are view inside)) in
+      grind (arith, at, listed-few, entries_long)
 
   -- where one of the accounts changes, contracts see its row changed
   pub changed-to : (new : List Strike) (row : ℕ) (a : Account) (debts : List Debt) → take (length strikes) new ≡ strikes →
@@ -69,7 +66,8 @@ module _ {gains : Gains} {strikes : List Strike} {rows : List Account} {seen : L
   pub pushed-to : (a : Account) (debts : List Debt) → AreAccounts gains strikes rows →
       accounts_debts gains strikes rows ≡ seen → IsAccount gains strikes a → account_debts gains strikes a ≡ debts →
       AreAccounts gains strikes (rows ++ a ∷ []) × (accounts_debts gains strikes (rows ++ a ∷ []) ≡ seen ++ debts ∷ [])
-  pushed-to a debts are view is owes = grind (arith, nat_tests, common_steps, pushed)
+  unfolding accounts_debts
+  pushed-to a debts are view is owes = grind (arith, nat_tests, common_steps, All-push, map-append)
 
 -- the account, of which no gain below the place must be sent any more
 abbrev pub softened_account : ℕ → Account → Account
@@ -81,27 +79,19 @@ soft-owes : (gains : Gains) (strikes : List Strike) (a : Account) (place k : ℕ
 unfolding owes_at
 soft-owes gains strikes a place k = refl
 
--- debts that need not be sent any more have the same worths
-soft-worths : (debts : List Debt) → sum_by (λ debt. worth_of debt.message debt.deadline) (map softened_debt debts) ≡ sum_by (λ debt. worth_of debt.message debt.deadline) debts
-soft-worths [] = refl
-soft-worths (debt ∷ debts) = grind (arith, nat_tests, common_steps, sum_by-cons, soft-worths debts)
-
 -- the debts of a softened account are the softened ones
 soft-debts : (gains : Gains) (strikes : List Strike) (a : Account) → account_debts gains strikes (softened_account (length (entries_of gains)) a) ≡ map softened_debt (account_debts gains strikes a)
 unfolding account_debts
 soft-debts gains strikes a =
-    let entries = (entries_of gains) in
-    let b = softened_account (length entries) a in
-    listed-same (owes_at gains strikes b) (must_at gains b) (owes_at gains strikes a) (λ _. false) 0 entries
-    (λ k from below. (soft-owes gains strikes a (length entries) k, sym (must-below gains b k (omega (arith, below)))))
-    ∙ listed-softened (owes_at gains strikes a) (must_at gains a) (λ _. false) 0 entries (λ _. refl)
+    let b = softened_account (length (entries_of gains)) a in
+    grind (arith, listed-same (owes_at gains strikes b) (must_at gains b) (owes_at gains strikes a) (λ _. false) 0, soft-owes, must-below, listed-softened (owes_at gains strikes a) (must_at gains a) (λ _. false) 0)
 
 -- a softened account is an account, and has the softened debts
 pub softened-account : (gains : Gains) (strikes : List Strike) (a : Account) → IsAccount gains strikes a →
     IsAccount gains strikes (softened_account (length (entries_of gains)) a) ×
     (account_debts gains strikes (softened_account (length (entries_of gains)) a) ≡ map softened_debt (account_debts gains strikes a))
 unfolding debts_print
-softened-account gains strikes a is = grind (arith, nat_tests, soft-debts, soft-owes, soft-worths)
+softened-account gains strikes a is = grind (arith, nat_tests, soft-debts, soft-owes, common_steps, sum_by-cons)
 
 -- an account that does not end where it starts owes something
 nothing-owed : (gains : Gains) (strikes : List Strike) (a : Account) → IsAccount gains strikes a → a.start ≢ a.end → account_debts gains strikes a ≢ []
@@ -123,4 +113,4 @@ can-pay gains strikes a message t (Some place) is some none = grind (arith, nat_
 can-pay gains strikes a message t None is some none = grind (arith, nat_tests, list_any_none, All-weaker, false_from_ne_true, unpaid-account)
 
 -- what contracts see of rows, by their accounts
-pub ruleset of_rows = (debts_length, account-at, can-pay, truncated, on-err, without-first_rows, drop_min)
+pub ruleset of_rows = (debts_length, account-at, can-pay, truncated, on-err, on-error, over-to, unchanged, without-first_rows, drop_min)

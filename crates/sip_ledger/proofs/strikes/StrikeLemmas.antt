@@ -101,14 +101,7 @@ longer-too gains place first old new l =
 -- where a new strike of the place is put after the others, the strikes strike the gain at the place too
 pub more-too : (gains : Gains) (place first : ℕ) (old new : List Strike) → first ≤ length old →
     new ≡ old ++ (record { message = (entry_at (entries_of gains) place).message; from = place; to = place + 1 }) ∷ [] → StrikeToo gains place first old new
-more-too gains place first old new within is =
-    let s : Strike = record { message = (entry_at (entries_of gains) place).message; from = place; to = place + 1 } in
-    let rest : drop first new ≡ drop first old ++ s ∷ [] = ap (drop first) is ∙ drop-append-le first old (s ∷ []) within in
-    record {
-      before = ap (take first) is ∙ take-append-le first old (s ∷ []) within;
-      struck = λ k left. grind (arith, rest, added gains place k (drop first old));
-      bound = λ m k past none. grind (arith, rest, added-bound);
-    }
+more-too gains place first old new within is = grind (arith, nat_tests, drop-append-le, take-append-le, added, added-bound)
 
 -- a place lies up to `at` or is `at` exactly if it lies up to the one after `at`
 one-more : (from at k : ℕ) → from ≤ at → ((nat_le from k && nat_lt k at) || k == at) ≡ (nat_le from k && nat_lt k (at + 1))

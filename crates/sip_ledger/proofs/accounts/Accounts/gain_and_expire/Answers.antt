@@ -1,5 +1,5 @@
-use Rattle.sip_ledger.proofs.Words.{filter, [], ◌∷◌, ◌++◌, arith, counts_at}
-use Rattle.sip_ledger.proofs.rows.SeenLemmas.{changed-by, on-error, over-to, unchanged}
+use Rattle.sip_ledger.proofs.Words.{filter, [], ◌∷◌, ◌++◌, counts_at}
+use Rattle.sip_ledger.proofs.rows.SeenLemmas.{changed-by, over-to, unchanged}
 use Rattle.sip_ledger.proofs.accounts.Accounts.gain_and_expire.Goals as goal
 
 -- where memory was refused, the rows are accounts as before
@@ -7,10 +7,6 @@ pub invariant_of-self-in_err-self-inside : goal.invariant_of-self-in_err-self-in
 invariant_of-self-in_err-self-inside c =
     let all = over-to c.place_for.new.gains c.place_for.ensures.kept c.place_for.ensures.gained c.self.invariant c.self.view_is in
     (unchanged c.gained_and_expired.new.strikes.items c.gained_and_expired.ensures.kept all.0 all.1).0
-
--- where memory was refused, the rows owe what they owed
-pub returns-in_err-self-inside-clause-err : goal.returns-in_err-self-inside-clause-err
-returns-in_err-self-inside-clause-err c = grind (arith, over-to, on-error, unchanged)
 
 -- the changed rows are accounts
 pub invariant_of-self-2 : goal.invariant_of-self-2

@@ -1,15 +1,10 @@
 use Rattle.sip_ledger.proofs.Words.{filter, counts_at, paid_by}
-use Rattle.sip_ledger.proofs.rows.SeenLemmas.{changed-by, on-error, unchanged}
+use Rattle.sip_ledger.proofs.rows.SeenLemmas.{changed-by, unchanged}
 use Rattle.sip_ledger.proofs.accounts.Accounts.pay_and_expire.Goals as goal
 
 -- where memory was refused, the rows are accounts as before
 pub invariant_of-self : goal.invariant_of-self
 invariant_of-self c = (unchanged c.paid_and_expired.new.strikes.items c.paid_and_expired.ensures.kept c.self.invariant c.self.view_is).0
-
--- where memory was refused, the rows owe what they owed
-pub returns-in_err-self-inside-clause-err : goal.returns-in_err-self-inside-clause-err
-returns-in_err-self-inside-clause-err c =
-    on-error c.from_residual.result c.from_residual.ensures.0 (unchanged c.paid_and_expired.new.strikes.items c.paid_and_expired.ensures.kept c.self.invariant c.self.view_is).1
 
 -- the changed rows are accounts
 pub invariant_of-self-2 : goal.invariant_of-self-2

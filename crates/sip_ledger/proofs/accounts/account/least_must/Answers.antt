@@ -1,4 +1,4 @@
-use Rattle.sip_ledger.proofs.Words.{◌<◌, inl, inr, length, sym, ◌∙◌, arith, cases_lt, entries_of}
+use Rattle.sip_ledger.proofs.Words.{◌<◌, length, sym, ◌∙◌, arith, entries_of}
 use Rattle.sip_ledger.proofs.gains.LeftLemmas.{entries_long, left-kept, owed-left}
 use Rattle.sip_ledger.proofs.account.ToldLemmas.{least-first, least-first_due, least-found, least-last, least-passed}
 use Rattle.sip_ledger.proofs.accounts.account.least_must.Goals.{then-owes+else-gains, else-owes}
@@ -7,12 +7,8 @@ use Rattle.sip_ledger.proofs.accounts.account.least_must.Goals as goal
 -- before the first place there is no least deadline, or it is that of the first debt
 pub loop-place-init : goal.loop-place-init
 loop-place-init c =
-    let start = c.args.account.start in
     let from = c.max-from.ensures in
-    least-first c.args.gains.now c.args.strikes.now c.args.account c.max-from.result c.requires.account (omega (arith, from)) (omega (arith, from)) (elim (cases_lt start c.args.account.soft) [
-      | inl below ↦ inr (omega (arith, from, below))
-      | inr above ↦ inl (omega (arith, from, above))
-    ])
+    least-first c.args.gains.now c.args.strikes.now c.args.account c.max-from.result c.requires.account (omega (arith, from)) (omega (arith, from)) (omega (arith, from))
 
 -- where the place is past the account's end, the least so far is the least of all
 pub returns-then-account-place : goal.returns-then-account-place

@@ -430,13 +430,16 @@ class Claims:
         return self.case.entry(number).data.split(b"\r\n")[0].decode("latin-1")
 
     def nearly_the_ack(self, moment, data):
-        """Checks that no ACK was allowed at this moment, and that a right one was allowed at others."""
-        told = self.told
+        """Checks that no ACK was allowed at this moment, that a right one was allowed at others, and in which parts the ACK that was sent differs from it. Whether
+        each part is needed cannot be asked at this moment, since even the right ACK is not allowed then."""
+        case, told = self.case, self.told
         self.holds("no ACK is right then", not self.acks_of(data, moment))
         right = latin(told["right"]["bytes"])
         self.windows("the right ACK", told["and_windows"], self.sends("S", right), self.density // 2)
         self.holds("the right ACK has a window", bool(told["and_windows"]))
-        self.holds("parts of the right ACK", bool(told["right"]["parts"]))
+        self.holds("the response of the ACK in words", self.first_line(told["of"]).endswith(told["of_what"]), told["of_what"])
+        wanted = wrong_parts(data, case.requests()[0], case.entry(told["of"]).data)
+        self.holds("parts of the ACK by 17.1.1.3", sorted(wanted) == sorted(part["part"] for part in told["right"]["parts"]), ", ".join(wanted))
 
     def parts(self, parts, data, right, is_right):
         """Checks the parts of an ACK that have to change: each change is needed, both values stand in the messages, and nothing else was changed."""

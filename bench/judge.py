@@ -75,6 +75,7 @@ def calls(entries):
     """The log of a client over UDP with some 500 calls at once: INVITE, 100, 180, 200, and the ACK with its own branch."""
 
     def call(number):
+        """The messages of the call with this number, with their moments and directions."""
         sdp = SDP + "".join(f"a=rtpmap:{it} CODEC{it}/8000\r\n" for it in range(96, 97 + number % 16))
         return [
             (0, "S", request("INVITE", number, body=sdp)),
@@ -131,6 +132,7 @@ def proxy(entries):
     """The log of a proxy with both sides of each INVITE; one INVITE of eight is refused with 486."""
 
     def call(number):
+        """The messages of the call with this number, on both sides of a proxy."""
         own = f"\r\nVia: SIP/2.0/UDP proxy.example.com;branch=z9hG4bKp{number}"
         record = "\r\nRecord-Route: <sip:proxy.example.com;lr>"
 
@@ -176,6 +178,7 @@ def mixed(entries):
         return text
 
     def call(number):
+        """The messages of the call with this number: spelled in one of four ways, some repeated, cancelled or refused."""
         form = [str, str, folded, compact][number % 4]
         invite = form(request("INVITE", number, body=SDP))
         ack = form(request("ACK", number, tag=";tag=a6c85cf"))
@@ -429,6 +432,7 @@ def counted(program, log, out):
 
 
 def print_counted(program, folder):
+    """Counts each kind of log by valgrind, and prints what an entry takes, beside the goal."""
     print(f"{'counted, an entry':<18} {'bytes':>6} {'instructions':>12} {'goal':>7} {'branches':>9} {'I1 misses':>9} {'D1 misses':>9} "
           f"{'LL misses':>9} {'code KB':>8}")
     lost, takes = [], {}
@@ -489,6 +493,7 @@ def measured(command):
 
 
 def print_timed(program, folder, verb, kinds, size):
+    """Times the program on a log of each kind, beside `cat` of the same log."""
     print(f"{verb:<18} {'entries':>8} {'MB':>7}   {'seconds':>8} {'entries/s':>10} {'MB/s':>7} {'peak MB':>8} {'faults/entry':>12}   "
           f"{'cat: MB/s':>9} {'peak MB':>8}")
     log = folder / "log"

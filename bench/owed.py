@@ -139,6 +139,11 @@ def acks_mixed(count, _):
     yield from refused(count, lambda it: f"t{it}", lambda them: (it * step % len(them) for it in them))
 
 
+def acks_of_long_tos(count, _):
+    """Refusals whose Tos are long and differ in their ends alone; their ACKs, newest first."""
+    yield from refused(count, lambda it: 300 * "t" + str(it), reversed)
+
+
 def equal_debts(count, states):
     """So many equal debts, and then the states, with nothing after them: it takes memory, and little time."""
     yield from [ASK, ("S", 0, reply(180, "e")), *count * [ASK], *widened(states)[1:]]
@@ -196,6 +201,7 @@ LOGS = [
     (acks_with_others_between, 4000, (1,)),
     (acks_of_one_to, 4000, (1,)),
     (acks_mixed, 4000, (1,)),
+    (acks_of_long_tos, 4000, (1,)),
     (equal_debts, 25000, (1, 1024)),
     (debts_paid_by_all, 500, (2, 100, 1024)),
     (debt_and_payment, 1500, (128,)),

@@ -53,6 +53,7 @@ def at_once(commands):
 
 
 def print_timed(program, folder, entries):
+    """Times the whole log and its parts, each alone and four at once, in rounds, and prints the fewest seconds and the middle ones."""
     log = folder / "log"
     write_log(log, calls, entries)
     log.read_bytes()  # so that it is in memory

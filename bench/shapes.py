@@ -119,6 +119,7 @@ def expect(name, text, wanted):
 
 
 def print_shapes(program, log):
+    """Counts instructions for a byte of each shape of message, in growing messages, and prints them."""
     print(f"{'instructions a byte':<24} {'read as':<12}" + "".join(f" {f'{size:,} bytes':>13}" for size in SIZES[1:]))
     for name, front, unit, end, fault in SHAPES:
         costs = []

@@ -35,6 +35,7 @@ def check_survey(kind, entries, verdict, survey):
 
 
 def print_counted(programs, folder):
+    """Counts what an entry takes of a verdict and of a survey, and prints both beside each other."""
     print(f"{'instructions, an entry':<24} {'verdict':>9} {'survey':>9} {'times':>6}")
     for kind in KINDS:
         log, got = folder / "log", []

@@ -94,6 +94,7 @@ class Feeding:
             self.said.append((time.time(), json.loads(line)))
 
     def feed(self):
+        """Writes the lines at their moments, and reads the memory of the watch three times."""
         time.sleep(1)
         begun, waiting = time.time(), []
         for moment, line in lines(self.rate):
@@ -103,6 +104,7 @@ class Feeding:
                 time.sleep(wait)
             self.watch.stdin.write(b"%.6f " % (begun + moment) + line)
             waiting.append(int((begun + moment) * 1000))
+            # The memory is read after each third of the time; the last reading comes after all lines.
             if len(self.sizes) < 2 and moment > (len(self.sizes) + 1) * SECONDS / 3:
                 self.sizes.append(memory(self.watch.pid))
         self.flush(waiting)
@@ -126,6 +128,7 @@ def moment_of(one):
 
 
 def measure(rate, counts):
+    """Feeds a watch so many messages a second, and prints how late it told the troubles and what it used."""
     before = resource.getrusage(resource.RUSAGE_CHILDREN)
     beat = subprocess.Popen([sys.executable, "-c", BEAT, str(SECONDS)], stdout=subprocess.PIPE)
     fed = Feeding(rate, counts)

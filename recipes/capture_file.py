@@ -93,6 +93,7 @@ class Pcap:
         window.at = 24
 
     def frames(self):
+        """The packets of a pcap file, each as the numbers that say where it lies."""
         window, read, link, scale, number = self.window, self.header.unpack_from, self.link, SECOND // self.units, 0
         while window.has(16 + self.length_of_next(number)):
             data, at = window.data, window.at
@@ -164,6 +165,7 @@ class Pcapng:
         return kind, length
 
     def frames(self):
+        """The packets of a pcapng file, each as the numbers that say where it lies."""
         window, number = self.window, 0
         while True:
             kind, length = self.block(number)
@@ -190,6 +192,7 @@ class Pcapng:
         self.preamble += block
 
     def packet(self, number, length):
+        """The packet of a block: its number, moment, link, where it lies, and whether it was cut."""
         data, at = self.window.data, self.window.at
         if length < 32:
             raise Damaged("packet %d has a block of %d bytes" % (number, length))

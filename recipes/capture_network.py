@@ -290,6 +290,7 @@ class Datagrams:
         return None
 
     def udp(self, packet, is_cut):
+        """What a UDP packet carries, with its ends, or None where it is cut or no SIP."""
         if len(packet.data) < UDP_HEADER.size:
             return None
         ports, length = UDP_HEADER.unpack_from(packet.data)

@@ -36,6 +36,7 @@ class Axis:
         self.at, self.rows, y, before = {}, [0.0] * len(arrows), float(TOP), None
         floor = 0.0
         for moment in sorted({one.moment for one in arrows} | set(edges)):
+            # A gap takes from 14 to 90 units, and each doubling of a long one takes 8 more.
             if before is not None:
                 y += min(90, 14 + 8 * math.log2(1 + max(0, moment - before) / 4))
             own = [n for n, one in enumerate(arrows) if one.moment == moment]
@@ -68,6 +69,7 @@ class Ladder:
         self.draw("text", shown(content, most), x=x, y=y, **attributes)
 
     def arrow(self, one, y):
+        """Draws a message as an arrow from one lane to the other."""
         if one.source not in self.x or one.target not in self.x:
             return
         start, end = self.x[one.source], self.x[one.target]
@@ -85,6 +87,7 @@ class Ladder:
         self.text(4, y + 4, "%d" % one.moment, class_="soft")
 
     def window(self, n, one):
+        """Draws a window beside the axis: from when until when a message may or must be sent."""
         x, top = LEFT + WINDOW * n, self.axis.at[one.first]
         bottom = self.axis.at[one.last] if one.last is not None else self.axis.bottom - 4
         self.draw("rect", tag("title", shown(one.text)), x=x, y=top, width=WINDOW - 6, height=max(4.0, bottom - top), rx=2, class_="must" if one.is_due else "may")
@@ -108,6 +111,7 @@ class Ladder:
             self.text(x - 12 if is_last else x + 12, y + 4 + 15 * n, words, 46, class_="badtext", text_anchor="end" if is_last else "start")
 
     def svg(self):
+        """Draws the whole ladder."""
         for lane, x in self.x.items():
             self.text(x, 14, lane, 34, text_anchor="middle" if len(self.lanes) > 1 and x > self.x[self.lanes[0]] else "start", font_weight="700")
             if lane == self.element:

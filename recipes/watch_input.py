@@ -105,5 +105,5 @@ class Input:
         return max(self.heard - self.lag, self.settled, by_clock)
 
     def next_known(self, now):
-        """In how many nanoseconds it is known of a line that has come that it is the next."""
+        """Answers in how many nanoseconds the first line that has come is sure to be the next one, or None where no line has come."""
         return max(0, self.came[0][0] + self.lag - now) if self.came else None

@@ -104,7 +104,7 @@ def header_of(first):
 
 
 class Log:
-    """A log that grows: its header, and the entries after it as pairs of a moment and bytes."""
+    """A log that grows: its header, the entries after it as pairs of a moment and bytes, and the set that its messages are of, where a word names one."""
 
     def __init__(self, words):
         header = header_of(words[0]) if words else None

@@ -56,6 +56,7 @@ class Story:
         return max(0, length + (wrong if self.chance.random() < 0.04 else right))
 
     def add(self, letter, moment, method, code=None):
+        """Adds an entry with a message of this dialog, and with the transactions that it concerns."""
         data = message(method, self.branch, code)
         data = data.replace(b"/UDP ", b"/%s " % self.transport.encode()).replace(b" a.example", b" %s.example" % self.host.encode())
         own = "INVITE" if method == "ACK" else method
@@ -86,6 +87,7 @@ class Story:
             self.add("R", answer + 30, method, 200)
 
     def invite_client(self):
+        """A client's INVITE with what follows it."""
         chance = self.chance
         answer = self.start + chance.choice([5, 300, 700, 2000, 40_000])
         self.repeated("INVITE", self.start, min(answer, self.start + 31_950), 1 << 20)
@@ -103,6 +105,7 @@ class Story:
                 self.add("S", moment + self.wait(0), "ACK")
 
     def plain_server(self):
+        """A request that a server takes, with its responses."""
         chance, method = self.chance, self.chance.choice(["OPTIONS", "BYE"])
         self.add("R", self.start, method)
         answer = self.start + chance.choice([5, 300, 3000])
@@ -113,6 +116,7 @@ class Story:
             self.add("S", answer + 500 * (again + 1) + self.wait(0), method, code)
 
     def invite_server(self):
+        """An INVITE that a server takes, with its responses and its ACK."""
         chance = self.chance
         self.add("R", self.start, "INVITE")
         self.add("S", self.start + chance.choice([0, 100, 200, 200 + self.late]), "INVITE", chance.choice([100, 180]))

@@ -28,6 +28,7 @@ class Verdict(ctypes.Structure):
     ]
 
     def __str__(self):
+        """The verdict as `siptrace` writes it."""
         told = f"{self.reason} {REASONS.get(self.reason)}"
         if self.kind == LEGAL:
             return f"legal entries {self.entries} transactions {self.transactions}"

@@ -116,6 +116,7 @@ class Case:
         return self.kept["candidates"]
 
     def of_client(self):
+        """What a client might send next: the ACK of a refusal, its request again, or a CANCEL."""
         invite = self.first_request() if self.is_invite else None
         if invite is not None and invite.letter != "R":
             for one in self.refusals()[:MOST_CANDIDATES]:

@@ -42,6 +42,7 @@ class Excuses:
         self.add(question, short_form, self.words([*self.history, self.case.stop], times), change, lambda: self.to_the_end(times))
 
     def times(self):
+        """Asks whether other times or other rules in the header excuse the breach."""
         times = self.case.times
         for t1 in LATER_T1:
             if t1 > times.t1:

@@ -25,6 +25,7 @@ class Side:
         return self.file.readline().split()
 
     def line_of(self, number):
+        """The words of the first line whose number is not below this one: the lines are in the order of their numbers, and so they are searched by halves."""
         low, high = 0, self.file.seek(0, os.SEEK_END)
         while low < high:
             middle = (low + high) // 2

@@ -35,6 +35,7 @@ class Case:
         raise ValueError(f"the log has no transaction {number} by the checker's reading")
 
     def numbers_of_own(self):
+        """The numbers of the entries that concern the transaction, and of the restarts after its first."""
         own = []
         for number, (letter, _, data) in enumerate(self.entries, 1):
             try:

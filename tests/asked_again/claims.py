@@ -42,6 +42,7 @@ class Claims:
         return truth
 
     def all(self):
+        """Checks each claim of the evidence."""
         if not self.holds("the kind is one of the seven", self.kind in KINDS, self.kind):
             return
         self.of_verdict()
@@ -68,6 +69,7 @@ class Claims:
         self.holds("times of the header", all(times[name] == getattr(case.times, name) for name in case.times._fields), str(times))
 
     def of_transaction(self):
+        """Checks what is told of the transaction against its first message."""
         case, own = self.case, self.told["transaction"]
         first = next(case.entry(number).data for number in case.own if case.entry(number).data)
         _, transport, _, branch = top_via(first)
@@ -82,6 +84,7 @@ class Claims:
             self.holds("the judge counts that transaction so", (case.number, case.role, case.method.decode()) in listed, str(listed))
 
     def of_history(self):
+        """Checks the history: that it is possible, and that the breach shows only after it."""
         case, told = self.case, self.told
         history = list(told["history"])
         while history and history[0][1] == "Z":  # a restart before the transaction began changes nothing
@@ -95,6 +98,7 @@ class Claims:
         self.holds("the states that the judge lists", told["states"] == states, f"{told['states']}, and not {states}")
 
     def of_silence(self):
+        """Checks how long the element was allowed to be silent."""
         if "last_wait" not in self.told:
             self.holds("what did not begin has no silence", self.kind == STRAY)
             return
@@ -195,6 +199,7 @@ class Claims:
     # What follows asks about the pieces of the log that the evidence shows.
 
     def of_rows(self):
+        """Checks the rows of the ladder against the entries."""
         case, before = self.case, None
         first_with = {}
         for number, entry in enumerate(case.entries, 1):
@@ -243,6 +248,7 @@ class Claims:
     # What follows asks about a silence that was too long.
 
     def deadline(self):
+        """Checks the deadline that was missed, and the messages that were due by it."""
         case, told = self.case, self.told
         self.holds("deadline is the last moment of silence", told["deadline"] == case.last_silence() and told["deadline"] < case.moment, told["deadline"])
         owed = self.owed_by(told["deadline"])
@@ -277,6 +283,7 @@ class Claims:
         return {self.case.history[int(number) - 1].data for number, until, is_reliable in found if is_reliable or int(until) <= deadline}
 
     def due_together(self):
+        """Checks that the messages that were due together settle it together, and that each of them is needed."""
         case, told = self.case, self.told
         until = case.end()
         together = [Entry(one["letter"], until, latin(one["bytes"])) for one in told["together"]]
@@ -289,6 +296,7 @@ class Claims:
             self.windows("one of those together", one["windows"], self.sends(one["letter"], latin(one["bytes"])), self.density // 3)
 
     def never_came(self):
+        """Checks that none of the later sends would have settled what was due."""
         case, told = self.case, self.told
         self.deadline()
         wanted = [latin(one["bytes"]) for one in told["due"]]
@@ -332,6 +340,7 @@ class Claims:
         self.parts(would_be["parts"], data, right, lambda back: case.settles("S", when, back))
 
     def too_late(self):
+        """Checks a message that came after its deadline."""
         case, told = self.case, self.told
         if "deadline" not in told:
             self.wrong_moment()
@@ -369,6 +378,7 @@ class Claims:
         return letter, moment, data
 
     def wrong_moment(self):
+        """Checks by how much a message missed its nearest window."""
         told = self.told
         _, moment, _ = self.sent()
         windows = told["sent"]["windows"]
@@ -379,6 +389,7 @@ class Claims:
             self.holds("size", told["by"] == (early if self.kind == EARLY else late) == nearest, told["by"])
 
     def not_the_bytes(self):
+        """Checks a message that would be right with an earlier entry's bytes."""
         case, told = self.case, self.told
         letter, moment, data = self.sent()
         repair = told["repair"]
@@ -400,6 +411,7 @@ class Claims:
             self.holds("both texts of that line", (latin(told["has"]), latin(told["should"])) == (lines[number], others[number]))
 
     def not_the_ack(self):
+        """Checks an ACK that belongs to no response that is owed one."""
         case, told = self.case, self.told
         _, moment, data = self.sent()
         self.holds("at no moment", not told["sent"]["windows"])
@@ -418,13 +430,16 @@ class Claims:
         return self.case.entry(number).data.split(b"\r\n")[0].decode("latin-1")
 
     def nearly_the_ack(self, moment, data):
-        """Checks that no ACK was allowed at this moment, and that a right one was allowed at others."""
-        told = self.told
+        """Checks that no ACK was allowed at this moment, that a right one was allowed at others, and in which parts the ACK that was sent differs from it. Whether
+        each part is needed cannot be asked at this moment, since even the right ACK is not allowed then."""
+        case, told = self.case, self.told
         self.holds("no ACK is right then", not self.acks_of(data, moment))
         right = latin(told["right"]["bytes"])
         self.windows("the right ACK", told["and_windows"], self.sends("S", right), self.density // 2)
         self.holds("the right ACK has a window", bool(told["and_windows"]))
-        self.holds("parts of the right ACK", bool(told["right"]["parts"]))
+        self.holds("the response of the ACK in words", self.first_line(told["of"]).endswith(told["of_what"]), told["of_what"])
+        wanted = wrong_parts(data, case.requests()[0], case.entry(told["of"]).data)
+        self.holds("parts of the ACK by 17.1.1.3", sorted(wanted) == sorted(part["part"] for part in told["right"]["parts"]), ", ".join(wanted))
 
     def parts(self, parts, data, right, is_right):
         """Checks the parts of an ACK that have to change: each change is needed, both values stand in the messages, and nothing else was changed."""
@@ -452,6 +467,7 @@ class Claims:
             self.holds("as it is it does not", not case.is_possible([request, entry]))
 
     def not_allowed(self):
+        """Checks a message that was allowed at no moment, and what was allowed in its place."""
         case, told = self.case, self.told
         letter, moment, data = self.sent()
         self.holds("at no moment", not told["sent"]["windows"])

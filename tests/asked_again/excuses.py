@@ -99,6 +99,7 @@ class Excuses:
             self.claims.holds("least tolerance", self.told["least_tolerance"] == change["tolerance"])
 
     def ask_insert(self, row, change):
+        """Asks again whether the messages that are put in excuse the breach."""
         more = [Entry(letter, moment, data.encode("latin-1")) for letter, moment, data in change["insert"]]
         history = [] if self.told["kind"] == "not begun" else list(self.case.history)
         after = self.place_after(change.get("after"))

@@ -39,6 +39,7 @@ class FaultClaims:
     # What follows asks about a message that is malformed.
 
     def malformed(self):
+        """Checks what is told of a malformed message."""
         told = self.told
         number, name = self.words[-2:]
         unit, line = self.words[2], int(self.words[3]) if self.words[2] == "line" else None
@@ -84,6 +85,7 @@ class FaultClaims:
     # What follows asks about a log that is undecided.
 
     def undecided(self):
+        """Checks what is told of a transaction that is undecided."""
         told = self.told
         at, number = int(self.words[1]), int(self.words[3])
         times, entries = read_log(self.log)
@@ -113,6 +115,7 @@ class FaultClaims:
     # What follows asks about a log that cannot be read.
 
     def unreadable(self):
+        """Checks what is told of an entry that cannot be read."""
         told = self.told
         at, number, name = self.words[2:]
         self.holds("entry that cannot be read", told["entry"]["number"] == int(at))

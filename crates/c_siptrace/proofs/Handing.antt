@@ -4,6 +4,7 @@ use Rattle.std.proofs.lemmas.List.{take_more, map-append, length-map, length-tak
 use Rattle.std.proofs.Math.ListN.{set}
 use Rattle.std.proofs.Math.Seq.{set-append_seam}
 
+-- What follows is of a list xs that is handed out into a room, each element as f gives it.
 module _ {A B : Type 0} (f : A → B) (xs : List A) (room : List B) where
   -- the element at i is put in the place i of the room, after the elements before it
   put_next : (i : ℕ) (d : A) → i < length xs → i < length room → slice_set (map f (take i xs) ++ drop i room) i (f (get_or xs i d)) ≡ map f (take (i + 1) xs) ++ drop (i + 1) room
@@ -19,6 +20,7 @@ module _ {A B : Type 0} (f : A → B) (xs : List A) (room : List B) where
       ap (λ ys. map f ys ++ rest) (take_more xs i d low) ∙ ap (λ ys. ys ++ rest) (map-append f (take i xs) (x ∷ [])) ∙ append_assoc front (f x ∷ []) rest in
       ap (λ r. set (front ++ r) i (f x)) place ∙ put ∙ sym both
 
+  -- What follows is of the n elements for which there is room.
   module _ (n : ℕ) (fits : n ≡ min (length xs) (length room)) where
     -- where the elements before i are handed out, and the one at i is put in its place, the elements up to i are handed out
     pub handed_next : (i : ℕ) (d : A) (y : B) (now : List B) → i < length (take n xs) → y ≡ f (get_or (take n xs) i d) → now ≡ map f (take i xs) ++ drop i room

@@ -92,6 +92,7 @@ impl PlainVerdict {
         }
     }
 
+    /// The plain verdict of a malformed entry.
     fn malformed(entry: u64, fault: Fault) -> PlainVerdict
         ensures { result ≡ plain (Malformed entry fault) }
     {
@@ -105,6 +106,7 @@ impl PlainVerdict {
         }
     }
 
+    /// The plain verdict of a log that cannot be read on.
     fn log_fault(entry: u64, reason: LogReason) -> PlainVerdict
         ensures { result ≡ plain (LogFault entry reason) }
     {

@@ -53,6 +53,7 @@ ends p es (item ∷ items) end v (e, sees, inr (formed, runs, narrow, more)) =
           ⊎ ((next : Item) × (after : List Item) × (f : Observation KeyParts) × (later.rest ≡ next ∷ after) × Sees fs next f × HasTrouble p fs f v)) same later.last;
     }
 
+-- What follows is of one input.
 module _ (input : List ℕ) where
   -- the first entry that is in trouble has the number that follows those of the entries that go well
   first_in_trouble : (p : Times) (items : List Item) (end : LogEnd) (v : Verdict) (number : ℕ) → LogSays input p items end → (found : Ends p [] items end v)
@@ -79,6 +80,7 @@ module _ (input : List ℕ) where
       by_end Clean front is = cc
       by_end (Stops f) front is = cc
 
+      -- the verdict is not that of the end, so an item follows the front, and its entry has the fault
       with_last : (found : Ends p [] items end (Malformed number fault)) → ((found.rest ≡ []) × IsVerdictAfter p found.front [] end (Malformed number fault))
           ⊎ ((item : Item) × (after : List Item) × (e : Observation KeyParts) × (found.rest ≡ item ∷ after) × Sees found.front item e × HasTrouble p found.front e (Malformed number fault))
           → IsFirstFault input number fault
@@ -86,6 +88,7 @@ module _ (input : List ℕ) where
       with_last found (inr (item, after, e, rest, sees, trouble)) =
           (p, found.front, e, first_in_trouble p items end (Malformed number fault) number says found item after e rest sees trouble.0, trouble.1)
 
+      -- the log is the front that goes well and what follows it
       by : Ends p [] items end (Malformed number fault) → IsFirstFault input number fault
       by found = with_last found found.last
 
@@ -98,6 +101,7 @@ module _ (input : List ℕ) where
       by_end Clean front is = cc
       by_end (Stops f) front is = cc
 
+      -- the verdict is not that of the end, so an item follows the front, and some transaction has no run over its entry
       with_last : (found : Ends p [] items end (Breach number transaction)) → ((found.rest ≡ []) × IsVerdictAfter p found.front [] end (Breach number transaction))
           ⊎ ((item : Item) × (after : List Item) × (e : Observation KeyParts) × (found.rest ≡ item ∷ after) × Sees found.front item e × HasTrouble p found.front e (Breach number transaction))
           → IsFirstBreach input number transaction
@@ -105,6 +109,7 @@ module _ (input : List ℕ) where
       with_last found (inr (item, after, e, rest, sees, trouble)) =
           (p, found.front, e, first_in_trouble p items end (Breach number transaction) number says found item after e rest sees trouble.0, trouble.1, trouble.2)
 
+      -- the log is the front that goes well and what follows it
       by : Ends p [] items end (Breach number transaction) → IsFirstBreach input number transaction
       by found = with_last found found.last
 
@@ -117,6 +122,7 @@ module _ (input : List ℕ) where
       by_end Clean front is = cc
       by_end (Stops f) front is = cc
 
+      -- the verdict is not that of the end, so an item follows the front, and some transaction is too wide at its entry
       with_last : (found : Ends p [] items end (Undecided number transaction)) → ((found.rest ≡ []) × IsVerdictAfter p found.front [] end (Undecided number transaction))
           ⊎ ((item : Item) × (after : List Item) × (e : Observation KeyParts) × (found.rest ≡ item ∷ after) × Sees found.front item e × HasTrouble p found.front e (Undecided number transaction))
           → IsFirstWide input number transaction
@@ -124,6 +130,7 @@ module _ (input : List ℕ) where
       with_last found (inr (item, after, e, rest, sees, trouble)) =
           (p, found.front, e, first_in_trouble p items end (Undecided number transaction) number says found item after e rest sees trouble.0, trouble.1, trouble.2, trouble.3)
 
+      -- the log is the front that goes well and what follows it
       by : Ends p [] items end (Undecided number transaction) → IsFirstWide input number transaction
       by found = with_last found found.last
 
@@ -139,11 +146,13 @@ module _ (input : List ℕ) where
           let same : items ≡ found.before = found.whole ∙ ap (λ xs. found.before ++ xs) none ∙ append-nil found.before in
           inr (p, found.before, found.front, fault, subst (λ xs. LogSays input p xs (Stops fault)) same says, found.well, cc, cc)
 
+      -- no item follows the front, since an entry in trouble has another verdict
       with_last : (found : Ends p [] items end (LogFault number reason)) → ((found.rest ≡ []) × IsVerdictAfter p found.front [] end (LogFault number reason))
           ⊎ ((item : Item) × (after : List Item) × (e : Observation KeyParts) × (found.rest ≡ item ∷ after) × Sees found.front item e × HasTrouble p found.front e (LogFault number reason))
           → CannotBeRead input number reason
       with_last found (inl (none, is)) = at_end end says found none is
       with_last found (inr (item, after, e, rest, sees, trouble)) = absurd trouble
 
+      -- the log is the front that goes well and what follows it
       by : Ends p [] items end (LogFault number reason) → CannotBeRead input number reason
       by found = with_last found found.last

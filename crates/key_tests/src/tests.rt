@@ -51,6 +51,7 @@ impl Text {
     }
 }
 
+/// An INVITE.
 const INVITE: Text = Text {
     start: "INVITE sip:example.com SIP/2.0",
     via: "SIP/2.0/UDP a.example.com;branch=z9hG4bK1",
@@ -61,12 +62,14 @@ const INVITE: Text = Text {
     more: "",
 };
 
+/// The 486 to the INVITE.
 const BUSY: Text = Text {
     start: "SIP/2.0 486 Reply",
     to: "<sip:bob@example.com>;tag=2",
     ..INVITE
 };
 
+/// The ACK for the 486.
 const ACK: Text = Text {
     start: "ACK sip:example.com SIP/2.0",
     to: "<sip:bob@example.com>;tag=2",
@@ -316,6 +319,7 @@ fn server_key(alloc: Global, sent_by: &str) -> Result<Option<Key>, Fail> {
     }
 }
 
+/// The key of the INVITE that a sent CANCEL cancels.
 const CANCELLED: Option<Parts> = Some((Role::Client, "z9hg4bk1", "", "INVITE"));
 
 /// A message by its method and branch, which way it goes, and the key of the transaction that it cancels, if it cancels one.

@@ -1,4 +1,6 @@
 //! Steps by chance, on accounts and on plain lists of debts beside them.
+ghost use Rattle.std.specs.Prelude.{◌<◌, length};
+
 use crate::chance::{Chance, evens};
 use crate::wants::{holds, holds_of};
 use sip_ledger::{Accounts, Debt, Index};
@@ -23,6 +25,15 @@ impl Played {
         Ok(played)
     }
 
+    /// The row is one of the accounts, and one of the lists.
+    fn has(&self, rt: &impl Abort, row: usize)
+        ensures accounts { row < length self.now.accounts }
+        ensures lists { row < length self.now.lists.items }
+    {
+        holds(rt, row < self.accounts.len(), "a row of the accounts");
+        holds(rt, row < self.lists.len(), "a row of the lists");
+    }
+
     /// The number of a row.
     fn row(&self, rt: &impl Abort, chance: &mut Chance) -> usize {
         let row = chance.below(self.lists.len() as u64) as usize;
@@ -37,8 +48,7 @@ impl Played {
     }
 
     fn push_copy(&mut self, rt: &impl Abort, row: usize) -> Result<(), Fail> {
-        holds(rt, row < self.accounts.len(), "a row of the accounts");
-        holds(rt, row < self.lists.len(), "a row of the lists");
+        self.has(rt, row);
         self.accounts.push_copy(row)?;
         let copy = self.lists[row].clone()?;
         self.lists.push(copy)?;
@@ -46,10 +56,8 @@ impl Played {
     }
 
     fn copy(&mut self, rt: &impl Abort, from: usize, to: usize) -> Result<(), Fail> {
-        holds(rt, from < self.accounts.len(), "a row of the accounts");
-        holds(rt, to < self.accounts.len(), "a row of the accounts");
-        holds(rt, from < self.lists.len(), "a row of the lists");
-        holds(rt, to < self.lists.len(), "a row of the lists");
+        self.has(rt, from);
+        self.has(rt, to);
         self.accounts.copy(from, to);
         let copy = self.lists[from].clone()?;
         self.lists[to] = copy;
@@ -117,8 +125,7 @@ impl Played {
     }
 
     fn expire(&mut self, rt: &impl Abort, row: usize, moment: u64) -> Result<(), Fail> {
-        holds(rt, row < self.accounts.len(), "a row of the accounts");
-        holds(rt, row < self.lists.len(), "a row of the lists");
+        self.has(rt, row);
         self.accounts.expire(row, moment)?;
         self.lists[row].retain(|debt| debt.must || moment <= debt.deadline);
         Ok(())
@@ -131,8 +138,7 @@ impl Played {
         debt: Debt,
         moment: u64,
     ) -> Result<(), Fail> {
-        holds(rt, row < self.accounts.len(), "a row of the accounts");
-        holds(rt, row < self.lists.len(), "a row of the lists");
+        self.has(rt, row);
         self.accounts.gain_and_expire(row, debt, moment)?;
         self.lists[row].push(debt)?;
         self.lists[row].retain(|debt| debt.must || moment <= debt.deadline);
@@ -146,8 +152,7 @@ impl Played {
         message: u64,
         moment: u64,
     ) -> Result<(), Fail> {
-        holds(rt, row < self.accounts.len(), "a row of the accounts");
-        holds(rt, row < self.lists.len(), "a row of the lists");
+        self.has(rt, row);
         let first = self.lists[row]
             .iter()
             .position(|debt| debt.message == message && moment <= debt.deadline);
@@ -162,8 +167,7 @@ impl Played {
     }
 
     fn soften(&mut self, rt: &impl Abort, row: usize) {
-        holds(rt, row < self.accounts.len(), "a row of the accounts");
-        holds(rt, row < self.lists.len(), "a row of the lists");
+        self.has(rt, row);
         self.accounts.soften(row);
         for debt in self.lists[row].iter_mut() {
             debt.must = false;
@@ -171,8 +175,7 @@ impl Played {
     }
 
     fn clear(&mut self, rt: &impl Abort, row: usize) {
-        holds(rt, row < self.accounts.len(), "a row of the accounts");
-        holds(rt, row < self.lists.len(), "a row of the lists");
+        self.has(rt, row);
         self.accounts.clear(row);
         self.lists[row].clear();
     }
@@ -301,38 +304,40 @@ impl Played {
         list: &[Debt],
         moment: u64,
     ) -> Result<(), Fail> {
-        for messages in [[2, 1], [0, 2]] {
-            let [one, other] = messages;
+        for messages in [[2, 1], [0, 2], [1, 0]] {
             let mut index = Index::new(rt.alloc());
-            index.put(7, one)?;
-            index.put(7, other)?;
-            index.put(6, 0)?;
-            index.put(8, 3)?;
-            let wants = list
-                .iter()
-                .find(|debt| {
-                    (debt.message == one || debt.message == other) && moment <= debt.deadline
-                })
-                .map(|debt| debt.message);
-            for most in 0..4 {
-                holds(rt, row < self.accounts.len(), "a row of the accounts");
-                let first = self.accounts.first_payable(row, &index, 7, moment, most);
-                let told = match first {
-                    Some(first) => first == wants && most > 0,
-                    None => most < 3,
-                };
-                holds_of(rt, told, "first payable", row);
-            }
+            put_each(&mut index, messages)?;
+            let wants = first_of(list, messages, moment);
+            self.pays_first(rt, row, &index, moment, wants);
         }
         Ok(())
     }
 
+    /// The first debt that a send of a message pays that stands under the key 7 is the wanted one. It is found in three steps, perhaps in
+    /// fewer, and not in none.
+    fn pays_first(
+        &self,
+        rt: &impl Abort,
+        row: usize,
+        index: &Index,
+        moment: u64,
+        wants: Option<u64>,
+    ) {
+        for most in 0..4 {
+            holds(rt, row < self.accounts.len(), "a row of the accounts");
+            let first = self.accounts.first_payable(row, index, 7, moment, most);
+            let told = match first {
+                Some(first) => first == wants && most > 0,
+                None => most < 3,
+            };
+            holds_of(rt, told, "first payable", row);
+        }
+    }
+
     /// Rows are told to owe the same where their lists are the same.
     fn compares(&self, rt: &impl Abort, prints: &[u64], row: usize, other: usize) {
-        holds(rt, row < self.accounts.len(), "a row of the accounts");
-        holds(rt, other < self.accounts.len(), "a row of the accounts");
-        holds(rt, row < self.lists.len(), "a row of the lists");
-        holds(rt, other < self.lists.len(), "a row of the lists");
+        self.has(rt, row);
+        self.has(rt, other);
         let same = self.lists[row] == self.lists[other];
         holds_of(
             rt,
@@ -417,6 +422,23 @@ fn left_of(list: &Vec<Debt>, message: u64, moment: u64) -> Result<Option<Vec<Deb
     Ok(Some(left))
 }
 
+/// Puts two messages under the key 7, and others under the keys beside it.
+fn put_each(index: &mut Index, [one, other]: [u64; 2]) -> Result<(), AllocError> {
+    index.put(7, one)?;
+    index.put(7, other)?;
+    index.put(6, 0)?;
+    index.put(8, 3)
+}
+
+/// The message of the first debt of the list that a send of one of these messages pays.
+fn first_of(list: &[Debt], [one, other]: [u64; 2], moment: u64) -> Option<u64> {
+    let mut debts = list.iter();
+    let first = debts.find(|debt| {
+        (debt.message == one || debt.message == other) && moment <= debt.deadline
+    });
+    first.map(|debt| debt.message)
+}
+
 /// The least deadline of what must be sent.
 fn earliest_must(list: &[Debt]) -> Option<u64> {
     let mut least = None;
@@ -433,6 +455,15 @@ fn is_timely(list: &[Debt], moment: u64) -> bool {
     earliest_must(list).is_none_or(|deadline| moment <= deadline)
 }
 
+/// A debt of the message.
+pub(crate) fn owed(message: u64, deadline: u64, must: bool) -> Debt {
+    Debt {
+        message,
+        deadline,
+        must,
+    }
+}
+
 /// Some rows gain, each one of three messages.
 fn gain_some(
     rt: &impl Abort,
@@ -444,12 +475,7 @@ fn gain_some(
     for row in 0..played.lists.len() {
         if chance.below(3) != 0 {
             let message = chance.below(3);
-            let debt = Debt {
-                message,
-                deadline,
-                must,
-            };
-            played.gain_and_expire(rt, row, debt, 0)?;
+            played.gain_and_expire(rt, row, owed(message, deadline, must), 0)?;
         }
     }
     Ok(())
@@ -464,23 +490,15 @@ fn change_rows(
     let row = played.row(rt, chance);
     let other = played.row(rt, chance);
     match chance.below(8) {
-        0 if played.lists.len() < 12 => played.push(rt),
-        1 | 2 if played.lists.len() < 12 => played.push_copy(rt, row),
-        3 => played.copy(rt, row, other),
-        4 if played.lists.len() > 6 => {
-            played.truncate();
-            Ok(())
-        }
-        5 if played.lists.len() > 3 => played.keep_some(rt),
-        6 if chance.below(8) == 0 => {
-            played.clear(rt, row);
-            Ok(())
-        }
-        _ => {
-            played.accounts.tidy();
-            Ok(())
-        }
+        0 if played.lists.len() < 12 => played.push(rt)?,
+        1 | 2 if played.lists.len() < 12 => played.push_copy(rt, row)?,
+        3 => played.copy(rt, row, other)?,
+        4 if played.lists.len() > 6 => played.truncate(),
+        5 if played.lists.len() > 3 => played.keep_some(rt)?,
+        6 if chance.below(8) == 0 => played.clear(rt, row),
+        _ => played.accounts.tidy(),
     }
+    Ok(())
 }
 
 /// Many rows change at once.
@@ -494,26 +512,17 @@ fn change_many(
     let to = played.row(rt, chance);
     let message = chance.below(3);
     match chance.below(6) {
-        0 if played.lists.len() < 12 => played.push_timely(rt, from, to, moment),
-        1 => played.expire_each(rt, from, moment),
+        0 if played.lists.len() < 12 => played.push_timely(rt, from, to, moment)?,
+        1 => played.expire_each(rt, from, moment)?,
         2 => {
-            let debt = Debt {
-                message,
-                deadline: moment.saturating_add(5),
-                must: chance.below(2) == 0,
-            };
-            played.gain_each(rt, from, debt)
+            let must = chance.below(2) == 0;
+            played.gain_each(rt, from, owed(message, moment.saturating_add(5), must))?;
         }
-        3 if played.lists.len() > 6 => {
-            played.drop_first(rt);
-            Ok(())
-        }
-        _ if played.lists.len() < 12 => played.push_paid(rt, from, to, message, moment),
-        _ => {
-            played.truncate();
-            Ok(())
-        }
+        3 if played.lists.len() > 6 => played.drop_first(rt),
+        _ if played.lists.len() < 12 => played.push_paid(rt, from, to, message, moment)?,
+        _ => played.truncate(),
     }
+    Ok(())
 }
 
 /// A step by chance. Deadlines rise, or do not.
@@ -564,16 +573,10 @@ fn steps(
     Ok(())
 }
 
-/// So many steps from this number on, on new accounts.
-fn play(rt: &(impl Abort + AllocGlobal), seed: u64, count: u64, rises: bool) -> Result<(), Fail> {
-    let mut played = Played::new(rt)?;
-    steps(rt, &mut played, seed, count, rises)
-}
-
 #[test]
 fn accounts_owe_what_plain_lists_have(rt: HostRuntime) -> Result<(), Fail> {
     for seed in 0..12 {
-        play(&rt, seed, 80, seed % 2 == 0)?;
+        steps(&rt, &mut Played::new(&rt)?, seed, 80, seed % 2 == 0)?;
     }
     Ok(())
 }
@@ -592,11 +595,7 @@ fn step_with_past(
         1 if played.lists.len() < 6 => played.push_copy(rt, row)?,
         1 => played.soften(rt, row),
         2 | 3 => {
-            let debt = Debt {
-                message,
-                deadline: now.saturating_add(5),
-                must: chance.below(2) == 0,
-            };
+            let debt = owed(message, now.saturating_add(5), chance.below(2) == 0);
             played.gain_and_expire(rt, row, debt, *now)?;
         }
         _ => played.pay_and_expire(rt, row, message, *now)?,
@@ -619,16 +618,10 @@ fn steps_with_past(
     Ok(())
 }
 
-/// So many steps from this number on, on new accounts.
-fn play_with_past(rt: &(impl Abort + AllocGlobal), seed: u64, count: u64) -> Result<(), Fail> {
-    let mut played = Played::new(rt)?;
-    steps_with_past(rt, &mut played, seed, count)
-}
-
 #[test]
 fn rows_gain_and_pay_and_lose_what_is_past(rt: HostRuntime) -> Result<(), Fail> {
     for seed in 0..4 {
-        play_with_past(&rt, seed, 100)?;
+        steps_with_past(&rt, &mut Played::new(&rt)?, seed, 100)?;
     }
     Ok(())
 }
@@ -639,13 +632,8 @@ fn gains_and_pays(
     played: &mut Played,
     count: usize,
 ) -> Result<(), Fail> {
-    let debt = Debt {
-        message: 7,
-        deadline: 10,
-        must: true,
-    };
     for _ in 0..count {
-        played.gain_and_expire(rt, 0, debt, 0)?;
+        played.gain_and_expire(rt, 0, owed(7, 10, true), 0)?;
     }
     played.agree(rt)?;
     for _ in 0..count {
@@ -655,28 +643,18 @@ fn gains_and_pays(
     played.agree(rt)
 }
 
-/// A row of new accounts gains so many equal debts, and pays them and one more.
-fn gains_and_pays_anew(rt: &(impl Abort + AllocGlobal), count: usize) -> Result<(), Fail> {
-    let mut played = Played::new(rt)?;
-    gains_and_pays(rt, &mut played, count)
-}
-
 /// A row owes equal debts as often as it gained them, also about the counts at which a word of 64 bits would end.
 #[test]
 fn equal_debts_count_as_often_as_they_were_gained(rt: HostRuntime) -> Result<(), Fail> {
     for count in [0, 1, 63, 64, 65] {
-        gains_and_pays_anew(&rt, count)?;
+        gains_and_pays(&rt, &mut Played::new(&rt)?, count)?;
     }
     Ok(())
 }
 
 /// A moment at which debts come to both rows, and the rows pay or let others expire.
 fn lives(rt: &(impl Abort + AllocGlobal), played: &mut Played, moment: u64) -> Result<(), Fail> {
-    let debt = Debt {
-        message: moment % 5,
-        deadline: moment.saturating_add(3),
-        must: moment % 7 == 0,
-    };
+    let debt = owed(moment % 5, moment.saturating_add(3), moment % 7 == 0);
     played.gain_and_expire(rt, 0, debt, 0)?;
     played.gain_and_expire(rt, 1, debt, 0)?;
     played.pay_and_expire(rt, 0, moment.saturating_add(3) % 5, moment)?;
@@ -687,35 +665,21 @@ fn lives(rt: &(impl Abort + AllocGlobal), played: &mut Played, moment: u64) -> R
     played.agree(rt)
 }
 
-/// Two rows live for so many moments.
-fn lives_long(
-    rt: &(impl Abort + AllocGlobal),
-    played: &mut Played,
-    moments: u64,
-) -> Result<(), Fail> {
-    played.push_copy(rt, 0)?;
-    for moment in 0..moments {
-        lives(rt, played, moment)?;
-    }
-    Ok(())
-}
-
 /// Two rows to which debts come at each moment, and that pay them or let them expire: what was gained long ago is dropped.
 #[test]
 fn what_is_owed_is_told_after_a_long_life(rt: HostRuntime) -> Result<(), Fail> {
     let mut played = Played::new(&rt)?;
-    lives_long(&rt, &mut played, 150)
+    played.push_copy(&rt, 0)?;
+    for moment in 0..150 {
+        lives(&rt, &mut played, moment)?;
+    }
+    Ok(())
 }
 
 /// The first row comes to owe a hundred messages, and pays them in a mixed order.
 fn pays_in_any_order(rt: &(impl Abort + AllocGlobal), played: &mut Played) -> Result<(), Fail> {
     for message in 0..100 {
-        let debt = Debt {
-            message,
-            deadline: 10,
-            must: message % 2 == 0,
-        };
-        played.gain_and_expire(rt, 0, debt, 0)?;
+        played.gain_and_expire(rt, 0, owed(message, 10, message % 2 == 0), 0)?;
     }
     for step in 0..100_u64 {
         played.pay_and_expire(rt, 0, step * 37 % 100, 5)?;

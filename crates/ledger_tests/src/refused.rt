@@ -1,7 +1,8 @@
 //! Calls on accounts in which a growth is refused. `tests/growths` refuses each growth in turn: the test then fails with want of memory, once it has
 //! seen that the call left all as it was, and that the same call succeeds with memory.
+use crate::accounts::owed;
 use crate::wants::{holds, holds_of, is};
-use sip_ledger::{Accounts, Debt};
+use sip_ledger::Accounts;
 use std::alloc::AllocError;
 use std::process::Abort;
 use std::test::Fail;
@@ -26,11 +27,7 @@ fn alike(
 fn step(rt: &impl Abort, accounts: &mut Accounts, number: u32) -> Result<(), AllocError> {
     let moment = u64::from(number);
     let message = moment % 3;
-    let debt = Debt {
-        message,
-        deadline: moment + 9,
-        must: number % 2 == 0,
-    };
+    let debt = owed(message, moment + 9, number % 2 == 0);
     let rows = accounts.len();
     holds(rt, 1 < rows, "two rows");
     match number % 8 {

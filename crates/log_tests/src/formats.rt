@@ -11,6 +11,7 @@ use std::alloc::{AllocError, Global};
 use std::process::Abort;
 use std::test::Fail;
 
+/// A header of format 2, whose two tolerances differ.
 const HEADER_2: &[u8] = b"sip-trace 2\nt1 500 t2 4000 t4 5000 early 50 late 60\n";
 
 /// The times and the rules that a header tells: T1, T2, T4, early, late and the rules.
@@ -31,6 +32,7 @@ fn told(alloc: Global, bytes: &[u8]) -> Option<Told> {
     ))
 }
 
+/// Entries of a log of format 2, with restarts among them.
 static RESTARTS: &[Row] = &[
     (b"", 0, None),
     (b"Z 100\n", 1, None),
@@ -48,6 +50,7 @@ fn restarts_in_any_pieces(rt: HostRuntime) -> Result<(), Fail> {
     Ok(())
 }
 
+/// Entries that begin as a restart, and are none.
 static NO_RESTARTS: &[Row] = &[
     (b"Z 0 5\nhello\n", 0, Some(LogError::EntryLine)),
     (b"Z 00\n", 0, Some(LogError::EntryLine)),
@@ -61,6 +64,7 @@ fn lines_that_are_no_restart_in_any_pieces(rt: HostRuntime) -> Result<(), Fail> 
     Ok(())
 }
 
+/// What is a restart or a line of rules in format 2 is none in format 1.
 static RESTARTS_IN_FORMAT_1: &[Row] = &[
     (b"Z 100\n", 0, Some(LogError::EntryLine)),
     (b"M 1\nZ 100\n", 1, Some(LogError::EntryLine)),
@@ -100,6 +104,7 @@ fn rules_in_any_pieces(rt: HostRuntime) -> Result<(), Fail> {
     Ok(())
 }
 
+/// Headers of format 2, and what is wrong in them.
 static HEADERS_OF_FORMAT_2: &[Row] = &[
     (
         b"sip-trace 2\nt1 10000 t2 60000 t4 60000 early 10000 late 10000\n",
@@ -209,9 +214,11 @@ fn write<W: Sink>(writer: &mut W, params: &Params) -> Result<(), WriteError> {
     write_entry(writer, Action::Mark, 9, b"")
 }
 
+/// The log that is written.
 const WRITTEN: &[u8] =
     b"sip-trace 2\nt1 500 t2 4000 t4 5000 early 0 late 100\nrules 3261\nS 0 5\nhello\nZ 7\nM 9\n";
 
+/// The times of the tests with these tolerances and rules.
 fn times(early: u64, late: u64, rules: Rules) -> Option<Params> {
     Some(Params::with_tolerances(500, 4_000, 5_000, early, late)?.with_rules(rules))
 }

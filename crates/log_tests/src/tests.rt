@@ -10,6 +10,7 @@ use std::alloc::{AllocError, Global};
 use std::process::Abort;
 use std::test::Fail;
 
+/// The header of most logs of these tests.
 pub(crate) const HEADER: &[u8] = b"sip-trace 1\nt1 500 t2 4000 t4 5000 tolerance 50\n";
 
 /// More calls than any log of these tests needs to be read to its end.
@@ -72,6 +73,7 @@ pub(crate) fn first_other(
     Ok(None)
 }
 
+/// Entries that are read to the end of the log.
 static ENTRIES: &[Row] = &[
     (b"", 0, None),
     (b"S 0 5\nhello\nM 0\n", 2, None),
@@ -85,6 +87,7 @@ fn entries_in_any_pieces(rt: HostRuntime) -> Result<(), Fail> {
     Ok(())
 }
 
+/// Lines of entries with a fault, and the error of each.
 static FAULTS_OF_A_LINE: &[Row] = &[
     (
         b"1111111111111111111111111111111",
@@ -115,6 +118,7 @@ fn faults_of_a_line_in_any_pieces(rt: HostRuntime) -> Result<(), Fail> {
     Ok(())
 }
 
+/// Entries with a fault in their message or its length, and the error of each.
 static FAULTS_OF_A_MESSAGE: &[Row] = &[
     (b"S 0 5\nhello", 0, Some(LogError::Truncated)),
     (b"S 0 0\n", 0, Some(LogError::Limit)),
@@ -133,6 +137,7 @@ fn faults_of_a_message_in_any_pieces(rt: HostRuntime) -> Result<(), Fail> {
     Ok(())
 }
 
+/// Entries with a fault in a number, in the letter or in the order, and the error of each.
 static FAULTS_OF_NUMBERS: &[Row] = &[
     (b"M 10000000000000\n", 0, Some(LogError::Limit)),
     (b"s 0 5\n", 0, Some(LogError::EntryLine)),
@@ -154,6 +159,7 @@ fn faults_of_numbers_in_any_pieces(rt: HostRuntime) -> Result<(), Fail> {
     Ok(())
 }
 
+/// Headers of format 1, and what is wrong in them.
 static HEADERS: &[Row] = &[
     (HEADER, 0, None),
     (
@@ -236,6 +242,7 @@ const REGISTER: &[u8] =
     From: <sip:bob@example.com>;tag=1\r\nTo: <sip:bob@example.com>\r\nCall-ID: c1@a\r\nCSeq: 1 REGISTER\r\n\
     Content-Length: 0\r\n\r\n";
 
+/// The 200 to the REGISTER.
 const RESPONSE: &[u8] = b"SIP/2.0 200 Reply\r\nVia: SIP/2.0/UDP a.example.com;branch=z9hG4bKr1\r\n\
     From: <sip:bob@example.com>;tag=1\r\nTo: <sip:bob@example.com>;tag=2\r\nCall-ID: c1@a\r\nCSeq: 1 REGISTER\r\n\
     Content-Length: 0\r\n\r\n";
@@ -394,8 +401,10 @@ fn written(rt: &(impl Abort + AllocGlobal), params: &Params) -> Vec<u8> {
     text
 }
 
+/// The messages of the entries that are written.
 const MESSAGES: &[&[u8]] = &[b"hello", b"\n", b"hi", b""];
 
+/// The log that is written.
 const WRITTEN: &[u8] =
     b"sip-trace 1\nt1 500 t2 4000 t4 5000 tolerance 50\nS 0 5\nhello\nF 7 1\n\n\nR 9999999999999 2\nhi\nM 9999999999999\n";
 
@@ -420,6 +429,7 @@ fn reads_or_tells_want_of_memory(rt: HostRuntime) {
 /// A row: the action of an entry, its moment, how many bytes its message has, each an x, and what writing it answers.
 type Written = (Action, u64, usize, Result<(), WriteError>);
 
+/// Entries that cannot be written.
 static NOT_WRITTEN: &[Written] = &[
     (Action::Sent, 0, 0, Err(WriteError::Limit)),
     (Action::Received, 0, 65_536, Err(WriteError::Limit)),

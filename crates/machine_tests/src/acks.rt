@@ -66,8 +66,17 @@ fn an_ack_finds_a_response_without_its_to(rt: HostRuntime) -> Result<(), Fail> {
 /// Keeps the To of the first 486 of the book, and asserts where `ROWS` lead.
 fn finds_without_to(rt: &(impl Abort + AllocGlobal), book: &mut Book) -> Result<(), Fail> {
     keep_to(rt.alloc(), book, 2)?;
+    lead(rt, book, &ROWS)
+}
+
+/// Asserts that the entries of each row lead to the states of the row.
+fn lead(
+    rt: &(impl Abort + AllocGlobal),
+    book: &Book,
+    rows: &[Row<InviteClientPhase>],
+) -> Result<(), Fail> {
     let client = InviteClient::new(params(500)?);
-    all_lead(rt, &client, book, &ROWS)
+    all_lead(rt, &client, book, rows)
 }
 
 /// The INVITE, nine 486s with a To each, and the ACK for the last.
@@ -122,9 +131,12 @@ static NINE_ROWS: [Row<InviteClientPhase>; 1] = [(
 /// The book keeps no To beside a message, so that the debts are looked at, eight of them first.
 #[test]
 fn an_ack_finds_the_ninth_debt(rt: HostRuntime) -> Result<(), Fail> {
-    let book = book_of(rt.alloc(), &NINE, "INVITE", "UDP")?;
-    let client = InviteClient::new(params(500)?);
-    all_lead(&rt, &client, &book, &NINE_ROWS)
+    lead(&rt, &nine(rt.alloc())?, &NINE_ROWS)
+}
+
+/// A book that keeps the messages of `NINE`.
+fn nine(alloc: Global) -> Result<Book, Fail> {
+    book_of(alloc, &NINE, "INVITE", "UDP")
 }
 
 /// How many refusals there are in the next tests: with so many of one call, the book puts the To of each message beside it.
@@ -189,12 +201,16 @@ fn are_first_half(runs: &[Run]) -> bool {
 /// Another message that is kept lies between the 486s. Each ACK pays the debt of its own 486.
 #[test]
 fn acks_find_their_debts_among_many(rt: HostRuntime) -> Result<(), Fail> {
-    let messages = many(rt.alloc())?;
-    let mut book = book_of(rt.alloc(), &messages, "INVITE", "UDP")?;
-    keep_tos(rt.alloc(), &mut book)?;
-    let states = states_after(rt.alloc(), &book, &entries(rt.alloc())?)?;
-    holds(&rt, are_first_half(owed(&states)?), "the first half");
+    let states = states_of_many(rt.alloc(), &entries(rt.alloc())?)?;
+    holds(&rt, are_first_half(owed(&states)), "the first half");
     Ok(())
+}
+
+/// The states of the client after the entries, over a book that keeps the messages of `many`, and the To of each 486 beside it.
+fn states_of_many(alloc: Global, entries: &[Entry]) -> Result<Vec<State<InviteClientPhase>>, Fail> {
+    let mut book = book_of(alloc, &many(alloc)?, "INVITE", "UDP")?;
+    keep_tos(alloc, &mut book)?;
+    states_after(alloc, &book, entries)
 }
 
 /// Keeps the To of each of the 486s beside it.
@@ -216,11 +232,11 @@ fn states_after(
     states_of(alloc, &pool)
 }
 
-/// What the only state owes.
-fn owed(states: &[State<InviteClientPhase>]) -> Result<&[Run], Fail> {
+/// What the only state owes, or nothing where there is not one state.
+fn owed(states: &[State<InviteClientPhase>]) -> &[Run] {
     match states {
-        [state] => Ok(state.owes.as_slice()),
-        _ => Err("not one state".into()),
+        [state] => state.owes.as_slice(),
+        _ => &[],
     }
 }
 
@@ -304,21 +320,28 @@ fn are_oldest(runs: &[Run]) -> bool {
 /// Where two refusals have one To, an ACK pays the older one first, however many are owed before it.
 #[test]
 fn acks_of_equal_tos_pay_the_oldest_first(rt: HostRuntime) -> Result<(), Fail> {
-    let book = book_with_tos(rt.alloc(), &pairs(rt.alloc())?, 1000)?;
-    let states = states_after(rt.alloc(), &book, &paired(rt.alloc())?)?;
-    holds(&rt, are_oldest(owed(&states)?), "the oldest");
+    let states = states_of_pairs(rt.alloc(), &paired(rt.alloc())?)?;
+    holds(&rt, are_oldest(owed(&states)), "the oldest");
     Ok(())
+}
+
+/// The states of the client after the entries, over a book that keeps the messages of `pairs`, and the To of each refusal beside it.
+fn states_of_pairs(
+    alloc: Global,
+    entries: &[Entry],
+) -> Result<Vec<State<InviteClientPhase>>, Fail> {
+    let book = book_with_tos(alloc, &pairs(alloc)?, 1000)?;
+    states_after(alloc, &book, entries)
 }
 
 /// A refusal that was acknowledged and came again is owed after those that came since. So the next ACK for its To pays the other refusal with
 /// this To.
 #[test]
 fn a_refusal_that_came_again_is_paid_after_the_others(rt: HostRuntime) -> Result<(), Fail> {
-    let book = book_with_tos(rt.alloc(), &pairs(rt.alloc())?, 1000)?;
     let mut entries = Vec::new(rt.alloc());
     push_one_again(&mut entries)?;
-    let states = states_after(rt.alloc(), &book, &entries)?;
-    holds(&rt, are_all_but_last(owed(&states)?), "all but the last");
+    let states = states_of_pairs(rt.alloc(), &entries)?;
+    holds(&rt, are_all_but_last(owed(&states)), "all but the last");
     Ok(())
 }
 
@@ -375,11 +398,18 @@ fn are_all_but_last(runs: &[Run]) -> bool {
 /// The Tos of all messages stand in the book but that of the last refusal, as where memory for it was refused. Its ACK finds it.
 #[test]
 fn an_ack_finds_a_response_without_its_to_among_many(rt: HostRuntime) -> Result<(), Fail> {
-    let messages = many_and_last(rt.alloc())?;
-    let book = book_with_tos(rt.alloc(), &messages, LAST)?;
     let mut entries = Vec::new(rt.alloc());
     push_to_last(&mut entries)?;
-    let states = states_after(rt.alloc(), &book, &entries)?;
-    holds(&rt, are_all_but_last(owed(&states)?), "all but the last");
+    let states = states_without_to(rt.alloc(), &entries)?;
+    holds(&rt, are_all_but_last(owed(&states)), "all but the last");
     Ok(())
+}
+
+/// The states of the client after the entries, over a book that keeps the messages of `many_and_last`, and beside each but the last its To.
+fn states_without_to(
+    alloc: Global,
+    entries: &[Entry],
+) -> Result<Vec<State<InviteClientPhase>>, Fail> {
+    let book = book_with_tos(alloc, &many_and_last(alloc)?, LAST)?;
+    states_after(alloc, &book, entries)
 }

@@ -8,18 +8,25 @@ use std::alloc::Global;
 use std::process::Abort;
 use std::test::Fail;
 
+/// The number of the INVITE.
 const INVITE: u64 = 1;
 
+/// The number of an INVITE with a tag in To, which is no repeat of the first.
 const OTHER_INVITE: u64 = 2;
 
+/// The number of a 100.
 const TRYING: u64 = 3;
 
+/// The number of a 180.
 const RINGING: u64 = 4;
 
+/// The number of a 200.
 const OK: u64 = 5;
 
+/// The number of a 486.
 const BUSY: u64 = 6;
 
+/// The number of a 480 with another tag in To.
 const GONE: u64 = 7;
 
 /// The ACK for `BUSY`.
@@ -28,10 +35,13 @@ const ACK: u64 = 8;
 /// The ACK for `GONE`.
 const OTHER_ACK: u64 = 9;
 
+/// The number of a CANCEL.
 const CANCEL: u64 = 10;
 
+/// The number of a request that an INVITE client never sends.
 const OPTIONS: u64 = 11;
 
+/// A client with this T1.
 fn client(t1: u64) -> Result<InviteClient, Fail> {
     Ok(InviteClient::new(params(t1)?))
 }
@@ -51,6 +61,7 @@ const MESSAGES: [Numbered; 11] = [
     (OPTIONS, Start::Request("OPTIONS"), None),
 ];
 
+/// A book with the messages, whose Via names this transport.
 fn book(alloc: Global, transport: &str) -> Result<Book, Fail> {
     book_of(alloc, &MESSAGES, "INVITE", transport)
 }
@@ -62,8 +73,10 @@ fn all_lead(rt: &(impl Abort + AllocGlobal), transport: &str, rows: &[Row]) -> R
     rows::all_lead(rt, &client(500)?, &book(rt.alloc(), transport)?, rows)
 }
 
+/// Nothing was sent yet.
 const IDLE: InviteClientPhase = InviteClientPhase::Idle;
 
+/// The INVITE was sent at 0, and timer A was set then for T1.
 const CALLING_SINCE_0: InviteClientPhase = InviteClientPhase::Calling(Waiting {
     reliable: false,
     request: INVITE,
@@ -72,6 +85,7 @@ const CALLING_SINCE_0: InviteClientPhase = InviteClientPhase::Calling(Waiting {
     interval: 500,
 });
 
+/// The INVITE was repeated at 450, and timer A was set then for twice T1.
 const CALLING_SINCE_450: InviteClientPhase = InviteClientPhase::Calling(Waiting {
     reliable: false,
     request: INVITE,
@@ -80,6 +94,7 @@ const CALLING_SINCE_450: InviteClientPhase = InviteClientPhase::Calling(Waiting 
     interval: 1_000,
 });
 
+/// The INVITE was repeated at 550, and timer A was set then for twice T1.
 const CALLING_SINCE_550: InviteClientPhase = InviteClientPhase::Calling(Waiting {
     reliable: false,
     request: INVITE,
@@ -88,6 +103,7 @@ const CALLING_SINCE_550: InviteClientPhase = InviteClientPhase::Calling(Waiting 
     interval: 1_000,
 });
 
+/// The INVITE was repeated for the sixth time at 31,500, and timer A was set then for 64 times T1.
 const CALLING_SINCE_31_500: InviteClientPhase = InviteClientPhase::Calling(Waiting {
     reliable: false,
     request: INVITE,
@@ -96,42 +112,51 @@ const CALLING_SINCE_31_500: InviteClientPhase = InviteClientPhase::Calling(Waiti
     interval: 32_000,
 });
 
+/// A provisional response came, and no CANCEL was sent.
 const WAITS_ON: InviteClientPhase = InviteClientPhase::Proceeding {
     reliable: false,
     request: INVITE,
     cancel: None,
 };
 
+/// A provisional response came, and a CANCEL was sent at 150.
 const CANCELLED_AT_150: InviteClientPhase = InviteClientPhase::Proceeding {
     reliable: false,
     request: INVITE,
     cancel: Some(150),
 };
 
+/// A 2xx came at 100.
 const ACCEPTED_AT_100: InviteClientPhase = InviteClientPhase::Accepted { set: 100 };
 
+/// A 2xx came at 300.
 const ACCEPTED_AT_300: InviteClientPhase = InviteClientPhase::Accepted { set: 300 };
 
+/// A final response but a 2xx came at 550.
 const COMPLETED_AT_550: InviteClientPhase = InviteClientPhase::Completed {
     reliable: false,
     request: INVITE,
     set: 550,
 };
 
+/// A final response but a 2xx came at 1,000.
 const COMPLETED_AT_1_000: InviteClientPhase = InviteClientPhase::Completed {
     reliable: false,
     request: INVITE,
     set: 1_000,
 };
 
+/// A final response but a 2xx came at 0, over TCP.
 const COMPLETED_OVER_TCP: InviteClientPhase = InviteClientPhase::Completed {
     reliable: true,
     request: INVITE,
     set: 0,
 };
 
+/// The transaction has ended.
 const ENDED: InviteClientPhase = InviteClientPhase::Ended;
 
+/// The INVITE is sent for the first time.
 const FIRST: Entry = (0, Action::Sent, INVITE);
 
 /// The INVITE with each repeat that timer A causes before timer B fires.
@@ -145,6 +170,7 @@ const REPEATS: [Entry; 7] = [
     (31_500, Action::Sent, INVITE),
 ];
 
+/// What may happen in calling, and what may not.
 static CALLING: &[Row] = &[
     (&[], &[(IDLE, &[])]),
     (&[FIRST], &[(CALLING_SINCE_0, &[])]),
@@ -172,11 +198,13 @@ fn calling(rt: HostRuntime) -> Result<(), Fail> {
     all_lead(&rt, "UDP", CALLING)
 }
 
+/// A 100 comes.
 const WAITS: Entry = (100, Action::Received, TRYING);
 
 /// A CANCEL that is sent after `WAITS`.
 const CANCELLED: Entry = (150, Action::Sent, CANCEL);
 
+/// What may happen in proceeding, and what may not.
 static PROCEEDING: &[Row] = &[
     (&[FIRST, WAITS], &[(WAITS_ON, &[])]),
     (
@@ -220,13 +248,16 @@ fn proceeding(rt: HostRuntime) -> Result<(), Fail> {
     all_lead(&rt, "UDP", PROCEEDING)
 }
 
+/// A 486 comes.
 const BUSY_NOW: Entry = (1_000, Action::Received, BUSY);
 
 /// The states after `BUSY_NOW`: its response must be acknowledged by 1,050.
 const OWED: &[rows::Want<InviteClientPhase>] = &[(COMPLETED_AT_1_000, &[(BUSY, 1_050, MUST)])];
 
+/// The states where the ACK was sent after `BUSY_NOW`: nothing is owed.
 const PAID: &[rows::Want<InviteClientPhase>] = &[(COMPLETED_AT_1_000, &[])];
 
+/// What may happen in completed, and what may not.
 static COMPLETED: &[Row] = &[
     (
         &[FIRST, (550, Action::Received, BUSY)],
@@ -305,6 +336,7 @@ fn owes_each_response(rt: HostRuntime) -> Result<(), Fail> {
 /// An INVITE whose send failed.
 const NOT_SENT: Entry = (0, Action::Failed, INVITE);
 
+/// Rows of a client that sent nothing, and of one that has ended.
 static IDLE_AND_ENDED: &[Row] = &[
     (&[(0, Action::Sent, ACK)], &[(IDLE, &[])]),
     (&[(0, Action::Failed, ACK)], &[(IDLE, &[])]),
@@ -326,12 +358,16 @@ fn idle_and_ended(rt: HostRuntime) -> Result<(), Fail> {
 /// Two equal responses that are received over a reliable transport, and the ACK for one of them.
 const OWING: [Entry; 4] = [FIRST, BUSY_AT_ONCE, BUSY_AGAIN, ACK_OF_ONE];
 
+/// A 486 comes at the moment of the INVITE.
 const BUSY_AT_ONCE: Entry = (0, Action::Received, BUSY);
 
+/// The 486 comes again.
 const BUSY_AGAIN: Entry = (40, Action::Received, BUSY);
 
+/// One ACK is sent, which pays for one of the two.
 const ACK_OF_ONE: Entry = (50, Action::Sent, ACK);
 
+/// What may happen over TCP, where no timer repeats a request.
 static OVER_A_RELIABLE_TRANSPORT: &[Row] = &[
     (&[FIRST, (500, Action::Sent, INVITE)], &[]),
     (&[FIRST, (500, Action::Failed, INVITE)], &[]),
@@ -363,8 +399,10 @@ fn over_a_reliable_transport(rt: HostRuntime) -> Result<(), Fail> {
     all_lead(&rt, "TCP", OVER_A_RELIABLE_TRANSPORT)
 }
 
+/// The times at which timer B may fire: 64 times T1 after the first INVITE, give or take the tolerance.
 const TIMER_B: Option<(u64, Option<u64>)> = Some((31_950, Some(32_050)));
 
+/// When the states after the entries may end, over UDP.
 static ENDS: &[EndsRow] = &[
     (&[], None, None),
     (&[FIRST], TIMER_B, Some(550)),
@@ -386,8 +424,10 @@ fn ends(rt: HostRuntime) -> Result<(), Fail> {
     all_end(&rt, &client(500)?, &book(rt.alloc(), "UDP")?, ENDS)
 }
 
+/// A 200 comes.
 const OK_NOW: Entry = (100, Action::Received, OK);
 
+/// When the states after the entries may end, over TCP.
 static ENDS_OVER_TCP: &[EndsRow] = &[
     (&[FIRST], TIMER_B, Some(32_050)),
     (&OWING, None, Some(50)),
@@ -410,6 +450,7 @@ fn ends_over_tcp(rt: HostRuntime) -> Result<(), Fail> {
     all_end(&rt, &client(500)?, &book(rt.alloc(), "TCP")?, ENDS_OVER_TCP)
 }
 
+/// When the states after the entries may end, with a T1 of 1,000.
 static ENDS_OF_SLOW_TIMERS: &[EndsRow] = &[(
     &[FIRST, OK_NOW],
     Some((64_050, Some(64_150))),

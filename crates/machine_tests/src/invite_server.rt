@@ -4,26 +4,36 @@ use crate::rows::{self, EndsRow, MAY, MUST, all_end, phase_ends};
 use crate::runs::Entry;
 use crate::times::params;
 use crate::wants::holds;
-use sip_machine::{Action, InviteServer, InviteServerPhase, Machine};
+use sip_machine::{Action, Book, InviteServer, InviteServerPhase, Machine};
+use std::alloc::Global;
 use std::process::Abort;
 use std::test::Fail;
 
+/// The number of the INVITE.
 const INVITE: u64 = 1;
 
+/// The number of a 180.
 const RINGING: u64 = 2;
 
+/// The number of a 100.
 const TRYING: u64 = 3;
 
+/// The number of a 183.
 const PROGRESS: u64 = 4;
 
+/// The number of a 486.
 const BUSY: u64 = 5;
 
+/// The number of a 200.
 const OK: u64 = 6;
 
+/// The number of the ACK.
 const ACK: u64 = 7;
 
+/// The number of a CANCEL.
 const CANCEL: u64 = 8;
 
+/// The number of an INFO.
 const OTHER: u64 = 9;
 
 /// The messages by number: the start line of each, and its tag in To.
@@ -39,46 +49,57 @@ const MESSAGES: [Numbered; 9] = [
     (OTHER, Start::Request("INFO"), None),
 ];
 
+/// A server with the times of the tests.
 fn server() -> Result<InviteServer, Fail> {
     Ok(InviteServer::new(params(500)?))
+}
+
+fn book(alloc: Global) -> Result<Book, Fail> {
+    book_of(alloc, &MESSAGES, "INVITE", "UDP")
 }
 
 type Row = rows::Row<InviteServerPhase>;
 
 /// Asserts that the entries of each row lead to the states of the row.
 fn all_lead(rt: &(impl Abort + AllocGlobal), rows: &[Row]) -> Result<(), Fail> {
-    let book = book_of(rt.alloc(), &MESSAGES, "INVITE", "UDP")?;
-    rows::all_lead(rt, &server()?, &book, rows)
+    rows::all_lead(rt, &server()?, &book(rt.alloc())?, rows)
 }
 
+/// No INVITE came yet.
 const IDLE: InviteServerPhase = InviteServerPhase::Idle;
 
+/// The INVITE came at 0, and no response was sent.
 const QUIET: InviteServerPhase = InviteServerPhase::Proceeding {
     reliable: false,
     set: 0,
     last: None,
 };
 
+/// The INVITE came at 0, and the last response was a 180.
 const RANG: InviteServerPhase = InviteServerPhase::Proceeding {
     reliable: false,
     set: 0,
     last: Some(RINGING),
 };
 
+/// The INVITE came at 0, and the last response was a 100.
 const TRIED: InviteServerPhase = InviteServerPhase::Proceeding {
     reliable: false,
     set: 0,
     last: Some(TRYING),
 };
 
+/// The INVITE came at 0, and the last response was a 183.
 const PROGRESSED: InviteServerPhase = InviteServerPhase::Proceeding {
     reliable: false,
     set: 0,
     last: Some(PROGRESS),
 };
 
+/// A 2xx was sent at 10.
 const ACCEPTED_AT_10: InviteServerPhase = InviteServerPhase::Accepted { set: 10 };
 
+/// A 2xx was sent at 20.
 const ACCEPTED_AT_20: InviteServerPhase = InviteServerPhase::Accepted { set: 20 };
 
 // The phases after a 486: `set` is when it was first sent, `repeat` when timer G was last set, and `interval` for how long.
@@ -138,20 +159,25 @@ const BUSY_AGAIN_AT_560: InviteServerPhase = InviteServerPhase::Completed {
     interval: 1_000,
 };
 
+/// The ACK for the 486 came at 100.
 const CONFIRMED_AT_100: InviteServerPhase = InviteServerPhase::Confirmed {
     reliable: false,
     set: 100,
 };
 
+/// The ACK for the 486 came at 500.
 const CONFIRMED_AT_500: InviteServerPhase = InviteServerPhase::Confirmed {
     reliable: false,
     set: 500,
 };
 
+/// The INVITE comes for the first time.
 const FIRST: Entry = (0, Action::Received, INVITE);
 
+/// A 100 is sent.
 const TRYING_ONCE: Entry = (5, Action::Sent, TRYING);
 
+/// Rows that end before the final response.
 static BEFORE_THE_FINAL_RESPONSE: &[Row] = &[
     (&[], &[(IDLE, &[])]),
     (&[(0, Action::Sent, BUSY)], &[]),
@@ -223,6 +249,7 @@ fn before_the_final_response(rt: HostRuntime) -> Result<(), Fail> {
     all_lead(&rt, BEFORE_THE_FINAL_RESPONSE)
 }
 
+/// An INVITE that comes again must be answered by what was sent last, but need not be by a 100.
 static A_100_NEED_NOT_BE_REPEATED: &[Row] = &[
     (
         &[FIRST, TRYING_ONCE, (10, Action::Received, INVITE)],
@@ -262,6 +289,7 @@ fn a_100_need_not_be_repeated(rt: HostRuntime) -> Result<(), Fail> {
     all_lead(&rt, A_100_NEED_NOT_BE_REPEATED)
 }
 
+/// Rows that end after a 2xx.
 static AFTER_A_2XX: &[Row] = &[
     (&[FIRST, (10, Action::Sent, OK)], &[(ACCEPTED_AT_10, &[])]),
     (
@@ -332,6 +360,7 @@ fn after_a_2xx(rt: HostRuntime) -> Result<(), Fail> {
     all_lead(&rt, AFTER_A_2XX)
 }
 
+/// Rows in which timer G has the 486 sent again.
 static TIMER_G: &[Row] = &[
     (&[FIRST, (10, Action::Sent, BUSY)], &[(BUSY_AT_10, &[])]),
     (
@@ -400,6 +429,7 @@ fn timer_g(rt: HostRuntime) -> Result<(), Fail> {
     all_lead(&rt, TIMER_G)
 }
 
+/// Rows that end after the ACK.
 static AFTER_THE_ACK: &[Row] = &[
     (
         &[
@@ -480,6 +510,7 @@ fn after_the_ack(rt: HostRuntime) -> Result<(), Fail> {
     all_lead(&rt, AFTER_THE_ACK)
 }
 
+/// When the states after the entries may end.
 static ENDS: &[EndsRow] = &[
     (&[], None, None),
     (&[FIRST], None, Some(250)),
@@ -527,12 +558,11 @@ static ENDS: &[EndsRow] = &[
 #[test]
 fn ends(rt: HostRuntime) -> Result<(), Fail> {
     let server = server()?;
-    let book = book_of(rt.alloc(), &MESSAGES, "INVITE", "UDP")?;
-    all_end(&rt, &server, &book, ENDS)?;
     holds(&rt, server.ended() == IDLE, "the end");
-    Ok(())
+    all_end(&rt, &server, &book(rt.alloc())?, ENDS)
 }
 
+/// The 486 was sent at 700, over TCP.
 const COMPLETED_OVER_TCP: InviteServerPhase = InviteServerPhase::Completed {
     reliable: true,
     final_message: BUSY,
@@ -541,6 +571,7 @@ const COMPLETED_OVER_TCP: InviteServerPhase = InviteServerPhase::Completed {
     interval: 500,
 };
 
+/// The ACK for the 486 came at 700, over TCP.
 const CONFIRMED_OVER_TCP: InviteServerPhase = InviteServerPhase::Confirmed {
     reliable: true,
     set: 700,

@@ -3,12 +3,15 @@ use crate::messages::{Numbered, Start, book_of};
 use crate::rows::{self, phase_ends};
 use crate::runs::Entry;
 use crate::times::params;
-use sip_machine::{Action, Machine, PlainClient, PlainClientPhase, Waiting};
+use sip_machine::{Action, Book, Machine, PlainClient, PlainClientPhase, Waiting};
+use std::alloc::Global;
 use std::process::Abort;
 use std::test::Fail;
 
+/// The number of the request, an OPTIONS.
 const REQUEST: u64 = 1;
 
+/// The number of another request, an INFO.
 const OTHER: u64 = 2;
 
 /// The messages by number, which is the code where it is a response.
@@ -21,16 +24,20 @@ const MESSAGES: [Numbered; 6] = [
     (699, Start::Response(699), Some(2)),
 ];
 
+/// A client with the times of the tests.
 fn client() -> Result<PlainClient, Fail> {
     Ok(PlainClient::new(params(500)?))
+}
+
+fn book(alloc: Global) -> Result<Book, Fail> {
+    book_of(alloc, &MESSAGES, "OPTIONS", "UDP")
 }
 
 type Row = rows::Row<PlainClientPhase>;
 
 /// Asserts that the entries of each row lead to the states of the row.
 fn all_lead(rt: &(impl Abort + AllocGlobal), rows: &[Row]) -> Result<(), Fail> {
-    let book = book_of(rt.alloc(), &MESSAGES, "OPTIONS", "UDP")?;
-    rows::all_lead(rt, &client()?, &book, rows)
+    rows::all_lead(rt, &client()?, &book(rt.alloc())?, rows)
 }
 
 /// The request was sent at moment 0, over an unreliable transport, and timer E was set then.
@@ -42,54 +49,66 @@ const WAITING: Waiting = Waiting {
     interval: 500,
 };
 
+/// Nothing was sent yet.
 const IDLE: PlainClientPhase = PlainClientPhase::Idle;
 
+/// The request was sent at 0, and nothing came.
 const TRYING: PlainClientPhase = PlainClientPhase::Trying(WAITING);
 
+/// The request was repeated at 450, and timer E was set then for twice T1.
 const TRYING_FROM_450: PlainClientPhase = PlainClientPhase::Trying(Waiting {
     set: 450,
     interval: 1_000,
     ..WAITING
 });
 
+/// The request was repeated at 550, and timer E was set then for twice T1.
 const TRYING_FROM_550: PlainClientPhase = PlainClientPhase::Trying(Waiting {
     set: 550,
     interval: 1_000,
     ..WAITING
 });
 
+/// The request was repeated at 3,500, and timer E was set then for T2.
 const TRYING_FROM_3_500: PlainClientPhase = PlainClientPhase::Trying(Waiting {
     set: 3_500,
     interval: 4_000,
     ..WAITING
 });
 
+/// The request was repeated at 7,500, and timer E was set then for T2 again.
 const TRYING_FROM_7_500: PlainClientPhase = PlainClientPhase::Trying(Waiting {
     set: 7_500,
     interval: 4_000,
     ..WAITING
 });
 
+/// A provisional response came, and timer E still runs since 0.
 const PROCEEDING: PlainClientPhase = PlainClientPhase::Proceeding(WAITING);
 
+/// The request was repeated at 450, after a provisional response, and timer E was set then for T2.
 const PROCEEDING_FROM_450: PlainClientPhase = PlainClientPhase::Proceeding(Waiting {
     set: 450,
     interval: 4_000,
     ..WAITING
 });
 
+/// A final response came at 100.
 const COMPLETED_AT_100: PlainClientPhase = PlainClientPhase::Completed {
     reliable: false,
     set: 100,
 };
 
+/// A final response came at 550.
 const COMPLETED_AT_550: PlainClientPhase = PlainClientPhase::Completed {
     reliable: false,
     set: 550,
 };
 
+/// The transaction has ended.
 const ENDED: PlainClientPhase = PlainClientPhase::Ended;
 
+/// Rows that end before the final response.
 static BEFORE_THE_FINAL_RESPONSE: &[Row] = &[
     (&[], &[(IDLE, &[])]),
     (&[(0, Action::Sent, REQUEST)], &[(TRYING, &[])]),
@@ -167,6 +186,7 @@ fn before_the_final_response(rt: HostRuntime) -> Result<(), Fail> {
     all_lead(&rt, BEFORE_THE_FINAL_RESPONSE)
 }
 
+/// Rows that end after a final response, or after a refused send.
 static FINAL_RESPONSES_AND_FAILURES: &[Row] = &[
     (
         &[(0, Action::Sent, REQUEST), (550, Action::Received, 200)],
@@ -218,11 +238,13 @@ const PROCEEDING_FROM_31_500: PlainClientPhase = PlainClientPhase::Proceeding(Wa
     ..WAITING
 });
 
+/// A final response came at 700.
 const COMPLETED_AT_700: PlainClientPhase = PlainClientPhase::Completed {
     reliable: false,
     set: 700,
 };
 
+/// A final response came at 700, over TCP.
 const COMPLETED_OVER_TCP: PlainClientPhase = PlainClientPhase::Completed {
     reliable: true,
     set: 700,

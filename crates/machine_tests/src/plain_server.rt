@@ -8,16 +8,22 @@ use std::alloc::Global;
 use std::process::Abort;
 use std::test::Fail;
 
+/// The number of the request, an OPTIONS.
 const REQUEST: u64 = 1;
 
+/// The number of a 180.
 const RINGING: u64 = 2;
 
+/// The number of a 100.
 const TRYING: u64 = 3;
 
+/// The number of a 200.
 const FINAL: u64 = 4;
 
+/// The number of a 101.
 const PROGRESS: u64 = 5;
 
+/// The number of a 699, the greatest code there is.
 const LAST: u64 = 6;
 
 /// The messages by number: the start line of each, and its tag in To.
@@ -30,10 +36,12 @@ const MESSAGES: [Numbered; 6] = [
     (LAST, Start::Response(699), None),
 ];
 
+/// A server with the times of the tests.
 fn server() -> Result<PlainServer, Fail> {
     Ok(PlainServer::new(params(500)?))
 }
 
+/// A book with the messages.
 fn book(alloc: Global) -> Result<Book, Fail> {
     book_of(alloc, &MESSAGES, "OPTIONS", "UDP")
 }
@@ -45,51 +53,64 @@ fn all_lead(rt: &(impl Abort + AllocGlobal), rows: &[Row]) -> Result<(), Fail> {
     rows::all_lead(rt, &server()?, &book(rt.alloc())?, rows)
 }
 
+/// No request came yet.
 const IDLE: PlainServerPhase = PlainServerPhase::Idle;
 
+/// The request came, and no response was sent.
 const QUIET: PlainServerPhase = PlainServerPhase::Trying { reliable: false };
 
+/// The last response was a 180.
 const RANG: PlainServerPhase = PlainServerPhase::Proceeding {
     reliable: false,
     last: RINGING,
 };
 
+/// The last response was a 100.
 const TRIED: PlainServerPhase = PlainServerPhase::Proceeding {
     reliable: false,
     last: TRYING,
 };
 
+/// The last response was a 101.
 const PROGRESSED: PlainServerPhase = PlainServerPhase::Proceeding {
     reliable: false,
     last: PROGRESS,
 };
 
+/// The 200 was sent at 10.
 const FINAL_AT_10: PlainServerPhase = PlainServerPhase::Completed {
     reliable: false,
     final_message: FINAL,
     set: 10,
 };
 
+/// The 200 was sent at 20.
 const FINAL_AT_20: PlainServerPhase = PlainServerPhase::Completed {
     reliable: false,
     final_message: FINAL,
     set: 20,
 };
 
+/// The 699 was sent at 10.
 const LAST_AT_10: PlainServerPhase = PlainServerPhase::Completed {
     reliable: false,
     final_message: LAST,
     set: 10,
 };
 
+/// The request comes for the first time.
 const FIRST: Entry = (0, Action::Received, REQUEST);
 
+/// A 180 is sent.
 const RINGING_ONCE: Entry = (5, Action::Sent, RINGING);
 
+/// A 100 is sent.
 const TRYING_ONCE: Entry = (5, Action::Sent, TRYING);
 
+/// The 200 is sent.
 const FINAL_ONCE: Entry = (10, Action::Sent, FINAL);
 
+/// Rows that end before the final response.
 static BEFORE_THE_FINAL_RESPONSE: &[Row] = &[
     (&[], &[(IDLE, &[])]),
     (&[(0, Action::Sent, FINAL)], &[]),
@@ -168,6 +189,7 @@ fn before_the_final_response(rt: HostRuntime) -> Result<(), Fail> {
     all_lead(&rt, BEFORE_THE_FINAL_RESPONSE)
 }
 
+/// A request that comes again must be answered by what was sent last, but need not be by a 100.
 static A_100_NEED_NOT_BE_REPEATED: &[Row] = &[
     (
         &[FIRST, TRYING_ONCE, (10, Action::Received, REQUEST)],
@@ -207,6 +229,7 @@ fn a_100_need_not_be_repeated(rt: HostRuntime) -> Result<(), Fail> {
     all_lead(&rt, A_100_NEED_NOT_BE_REPEATED)
 }
 
+/// Rows that end after the final response.
 static AFTER_THE_FINAL_RESPONSE: &[Row] = &[
     (&[FIRST, FINAL_ONCE], &[(FINAL_AT_10, &[])]),
     (&[FIRST, (10, Action::Failed, LAST)], &[(LAST_AT_10, &[])]),
@@ -295,6 +318,7 @@ const RINGING_BY_60: Debt = Debt {
     must: true,
 };
 
+/// The 101 must be sent once more, by 60.
 const PROGRESS_BY_60: Debt = Debt {
     message: PROGRESS,
     deadline: 60,
@@ -324,10 +348,13 @@ fn proceeds(state: &State<PlainServerPhase>, (number, turns): (u64, Turns)) -> b
     }
 }
 
+/// The request comes again.
 const AGAIN: Entry = (10, Action::Received, REQUEST);
 
+/// A 180 is sent at the moment of `AGAIN`.
 const RINGS: Entry = (10, Action::Sent, RINGING);
 
+/// A 101 is sent at the moment of `AGAIN`.
 const PROGRESSES: Entry = (10, Action::Sent, PROGRESS);
 
 static REPEATS: [Entry; 11] = [
@@ -355,11 +382,15 @@ fn each_proceeds(states: &[State<PlainServerPhase>], wants: &[(u64, Turns)]) -> 
 
 /// Whether the entries lead to as many states as are wanted, each with its last response and its debts.
 fn all_proceed(alloc: Global, entries: &[Entry], wants: &[(u64, Turns)]) -> Result<bool, Fail> {
-    let server = server()?;
-    let book = book(alloc)?;
-    let pool = run(alloc, &server, &book, entries)?;
-    let states = states_of(alloc, &pool)?;
+    let states = states_after(alloc, entries)?;
     Ok(each_proceeds(&states, wants))
+}
+
+/// The states of the server after the entries.
+fn states_after(alloc: Global, entries: &[Entry]) -> Result<Vec<State<PlainServerPhase>>, Fail> {
+    let server = server()?;
+    let pool = run(alloc, &server, &book(alloc)?, entries)?;
+    states_of(alloc, &pool)
 }
 
 /// Asserts that something is so after the first of the entries, of which there are so many.
@@ -405,6 +436,7 @@ fn equal_debts_stand_in_runs(rt: HostRuntime) -> Result<(), Fail> {
     Ok(())
 }
 
+/// When the states after the entries may end.
 static ENDS: &[EndsRow] = &[
     (&[], None, None),
     (&[FIRST], None, None),
@@ -445,6 +477,7 @@ fn ends(rt: HostRuntime) -> Result<(), Fail> {
     all_end(&rt, &server()?, &book(rt.alloc())?, ENDS)
 }
 
+/// The 200 was sent at 700, over TCP.
 const COMPLETED_OVER_TCP: PlainServerPhase = PlainServerPhase::Completed {
     reliable: true,
     final_message: FINAL,

@@ -4,7 +4,7 @@ ghost use Rattle.sip_machine.specs.NumberedEvent.{FitsBook};
 ghost use Rattle.sip_machine.specs.Rules.{Knows};
 
 use crate::messages::{Numbered, Start, book_of, event_of};
-use crate::runs::{State, are_same, indices, states_of};
+use crate::runs::{Entry, State, are_same, indices, states_of};
 use crate::times::params;
 use crate::wants::holds;
 use sip_machine::{
@@ -23,8 +23,10 @@ fn debt(message: u64) -> Debt {
     }
 }
 
+/// The number of the request, an OPTIONS.
 const REQUEST: u64 = 4;
 
+/// The number of a 180, the response that is sent last.
 const LAST: u64 = 5;
 
 /// The messages by number: three that are owed, their request, and one that is sent after them.
@@ -36,8 +38,13 @@ const MESSAGES: [Numbered; 5] = [
     (LAST, Start::Response(180), None),
 ];
 
+/// A server with the times of the tests.
 fn server() -> Result<PlainServer, Fail> {
     Ok(PlainServer::new(params(500)?))
+}
+
+fn book(alloc: Global) -> Result<Book, Fail> {
+    book_of(alloc, &MESSAGES, "OPTIONS", "UDP")
 }
 
 /// Lets the last state take the event, and puts the first state to which that leads in its place.
@@ -65,6 +72,24 @@ fn take<M: Machine>(
     Ok(())
 }
 
+/// Lets the last state take the entry, and puts the first state to which that leads in its place.
+fn take_entry<M: Machine>(
+    alloc: Global,
+    machine: &M,
+    book: &Book,
+    pool: &mut Pool<M::Phase>,
+    entry: Entry,
+) -> Result<(), Fail>
+    requires known { All (Knows M.names book.now) pool.old }
+    requires in_range { All M.in_range pool.old }
+    ensures known { OnOk result (All (Knows M.names book.now) pool.new) }
+    ensures in_range { OnOk result (All M.in_range pool.new) }
+{
+    let (moment, action, number) = entry;
+    let event = event_of(alloc, book, moment, action, number)?;
+    take(machine, book, pool, &event)
+}
+
 /// Puts a state that owes these messages after the others: it has sent each of them, and then its request came again.
 fn push_owing<M: Machine>(
     alloc: Global,
@@ -79,16 +104,12 @@ fn push_owing<M: Machine>(
     ensures in_range { OnOk result (All M.in_range pool.new) }
 {
     pool.push(machine.first())?;
-    let first = event_of(alloc, book, 0, Action::Received, REQUEST)?;
-    take(machine, book, pool, &first)?;
+    take_entry(alloc, machine, book, pool, (0, Action::Received, REQUEST))?;
     for message in messages {
-        let sent = event_of(alloc, book, 10, Action::Sent, *message)?;
-        take(machine, book, pool, &sent)?;
-        let again = event_of(alloc, book, 10, Action::Received, REQUEST)?;
-        take(machine, book, pool, &again)?;
+        take_entry(alloc, machine, book, pool, (10, Action::Sent, *message))?;
+        take_entry(alloc, machine, book, pool, (10, Action::Received, REQUEST))?;
     }
-    let last = event_of(alloc, book, 10, Action::Sent, LAST)?;
-    take(machine, book, pool, &last)
+    take_entry(alloc, machine, book, pool, (10, Action::Sent, LAST))
 }
 
 /// Puts a state after the others for each of the lists, which owes the messages of the list.
@@ -113,7 +134,7 @@ fn push_each<M: Machine>(
 /// A pool with a state for each of the lists, which owes the messages of the list.
 fn pool_of(alloc: Global, lists: &[&[u64]]) -> Result<Pool<PlainServerPhase>, Fail> {
     let server = server()?;
-    let book = book_of(alloc, &MESSAGES, "OPTIONS", "UDP")?;
+    let book = book(alloc)?;
     let mut pool = Pool::new(alloc);
     push_each(alloc, &server, &book, &mut pool, lists)?;
     Ok(pool)
@@ -392,6 +413,30 @@ fn are_as_before<P: Phase>(
     Ok(())
 }
 
+/// Lets the first state take the event. Where memory is refused, it asserts that the states are as before, and that the event is taken
+/// with memory. Returns the refusal, if there was one.
+fn first_takes_again<M: Machine>(
+    rt: &(impl Abort + AllocGlobal),
+    machine: &M,
+    book: &Book,
+    pool: &mut Pool<M::Phase>,
+    event: &Event,
+) -> Result<Option<AllocError>, Fail>
+    requires some { 0 < length pool.old }
+    requires fits { FitsBook book.now event.now }
+    requires known { All (Knows M.names book.now) pool.old }
+    requires in_range { All M.in_range pool.old }
+{
+    let before = states_of(rt.alloc(), pool)?;
+    let Err(error) = first_takes(machine, book, pool, event) else {
+        return Ok(None);
+    };
+    are_as_before(rt, pool, &before)?;
+    holds(rt, pool.len() > 0, "states still");
+    first_takes(machine, book, pool, event)?;
+    Ok(Some(error))
+}
+
 /// Asserts that the first of three states takes an event that leads to two more. Where memory is refused, it asserts that the states
 /// are as before, and that the event is taken with memory.
 fn goes_on<M: Machine>(
@@ -405,16 +450,13 @@ fn goes_on<M: Machine>(
     requires known { All (Knows M.names book.now) pool.old }
     requires in_range { All M.in_range pool.old }
 {
-    let before = states_of(rt.alloc(), pool)?;
     holds(rt, pool.len() == 3, "three states");
-    let Err(error) = first_takes(machine, book, pool, event) else {
-        return are_five(rt, pool);
-    };
-    are_as_before(rt, pool, &before)?;
-    holds(rt, pool.len() == 3, "three states still");
-    first_takes(machine, book, pool, event)?;
+    let refused = first_takes_again(rt, machine, book, pool, event)?;
     are_five(rt, pool)?;
-    Err(error.into())
+    match refused {
+        Some(error) => Err(error.into()),
+        None => Ok(()),
+    }
 }
 
 /// Puts three states into the pool, of which the first takes an event that leads to two more.
@@ -437,7 +479,7 @@ fn three_go_on<M: Machine>(
 #[test]
 fn a_pool_goes_on_after_a_refused_growth(rt: HostRuntime) -> Result<(), Fail> {
     let server = server()?;
-    let book = book_of(rt.alloc(), &MESSAGES, "OPTIONS", "UDP")?;
+    let book = book(rt.alloc())?;
     let mut pool = Pool::new(rt.alloc());
     three_go_on(&rt, &server, &book, &mut pool)
 }
@@ -455,16 +497,13 @@ fn gains_again<M: Machine>(
     requires known { All (Knows M.names book.now) pool.old }
     requires in_range { All M.in_range pool.old }
 {
-    let before = states_of(rt.alloc(), pool)?;
     holds(rt, pool.len() == 2, "two states");
-    let Err(error) = first_takes(machine, book, pool, event) else {
-        return owe(rt, pool, &[1, 2, 3, 1, 1, 2, 3, 1, LAST]);
-    };
-    are_as_before(rt, pool, &before)?;
-    holds(rt, pool.len() == 2, "two states still");
-    first_takes(machine, book, pool, event)?;
+    let refused = first_takes_again(rt, machine, book, pool, event)?;
     owe(rt, pool, &[1, 2, 3, 1, 1, 2, 3, 1, LAST])?;
-    Err(error.into())
+    match refused {
+        Some(error) => Err(error.into()),
+        None => Ok(()),
+    }
 }
 
 /// Puts two states into the pool, of which the first owes four messages, and gains a fifth.
@@ -486,7 +525,7 @@ fn two_gain<M: Machine>(
 #[test]
 fn a_debt_comes_after_a_refused_growth(rt: HostRuntime) -> Result<(), Fail> {
     let server = server()?;
-    let book = book_of(rt.alloc(), &MESSAGES, "OPTIONS", "UDP")?;
+    let book = book(rt.alloc())?;
     let mut pool = Pool::new(rt.alloc());
     two_gain(&rt, &server, &book, &mut pool)
 }

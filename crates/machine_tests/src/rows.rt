@@ -12,8 +12,10 @@ use std::test::Fail;
 /// A debt that a row wants: its message, its deadline, and whether it must be sent.
 pub(crate) type Owed = (u64, u64, bool);
 
+/// A debt that must be paid.
 pub(crate) const MUST: bool = true;
 
+/// What is owed may be sent.
 pub(crate) const MAY: bool = false;
 
 /// A state that a row wants: its phase, and what it owes.
@@ -33,6 +35,7 @@ fn are_owed(runs: &[Run], wants: &[Owed]) -> bool {
         })
 }
 
+/// Whether the states are exactly those that are wanted.
 fn are_wanted<P: Phase>(states: &[State<P>], wants: &[Want<P>]) -> bool {
     states.len() == wants.len()
         && states.iter().zip(wants).all(|(state, want)| state.phase == want.0

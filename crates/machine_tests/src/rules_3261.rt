@@ -13,14 +13,19 @@ use std::alloc::Global;
 use std::process::Abort;
 use std::test::Fail;
 
+/// The number of the INVITE.
 const INVITE: u64 = 1;
 
+/// The number of a 180.
 const RINGING: u64 = 2;
 
+/// The number of a 486.
 const BUSY: u64 = 3;
 
+/// The number of a 200.
 const OK: u64 = 4;
 
+/// The number of the ACK.
 const ACK: u64 = 5;
 
 /// The number that stands for no message, as a restart has none.
@@ -35,17 +40,22 @@ const MESSAGES: [Numbered; 5] = [
     (ACK, Start::Request("ACK"), Some(2)),
 ];
 
+/// A row of the INVITE server of RFC 3261.
 type Server = Row<InviteServer3261Phase>;
 
+/// A row of the INVITE client of RFC 3261.
 type Client = Row<InviteClientPhase>;
 
+/// No INVITE came yet.
 const IDLE: InviteServer3261Phase = InviteServer3261Phase::In {
     phase: InviteServerPhase::Idle,
     again: false,
 };
 
+/// A 2xx was sent, so that the transaction is over by RFC 3261.
 const PASSED: InviteServer3261Phase = InviteServer3261Phase::Passed;
 
+/// The INVITE came at 0, and no response was sent.
 const INVITED: InviteServer3261Phase = InviteServer3261Phase::In {
     phase: InviteServerPhase::Proceeding {
         reliable: false,
@@ -55,6 +65,7 @@ const INVITED: InviteServer3261Phase = InviteServer3261Phase::In {
     again: false,
 };
 
+/// The INVITE came anew at 500, after a 2xx, and no response was sent.
 const INVITED_AGAIN: InviteServer3261Phase = InviteServer3261Phase::In {
     phase: InviteServerPhase::Proceeding {
         reliable: false,
@@ -64,6 +75,7 @@ const INVITED_AGAIN: InviteServer3261Phase = InviteServer3261Phase::In {
     again: true,
 };
 
+/// The INVITE came anew at 500, after a 2xx, and the last response was a 180.
 const RINGS_AGAIN: InviteServer3261Phase = InviteServer3261Phase::In {
     phase: InviteServerPhase::Proceeding {
         reliable: false,
@@ -73,6 +85,7 @@ const RINGS_AGAIN: InviteServer3261Phase = InviteServer3261Phase::In {
     again: true,
 };
 
+/// The INVITE came anew after a 2xx, and a 486 was sent at 510.
 const BUSY_AGAIN: InviteServer3261Phase = InviteServer3261Phase::In {
     phase: InviteServerPhase::Completed {
         reliable: false,
@@ -84,6 +97,7 @@ const BUSY_AGAIN: InviteServer3261Phase = InviteServer3261Phase::In {
     again: true,
 };
 
+/// The INVITE came anew after a 2xx, and the ACK for the 486 came at 600.
 const CONFIRMED_AGAIN: InviteServer3261Phase = InviteServer3261Phase::In {
     phase: InviteServerPhase::Confirmed {
         reliable: false,
@@ -92,6 +106,7 @@ const CONFIRMED_AGAIN: InviteServer3261Phase = InviteServer3261Phase::In {
     again: true,
 };
 
+/// The INVITE came once, and a 486 was sent at 10.
 const BUSY_ONCE: InviteServer3261Phase = InviteServer3261Phase::In {
     phase: InviteServerPhase::Completed {
         reliable: false,
@@ -103,10 +118,13 @@ const BUSY_ONCE: InviteServer3261Phase = InviteServer3261Phase::In {
     again: false,
 };
 
+/// The INVITE comes for the first time.
 const INVITE_CAME: Entry = (0, Action::Received, INVITE);
 
+/// The INVITE comes again.
 const INVITE_CAME_AGAIN: Entry = (500, Action::Received, INVITE);
 
+/// A 200 is sent.
 const OK_WENT: Entry = (0, Action::Sent, OK);
 
 static A_2XX_IS_THE_LAST_OF_A_SERVER: &[Server] = &[
@@ -146,6 +164,7 @@ static A_2XX_IS_THE_LAST_OF_A_SERVER: &[Server] = &[
     ),
 ];
 
+/// An INVITE after the 2xx may be a repeat or begin anew, so that there is a state for each.
 static AN_INVITE_COMES_AGAIN_AFTER_A_2XX: &[Server] = &[
     (
         &[INVITE_CAME, OK_WENT, INVITE_CAME_AGAIN],
@@ -271,6 +290,7 @@ static A_SERVER_STARTS_ANEW: &[Server] = &[
     ),
 ];
 
+/// The INVITE was sent at 0.
 const CALLS: InviteClientPhase = InviteClientPhase::Calling(Waiting {
     reliable: false,
     request: INVITE,
@@ -279,20 +299,24 @@ const CALLS: InviteClientPhase = InviteClientPhase::Calling(Waiting {
     interval: 500,
 });
 
+/// A provisional response came, and no CANCEL was sent.
 const PROCEEDS: InviteClientPhase = InviteClientPhase::Proceeding {
     reliable: false,
     request: INVITE,
     cancel: None,
 };
 
+/// A final response but a 2xx came at 100.
 const IS_BUSY: InviteClientPhase = InviteClientPhase::Completed {
     reliable: false,
     request: INVITE,
     set: 100,
 };
 
+/// The transaction has ended.
 const ENDED: InviteClientPhase = InviteClientPhase::Ended;
 
+/// The INVITE is sent.
 const INVITE_WENT: Entry = (0, Action::Sent, INVITE);
 
 static A_2XX_ENDS_A_CLIENT: &[Client] = &[
@@ -373,15 +397,18 @@ static A_CLIENT_STARTS_ANEW: &[Client] = &[
     ),
 ];
 
+/// A book with the messages.
 fn book(alloc: Global) -> Result<Book, Fail> {
     book_of(alloc, &MESSAGES, "INVITE", "UDP")
 }
 
+/// Asserts that the entries of each row lead a server to the states of the row.
 fn all_serve(rt: &(impl Abort + AllocGlobal), rows: &[Server]) -> Result<(), Fail> {
     let server = InviteServer3261::new(params(500)?);
     all_lead(rt, &server, &book(rt.alloc())?, rows)
 }
 
+/// Asserts that the entries of each row lead a client to the states of the row.
 fn all_call(rt: &(impl Abort + AllocGlobal), rows: &[Client]) -> Result<(), Fail> {
     let client = InviteClient3261::new(params(500)?);
     all_lead(rt, &client, &book(rt.alloc())?, rows)

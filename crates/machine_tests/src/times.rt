@@ -3,6 +3,7 @@
 use sip_machine::Params;
 use std::test::Fail;
 
+/// The times of the tests with this T1.
 pub(crate) fn params(t1: u64) -> Result<Params, Fail> {
     match Params::new(t1, 4_000, 5_000, 50) {
         Some(params) => Ok(params),

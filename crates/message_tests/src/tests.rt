@@ -4,7 +4,7 @@ use crate::folded::{FOLDED, UNFOLDED};
 use crate::ipv6::IPV6;
 use crate::rows::{ADDRESSES, BODIES, Change, LINES, NAMES, NUMBERS, STARTS, VIAS};
 use crate::torture::TORTURE;
-use crate::wants::is;
+use crate::wants::{holds, is};
 use sip_message::{Message, ReadError, Reason, write};
 use std::alloc::{AllocError, Global};
 use std::process::Abort;
@@ -26,9 +26,14 @@ fn read_rows(rt: &(impl Abort + AllocGlobal), rows: &[Row]) -> Result<(), Fail> 
     Ok(())
 }
 
+/// The torture messages. A function that names a table has all of it in its proof, so that this one alone names it.
+fn torture() -> &'static [Row] {
+    TORTURE
+}
+
 #[test]
 fn reads_torture_messages(rt: HostRuntime) -> Result<(), Fail> {
-    read_rows(&rt, TORTURE)?;
+    read_rows(&rt, torture())?;
     read_rows(&rt, IPV6)
 }
 
@@ -91,33 +96,58 @@ fn tells_a_head_from_none(rt: HostRuntime) -> Result<(), Fail> {
 
 #[test]
 fn writes_the_canonical_form(rt: HostRuntime) -> Result<(), Fail> {
-    assert!(rt; FOLDED.len() == 181 && UNFOLDED.len() == 202);
-    assert!(rt; canonical(rt.alloc(), FOLDED)?.as_slice() == UNFOLDED);
-    assert!(rt; canonical(rt.alloc(), UNFOLDED)?.as_slice() == UNFOLDED);
+    holds(&rt, FOLDED.len() == 181 && UNFOLDED.len() == 202, "lengths");
+    comes_to(&rt, FOLDED, UNFOLDED)?;
+    comes_to(&rt, UNFOLDED, UNFOLDED)
+}
+
+/// Asserts that the bytes have this canonical form.
+fn comes_to(rt: &(impl Abort + AllocGlobal), bytes: &[u8], want: &[u8]) -> Result<(), Fail> {
+    let text = canonical(rt.alloc(), bytes)?;
+    holds(rt, text.as_slice() == want, "the canonical form");
     Ok(())
+}
+
+/// Whether the messages have the same canonical form.
+fn are_written_alike(
+    alloc: Global,
+    one: &Message<'_>,
+    other: &Message<'_>,
+) -> Result<bool, AllocError> {
+    let mut text = Vec::new(alloc);
+    write(one, &mut text)?;
+    is_written_as(alloc, other, &text)
+}
+
+/// Whether the message has this canonical form.
+fn is_written_as(alloc: Global, message: &Message<'_>, want: &[u8]) -> Result<bool, AllocError> {
+    let mut text = Vec::new(alloc);
+    write(message, &mut text)?;
+    Ok(text.as_slice() == want)
+}
+
+/// Whether the topmost Vias of the messages have the same parts.
+fn have_same_via(one: &Message<'_>, other: &Message<'_>) -> bool {
+    let (via, other) = (one.top_via(), other.top_via());
+    via.transport == other.transport
+        && via.host == other.host
+        && via.port == other.port
+        && via.branch == other.branch
+}
+
+/// Whether the messages have the same parts, but for those that may be folded.
+fn have_same_parts(one: &Message<'_>, other: &Message<'_>) -> bool {
+    one.start() == other.start()
+        && one.body() == other.body()
+        && one.call_id() == other.call_id()
+        && one.cseq() == other.cseq()
+        && have_same_via(one, other)
+        && one.is_reliable() == other.is_reliable()
 }
 
 /// Whether the messages have the same parts. Those that may be folded are compared by their canonical form.
 fn are_same(alloc: Global, one: &Message<'_>, other: &Message<'_>) -> Result<bool, AllocError> {
-    let mut texts = (Vec::new(alloc), Vec::new(alloc));
-    write(one, &mut texts.0)?;
-    write(other, &mut texts.1)?;
-    let (via, other_via) = (one.top_via(), other.top_via());
-    Ok(
-        texts.0.as_slice() == texts.1.as_slice()
-            && one.start() == other.start()
-            && one.body() == other.body()
-            && one.call_id() == other.call_id()
-            && one.cseq() == other.cseq()
-            && (via.transport, via.host, via.port, via.branch)
-                == (
-                    other_via.transport,
-                    other_via.host,
-                    other_via.port,
-                    other_via.branch,
-                )
-            && one.is_reliable() == other.is_reliable(),
-    )
+    Ok(are_written_alike(alloc, one, other)? && have_same_parts(one, other))
 }
 
 /// Whether the bytes are a message whose canonical form reads back as the same message, or have one of the faults 1 to 11.
@@ -155,41 +185,59 @@ static BRANCHES: [&[u8]; 3] = [b"390skdjuw", b"z9hG4bK9ikj8", b"z9hG4bK30239"];
 /// Asserts that the first torture message has its Vias.
 fn shows_vias(rt: &impl Abort, message: &Message<'_>) {
     let top = message.top_via();
-    assert!(rt; top.transport == b"UDP".as_slice() && top.branch == Some(b"390skdjuw".as_slice()));
-    assert!(rt; top.whole == b"SIP  /   2.0\r\n /UDP\r\n    192.0.2.2;branch=390skdjuw".as_slice());
-    assert!(rt; !message.is_reliable());
+    is(rt, top.transport, b"UDP".as_slice(), &"the transport");
+    is(rt, top.branch, Some(b"390skdjuw".as_slice()), &"the branch");
+    let whole = b"SIP  /   2.0\r\n /UDP\r\n    192.0.2.2;branch=390skdjuw".as_slice();
+    is(rt, top.whole, whole, &"the whole Via");
+    holds(rt, !message.is_reliable(), "the transport is not reliable");
+    shows_branches(rt, message);
+}
+
+/// Asserts that the first torture message has the Vias of `BRANCHES`.
+fn shows_branches(rt: &impl Abort, message: &Message<'_>) {
     let mut branches = message.vias();
     for want in &BRANCHES {
-        assert!(rt; branches.next().is_some_and(|via| via.branch == Some(*want)));
+        let is_next = branches.next().is_some_and(|via| via.branch == Some(*want));
+        holds(rt, is_next, "a branch");
     }
-    assert!(rt; branches.next().is_none());
+    holds(rt, branches.next().is_none(), "no more branches");
 }
 
 /// Asserts that the first torture message has its From and its To.
 fn shows_addresses(rt: &impl Abort, message: &Message<'_>) {
-    assert!(rt; message.from().display == Some(b"\"J Rosenberg \\\\\\\"\"".as_slice()));
-    assert!(rt; message.from().params == b";\r\n  tag = 98asjd8".as_slice());
-    assert!(rt;
-        message.to().whole
-            == b"sip:vivekg@chair-dnrc.example.com ;   tag    = 1918181833n".as_slice()
-    );
-    assert!(rt; message.to().display == None);
+    let from = message.from();
+    let display = b"\"J Rosenberg \\\\\\\"\"".as_slice();
+    is(rt, from.display, Some(display), &"the name in From");
+    let params = b";\r\n  tag = 98asjd8".as_slice();
+    is(rt, from.params, params, &"the parameters of From");
+    let to = b"sip:vivekg@chair-dnrc.example.com ;   tag    = 1918181833n".as_slice();
+    is(rt, message.to().whole, to, &"the whole To");
+    holds(rt, message.to().display.is_none(), "no name in To");
 }
 
 /// Asserts that the first torture message has its other parts: Call-ID, CSeq, Route and body.
 fn shows_the_rest(rt: &impl Abort, message: &Message<'_>) {
-    assert!(rt; message.call_id() == b"wsinv.ndaksdj@192.0.2.1".as_slice());
+    let call = b"wsinv.ndaksdj@192.0.2.1".as_slice();
+    is(rt, message.call_id(), call, &"the Call-ID");
     let cseq = message.cseq();
-    assert!(rt; cseq.number == 9 && cseq.method == b"INVITE".as_slice());
+    is(rt, cseq.number, 9, &"the number in CSeq");
+    is(rt, cseq.method, b"INVITE".as_slice(), &"the method in CSeq");
+    is(rt, message.body().len(), 150, &"the length of the body");
+    is(rt, message.body().first(), Some(&b'v'), &"the body");
+    shows_routes(rt, message);
+}
+
+/// Asserts that the first torture message has its Route.
+fn shows_routes(rt: &impl Abort, message: &Message<'_>) {
     let mut routes = message.routes();
-    let route = b"<sip:services.example.com;lr;unknownwith=value;unknown-no-value>";
-    assert!(rt; routes.next() == Some(route.as_slice()) && routes.next() == None);
-    assert!(rt; message.body().len() == 150 && message.body().first() == Some(&b'v'));
+    let route = b"<sip:services.example.com;lr;unknownwith=value;unknown-no-value>".as_slice();
+    is(rt, routes.next(), Some(route), &"the route");
+    holds(rt, routes.next().is_none(), "no more routes");
 }
 
 #[test]
 fn shows_the_parts(rt: HostRuntime) -> Result<(), Fail> {
-    let first = TORTURE.first().ok_or("no message")?;
+    let first = torture().first().ok_or("no message")?;
     let message = Message::read(rt.alloc(), first.text)?;
     shows_vias(&rt, &message);
     shows_addresses(&rt, &message);
@@ -215,8 +263,10 @@ fn long_line(
     changed(alloc, &[(6, &line)], b"")
 }
 
+/// The message with the line is read, and has no body.
 const LINE_READ: Answer = Answer::Read { body: 0 };
 
+/// The line, the seventh of the message, has a faulty value.
 const LINE_FAULTY: Answer = Answer::Line(7, Reason::Value);
 
 /// A line, by its front, a part that is repeated, how often it is, and the end of the line; and what the line comes to.

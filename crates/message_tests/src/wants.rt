@@ -12,3 +12,8 @@ pub(crate) fn is<T: PartialEq + Debug + Drop>(
 ) {
     assert_eq!(rt; found, want, "{row}");
 }
+
+/// Something holds, as these words say.
+pub(crate) fn holds(rt: &impl Abort, is_so: bool, words: &str) {
+    assert!(rt; is_so, "{words}");
+}

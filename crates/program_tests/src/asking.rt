@@ -1,12 +1,13 @@
 //! What words ask for.
 
+use crate::wants::holds;
 use sip_program::{Asked, asked};
 use std::alloc::{AllocError, Global};
 use std::process::Abort;
 use std::test::Fail;
 
 /// These words as texts that the test owns.
-fn texts(alloc: Global, words: &[&str]) -> Result<Vec<String>, AllocError> {
+pub(crate) fn texts(alloc: Global, words: &[&str]) -> Result<Vec<String>, AllocError> {
     let mut texts = Vec::new(alloc);
     for word in words {
         texts.push(String::from_str(alloc, word)?)?;
@@ -17,21 +18,41 @@ fn texts(alloc: Global, words: &[&str]) -> Result<Vec<String>, AllocError> {
 /// Checks that these words ask for nothing.
 fn asks_for_nothing(rt: &(impl Abort + AllocGlobal), words: &[&str]) -> Result<(), Fail> {
     let words = texts(rt.alloc(), words)?;
-    assert!(rt; asked(words.as_slice()).is_none());
+    holds(rt, asked(words.as_slice()).is_none(), "no form of words");
+    Ok(())
+}
+
+/// Whether both ask for the same.
+fn is_same(asked: Asked<'_>, want: Asked<'_>) -> bool {
+    match (asked, want) {
+        (Asked::Input, Asked::Input) => true,
+        (Asked::Check(file), Asked::Check(other)) => file == other,
+        (Asked::Show(file), Asked::Show(other)) => file == other,
+        (Asked::States(file, entry), Asked::States(other, number)) => {
+            file == other && entry == number
+        }
+        _ => false,
+    }
+}
+
+/// Checks that these words ask for this.
+fn asks_for(rt: &(impl Abort + AllocGlobal), words: &[&str], want: Asked<'_>) -> Result<(), Fail> {
+    let words = texts(rt.alloc(), words)?;
+    let asked = asked(words.as_slice()).ok_or("nothing is asked for")?;
+    holds(rt, is_same(asked, want), "what is asked for");
     Ok(())
 }
 
 #[test]
 fn words_ask_for_one_thing(rt: HostRuntime) -> Result<(), Fail> {
-    let none = texts(rt.alloc(), &[])?;
-    assert!(rt; matches!(asked(none.as_slice()), Some(Asked::Input)));
-    let check = texts(rt.alloc(), &["check", "-"])?;
-    assert!(rt; matches!(asked(check.as_slice()), Some(Asked::Check("-"))));
-    let show = texts(rt.alloc(), &["show", "check"])?;
-    assert!(rt; matches!(asked(show.as_slice()), Some(Asked::Show("check"))));
-    let states = texts(rt.alloc(), &["states", "", "1000000"])?;
-    assert!(rt; matches!(asked(states.as_slice()), Some(Asked::States("", 1_000_000))));
-    Ok(())
+    asks_for(&rt, &[], Asked::Input)?;
+    asks_for(&rt, &["check", "-"], Asked::Check("-"))?;
+    asks_for(&rt, &["show", "check"], Asked::Show("check"))?;
+    asks_for(
+        &rt,
+        &["states", "", "1000000"],
+        Asked::States("", 1_000_000),
+    )
 }
 
 #[test]

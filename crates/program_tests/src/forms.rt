@@ -1,9 +1,10 @@
 //! Each form of the program on a platform of known words with a known file, and each way in which it fails.
 use crate::desk::Desk;
-use crate::wants::is;
+use crate::wants::{is, reads};
 use sip_log::ToWrite;
 use sip_program::{Host, Output, program, run};
 use std::alloc::{AllocError, Global};
+use std::io::Write;
 use std::process::Abort;
 use std::test::Fail;
 
@@ -61,7 +62,20 @@ pub(crate) fn desk<'a>(
     })
 }
 
-/// Runs the program with these words, this standard input and this file. It answers what is written, and the status.
+/// Runs the program with these words, this standard input and this file, so that it writes to this list. It answers the status, if any.
+fn answer(
+    alloc: Global,
+    words: &[&str],
+    input: &str,
+    file: &str,
+    written: &mut Vec<u8>,
+) -> Result<Option<u8>, Fail> {
+    let mut host = Host::new(desk(alloc, words, file)?, input.as_bytes());
+    let mut output = Output::new(alloc, written)?;
+    Ok(run(alloc, &mut host, &mut output).ok())
+}
+
+/// Checks what the program writes, and its status, with these words, this standard input and this file.
 fn answers(
     rt: &(impl Abort + AllocGlobal),
     words: &[&str],
@@ -70,17 +84,28 @@ fn answers(
     want: (&str, u8),
 ) -> Result<(), Fail> {
     let mut written = Vec::new(rt.alloc());
-    let mut host = Host::new(desk(rt.alloc(), words, file)?, input.as_bytes());
-    let mut output = Output::new(rt.alloc(), &mut written)?;
-    let ended = run(rt.alloc(), &mut host, &mut output);
-    drop(output);
-    assert!(rt; written.as_slice() == want.0.as_bytes());
-    is(rt, ended.ok(), Some(want.1));
+    let status = answer(rt.alloc(), words, input, file, &mut written)?;
+    reads(rt, &written, want.0);
+    is(rt, status, Some(want.1));
     Ok(())
 }
 
-/// Runs the whole program with these words, an empty standard input and this file. It answers what the program writes and tells, and the
-/// status.
+/// Runs the whole program with these words, an empty standard input and this file, so that it writes to this writer and tells to this list. It
+/// answers the status.
+fn status_of<W: Write + Drop>(
+    alloc: Global,
+    words: &[&str],
+    file: &str,
+    writer: W,
+    told: &mut Vec<u8>,
+) -> Result<u8, Fail> {
+    let mut host = Host::new(desk(alloc, words, file)?, b"".as_slice());
+    let mut output = Output::new(alloc, writer)?;
+    let mut errors = ToWrite::new(told);
+    Ok(program(alloc, &mut host, &mut output, &mut errors))
+}
+
+/// Checks what the whole program writes and tells, and its status, with these words, an empty standard input and this file.
 fn ends(
     rt: &(impl Abort + AllocGlobal),
     words: &[&str],
@@ -89,14 +114,9 @@ fn ends(
 ) -> Result<(), Fail> {
     let mut written = Vec::new(rt.alloc());
     let mut told = Vec::new(rt.alloc());
-    let mut host = Host::new(desk(rt.alloc(), words, file)?, b"".as_slice());
-    let mut output = Output::new(rt.alloc(), &mut written)?;
-    let mut errors = ToWrite::new(&mut told);
-    let status = program(rt.alloc(), &mut host, &mut output, &mut errors);
-    drop(output);
-    drop(errors);
-    assert!(rt; written.as_slice() == want.0.as_bytes());
-    assert!(rt; told.as_slice() == want.1.as_bytes());
+    let status = status_of(rt.alloc(), words, file, &mut written, &mut told)?;
+    reads(rt, &written, want.0);
+    reads(rt, &told, want.1);
     is(rt, status, want.2);
     Ok(())
 }
@@ -192,18 +212,11 @@ fn tells_of_each_failure(rt: HostRuntime) -> Result<(), Fail> {
 fn tells_that_the_answer_cannot_be_written(rt: HostRuntime) -> Result<(), Fail> {
     let file = registered(rt.alloc())?;
     let mut told = Vec::new(rt.alloc());
-    let mut host = Host::new(
-        desk(rt.alloc(), &["check", PATH], file.as_str())?,
-        b"".as_slice(),
-    );
-    let mut room = [0; 30];
     // The line of the verdict has 31 bytes.
-    let mut output = Output::new(rt.alloc(), room.as_mut_slice())?;
-    let mut errors = ToWrite::new(&mut told);
-    let status = program(rt.alloc(), &mut host, &mut output, &mut errors);
-    drop(output);
-    drop(errors);
-    assert!(rt; told.as_slice() == b"siptrace: cannot write\n".as_slice());
+    let mut room = [0; 30];
+    let words = ["check", PATH];
+    let status = status_of(rt.alloc(), &words, &file, room.as_mut_slice(), &mut told)?;
+    reads(&rt, &told, "siptrace: cannot write\n");
     is(&rt, status, 4);
     Ok(())
 }

@@ -1,4 +1,5 @@
 //! What std gives: the words of the process, seeds, and files.
+use crate::wants::holds;
 use sip_platform::StdPlatform;
 use sip_program::Platform;
 use std::test::Fail;
@@ -6,8 +7,8 @@ use std::test::Fail;
 #[test]
 fn gives_words_seeds_and_files_of_std(rt: HostRuntime) -> Result<(), Fail> {
     let platform = StdPlatform::new(rt);
-    assert!(rt; !platform.words()?.is_empty());
-    assert!(rt; platform.open("no file is here").is_err());
-    assert!(rt; platform.seed().is_ok());
+    holds(&rt, !platform.words()?.is_empty(), "words");
+    holds(&rt, platform.open("no file is here").is_err(), "no file");
+    holds(&rt, platform.seed().is_ok(), "a seed");
     Ok(())
 }

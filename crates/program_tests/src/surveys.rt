@@ -1,16 +1,33 @@
 //! `sipsurvey` on a platform of known words with a known file, and each way in which it fails.
+use crate::asking::texts;
 use crate::forms::{PATH, desk, hasty, registered};
-use crate::wants::is;
+use crate::wants::{holds, is, reads};
 use sip_log::ToWrite;
 use sip_program::Host;
-use sip_survey_program::{Failure, Log, asked, end, program, read_failure, run};
+use sip_survey_program::{Asked, Failure, Log, asked, end, program, read_failure, run};
+use std::alloc::Global;
 use std::io;
 use std::process::Abort;
 use std::test::Fail;
 
 const USAGE: &str = "sipsurvey: usage: sipsurvey [--forget MILLISECONDS] [--part K/N] [FILE]\n";
 
-/// Runs the whole program with these words, this standard input and this file. It answers what the program writes and tells, and the status.
+/// Runs the whole program with these words, this standard input and this file, so that it writes and tells to these lists. It answers the status.
+fn status_of(
+    alloc: Global,
+    words: &[&str],
+    input: &str,
+    file: &str,
+    written: &mut Vec<u8>,
+    told: &mut Vec<u8>,
+) -> Result<u8, Fail> {
+    let mut host = Host::new(desk(alloc, words, file)?, input.as_bytes());
+    let mut output = ToWrite::new(written);
+    let mut errors = ToWrite::new(told);
+    Ok(program(alloc, &mut host, &mut output, &mut errors))
+}
+
+/// Checks what the whole program writes and tells, and its status, with these words, this standard input and this file.
 fn ends(
     rt: &(impl Abort + AllocGlobal),
     words: &[&str],
@@ -18,15 +35,11 @@ fn ends(
     file: &str,
     want: (&str, &str, u8),
 ) -> Result<(), Fail> {
-    let (mut written, mut told) = (Vec::new(rt.alloc()), Vec::new(rt.alloc()));
-    let mut host = Host::new(desk(rt.alloc(), words, file)?, input.as_bytes());
-    let mut output = ToWrite::new(&mut written);
-    let mut errors = ToWrite::new(&mut told);
-    let status = program(rt.alloc(), &mut host, &mut output, &mut errors);
-    drop(output);
-    drop(errors);
-    assert!(rt; written.as_slice() == want.0.as_bytes());
-    assert!(rt; told.as_slice() == want.1.as_bytes());
+    let mut written = Vec::new(rt.alloc());
+    let mut told = Vec::new(rt.alloc());
+    let status = status_of(rt.alloc(), words, input, file, &mut written, &mut told)?;
+    reads(rt, &written, want.0);
+    reads(rt, &told, want.1);
     is(rt, status, want.2);
     Ok(())
 }
@@ -102,45 +115,59 @@ fn fails_where_a_line_cannot_be_written(rt: HostRuntime) -> Result<(), Fail> {
     let mut host = Host::new(desk(rt.alloc(), &[], "")?, file.as_bytes());
     let mut output = ToWrite::new(room.as_mut_slice());
     let ended = run(rt.alloc(), &mut host, &mut output);
-    assert!(rt; matches!(ended, Err(Failure::Write)));
+    holds(&rt, matches!(ended, Err(Failure::Write)), "fails to write");
+    Ok(())
+}
+
+/// Checks that a survey is asked for of this file, or of the standard input, and of no part of it; and after how many milliseconds it may forget.
+fn is_whole(rt: &impl Abort, asked: &Asked<'_>, file: Option<&str>, forget: Option<u32>) {
+    let is_so = match asked.log {
+        Log::Input => file.is_none(),
+        Log::File(path) => Some(path) == file,
+    };
+    holds(rt, is_so, "the log");
+    holds(rt, asked.part.is_none(), "no part");
+    holds(rt, asked.forget == forget, "what may be forgotten");
+}
+
+/// Checks that these words ask for a survey of this file, or of the standard input, and of no part of it; and after how many milliseconds it may
+/// forget.
+fn asks_for(
+    rt: &(impl Abort + AllocGlobal),
+    words: &[&str],
+    file: Option<&str>,
+    forget: Option<u32>,
+) -> Result<(), Fail> {
+    let words = texts(rt.alloc(), words)?;
+    let asked = asked(words.as_slice()).ok_or("nothing is asked for")?;
+    is_whole(rt, &asked, file, forget);
     Ok(())
 }
 
 #[test]
 fn asks_by_at_most_one_word(rt: HostRuntime) -> Result<(), Fail> {
-    let words = vec![in rt.alloc(); String::from_str(rt.alloc(), "--part")?]?;
-    let none = asked(&[]).ok_or("no words")?;
-    assert!(rt; matches!(none.log, Log::Input) && none.part.is_none());
-    assert!(rt; none.forget.is_none());
-    let one = asked(words.as_slice()).ok_or("one word")?;
-    assert!(rt; matches!(one.log, Log::File("--part")) && one.part.is_none());
-    Ok(())
+    asks_for(&rt, &[], None, None)?;
+    asks_for(&rt, &["--part"], Some("--part"), None)
 }
 
 // FNV-1a of z9hg4bka is 431978031, and FNV-1a of z9hg4bkb is 448755650.
 #[test]
 fn asks_for_a_part_by_two_words(rt: HostRuntime) -> Result<(), Fail> {
-    let first = String::from_str(rt.alloc(), "--part")?;
-    let words = vec![in rt.alloc(); first, String::from_str(rt.alloc(), "2/2")?]?;
+    let words = texts(rt.alloc(), &["--part", "2/2"])?;
     let asked = asked(words.as_slice()).ok_or("a part")?;
     let part = asked.part.ok_or("a part")?;
-    assert!(rt; part.has_branch(b"z9hG4bKa"));
-    assert!(rt; !part.has_branch(b"Z9HG4BKB"));
+    holds(&rt, part.has_branch(b"z9hG4bKa"), "a");
+    holds(&rt, !part.has_branch(b"Z9HG4BKB"), "b");
     Ok(())
 }
 
 #[test]
 fn asks_to_forget_by_two_words(rt: HostRuntime) -> Result<(), Fail> {
-    let first = String::from_str(rt.alloc(), "--forget")?;
-    let mut words = vec![in rt.alloc(); first, String::from_str(rt.alloc(), "60000")?]?;
-    let some = asked(words.as_slice()).ok_or("to forget")?;
-    assert!(rt; matches!(some.log, Log::Input) && some.part.is_none());
-    assert!(rt; some.forget == Some(60000));
-    words.push(String::from_str(rt.alloc(), "--forget")?)?;
-    let file = asked(words.as_slice()).ok_or("to forget, and a file")?;
-    assert!(rt; matches!(file.log, Log::File("--forget")));
-    words.push(String::from_str(rt.alloc(), "60000")?)?;
-    assert!(rt; asked(words.as_slice()).is_none());
+    let words = ["--forget", "60000", "--forget", "60000"];
+    asks_for(&rt, &words[..2], None, Some(60000))?;
+    asks_for(&rt, &words[..3], Some("--forget"), Some(60000))?;
+    let words = texts(rt.alloc(), &words)?;
+    holds(&rt, asked(words.as_slice()).is_none(), "no form of words");
     Ok(())
 }
 
@@ -152,6 +179,6 @@ fn ends_a_survey_with_the_line_of_its_failure(rt: HostRuntime) -> Result<(), Fai
     is(&rt, end(Err(refused), &mut errors), 4);
     is(&rt, end(Ok(3), &mut errors), 3);
     drop(errors);
-    assert!(rt; told.as_slice() == b"sipsurvey: out of memory\n".as_slice());
+    reads(&rt, &told, "sipsurvey: out of memory\n");
     Ok(())
 }

@@ -1,6 +1,6 @@
 //! What the failures of the program say: the line that the standard error has, without the program's name.
 
-use crate::wants::is;
+use crate::wants::{is, reads};
 use sip_program::Failure;
 use std::test::Fail;
 
@@ -18,7 +18,7 @@ fn failures_say_what_the_program_tells(rt: HostRuntime) -> Result<(), Fail> {
     for (failure, told) in rows {
         is(&rt, failure.to_string(rt.alloc())?.as_str(), told);
         let line = format!(in rt.alloc(); "siptrace: {failure}\n")?;
-        assert!(rt; failure.line() == line.as_bytes());
+        reads(&rt, failure.line(), &line);
     }
     Ok(())
 }

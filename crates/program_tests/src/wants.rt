@@ -7,3 +7,13 @@ use std::process::Abort;
 pub(crate) fn is<T: PartialEq + Debug + Drop>(rt: &impl Abort, found: T, want: T) {
     assert_eq!(rt; found, want);
 }
+
+/// Checks that something holds, as these words say.
+pub(crate) fn holds(rt: &impl Abort, is_so: bool, words: &str) {
+    assert!(rt; is_so, "{words}");
+}
+
+/// Checks that these bytes are the wanted text.
+pub(crate) fn reads(rt: &impl Abort, bytes: &[u8], want: &str) {
+    assert!(rt; bytes == want.as_bytes(), "{want}");
+}

@@ -22,6 +22,7 @@ ack-line method uri other target a i r a_is i_is ack r_is = (
   λ line. r_is ∙ (bytes_decides uri target).1 (same-uri line.0 line.1 (sym a_is ∙ line.2) (sym i_is ∙ line.3)),
 )
   where
+    -- equal request lines have the same URI
     same-uri : (u m : List ℕ) → request method uri ≡ request (codes "ACK") u → request other target ≡ request m u → uri ≡ target
     same-uri u m e f = cc
 

@@ -97,6 +97,7 @@ bytes-read (suc q) r rest small =
     let more = bytes-read q r rest small in
     (ap (λ n. 64 + n) more.0 ∙ omega arith, more.1)
 
+-- a length that was written is read back, and what follows it is what follows
 length-read : (count : ℕ) (rest : List ℕ) → (length_in (length_bytes count ++ rest) ≡ count) × (after_length (length_bytes count ++ rest) ≡ rest)
 unfolding length_bytes
 length-read count rest =

@@ -4,6 +4,7 @@ ghost use Rattle.sip_standard.specs.Case.{folded};
 
 use sip_text::same_text;
 
+/// The cookie with which every branch of RFC 3261 begins.
 const COOKIE: &[u8] = b"z9hG4bK";
 
 /// Whether the branch begins with the cookie, without case.

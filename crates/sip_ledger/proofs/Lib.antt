@@ -4,3 +4,4 @@ pub mod gains
 pub mod lists
 pub mod rows
 pub mod strikes
+pub mod Words

@@ -1,3 +1,4 @@
+pub mod CountLemmas
 pub mod EachLemmas
 pub mod FrontLemmas
 pub mod IndexLemmas

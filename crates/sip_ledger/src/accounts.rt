@@ -3,7 +3,7 @@ ghost use Rattle.std.specs.Prelude.{◌≡◌, ◌↔◌, ◌<◌, ◌≤◌, �
 ghost use Rattle.std.specs.List.{list_any};
 ghost use Rattle.sip_ledger.specs.Accounts.{owed_in, AppendsOwed};
 ghost use Rattle.sip_ledger.specs.Debts.{IsFirstPaid, PaysSome, counts_at, softened_debt, is_payable, debt_deadlines, earliest, paid_by};
-ghost use Rattle.sip_ledger.specs.Indexes.{holds};
+ghost use Rattle.sip_ledger.specs.Indexes.{count_under, holds};
 ghost use Rattle.sip_ledger.specs.Lists.{Rise};
 ghost use Rattle.sip_ledger.specs.Runs.{AreRuns};
 
@@ -150,8 +150,8 @@ impl Accounts {
         .is_some()
     }
 
-    /// The message of the row's first debt that a send of a message at the moment pays that stands under the key, if there is one. Where it is
-    /// not found in `most` steps, the answer is None.
+    /// The message of the row's first debt that a send of one of the messages under the key pays at the moment, if there is one. Where that
+    /// is not told in `most` steps, the answer is None. It is told where fewer than `most` messages stand under the key.
     pub fn first_payable(
         &self,
         row: usize,
@@ -161,7 +161,8 @@ impl Accounts {
         most: usize,
     ) -> Option<Option<u64>>
         requires { row < length self.now }
-        ensures { IfSome result (IsFirstPaid (PaysSome (holds index.now key) moment) moment (owed_in self.now row)) }
+        ensures first { IfSome result (IsFirstPaid (PaysSome (holds index.now key) moment) moment (owed_in self.now row)) }
+        ensures told { IfNone result (most ≤ count_under index.now key) }
     {
         let account = self.rows[row];
         let found = find_under(
@@ -304,7 +305,7 @@ impl Accounts {
         Ok(())
     }
 
-    /// Two numbers between which the numbers of all messages are that rows owe.
+    /// Two numbers. The numbers of all messages that rows owe lie between them.
     pub fn span(&self) -> (u64, u64)
         ensures { All (All (λ debt. (result.0 ≤ debt.message) × (debt.message ≤ result.1))) self.now }
     {
@@ -352,26 +353,12 @@ impl Accounts {
     pub fn tidy(&mut self)
         ensures { self.new ≡ self.old }
     {
-        self.let_go_paid();
-        self.drop_front();
-        self.thin();
-    }
-
-    /// Lets the first gains of the message that was paid go, as far as no row owes them.
-    fn let_go_paid(&mut self)
-        ensures { self.new ≡ self.old }
-    {
         if let Some(message) = self.paid {
             let_go(&mut self.gains, &self.strikes, &self.rows, message);
             self.paid = None;
         }
-    }
-
-    /// Drops the gains before all that is owed, where they are more than half of those that are kept.
-    fn drop_front(&mut self)
-        ensures { self.new ≡ self.old }
-    {
         drop_front(&mut self.gains, &self.strikes, &self.rows);
+        self.thin();
     }
 
     /// Lets strikes go that no row has, or that strike nothing that is left, where there are four times as many as rows have. Where there

@@ -31,6 +31,7 @@ owing_text words number x = phase_text (told_by number (words x.phase)) ++ owes_
 abbrev telling : List ℕ → List (ToldField ℕ) → Told ℕ
 telling name fields = record { name = name; fields = fields }
 
+-- What follows is of messages that are told by their numbers in a book.
 module _ (number : List ℕ → ℕ) (texts : Texts) where
   -- where messages are told by their numbers in the book, fields that are told by what their numbers stand for are the fields again
   fields_back : (fields : List (ToldField ℕ)) → Tells number texts (filter_map field_message fields) → map (field_by number) (map (field_by (text_of texts)) fields) ≡ fields
@@ -46,6 +47,7 @@ module _ (number : List ℕ → ℕ) (texts : Texts) where
   told_back : (told : Told ℕ) → Tells number texts (messages_told told) → told_by number (told_by (text_of texts) told) ≡ told
   told_back told tells = ap (telling told.name) (fields_back told.fields tells)
 
+  -- What follows is of the states of one machine, with the words of its phases.
   module _ {S X : Type 0} (words : X → Told (List ℕ)) (seen : Texts → S → X) (names : S → List ℕ) where
     -- where a told state says what a state of the code means, the text of that state is the line of the told one
     state_told : (x : CodeOwing S) (state : ToldState) → said_state texts state ≡ meant words seen names texts x → Tells number texts (owing_names names x)

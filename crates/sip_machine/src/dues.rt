@@ -1,14 +1,14 @@
 //! What each of many states owes: accounts of all of them, if any owes something.
-ghost use Rattle.std.specs.Prelude.{◌≡◌, ◌↔◌, ◌<◌, ◌≤◌, ◌++◌, ◌∷◌, [], List, IsTrue, IfOk, IfSome, OnOk, OnErr, None, All, flat_map, length, set, map, filter, take, drop};
+ghost use Rattle.std.specs.Prelude.{◌≡◌, ◌↔◌, ◌<◌, ◌≤◌, ◌++◌, ◌∷◌, [], List, IsTrue, IfNone, IfOk, IfSome, OnOk, OnErr, All, flat_map, length, set, map, filter, take, drop};
 ghost use Rattle.std.specs.List.{list_any};
 ghost use Rattle.sip_ledger.specs.Debts.{IsFirstPaid, PaysSome, counts_at, softened_debt, is_payable, debt_deadlines, paid_by};
-ghost use Rattle.sip_ledger.specs.Indexes.{holds};
+ghost use Rattle.sip_ledger.specs.Indexes.{count_under, holds};
 ghost use Rattle.sip_ledger.specs.Runs.{AreRuns};
 ghost use Rattle.sip_machine.specs.Deadlines.{earliest};
 ghost use Rattle.sip_machine.specs.Naming.{AppendsAll};
 ghost use Rattle.sip_machine.specs.Owes.{owed_in, owes_names};
 ghost use Rattle.sip_machine.specs.Prints.{ArePrints};
-ghost use Rattle.sip_machine.specs.inner.Dues.{AreBetween, rows_in};
+ghost use Rattle.sip_machine.specs.inner.Dues.{AreBetween, blank_rows};
 
 mod each;
 
@@ -16,25 +16,30 @@ use sip_ledger::{Accounts, Debt, Index, Run};
 use std::alloc::{AllocError, Global};
 use std::marker::Model;
 
+/// Rows of what states owe.
+#[derive(Debug, Drop)]
+pub(crate) enum Rows {
+    /// So many rows, none of which owes anything.
+    Blank(usize),
+    /// The accounts of the rows.
+    WithAccounts(Box<Accounts>),
+}
+
 /// What each of many states owes, oldest cause first, in a row of its own. Where none owes anything, nothing is allocated.
 /// Contracts see the rows.
 #[derive(Debug, Drop)]
 pub struct Dues {
-    rows: usize,
-    accounts: Option<Box<Accounts>>,
+    rows: Rows,
 }
 
 impl Model for Dues {
-    ghost use Rattle.std.specs.Prelude.{◌≡◌, List, length};
-    ghost use Rattle.std.specs.Option.{option_map};
+    ghost use Rattle.std.specs.Prelude.{List};
     ghost use Rattle.sip_ledger.specs.declared.debt.Debt.{Debt};
-    ghost use Rattle.sip_machine.specs.inner.Dues.{rows_in};
+    ghost use Rattle.sip_machine.specs.inner.Dues.{rows_of};
 
     ghost Value = { List (List Debt) };
 
-    ghost view = { λ d. rows_in d.rows (option_map (λ boxed. boxed.value) d.accounts) };
-
-    ghost invariant = { λ d. length (rows_in d.rows (option_map (λ boxed. boxed.value) d.accounts)) ≡ d.rows };
+    ghost view = { λ d. rows_of d.rows };
 }
 
 impl Dues {
@@ -43,8 +48,7 @@ impl Dues {
         ensures { result ≡ [] }
     {
         Dues {
-            rows: 0,
-            accounts: None,
+            rows: Rows::Blank(0),
         }
     }
 
@@ -53,11 +57,10 @@ impl Dues {
         ensures ok { OnOk result (self.new ≡ self.old ++ [] ∷ []) }
         ensures err { OnErr result (self.new ≡ self.old) }
     {
-        let rows = self.rows.checked_add(1).ok_or(AllocError)?;
-        if let Some(accounts) = &mut self.accounts {
-            accounts.push()?;
+        match &mut self.rows {
+            Rows::WithAccounts(accounts) => accounts.push()?,
+            Rows::Blank(count) => *count = count.checked_add(1).ok_or(AllocError)?,
         }
-        self.rows = rows;
         Ok(())
     }
 
@@ -67,11 +70,10 @@ impl Dues {
         ensures ok { OnOk result (self.new ≡ self.old ++ owed_in self.old row ∷ []) }
         ensures err { OnErr result (self.new ≡ self.old) }
     {
-        let rows = self.rows.checked_add(1).ok_or(AllocError)?;
-        if let Some(accounts) = &mut self.accounts {
-            accounts.push_copy(row)?;
+        match &mut self.rows {
+            Rows::WithAccounts(accounts) => accounts.push_copy(row)?,
+            Rows::Blank(count) => *count = count.checked_add(1).ok_or(AllocError)?,
         }
-        self.rows = rows;
         Ok(())
     }
 
@@ -80,22 +82,21 @@ impl Dues {
     pub(crate) fn truncate(&mut self, rows: usize)
         ensures { self.new ≡ take rows self.old }
     {
-        if let Some(accounts) = &mut self.accounts {
-            accounts.truncate(rows);
+        match &mut self.rows {
+            Rows::WithAccounts(accounts) => accounts.truncate(rows),
+            Rows::Blank(count) => *count = (*count).min(rows),
         }
-        self.rows = self.rows.min(rows);
     }
 
     /// Drops the first `rows` rows.
-    #[tactic(auto, using(crate::proofs::debts::DueLemmas::drop_none))]
     pub(crate) fn drop_first(&mut self, rows: usize)
         requires { rows ≤ length self.old }
         ensures { self.new ≡ drop rows self.old }
     {
-        if let Some(accounts) = &mut self.accounts {
-            accounts.drop_first(rows);
+        match &mut self.rows {
+            Rows::WithAccounts(accounts) => accounts.drop_first(rows),
+            Rows::Blank(count) => *count -= rows,
         }
-        self.rows -= rows;
     }
 
     /// Lets the row `to` owe what the row `from` does, and nothing else.
@@ -104,7 +105,7 @@ impl Dues {
         requires to { to < length self.old }
         ensures { self.new ≡ set self.old to (owed_in self.old from) }
     {
-        if let Some(accounts) = &mut self.accounts {
+        if let Rows::WithAccounts(accounts) = &mut self.rows {
             accounts.copy(from, to);
         }
     }
@@ -122,9 +123,11 @@ impl Dues {
         ensures ok { OnOk result (self.new ≡ set self.old row (filter (counts_at moment) (owed_in self.old row ++ debt ∷ []))) }
         ensures err { OnErr result (self.new ≡ self.old) }
     {
-        match &mut self.accounts {
-            Some(accounts) => accounts.gain_and_expire(row, debt, moment)?,
-            None => self.accounts = Some(opened(alloc, self.rows, row, debt, moment)?),
+        match &mut self.rows {
+            Rows::WithAccounts(accounts) => accounts.gain_and_expire(row, debt, moment)?,
+            Rows::Blank(count) => {
+                self.rows = Rows::WithAccounts(opened(alloc, *count, row, debt, moment)?);
+            }
         }
         Ok(())
     }
@@ -141,7 +144,7 @@ impl Dues {
         ensures ok { OnOk result (self.new ≡ set self.old row (filter (counts_at moment) (paid_by message moment (owed_in self.old row)))) }
         ensures err { OnErr result (self.new ≡ self.old) }
     {
-        if let Some(accounts) = &mut self.accounts {
+        if let Rows::WithAccounts(accounts) = &mut self.rows {
             accounts.pay_and_expire(row, message, moment)?;
         }
         Ok(())
@@ -153,9 +156,9 @@ impl Dues {
         ensures same { self.new ≡ self.old }
         ensures can { result ≡ list_any (is_payable message moment) (owed_in self.old row) }
     {
-        match &mut self.accounts {
-            Some(accounts) => accounts.can_pay(row, message, moment),
-            None => false,
+        match &mut self.rows {
+            Rows::WithAccounts(accounts) => accounts.can_pay(row, message, moment),
+            Rows::Blank(_) => false,
         }
     }
 
@@ -166,7 +169,7 @@ impl Dues {
         ensures ok { OnOk result (self.new ≡ set self.old row (filter (counts_at moment) (owed_in self.old row))) }
         ensures err { OnErr result (self.new ≡ self.old) }
     {
-        if let Some(accounts) = &mut self.accounts {
+        if let Rows::WithAccounts(accounts) = &mut self.rows {
             accounts.expire(row, moment)?;
         }
         Ok(())
@@ -177,7 +180,7 @@ impl Dues {
         requires { row < length self.old }
         ensures { self.new ≡ set self.old row (map softened_debt (owed_in self.old row)) }
     {
-        if let Some(accounts) = &mut self.accounts {
+        if let Rows::WithAccounts(accounts) = &mut self.rows {
             accounts.soften(row);
         }
     }
@@ -188,7 +191,7 @@ impl Dues {
         requires { row < length self.old }
         ensures { self.new ≡ set self.old row [] }
     {
-        if let Some(accounts) = &mut self.accounts {
+        if let Rows::WithAccounts(accounts) = &mut self.rows {
             accounts.clear(row);
         }
     }
@@ -199,9 +202,9 @@ impl Dues {
         requires { row < length self.now }
         ensures { result ≡ earliest (debt_deadlines (owed_in self.now row)) }
     {
-        match &self.accounts {
-            Some(accounts) => accounts.earliest_must(row),
-            None => None,
+        match &self.rows {
+            Rows::WithAccounts(accounts) => accounts.earliest_must(row),
+            Rows::Blank(_) => None,
         }
     }
 
@@ -210,9 +213,9 @@ impl Dues {
         requires { row < length self.now }
         ensures { IsTrue result ↔ (owed_in self.now row ≡ []) }
     {
-        match &self.accounts {
-            Some(accounts) => accounts.owes_nothing(row),
-            None => true,
+        match &self.rows {
+            Rows::WithAccounts(accounts) => accounts.owes_nothing(row),
+            Rows::Blank(_) => true,
         }
     }
 
@@ -223,9 +226,9 @@ impl Dues {
         requires other { other < length self.now }
         ensures { IsTrue result ↔ (owed_in self.now row ≡ owed_in self.now other) }
     {
-        match &self.accounts {
-            Some(accounts) => accounts.same(row, other),
-            None => true,
+        match &self.rows {
+            Rows::WithAccounts(accounts) => accounts.same(row, other),
+            Rows::Blank(_) => true,
         }
     }
 
@@ -234,12 +237,12 @@ impl Dues {
         requires { from ≤ length self.now }
         ensures { IfOk result (λ prints. ArePrints self.now from prints.items) }
     {
-        match &self.accounts {
-            Some(accounts) => {
+        match &self.rows {
+            Rows::WithAccounts(accounts) => {
                 let prints = accounts.prints(alloc, from)?;
                 Ok(prints)
             }
-            None => zeros(alloc, self.rows, from),
+            Rows::Blank(count) => zeros(alloc, *count, from),
         }
     }
 
@@ -254,7 +257,7 @@ impl Dues {
         ensures ok { OnOk result (numbers.new.items ≡ numbers.old.items ++ owes_names (owed_in self.now row)) }
         ensures err { OnErr result (numbers.new.items ≡ numbers.old.items) }
     {
-        let Some(accounts) = &self.accounts else {
+        let Rows::WithAccounts(accounts) = &self.rows else {
             return Ok(());
         };
         let mut owed = Vec::new(alloc);
@@ -267,7 +270,7 @@ impl Dues {
         ensures ok { OnOk result (AppendsAll (flat_map owes_names self.now) numbers.old.items numbers.new.items) }
         ensures err { OnErr result (numbers.new.items ≡ numbers.old.items) }
     {
-        if let Some(accounts) = &self.accounts {
+        if let Rows::WithAccounts(accounts) = &self.rows {
             accounts.all_names(numbers)?;
         }
         Ok(())
@@ -278,9 +281,9 @@ impl Dues {
         requires { row < length self.now }
         ensures { IfOk result (λ runs. AreRuns (owed_in self.now row) runs.items) }
     {
-        match &self.accounts {
-            Some(accounts) => accounts.runs(alloc, row),
-            None => Ok(Vec::new(alloc)),
+        match &self.rows {
+            Rows::WithAccounts(accounts) => accounts.runs(alloc, row),
+            Rows::Blank(_) => Ok(Vec::new(alloc)),
         }
     }
 
@@ -294,14 +297,14 @@ impl Dues {
         requires { row < length self.now }
         ensures { IfOk result (λ debts. debts.items ≡ take most (owed_in self.now row)) }
     {
-        match &self.accounts {
-            Some(accounts) => accounts.first_debts(alloc, row, most),
-            None => Ok(Vec::new(alloc)),
+        match &self.rows {
+            Rows::WithAccounts(accounts) => accounts.first_debts(alloc, row, most),
+            Rows::Blank(_) => Ok(Vec::new(alloc)),
         }
     }
 
     /// The message of the first debt of the row whose message stands under the key and whose deadline is not before the moment, if there is
-    /// one. Where it is not found in `most` steps, the answer is None.
+    /// one. Where that is not told in `most` steps, the answer is None. It is told where fewer than `most` messages stand under the key.
     pub(crate) fn first_payable(
         &self,
         row: usize,
@@ -311,11 +314,12 @@ impl Dues {
         most: usize,
     ) -> Option<Option<u64>>
         requires { row < length self.now }
-        ensures { IfSome result (IsFirstPaid (PaysSome (holds index.now key) moment) moment (owed_in self.now row)) }
+        ensures first { IfSome result (IsFirstPaid (PaysSome (holds index.now key) moment) moment (owed_in self.now row)) }
+        ensures told { IfNone result (most ≤ count_under index.now key) }
     {
-        match &self.accounts {
-            Some(accounts) => accounts.first_payable(row, index, key, moment, most),
-            None => Some(None),
+        match &self.rows {
+            Rows::WithAccounts(accounts) => accounts.first_payable(row, index, key, moment, most),
+            Rows::Blank(_) => Some(None),
         }
     }
 
@@ -323,9 +327,9 @@ impl Dues {
     pub(crate) fn span(&self) -> (u64, u64)
         ensures { All (AreBetween result.0 result.1) self.now }
     {
-        match &self.accounts {
-            Some(accounts) => accounts.span(),
-            None => (0, 0),
+        match &self.rows {
+            Rows::WithAccounts(accounts) => accounts.span(),
+            Rows::Blank(_) => (0, 0),
         }
     }
 
@@ -333,11 +337,11 @@ impl Dues {
     pub(crate) fn tidy(&mut self)
         ensures { self.new ≡ self.old }
     {
-        let Some(accounts) = &mut self.accounts else {
+        let Rows::WithAccounts(accounts) = &mut self.rows else {
             return;
         };
         if is_blank(accounts) {
-            self.accounts = None;
+            self.rows = Rows::Blank(accounts.len());
         } else {
             accounts.tidy();
         }
@@ -353,7 +357,7 @@ fn opened(
     moment: u64,
 ) -> Result<Box<Accounts>, AllocError>
     requires { row < rows }
-    ensures { IfOk result (λ boxed. boxed.value ≡ set (rows_in rows None) row (filter (counts_at moment) (owed_in (rows_in rows None) row ++ debt ∷ []))) }
+    ensures { IfOk result (λ boxed. boxed.value ≡ set (blank_rows rows) row (filter (counts_at moment) (owed_in (blank_rows rows) row ++ debt ∷ []))) }
 {
     let mut accounts = blank(alloc, rows)?;
     accounts.gain_and_expire(row, debt, moment)?;
@@ -362,7 +366,7 @@ fn opened(
 
 /// Accounts of `rows` rows that owe nothing.
 fn blank(alloc: Global, rows: usize) -> Result<Accounts, AllocError>
-    ensures { IfOk result (λ accounts. accounts ≡ rows_in rows None) }
+    ensures { IfOk result (λ accounts. accounts ≡ blank_rows rows) }
 {
     let mut accounts = Accounts::new(alloc);
     for row in 0..rows {
@@ -373,7 +377,7 @@ fn blank(alloc: Global, rows: usize) -> Result<Accounts, AllocError>
 
 /// Whether no row of the accounts owes anything.
 fn is_blank(accounts: &Accounts) -> bool
-    ensures { IsTrue result → (accounts.now ≡ rows_in (length accounts.now) None) }
+    ensures { IsTrue result → (accounts.now ≡ blank_rows (length accounts.now)) }
 {
     for row in 0..accounts.len() {
         if !accounts.owes_nothing(row) {
@@ -386,7 +390,7 @@ fn is_blank(accounts: &Accounts) -> bool
 /// A print for each row from `from` on of `rows` rows that owe nothing: the same for all.
 fn zeros(alloc: Global, rows: usize, from: usize) -> Result<Vec<u64>, AllocError>
     requires { from ≤ rows }
-    ensures { IfOk result (λ prints. ArePrints (rows_in rows None) from prints.items) }
+    ensures { IfOk result (λ prints. ArePrints (blank_rows rows) from prints.items) }
 {
     let mut prints = Vec::with_capacity(alloc, rows - from)?;
     prints.resize(rows - from, 0)?;

@@ -1,11 +1,11 @@
 //! Texts that are told apart by their hashes first.
 ghost use Rattle.std.specs.Prelude.{◌≡◌, bytes_eq};
-ghost use Rattle.sip_machine.specs.inner.Order.{hash_of};
+ghost use Rattle.sip_machine.specs.inner.Order.{full_hash, hash_of};
 
 use std::hash::{FoldHasher, Hasher};
 use std::marker::Model;
 
-/// How many bytes a hash looks at. The start line and the top Via stand among these, which tell ordinary messages apart.
+/// How many bytes a hash of a front looks at. The start line and the top Via stand among these, which tell ordinary messages apart.
 const MOST_HASHED: usize = 256;
 
 /// A text with its hash. Contracts see the text.
@@ -17,23 +17,25 @@ pub(crate) struct Hashed {
 
 impl Model for Hashed {
     ghost use Rattle.std.specs.Prelude.{◌≡◌, ℕ, List};
-    ghost use Rattle.sip_machine.specs.inner.Order.{hash_of};
+    ghost use Rattle.sip_machine.specs.inner.Order.{full_hash};
 
     ghost Value = { List ℕ };
 
     ghost view = { λ h. h.text.items };
 
-    ghost invariant = { λ h. h.hash ≡ hash_of h.text.items };
+    ghost invariant = { λ h. h.hash ≡ full_hash h.text.items };
 }
 
 impl Hashed {
+    /// The text with its hash.
     pub(crate) fn of(text: Vec<u8>) -> Hashed
         ensures { result ≡ text.items }
     {
-        let hash = hash(&text);
+        let hash = full_hash(&text);
         Hashed { text, hash }
     }
 
+    /// The text alone.
     pub(crate) fn text(&self) -> &[u8]
         ensures { result.now ≡ self.now }
     {
@@ -42,7 +44,7 @@ impl Hashed {
 
     /// The hash of the text: equal texts have equal hashes.
     pub(crate) fn hash(&self) -> u64
-        ensures { result ≡ hash_of self.now }
+        ensures { result ≡ full_hash self.now }
     {
         self.hash
     }
@@ -58,12 +60,20 @@ impl Hashed {
     }
 }
 
-/// A hash of the front of these bytes. It says nothing of them but that equal bytes have equal hashes.
+/// A hash of all of these bytes. It says nothing of them but that equal bytes have equal hashes.
+#[inline(always)]
+fn full_hash(bytes: &[u8]) -> u64
+    ensures { result ≡ full_hash bytes.now }
+{
+    let mut hasher = FoldHasher::default();
+    hasher.write(bytes);
+    hasher.finish()
+}
+
+/// A hash of the front of these bytes.
 #[tactic(auto, using(std::proofs::lemmas::List::take_min))]
 pub(crate) fn hash(bytes: &[u8]) -> u64
     ensures { result ≡ hash_of bytes.now }
 {
-    let mut hasher = FoldHasher::default();
-    hasher.write(&bytes[..MOST_HASHED.min(bytes.len())]);
-    hasher.finish()
+    full_hash(&bytes[..MOST_HASHED.min(bytes.len())])
 }

@@ -72,6 +72,7 @@ impl Model for InviteClient {
 }
 
 impl InviteClient {
+    /// A client with these times.
     pub fn new(params: Params) -> InviteClient
         ensures { result ≡ params }
     {
@@ -119,6 +120,7 @@ impl Phases for InviteClient {
         Ended
     }
 
+    // A provisional response leads to proceeding, a 2xx to accepted, and one of 300 to 699 to completed, where each owes an ACK (section 17.1.1).
     fn receives(
         &self,
         _alloc: Global,
@@ -168,6 +170,7 @@ impl Phases for InviteClient {
         Ok(Some(Turn { phase, change }))
     }
 
+    // The first INVITE begins the transaction, and over UDP timer A sends it again, each time after twice as long. An ACK has no row but in idle.
     fn sends(
         &self,
         _alloc: Global,
@@ -196,6 +199,7 @@ impl Phases for InviteClient {
                 }),
                 _ => return Ok(None),
             },
+            // An ACK before any INVITE, such as one for a 2xx, leaves idle as it is.
             Method::Ack => match *phase {
                 Idle => Idle,
                 _ => return Ok(None),
@@ -220,6 +224,7 @@ impl Phases for InviteClient {
         Ok(Some(Turn { phase, change }))
     }
 
+    // In completed an ACK pays the first response that it belongs to.
     fn paid(
         &self,
         alloc: Global,
@@ -238,10 +243,12 @@ impl Phases for InviteClient {
         first_acked(alloc, book, request, event, dues, row)
     }
 
+    // What is sent without a row must pay a debt.
     fn stays(&self, _phase: &InviteClientPhase, _kind: Kind) -> bool {
         false
     }
 
+    // An INVITE that the transport refused ends the transaction, and so does an ACK in completed (section 17.1.4).
     fn ends_refused(&self, phase: &InviteClientPhase, kind: Kind) -> bool {
         match (kind, *phase) {
             (Kind::Request(Method::Invite), _) => true,
@@ -250,6 +257,7 @@ impl Phases for InviteClient {
         }
     }
 
+    // Timers B, M and D end calling, accepted and completed. Proceeding may end 64*T1 after a CANCEL (section 9.1).
     fn timer_window(&self, phase: &InviteClientPhase) -> Option<(u64, Option<u64>)> {
         let params = &self.params;
         match *phase {
@@ -268,6 +276,7 @@ impl Phases for InviteClient {
         }
     }
 
+    // Calling lasts until timer B has fired or the INVITE must be sent again, and accepted until timer M has fired.
     fn closes(&self, phase: &InviteClientPhase) -> Option<u64> {
         let params = &self.params;
         match *phase {
@@ -278,6 +287,7 @@ impl Phases for InviteClient {
         }
     }
 
+    // The INVITE, which timer A sends again and to which ACKs belong.
     fn message(&self, phase: &InviteClientPhase) -> Option<u64> {
         match *phase {
             Calling(waiting) => Some(waiting.request),
@@ -286,6 +296,7 @@ impl Phases for InviteClient {
         }
     }
 
+    // The words are those of docs/standard/MACHINE_WORDS.md.
     fn told(alloc: Global, phase: &InviteClientPhase) -> Result<Told, AllocError> {
         match *phase {
             Idle => Told::new(alloc, "idle", &[]),

@@ -33,6 +33,7 @@ impl Model for InviteClient3261 {
 }
 
 impl InviteClient3261 {
+    /// A client with these times.
     pub fn new(params: Params) -> InviteClient3261
         ensures { result ≡ params }
     {
@@ -83,6 +84,7 @@ impl Phases for InviteClient3261 {
         InviteClientPhase::Ended
     }
 
+    // A 2xx ends the transaction; all else is received as by the corrected machine.
     fn receives(
         &self,
         alloc: Global,
@@ -99,6 +101,7 @@ impl Phases for InviteClient3261 {
         self.corrected.receives(alloc, book, phase, event)
     }
 
+    // What is sent is what the corrected machine sends, and so are the debts, timers and words below.
     fn sends(
         &self,
         alloc: Global,
@@ -109,6 +112,7 @@ impl Phases for InviteClient3261 {
         self.corrected.sends(alloc, book, phase, event)
     }
 
+    // The corrected machine tells which response an ACK pays for.
     fn paid(
         &self,
         alloc: Global,

@@ -65,6 +65,7 @@ impl Model for InviteServer3261 {
 }
 
 impl InviteServer3261 {
+    /// A server with these times.
     pub fn new(params: Params) -> InviteServer3261
         ensures { result ≡ params }
     {
@@ -116,6 +117,7 @@ impl Phases for InviteServer3261 {
         idle()
     }
 
+    // In passed, after a 2xx, an INVITE begins the transaction again. All else is received as by the corrected machine.
     fn receives(
         &self,
         alloc: Global,
@@ -132,6 +134,7 @@ impl Phases for InviteServer3261 {
         }
     }
 
+    // A 2xx leads to passed. All else is sent as by the corrected machine.
     fn sends(
         &self,
         alloc: Global,
@@ -154,6 +157,7 @@ impl Phases for InviteServer3261 {
         }
     }
 
+    // A response pays the first debt of the same bytes, but a 2xx pays none.
     fn paid(
         &self,
         _alloc: Global,
@@ -174,6 +178,7 @@ impl Phases for InviteServer3261 {
         }
     }
 
+    // Equal bytes have one number in the book, so a response pays the debts of its number alone.
     fn pays(&self, book: &Book, _phase: &InviteServer3261Phase, event: &Event) -> Option<u64> {
         match event.kind() {
             Kind::Request(_) => None,
@@ -187,6 +192,7 @@ impl Phases for InviteServer3261 {
         }
     }
 
+    // Where the transaction began again, the user may still send the 2xx from before, and the state stays as it is.
     fn stays(&self, phase: &InviteServer3261Phase, kind: Kind) -> bool {
         let Kind::Response(code) = kind else {
             return false;
@@ -199,10 +205,12 @@ impl Phases for InviteServer3261 {
         }
     }
 
+    // A response that the transport refused counts as sent.
     fn ends_refused(&self, _phase: &InviteServer3261Phase, _kind: Kind) -> bool {
         false
     }
 
+    // Passed has no timer, and the other phases have those of the corrected machine.
     fn timer_window(&self, phase: &InviteServer3261Phase) -> Option<(u64, Option<u64>)> {
         match *phase {
             InviteServer3261Phase::Passed => None,
@@ -224,6 +232,7 @@ impl Phases for InviteServer3261 {
         }
     }
 
+    // The words are those of docs/standard/MACHINE_WORDS.md.
     fn told(alloc: Global, phase: &InviteServer3261Phase) -> Result<Told, AllocError> {
         match *phase {
             InviteServer3261Phase::Passed => Told::new(alloc, "passed", &[]),

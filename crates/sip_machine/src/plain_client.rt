@@ -53,6 +53,7 @@ impl Model for PlainClient {
 }
 
 impl PlainClient {
+    /// A client with these times.
     pub fn new(params: Params) -> PlainClient
         ensures { result ≡ params }
     {
@@ -100,6 +101,7 @@ impl Phases for PlainClient {
         Ended
     }
 
+    // A provisional response leads to proceeding, and a final one to completed (section 17.1.2).
     fn receives(
         &self,
         _alloc: Global,
@@ -122,6 +124,7 @@ impl Phases for PlainClient {
         Ok(Some(Turn { phase, change }))
     }
 
+    // The first request begins the transaction. Over UDP timer E sends it again: in trying after twice as long, up to T2, in proceeding after T2.
     fn sends(
         &self,
         _alloc: Global,
@@ -157,6 +160,7 @@ impl Phases for PlainClient {
         Ok(Some(Turn { phase, change }))
     }
 
+    // This client owes nothing: it sends no ACK.
     fn paid(
         &self,
         _alloc: Global,
@@ -169,14 +173,17 @@ impl Phases for PlainClient {
         Ok(None)
     }
 
+    // What is sent has a row, or is not allowed.
     fn stays(&self, _phase: &PlainClientPhase, _kind: Kind) -> bool {
         false
     }
 
+    // A request that the transport refused ends the transaction (section 17.1.4).
     fn ends_refused(&self, _phase: &PlainClientPhase, _kind: Kind) -> bool {
         true
     }
 
+    // Timer F ends trying and proceeding, and timer K ends completed.
     fn timer_window(&self, phase: &PlainClientPhase) -> Option<(u64, Option<u64>)> {
         let params = &self.params;
         match *phase {
@@ -190,6 +197,7 @@ impl Phases for PlainClient {
         }
     }
 
+    // Trying and proceeding last until timer F has fired or the request must be sent again, and completed until timer K has fired.
     fn closes(&self, phase: &PlainClientPhase) -> Option<u64> {
         let params = &self.params;
         match *phase {
@@ -200,6 +208,7 @@ impl Phases for PlainClient {
         }
     }
 
+    // The request, which timer E sends again.
     fn message(&self, phase: &PlainClientPhase) -> Option<u64> {
         match *phase {
             Trying(waiting) | Proceeding(waiting) => Some(waiting.request),
@@ -207,6 +216,7 @@ impl Phases for PlainClient {
         }
     }
 
+    // The words are those of docs/standard/MACHINE_WORDS.md.
     fn told(alloc: Global, phase: &PlainClientPhase) -> Result<Told, AllocError> {
         match *phase {
             Idle => Told::new(alloc, "idle", &[]),

@@ -44,6 +44,7 @@ impl<P: Phase> Model for Pool<P> {
     ghost invariant = { λ p. length p.dues ≡ length p.phases.items };
 }
 
+#[tactic(auto, using(crate::proofs::pools::PoolLemmas::of_pool))]
 impl<P: Phase> Pool<P> {
     /// A pool without states.
     pub fn new(alloc: Global) -> Self
@@ -117,7 +118,6 @@ impl<P: Phase> Pool<P> {
     }
 
     /// Puts a state of this phase that owes nothing after the others. On an error all is as before.
-    #[tactic(auto, using(crate::proofs::pools::PoolLemmas::beside_push))]
     pub fn push(&mut self, phase: P) -> Result<(), AllocError>
         ensures ok { OnOk result (self.new ≡ self.old ++ at_rest phase ∷ []) }
         ensures err { OnErr result (self.new ≡ self.old) }
@@ -170,6 +170,7 @@ impl<P: Phase> Pool<P> {
     }
 
     /// Keeps the states at the indices, which rise, and drops the others.
+    #[tactic(auto, using(crate::proofs::pools::FirstLemmas::run_picked))]
     pub fn keep(&mut self, rows: &[usize])
         requires within { All (λ row. row < length self.old) rows.now }
         requires rising { AllPairs (λ a b. a < b) rows.now }
@@ -206,7 +207,7 @@ impl<P: Phase> Pool<P> {
         }
     }
 
-    /// The indices of the states from `from` on, of equal ones that of the first alone, found by a look at each other.
+    /// The indices of the states from `from` on, of equal ones that of the first alone. Each state is held against those found before it.
     fn first_of_few(&self, from: usize) -> Result<Vec<usize>, AllocError>
         requires { from ≤ length self.now }
         ensures { IfOk result (λ rows. AreFirstOnes self.now from (length self.now) rows.items) }

@@ -24,6 +24,7 @@ pub struct Told {
 }
 
 impl Told {
+    /// What is told of a phase with this name and these fields.
     pub(crate) fn new(
         alloc: Global,
         name: &'static str,

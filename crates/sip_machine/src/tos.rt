@@ -2,7 +2,6 @@
 ghost use Rattle.std.specs.Prelude.{◌≡◌, ◌<◌, ◌++◌, ◌∷◌, [], Some, true, false, IfSome, OnOk, OnErr, IsTrue, All, AllPairs, Contains, length, map};
 ghost use Rattle.std.specs.List.{HoldsAt};
 ghost use Rattle.sip_machine.specs.declared.tos.To.{To};
-ghost use Rattle.sip_machine.specs.inner.Order.{hash_of};
 ghost use Rattle.sip_machine.specs.inner.Tos.{AreUnder, IsChanged, count_between};
 
 use crate::hashed::{Hashed, hash};
@@ -47,6 +46,7 @@ impl Model for Tos {
 }
 
 impl Tos {
+    /// No To value at all.
     pub(crate) fn new(alloc: Global) -> Tos
         ensures { result ≡ [] }
     {

@@ -28,6 +28,7 @@ and-true : (b : Bool) → (b && true) ≡ b
 and-true true = refl
 and-true false = refl
 
+-- a conjunction with false is false
 and-false : (b : Bool) → (b && false) ≡ false
 and-false true = refl
 and-false false = refl
@@ -51,6 +52,7 @@ highest-set word j from below =
     let none : j - j ≡ 0 = omega arith in
     ap (λ n. n == 1) (ap (λ n. bit_at n j) (sym is) ∙ bit_at_cat_high 1 j (word - 2 ^ j) j low (omega arith) ∙ ap (bit_at 1) none)
 
+-- no bit above the highest one is set
 pub none-above : (word j i : ℕ) → word < 2 ^ suc j → j < i → test word i ≡ false
 unfolding test
 none-above word j i below after = ap (λ n. n == 1) (bit_at_above word (suc j) i below (omega (arith, after)))
@@ -63,6 +65,7 @@ strange byte = (not (is_ascii_alphanumeric byte) && not (byte == dot)) && not (b
 beyond-strange : (b : ℕ) → b < 256 → is_plain b ≡ true → is_beyond b ≡ strange b
 beyond-strange b small plain = subst (λ p. (p && is_beyond b) ≡ (p && strange b)) plain (agree_below_at (λ x. is_plain x && is_beyond x) (λ x. is_plain x && strange x) 256 b refl small)
 
+-- What follows is of a window, the first len bytes of it, which are plain, and the bits that the code has of its first 32 bytes.
 module _ (window : List ℕ) (len bs ds hs : ℕ) (room : 32 ≤ length window) (some : 0 < len) (small : len ≤ 32)
     (bytes : (i : ℕ) → get_or window i 0 < 256) (plain : (i : ℕ) → i < len → is_plain (get_or window i 0) ≡ true)
     (beyond : (i : ℕ) → i < 32 → test bs i ≡ is_beyond (get_or window i 0))
@@ -119,6 +122,7 @@ module _ (window : List ℕ) (len bs ds hs : ℕ) (room : 32 ≤ length window) 
       ∙ ap₂ (λ a b. a || b) (masked ds i below ∙ dots i (omega (arith, below, small)) ∙ ap (λ x. x == dot) (sym (here i below))) (test-shl_low len i 1 below (omega (arith, below, small)))
       ∙ or-false (get_or text i 0 == dot)
 
+  -- the bit right after the text is set
   dot-after : test dot_word len ≡ true
   dot-after =
       let is : len + 0 ≡ len = omega arith in
@@ -197,6 +201,7 @@ module _ (window : List ℕ) (len bs ds hs : ℕ) (room : 32 ≤ length window) 
           or_lt 64 (bit_or (bit_and bs all) begins) (bit_and dot_word (shl 1 hyphen_word))
           (or_lt 64 (bit_and bs all) begins (omega (arith, and_le_l bs all, fits)) begins_fit) (omega (arith, and_le_r dot_word (shl 1 hyphen_word)))
 
+      -- bit i is not set
       unset : (i : ℕ) → i < 64 → test bad_word i ≡ false
       unset i below = elim (cases_order i len) [
         | inl last ↦ ap (test bad_word) last ∙ end-is ∙ ap (λ n. bad (prev_is n) dot) (sym long) ∙ good-end dot text is_good
@@ -230,6 +235,7 @@ module _ (window : List ℕ) (len bs ds hs : ℕ) (room : 32 ≤ length window) 
       ap (λ g. g && is_ascii_alphabetic (top_of dot dot text)) (good none)
       ∙ ap is_ascii_alphabetic (top-at dot dot text top (omega (arith, within, long)) front no_dots ∙ here top within)
     where
+      -- no dot stands before the end
       end_dot : (d h : Bool) → ((d && true) || h) ≡ false → d ≡ false
       end_dot false h e = refl
       end_dot true h e = absurd (false≢true (sym e))

@@ -58,6 +58,7 @@ run-from f text p n passes within = elim (cases_lt (prefix_len f (drop p text)) 
   | inr enough ↦ enough
 ]
 
+-- What follows is of a mask of the bytes that do not pass the test f.
 module _ (f q : ℕ → Bool) (opposite : (x : ℕ) → q x ≡ not (f x)) (nul : q 0 ≡ true) where
   -- where no bit of the word is set, n bytes more pass, and they lie within the text
   pub goes-on : (text : List ℕ) (n s p word : ℕ) → word ≡ 0 → Shows n q text p word → Passes f text s p → p ≤ length text → Passes f text s (p + n) × (p + n ≤ length text)

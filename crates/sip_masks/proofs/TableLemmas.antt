@@ -7,6 +7,7 @@ use lib.Lanes.{zip2}
 use Rattle.std.proofs.lemmas.Bool.{agree_below, agree_below_at, eqb-true}
 use Rattle.sip_masks.proofs.LaneLemmas.{IsBlock}
 
+-- a shifted down by b bits
 abbrev pub down : ℕ → ℕ → ℕ
 down a b = a / 2 ^ b
 
@@ -28,6 +29,7 @@ low_ok v fits =
 abbrev pub repeats : List ℕ → ℕ → Bool
 repeats t n = eqb (get_or t n 0) (get_or t (n % 16) 0)
 
+-- the test that every number passes
 abbrev pub always : ℕ → Bool
 always n = true
 

@@ -17,6 +17,7 @@ const LOW: [u8; 64] = [
     0x7a, 0x7f, 0x7e, 0x7e, 0x7e, 0x7e, 0x7e, 0x7f, 0x7e, 0x5e, 0x7d, 0x65, 0x64, 0x65, 0x75, 0xec,
 ];
 
+// For each high half the bits of its kinds, four times over.
 const HIGH: [u8; 64] = [
     0x20, 0x40, 0x01, 0x02, 0x04, 0x08, 0x04, 0x90, 0x00, 0x00, 0x00, 0x00, 0x00, 0x00, 0x00, 0x00,
     0x20, 0x40, 0x01, 0x02, 0x04, 0x08, 0x04, 0x90, 0x00, 0x00, 0x00, 0x00, 0x00, 0x00, 0x00, 0x00,
@@ -28,6 +29,7 @@ const HIGH: [u8; 64] = [
 // and no others have it.
 const RAISE: u8 = 96;
 
+// The top bit of a byte.
 const TOP: u8 = 128;
 
 // A bit for each byte of the block that is not plain.
@@ -70,6 +72,7 @@ pub(crate) fn tail(text: &[u8], at: usize) -> u8x64
 // The bytes of a hostname, with the bit of small letters set, go from `-` up to `z`, which are so many bytes.
 const FIRST: u8 = b'-';
 
+// How many bytes there are from `FIRST` up to `z`.
 const COUNT: u8 = 78;
 
 // A bit for each byte that is not from `-` up to `z` with the bit of small letters set. Of plain bytes these are the ones that stand in no

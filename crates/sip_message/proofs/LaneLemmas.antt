@@ -10,6 +10,7 @@ use Rattle.sip_message.specs.inner.Numbers.{small, filled, number_of}
 use lib.Bits.{bit_xor}
 use lib.Lanes.{chunk, zip2, mask_l, top}
 
+-- two images of a list, joined element by element, are one image of it
 zip2-map : (h : ℕ → ℕ → ℕ) (f g : ℕ → ℕ) (xs : List ℕ) → zip2 h (map f xs) (map g xs) ≡ map (λ x. h (f x) (g x)) xs
 zip2-map h f g [] = refl
 zip2-map h f g (x ∷ xs) = ap (λ r. h (f x) (g x) ∷ r) (zip2-map h f g xs)

@@ -91,6 +91,7 @@ plain-user u run = some-map (One is_plain) (One is_user_unreserved or One is_unr
       | inr is ↦ inl (one.0, is, one.2)
     ]
 
+-- a run of plain bytes is a token
 pub run-token : (u : List ℕ) → PlainRun u → Token u
 run-token u run = some-map (One is_plain) _ u (λ v one. (one.0, plain-token one.0 one.1, one.2)) run
 
@@ -168,6 +169,7 @@ front-stands P text u rest at end before within p is =
     let cut = front-cut text u rest at end before within is in
     (omega arith, cut.0, subst P (sym cut.1) p)
 
+-- a display name, blanks and "<" open a URI in angles
 pub opening-some : (u : List ℕ) → (DisplayName then Sws then Byte left_angle) u → Opening u
 opening-some u w = (Some w.0, w.2, (w.0, w.1, refl, w.3, w.4))
 
@@ -203,6 +205,7 @@ params-part p ps text at end to param later =
     let params : ParamsText (segment at end text) (p ∷ ps) = (semicolon ∷ [], w.1 ++ rest, mark-alone semicolon, (w.1, rest, w.3, later.1, refl), whole) in
     (subst OpensSolid (sym whole) refl, params)
 
+-- a plain parameter before parameters is parameters
 pub params-behind : (p : List ℕ × Option (List ℕ)) (text : List ℕ) (at end to : ℕ) → LiesWithin (PlainParam p) text at end to → SomeParams (segment to end text) → SomeParams (segment at end text)
 params-behind p text at end to param later = (p ∷ later.0, params-part p later.0 text at end to param later.1)
 

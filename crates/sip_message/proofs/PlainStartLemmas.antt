@@ -22,6 +22,7 @@ reason-byte b clear =
       | inr high ↦ over (is_in_range 0x20 0x7E b) (b == tab) (nat_le 128 b) (le-leb 128 b (omega (arith, high)))
     ]
   where
+    -- the third test is enough
     over : (x y z : Bool) → z ≡ true → (x || y || z) ≡ true
     over true y true is = refl
     over false true true is = refl
@@ -31,6 +32,7 @@ reason-byte b clear =
     over false true false is = refl
     over false false false is = is
 
+-- a text without controls has only bytes that a reason may have
 reason-bytes : (text : List ℕ) → All is_open text → list_all is_reason_byte text ≡ true
 reason-bytes [] clear = refl
 reason-bytes (b ∷ text) clear = and_from _ _ (reason-byte b clear.0) (reason-bytes text clear.1)

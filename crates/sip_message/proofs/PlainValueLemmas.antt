@@ -41,6 +41,7 @@ word-byte b is =
     low : AllByRecursion (λ x. x < 256) (codes "-.!*_+'~")
     low = (omega arith, (omega arith, (omega arith, (omega arith, (omega arith, (omega arith, (omega arith, (omega arith, tt))))))))
 
+-- a run of plain bytes is a word
 run-word : (u : List ℕ) → PlainRun u → Word u
 run-word u run = some-map (One is_plain) (One is_word_byte) u (λ v one. (one.0, word-byte one.0 one.1, one.2)) run
 
@@ -48,6 +49,7 @@ run-word u run = some-map (One is_plain) (One is_word_byte) u (λ v one. (one.0,
 pub call_id-one : (u : List ℕ) → PlainRun u → CallId u
 call_id-one u run = (u, [], run-word u run, inl refl, sym (append-nil u))
 
+-- two runs of plain bytes with "@" between them are a Call-ID
 pub call_id-two : (u : List ℕ) → (PlainRun then Byte at_sign then PlainRun) u → CallId u
 call_id-two u w = (w.0, w.1, run-word w.0 w.2, inr (w.3.0, w.3.1, w.3.2, run-word w.3.1 w.3.3, w.3.4), w.4)
 
@@ -59,6 +61,7 @@ quoted-byte b is =
       | inr high ↦ over (b == 0x21) (is_in_range 0x23 0x5B b) (is_in_range 0x5D 0x7E b) (nat_le 128 b) (le-leb 128 b (omega (arith, high)))
     ]
   where
+    -- the fourth test is enough
     over : (x y z w : Bool) → w ≡ true → (x || y || z || w) ≡ true
     over true y z true is = refl
     over false true z true is = refl
@@ -70,9 +73,11 @@ quoted-byte b is =
 abbrev Inner : List ℕ → Type 0
 Inner = Qdtext or QuotedPair
 
+-- a token may stand within quotes
 inner-token : (u : List ℕ) → Token u → Many Inner u
 inner-token u token = many-map (One is_token_byte) Inner u (λ v one. inl (inr (one.0, quoted-byte one.0 one.1, one.2))) (many-some (One is_token_byte) u token)
 
+-- blanks may stand within quotes
 inner-blanks : (u : List ℕ) → Blanks u → Many Inner u
 inner-blanks u blanks = many-map Lws Inner u (λ v lws. inl (inl lws)) (many-some Lws u blanks)
 
@@ -82,6 +87,7 @@ inner-words u w =
     let more = many-flat (Blanks then Token) Inner w.1 (λ v p. subst (Many Inner) (sym p.4) (many-append Inner p.0 p.1 (inner-blanks p.0 p.2) (inner-token p.1 p.3))) w.3 in
     subst (Many Inner) (sym w.4) (many-append Inner w.0 w.1 (inner-token w.0 w.2) more)
 
+-- words in quotes are a quoted string
 pub quoted-words : (u : List ℕ) → (Byte dquote then Words then Byte dquote) u → Quoted u
 quoted-words u w = (w.0, w.1, w.2, (w.3.0, w.3.1, inner-words w.3.0 w.3.2, w.3.3, w.3.4), w.4)
 

@@ -70,6 +70,7 @@ open-byte b clear =
       | inr high ↦ over (nat_le 128 b) _ (is_wsp b) (le-leb 128 b (omega (arith, high)))
     ]
   where
+    -- the second test is enough
     over : (x y z : Bool) → x ≡ true → ((y || x) || z) ≡ true
     over true true z is = refl
     over true false z is = refl
@@ -391,9 +392,11 @@ short-other text fits some few (via, (from, (to, (call_id, (cseq, (contact, (sub
     name : {s : List ℕ} → list_all is_name_byte s ≡ true → (number_of text ≡ from_le_bytes w64 (filled s) → ⊥) → folded text ≡ s → ⊥
     name {s = s} all differs is = differs (ap (λ t. from_le_bytes w64 (filled t)) (folded-small text (λ i. (fits i).fits) (ap (list_all is_name_byte) is ∙ all) ∙ is))
 
+    -- the text is not a spelling of one byte
     one : {s : List ℕ} → length s ≡ 1 → folded text ≡ s → ⊥
     one short is = omega (arith, some, short, ap length is, length-folded text)
 
+    -- the text is not a spelling of more than 8 bytes
     long : {s : List ℕ} → ltb 8 (length s) ≡ true → folded text ≡ s → ⊥
     long {s = s} more is = omega (arith, few, ltb-true 8 (length s) more, ap length is, length-folded text)
 
@@ -405,6 +408,7 @@ pub halved-other : (text : List ℕ) → ((i : ℕ) → Fits w8 (get_or text i 0
 halved-other text fits some (content_length, (content_encoding, (content_type, (supported, end)))) =
     sym (unlisted spellings text (short refl, (short refl, (short refl, (short refl, (short refl, (short refl, (short refl, (short refl, (short refl, (name refl content_length, (short refl, (short refl, (short refl, (name refl content_encoding, (short refl, (name refl content_type, (short refl, (short refl, (short refl, (name refl supported, (short refl, (short refl, tt)))))))))))))))))))))))
   where
+    -- the text is not this spelling, since one of its halves has another number
     name : {s : List ℕ} → list_all is_name_byte s ≡ true
         → (number_of (take 8 text) ≡ from_le_bytes w64 (filled (take 8 s)) → number_of (drop 8 text) ≡ from_le_bytes w64 (filled (drop 8 s)) → ⊥) → folded text ≡ s → ⊥
     name {s = s} all differs is =
@@ -412,6 +416,7 @@ halved-other text fits some (content_length, (content_encoding, (content_type, (
         differs (ap (λ t. from_le_bytes w64 (filled t)) (sym (take-map small 8 text) ∙ ap (take 8) same))
         (ap (λ t. from_le_bytes w64 (filled t)) (sym (drop-map small 8 text) ∙ ap (drop 8) same))
 
+    -- the text is not a spelling of at most 8 bytes
     short : {s : List ℕ} → ltb (length s) 9 ≡ true → folded text ≡ s → ⊥
     short {s = s} less is = omega (arith, some, ltb-true (length s) 9 less, ap length is, length-folded text)
 

@@ -25,6 +25,7 @@ use Rattle.sip_message.proofs.lemmas.params.Value.{no-token-stops}
 abbrev WordItem : List ℕ → Type 0
 WordItem = One is_token_byte or Blank
 
+-- the length of the token byte or the blank at the front of the text, and 0 if there is neither
 abbrev word_len : List ℕ → ℕ
 word_len text = if is_token_byte (slice_index text 0) then 1 else blank_len text
 
@@ -44,6 +45,7 @@ word-at_front u v (inl one) =
     ap (λ t. word_len (t ++ v)) one.2 ∙ ap (λ q. cond q 1 (blank_len (one.0 ∷ v))) one.1 ∙ sym (ap length one.2)
 word-at_front u v (inr blank) = word-blank u v blank ∙ blank-step.at_piece u v blank
 
+-- a token byte or a blank is not empty
 word-moves : (u : List ℕ) → WordItem u → 0 < length u
 word-moves u (inl one) = omega (arith, ap length one.2)
 word-moves u (inr blank) = blank-step.moves u blank
@@ -59,19 +61,24 @@ word-piece (a ∷ text) = at (is_token_byte a) refl
       | inr front ↦ inr (front.0, front.1, inr front.2, front.3, front.4)
     ]
 
+    -- whether the first byte is one of a token
     at : (token : Bool) → is_token_byte a ≡ token → (cond token 1 (blank_len (a ∷ text)) ≡ 0) ⊎ HasFront WordItem (a ∷ text) (cond token 1 (blank_len (a ∷ text)))
     at true is = inr (a ∷ [], text, inl (a, is, refl), refl, refl)
     at false is = blank
 
+-- `word_len` steps over token bytes and blanks, one after another
 word-step : IsStep WordItem word_len
 word-step = record { at_piece = word-at_front; moves = word-moves; piece = word-piece }
 
+-- a token is a run of token bytes and blanks
 token-items : (t : List ℕ) → Token t → Many WordItem t
 token-items t token = many-map (One is_token_byte) WordItem t (λ u one. inl one) (many-some (One is_token_byte) t token)
 
+-- blanks are a run of token bytes and blanks
 blank-items : (b : List ℕ) → Blanks b → Many WordItem b
 blank-items b blanks = many-map Blank WordItem b (λ u one. inr one) (units-blanks b blanks)
 
+-- optional blanks are a run of token bytes and blanks
 sws-items : (b : List ℕ) → Sws b → Many WordItem b
 sws-items b (inl none) = subst (Many WordItem) (sym none) (many-nil WordItem)
 sws-items b (inr blanks) = blank-items b blanks
@@ -84,10 +91,12 @@ words-items w (t, more, token, many, whole) =
     word : (u : List ℕ) → (Blanks then Token) u → Many WordItem u
     word u (b, v, blanks, is, u_is) = subst (Many WordItem) (sym u_is) (many-append WordItem b v (blank-items b blanks) (token-items v is))
 
+-- words do not end with a blank
 words-solid : (w : List ℕ) → Words w → EndsSolid w
 words-solid w (p, q, token, many, whole) =
     subst EndsSolid (sym whole) (ends-both p q (end-firm Token firm-token p token) (end-many (Blanks then Token) (end-firm (Blanks then Token) (firm-then_right Blanks Token firm-token)) q many))
 
+-- where neither a blank nor a token byte stands at the front, `word_len` is 0
 no_item : (t : List ℕ) → StopsBlank t → Stops is_token_byte t → word_len t ≡ 0
 no_item [] blank token = refl
 no_item (a ∷ t) blank token = ap (λ q. cond q 1 (blank_len (a ∷ t))) token ∙ blank

@@ -8,6 +8,7 @@ use Rattle.sip_message.specs.Reading.{Reading}
 use Rattle.sip_standard.specs.Via.{SaidVia}
 use Rattle.sip_standard.specs.Says.{Said}
 
+-- what an element of Via says
 abbrev pub said_via : Element → SaidVia
 said_via e = record { whole = e.0; transport = e.1.transport; host = host_text e.1.host; port = e.1.port; branch = e.1.branch }
 

@@ -8,12 +8,15 @@ use Rattle.sip_message.specs.declared.start_line.StartLine.TheVariants as varian
 use Rattle.sip_standard.specs.StartLine.{StartLine, request, status}
 use Rattle.sip_message.specs.Address.{AddressParts}
 
+-- the start line that the code's one means
 abbrev pub start_parts : Code → StartLine
 start_parts (variant.Request method uri) = request method.now uri.now
 start_parts (variant.Status code reason) = status code reason.now
 
+-- the address that the code's one means, with its whole text
 abbrev pub address_parts : Address → List ℕ × AddressParts
 address_parts a = (a.whole.now, record { display = option_copied a.display; uri_text = a.uri_text.now; uri = uri_parts a.uri; params = a.params.now })
 
+-- the number and the method that the code's CSeq means
 abbrev pub cseq_parts : CSeq → ℕ × List ℕ
 cseq_parts c = (c.number, c.method.now)

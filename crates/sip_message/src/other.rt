@@ -9,6 +9,7 @@ use std::simd::prelude::*;
 // How many bytes are looked at in one step, and how many of a short text.
 const BLOCK: usize = 16;
 
+// How many bytes of a short text are looked at in one step.
 const HALF: usize = 8;
 
 /// Whether the text is a value that the reader doesn't look into.

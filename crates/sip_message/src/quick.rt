@@ -28,6 +28,7 @@ use std::alloc::AllocError;
 // How many bytes of a message are looked at, and how many words each of its masks takes.
 const LONGEST: usize = 2047;
 
+// How many words each mask of a message takes.
 const WORDS: usize = 33;
 
 /// The start line and what follows the head, where the head is an ordinary one. Its fields are put into

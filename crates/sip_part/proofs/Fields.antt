@@ -71,10 +71,13 @@ pub record Found (b : List ℕ) (f : SaidField) : Type 0 where
 -- a field that is spelled with a word for Via is a Via, and the branch that is found after its colon is that of its first element
 word_found : (n : ℕ) (word line rest b : List ℕ) (f : SaidField) → Token word → full_name (folded word) ≡ codes "via" → FieldSays n line (gives f) → Spelled word (line ++ (13 ∷ rest)) b → Found b f
 word_found number word line rest b f token full (passes named (n, r, (is_token, n_is), (w, r2, wsp, (c, v, c_is, v_is, r2_is), r_is), line_is) (passes value ((trimmed, whole), row) given)) spelled =
+    -- the line is the name, the blanks before the colon, the colon and the value
     let flat : line ++ (13 ∷ rest) ≡ n ++ (w ++ (58 ∷ (v ++ (13 ∷ rest)))) =
     ap (λ t. t ++ (13 ∷ rest)) (line_is ∙ ap (λ t. n ++ t) (r_is ∙ ap (λ t. w ++ t) (r2_is ∙ ap (λ t. t ++ v) c_is)))
     ∙ append_assoc n (w ++ (58 ∷ v)) (13 ∷ rest) ∙ ap (λ t. n ++ t) (append_assoc w (58 ∷ v) (13 ∷ rest)) in
+    -- both the name and the word run up to the colon, and so they are the same
     let same = same_run n word (w ++ (58 ∷ (v ++ (13 ∷ rest)))) (58 ∷ spelled.rest) (token_run n is_token) (token_run word token) (colon_no_token w (v ++ (13 ∷ rest)) wsp) refl (sym flat ∙ spelled.is) in
+    -- what stands after the colon is the value
     let after : v ++ (13 ∷ rest) ≡ spelled.rest = colon_front w (v ++ (13 ∷ rest)) spelled.rest wsp same.1 in
     let field : f ≡ record { line = number; spelled = named.0; name = full_name (folded (named.0)); value = value } = cc in
     record {
@@ -100,6 +103,7 @@ field_found n line rest b f says found = by (via_spelled (line ++ (13 ∷ rest))
     short_word : Token (codes "v")
     short_word = token_of 118 [] refl ([], tt, refl)
 
+    -- the name is spelled in full or by its short form
     by : Spelled (codes "Via") (line ++ (13 ∷ rest)) b ⊎ Spelled (codes "v") (line ++ (13 ∷ rest)) b → Found b f
     by (inl spelled) = word_found n (codes "Via") line rest b f full_word refl says spelled
     by (inr spelled) = word_found n (codes "v") line rest b f short_word refl says spelled
@@ -172,6 +176,7 @@ ended_on line more tail = append_assoc (line ++ codes "\r\n") (Ended more) tail 
 ended_one : (line : List ℕ) (more : List (List ℕ)) → Ended (line ∷ more) ≡ line ++ (13 ∷ (10 ∷ Ended more))
 ended_one line more = append_assoc line (codes "\r\n") (Ended more)
 
+-- the search for the next line passes over a line and its folds
 passed : (line : List ℕ) (more : List (List ℕ)) → Many Unit (Ended (line ∷ more)) → Folded line → Passed line (Ended more)
 passed line more (us, all, whole) folded = pass_line us line (Ended more) all (sym whole ∙ ended_one line more) folded
 
@@ -187,6 +192,7 @@ line_found n line rest b more f fs via vias says passed found tells on = by (ope
     text : List ℕ
     text = line ++ (13 ∷ (10 ∷ tail))
 
+    -- whether the text opens with the name of a Via
     by : (opens : Bool) → opens_via text ≡ opens → branch_at (if opens then Some text else via_line text) ≡ Some b → via.branch ≡ Some b
     by true is at =
         let here = field_found n line (10 ∷ tail) b f says at in

@@ -150,6 +150,7 @@ record Search (find : List ℕ → Option (List ℕ)) (b : List ℕ) : Type 0 wh
   at_comma : (t : List ℕ) → find (44 ∷ t) ≡ None
   at_cr : (t : List ℕ) → find (13 ∷ t) ≡ None
 
+-- `branch_in` passes over what has no semicolon, and finds nothing at a comma or a CR
 among : (b : List ℕ) → Search branch_in b
 among b = record { pass = λ u rest. passed u rest b; at_semicolon = λ t. refl; at_comma = λ t. refl; at_cr = λ t. refl }
 
@@ -167,6 +168,7 @@ passed_from (x ∷ u) rest b (other, lacks) found = passed_from u rest b lacks (
     by false true one two = let e : None ≡ Some b = ap (λ y. branch_from (y ∷ (u ++ rest))) (sym (eqb-true x 13 two)) ∙ found in absurd (cc)
     by false false one two = sym (ap (λ here. branch_in (if here then x ∷ (u ++ rest) else from_stop (u ++ rest))) (no_stop x one other two)) ∙ found
 
+-- `branch_from` passes over what has no semicolon, and finds nothing at a comma or a CR
 from_first : (b : List ℕ) → Search branch_from b
 from_first b = record { pass = λ u rest. passed_from u rest b; at_semicolon = λ t. refl; at_comma = λ t. refl; at_cr = λ t. refl }
 
@@ -269,6 +271,7 @@ branch_seen name m value rest b token any mark is_token ends (inl (is, found)) =
 branch_seen name m value rest b token any mark is_token ends (inr (other, found)) =
     let e : true ≡ false = sym (named_opens name (m ++ (value ++ rest)) any) ∙ other in absurd (cc)
 
+-- no branch is found where a quoted string stands: the search stops at its quote
 quote_ends : (v rest b : List ℕ) → Quoted v → branch_in (v ++ rest) ≡ Some b → ⊥
 quote_ends v rest b (q, r, q_is, more, whole) found =
     let e : None ≡ Some b = ap (λ t. branch_in (t ++ rest)) (sym (whole ∙ ap (λ t. t ++ r) q_is)) ∙ found in absurd (cc)
@@ -296,6 +299,7 @@ valued_no_token tail rest (inl none) ends = subst (λ t. NoToken (t ++ rest)) (s
 valued_no_token tail rest (inr (m, v, mark, is, whole)) ends =
     subst NoToken (sym (ap (λ t. t ++ rest) whole ∙ append_assoc m v rest)) (led_no_token 61 m (v ++ rest) refl (mark_led "=" 61 m refl mark))
 
+-- the search passes over the value of a parameter
 valued_passed : (tail rest b : List ℕ) → Valued tail → branch_in (tail ++ rest) ≡ Some b → branch_in rest ≡ Some b
 valued_passed tail rest b (inl none) found = subst (λ t. branch_in (t ++ rest) ≡ Some b) none found
 valued_passed tail rest b (inr (m, v, mark, is, whole)) found = value_passed v rest b is (step m v tail rest b (lack-equal m mark) whole found)
@@ -327,18 +331,22 @@ seen_open after x b o seen = by o.opens
     here : (c : ℕ) → o.first ≡ c → Seen b (c ∷ (o.rest ++ x))
     here c is = subst (λ f. Seen b (f ∷ (o.rest ++ x))) is at
 
+    -- nothing is found from a SP on
     blank : Seen b (32 ∷ (o.rest ++ x)) → ⊥
     blank (inl (is, found)) = let e : ◌≡◌ {A = ℕ} 32 98 = cc in omega (arith, e)
     blank (inr (other, found)) = absurd (cc)
 
+    -- nothing is found from a HTAB on
     tab : Seen b (9 ∷ (o.rest ++ x)) → ⊥
     tab (inl (is, found)) = let e : ◌≡◌ {A = ℕ} 9 98 = cc in omega (arith, e)
     tab (inr (other, found)) = absurd (cc)
 
+    -- nothing is found from a CR on
     line : Seen b (13 ∷ (o.rest ++ x)) → ⊥
     line (inl (is, found)) = let e : ◌≡◌ {A = ℕ} 13 98 = cc in omega (arith, e)
     line (inr (other, found)) = absurd (cc)
 
+    -- blanks begin with a SP, a HTAB or a CR
     by : Opens o.first → ⊥
     by (inl is) = blank (here 32 is)
     by (inr (inl is)) = tab (here 9 is)
@@ -364,6 +372,7 @@ params_no_token (p ∷ ps) text tail (u, v, (m, param, mark, says, u_is), more, 
     let flat : text ++ tail ≡ m ++ (param ++ (v ++ tail)) = ap (λ t. t ++ tail) (whole ∙ ap (λ t. t ++ v) u_is) ∙ append_assoc (m ++ param) v tail ∙ append_assoc m param (v ++ tail) in
     subst NoToken (sym flat) (led_no_token 59 m (param ++ (v ++ tail)) refl (mark_led ";" 59 m refl mark))
 
+-- where the first parameter says the branch, or says none and the others say it, the first of all says it
 first_more : (p : Option (List ℕ)) (ps : List (Option (List ℕ))) (b : List ℕ) (X : Type 0) → (p ≡ Some b) ⊎ ((p ≡ None) × X) → (X → first_some ps ≡ Some b) → first_some (p ∷ ps) ≡ Some b
 first_more p ps b X (inl is) on = ap (λ q. first_some (q ∷ ps)) is
 first_more p ps b X (inr (is, x)) on = ap (λ q. first_some (q ∷ ps)) is ∙ on x
@@ -407,6 +416,7 @@ via_found via text tail b ends none never
     (step_from t2 r2 r1 tail b (lack-slash t2 two) e2
     (step_from t1 r1 text tail b (lack-token t1 one) e1 found))))))))
 
+-- further elements of Via, each after its COMMA
 abbrev More : List SaidVia → List ℕ → Type 0
 More vias = EachSays (λ v. Mark "," then ViaSays v) vias
 

@@ -13,6 +13,7 @@ AllPairs-head R x xs apart k d low = apart 0 (suc k) d (omega arith) (omega arit
 pub AllPairs-tail : {X : Type 0} (R : X → X → Type 0) (x : X) (xs : List X) → AllPairs R (x ∷ xs) → AllPairs R xs
 AllPairs-tail R x xs apart i j d low high = apart (suc i) (suc j) d (omega arith) (omega arith)
 
+-- What follows is of a list from which its element x at the place i is removed.
 module _ {X : Type 0} (xs : List X) (i : ℕ) (within : i < length xs) (x : X) where
   -- an element before the place that is removed stays where it is
   before_it : (k : ℕ) → k < i → get_or xs k x ≡ x → Contains (remove xs i) x

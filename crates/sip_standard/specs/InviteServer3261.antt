@@ -58,6 +58,7 @@ abbrev pub timer_window : Times → InviteServer3261Phase → Option (ℕ × Opt
 timer_window p Passed = None
 timer_window p (In x again) = corrected.timer_window p x
 
+-- by when a phase has to send: as in InviteServer, and nothing after a 2xx
 abbrev pub sends_by : Times → InviteServer3261Phase → List ℕ
 sends_by p Passed = []
 sends_by p (In x again) = corrected.sends_by p x

@@ -28,6 +28,7 @@ meaning_of machine =
       ended = λ p. ended_state c;
     }
 
+-- What follows is of a property P of a set, whichever machine it has.
 module _ (P : (X M S : Type 0) → Meaning X M S → Held M S → Type 0) where
   -- P holds of a set of this machine
   abbrev pub OfHeld : (machine : MachineKind) → Held Times (StateOf machine) → Type 0
@@ -43,6 +44,7 @@ pub record IsSetOf (machine : MachineKind) (P : Held Times (StateOf machine) →
   pub is : set ≡ set_of machine held
   pub holds : P held
 
+-- What follows is of a property P of two sets of one machine, whichever it is.
 module _ (P : (X M S : Type 0) → Meaning X M S → Held M S → Held M S → Type 0) where
   -- P holds of two sets of this machine
   abbrev pub OfHelds : (machine : MachineKind) → Held Times (StateOf machine) → Held Times (StateOf machine) → Type 0

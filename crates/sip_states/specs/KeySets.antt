@@ -61,6 +61,7 @@ StateOf machine = CodeOwing (coded_of machine).Code
 abbrev pub set_of : (machine : MachineKind) → Held Times (StateOf machine) → AnySet
 set_of machine s = (code_of machine).set s
 
+-- What follows is of what is given of the set of each machine.
 module _ {ℓ} (P : AnySet → Type ℓ) (of : (machine : MachineKind) (s : Held Times (StateOf machine)) → P (set_of machine s)) where
   -- what is given of the set of each machine, given of any set
   abbrev pub each_set : (set : AnySet) → P set

@@ -16,6 +16,7 @@ pub record Meaning (X M S : Type 0) : Type 1 where
   pub until : M → S → Option ℕ
   pub ended : M → S
 
+-- What follows is of sets of one machine, of which m says what they mean.
 module _ {X M S : Type 0} (m : Meaning X M S) where
   -- the set keeps what every set keeps
   abbrev pub IsKeptBy : Held M S → Type 0

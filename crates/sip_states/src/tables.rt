@@ -32,10 +32,9 @@ pub struct Tables<H: BuildHasher> {
     params: Params,
     sets: IndexMap<Key, AnySet, H>,
     agenda: Agenda,
-    /// Which of the sets may name a message: those that are not marked name none.
+    /// Which of the sets may name a message, and which a restart of the element may change: those that are not marked as named name none,
+    /// and those that are not marked as moved are quiet.
     marks: Marks,
-    /// Which of the sets a restart of the element may change: those that are not marked are quiet.
-    moved: Marks,
 }
 
 impl<H: BuildHasher> Model for Tables<H> {
@@ -49,8 +48,8 @@ impl<H: BuildHasher> Model for Tables<H> {
     ghost view = { λ t. record { times = t.params; keys = keys t.sets; sets = values t.sets; records = t.agenda } };
 
     ghost invariant = { λ t. (index_map_len t.sets ≤ most_keys) × (length t.agenda ≡ index_map_len t.sets)
-        × (length t.marks ≡ index_map_len t.sets) × AreMarked t.marks (values t.sets)
-        × (length t.moved ≡ index_map_len t.sets) × AreMoved t.moved t.marks (values t.sets) };
+        × (length t.marks.named ≡ index_map_len t.sets) × AreMarked t.marks.named (values t.sets)
+        × (length t.marks.moved ≡ index_map_len t.sets) × AreMoved t.marks.moved t.marks.named (values t.sets) };
 }
 
 /// Returns the index of the key. A new key goes after the others, with the set that it starts with. On an error nothing changes, and
@@ -83,20 +82,15 @@ fn find_or_start<H: BuildHasher>(
 }
 
 /// Makes room for one more index, which has no last moment on record and no mark. On an error nothing changes.
-fn push_index(agenda: &mut Agenda, marks: &mut Marks, moved: &mut Marks) -> Result<(), AllocError>
-    requires room { (length marks.old < most_keys) × (length moved.old < most_keys) }
+fn push_index(agenda: &mut Agenda, marks: &mut Marks) -> Result<(), AllocError>
+    requires room { length marks.old.named < most_keys }
     ensures agenda { OnOk result (agenda.new ≡ agenda.old ++ None ∷ []) }
-    ensures marks { OnOk result (marks.new ≡ marks.old ++ false ∷ []) }
-    ensures moved { OnOk result (moved.new ≡ moved.old ++ false ∷ []) }
-    ensures err { OnErr result ((agenda.new ≡ agenda.old) × (marks.new ≡ marks.old) × (moved.new ≡ moved.old)) }
+    ensures marks { OnOk result (marks.new.named ≡ marks.old.named ++ false ∷ []) }
+    ensures moved { OnOk result (marks.new.moved ≡ marks.old.moved ++ false ∷ []) }
+    ensures err { OnErr result ((agenda.new ≡ agenda.old) × (marks.new ≡ marks.old)) }
 {
     agenda.push()?;
     if let Err(refused) = marks.push() {
-        agenda.pop();
-        return Err(refused);
-    }
-    if let Err(refused) = moved.push() {
-        marks.pop();
         agenda.pop();
         return Err(refused);
     }
@@ -145,21 +139,22 @@ fn unmark_silent<H: BuildHasher>(
     marks: &mut Marks,
     sets: &mut IndexMap<Key, AnySet, H>,
 ) -> Result<(), AllocError>
-    requires long { length marks.old ≡ index_map_len sets.old }
-    requires marked { AreMarked marks.old (values sets.old) }
-    ensures long { length marks.new ≡ length marks.old }
-    ensures marked { AreMarked marks.new (values sets.old) }
-    ensures fewer { (index : ℕ) → IsMarked marks.new index → IsMarked marks.old index }
+    requires long { length marks.old.named ≡ index_map_len sets.old }
+    requires marked { AreMarked marks.old.named (values sets.old) }
+    ensures long { length marks.new.named ≡ length marks.old.named }
+    ensures marked { AreMarked marks.new.named (values sets.old) }
+    ensures fewer { (index : ℕ) → IsMarked marks.new.named index → IsMarked marks.old.named index }
+    ensures moved { marks.new.moved ≡ marks.old.moved }
     ensures same { sets.new ≡ sets.old }
 {
     let mut numbers = Vec::new(*sets.allocator());
-    for place in (0..marks.marked().len()).rev() {
-        if let Some(index) = marks.marked().get(place).copied() {
+    for place in (0..marks.named().len()).rev() {
+        if let Some(index) = marks.named().get(place).copied() {
             let index = index as usize;
             numbers.clear();
             sets[index].names(&mut numbers)?;
             if numbers.is_empty() {
-                marks.unmark(index);
+                marks.unmark_named(index);
                 trim_at(sets, index);
             }
         }
@@ -168,24 +163,19 @@ fn unmark_silent<H: BuildHasher>(
 }
 
 /// Takes both marks off each set that is quiet, and gives back the room that it does not need.
-fn unmark_quiet<H: BuildHasher>(
-    moved: &mut Marks,
-    marks: &mut Marks,
-    sets: &mut IndexMap<Key, AnySet, H>,
-)
-    requires long { (length moved.old ≡ index_map_len sets.old) × (length marks.old ≡ index_map_len sets.old) }
-    requires marked { AreMarked marks.old (values sets.old) }
-    requires moved { AreMoved moved.old marks.old (values sets.old) }
-    ensures long { (length moved.new ≡ length moved.old) × (length marks.new ≡ length marks.old) }
-    ensures marked { AreMarked marks.new (values sets.old) }
-    ensures moved { AreMoved moved.new marks.new (values sets.old) }
+fn unmark_quiet<H: BuildHasher>(marks: &mut Marks, sets: &mut IndexMap<Key, AnySet, H>)
+    requires long { (length marks.old.moved ≡ index_map_len sets.old) × (length marks.old.named ≡ index_map_len sets.old) }
+    requires marked { AreMarked marks.old.named (values sets.old) }
+    requires moved { AreMoved marks.old.moved marks.old.named (values sets.old) }
+    ensures long { (length marks.new.moved ≡ length marks.old.moved) × (length marks.new.named ≡ length marks.old.named) }
+    ensures marked { AreMarked marks.new.named (values sets.old) }
+    ensures moved { AreMoved marks.new.moved marks.new.named (values sets.old) }
     ensures same { sets.new ≡ sets.old }
 {
-    for place in (0..moved.marked().len()).rev() {
-        if let Some(index) = moved.marked().get(place).copied() {
+    for place in (0..marks.moved().len()).rev() {
+        if let Some(index) = marks.moved().get(place).copied() {
             let index = index as usize;
             if sets[index].is_quiet() {
-                moved.unmark(index);
                 marks.unmark(index);
                 trim_at(sets, index);
             }
@@ -205,7 +195,6 @@ impl<H: BuildHasher> Tables<H> {
             sets: IndexMap::with_hasher(alloc, hasher),
             agenda: Agenda::new(alloc),
             marks: Marks::new(alloc),
-            moved: Marks::new(alloc),
         }
     }
 
@@ -222,7 +211,7 @@ impl<H: BuildHasher> Tables<H> {
         if index < count {
             return Ok(index as u64 + 1);
         }
-        if let Err(refused) = push_index(&mut self.agenda, &mut self.marks, &mut self.moved) {
+        if let Err(refused) = push_index(&mut self.agenda, &mut self.marks) {
             self.sets.truncate(count);
             return Err(refused);
         }
@@ -245,7 +234,6 @@ impl<H: BuildHasher> Tables<H> {
     {
         let index = number as usize - 1;
         self.marks.mark(index);
-        self.moved.mark(index);
         &mut self.sets[index]
     }
 
@@ -298,7 +286,7 @@ impl<H: BuildHasher> Tables<H> {
         ensures ok { OnOk result (AdvancesAll moment self.old self.new) }
         ensures err { OnErr result (AdvancesSome moment self.old self.new) }
     {
-        advance_each(&mut self.sets, self.marks.marked(), moment)?;
+        advance_each(&mut self.sets, self.marks.named(), moment)?;
         unmark_silent(&mut self.marks, &mut self.sets)
     }
 
@@ -310,10 +298,8 @@ impl<H: BuildHasher> Tables<H> {
     {
         let alloc = *self.sets.allocator();
         let marks = Marks::all(alloc, self.sets.len())?;
-        let moved = Marks::all(alloc, self.sets.len())?;
         self.marks = marks;
-        self.moved = moved;
-        advance_each(&mut self.sets, self.moved.marked(), moment)?;
+        advance_each(&mut self.sets, self.marks.moved(), moment)?;
         Ok(())
     }
 
@@ -323,7 +309,7 @@ impl<H: BuildHasher> Tables<H> {
         ensures err { OnErr result (out.new.items ≡ out.old.items) }
     {
         let mut found = Vec::new(*out.allocator());
-        for index in self.marks.marked() {
+        for index in self.marks.named() {
             self.sets[*index as usize].names(&mut found)?;
         }
         keep_ascending(&mut found);
@@ -336,7 +322,7 @@ impl<H: BuildHasher> Tables<H> {
         ensures { IfOk result (λ numbers. AreToRestart self.now numbers.items) }
     {
         let mut numbers = Vec::new(*self.sets.allocator());
-        for index in self.moved.marked() {
+        for index in self.marks.moved() {
             numbers.push(u64::from(*index) + 1)?;
         }
         Ok(numbers)
@@ -346,7 +332,7 @@ impl<H: BuildHasher> Tables<H> {
     pub fn restarted(&mut self)
         ensures { self.new ≡ self.old }
     {
-        unmark_quiet(&mut self.moved, &mut self.marks, &mut self.sets);
+        unmark_quiet(&mut self.marks, &mut self.sets);
     }
 
     /// Keeps the keys whose flag is true, in their order, and numbers them anew. On an error nothing changes.
@@ -358,11 +344,9 @@ impl<H: BuildHasher> Tables<H> {
         let alloc = *self.sets.allocator();
         let agenda = self.agenda.kept(alloc, flags)?;
         let marks = Marks::all(alloc, agenda.len())?;
-        let moved = Marks::all(alloc, agenda.len())?;
         keep_entries(&mut self.sets, flags);
         self.agenda = agenda;
         self.marks = marks;
-        self.moved = moved;
         Ok(())
     }
 

@@ -9,6 +9,7 @@ use Rattle.sip_survey_program.specs.declared.words.Log.{Log}
 use Rattle.sip_survey_program.specs.declared.words.Log.TheVariants.{Input, File}
 use Rattle.sip_survey_program.specs.Asked.{CanBeNamed, IsAskedBy, IsRestFor, begin_with, forget_words, log_words, part_words, words_for}
 
+-- What follows is of words that are seen as texts by f.
 module _ {X : Type 0} (f : X → List ℕ) where
   -- words of which the first is the given one are this word, the one after it, and the others
   pub split_first : (first : List ℕ) (words : List X) (b : X) → begin_with first (map f words) ≡ true → b ≡ get_or words 1 b → map f words ≡ first ∷ f b ∷ map f (drop 2 words)

@@ -32,6 +32,7 @@ slash_at (x ∷ xs) ys (other, lacks) =
     let on = slash_at xs ys lacks in
     ap (λ b. cond (not b) (1 + position_or_len is_slash (xs ++ 47 ∷ ys)) 0) other ∙ omega (arith, on)
 
+-- What follows is of a word of two numbers with a slash between them.
 module _ (k n : ℕ) (low : k < 2 ^ 64) where
   -- the first slash of K/N comes right after K
   at : position_or_len is_slash (decimal k ++ 47 ∷ decimal n) ≡ length (decimal k)
@@ -58,6 +59,7 @@ split_slash word within =
     by : (b : ℕ) → not (is_slash b) ≡ false → b ≡ 47
     by b is = or_not (is_slash b) refl is
       where
+        -- a byte that the test calls a slash is one
         or_not : (t : Bool) → is_slash b ≡ t → not t ≡ false → b ≡ 47
         or_not true e fails = eqb-true b 47 e
         or_not false e fails = absurd (cc)

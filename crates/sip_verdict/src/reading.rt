@@ -49,7 +49,8 @@ pub(crate) fn read_header<R: Source>(
     }
 }
 
-/// Reads on after the header or so many entries, into the buffer, however many there are. An entry has the number after theirs.
+/// Reads what stands after the header and the first `count` entries, into the buffer. There may be any number of entries. The next one has the
+/// number after `count`.
 pub(crate) fn read_on<R: Source>(
     progress: &mut Progress,
     buffer: Vec<u8>,

@@ -160,6 +160,7 @@ fn two_numbers(
     Ok(text)
 }
 
+/// The line of a malformed entry.
 fn malformed(alloc: Global, entry: u64, fault: Fault) -> Result<String, AllocError>
     ensures { IfOk result (λ text. string_bytes text ≡ rendered (Malformed entry fault)) }
 {
@@ -171,6 +172,7 @@ fn malformed(alloc: Global, entry: u64, fault: Fault) -> Result<String, AllocErr
     Ok(text)
 }
 
+/// The line of a log that cannot be read on.
 fn log_fault(alloc: Global, entry: u64, reason: LogReason) -> Result<String, AllocError>
     ensures { IfOk result (λ text. string_bytes text ≡ rendered (LogFault entry reason)) }
 {

@@ -35,7 +35,7 @@ impl Aim {
     }
 }
 
-/// Judges the entry that comes next, and answers the verdict if it is in trouble.
+/// Judges the entry that comes next, and answers the verdict if it is in trouble. `left` is how many messages the last sweep left.
 fn judge_on<H: BuildHasher>(
     alloc: Global,
     standing: &mut Standing<H>,

@@ -11,6 +11,7 @@ use Rattle.sip_states.specs.Sweep.{AdvancesSome}
 use Rattle.sip_states.specs.Tables.{Tabled}
 use Rattle.sip_states.specs.declared.any_set.AnySet.{AnySet}
 
+-- What follows is of one set, before the call `StateSet::take` and after it.
 module _ {X M S T E : Type 0} (names : S → List ℕ) (InRange : S → Type 0) (seen : Texts → S → X) (texts : Texts) (P : X → Type 0) (old new : Held M S) where
   -- whatever `StateSet::take` answers, the book has all that the set's states name
   pub known-after : (r : Result T E) → OnOk r (StandFor names InRange seen texts P new.states) → OnErr r (new ≡ old)

@@ -49,6 +49,18 @@ fn are_same(
     Ok(true)
 }
 
+/// Asserts that both sets have the same states, one by one, as these words say.
+fn are_alike(
+    rt: &(impl Abort + AllocGlobal),
+    set: &StateSet<InviteServer>,
+    twin: &StateSet<InviteServer>,
+    words: &str,
+) -> Result<(), Fail> {
+    let are_so = are_same(rt.alloc(), set, twin)?;
+    holds(rt, are_so, words);
+    Ok(())
+}
+
 /// Lets the set and its twin take the entry. Where memory was refused, it asserts that the set is as before, takes the entry again, and
 /// asserts that both have the same states.
 fn take_again(
@@ -70,10 +82,10 @@ fn take_again(
     let alloc = rt.alloc();
     if let Err(error) = take(alloc, set, book, entry)? {
         is(rt, error, TakeError::Memory, "a refused growth");
-        holds(rt, are_same(alloc, set, twin)?, "the set is as it was");
+        are_alike(rt, set, twin, "the set is as it was")?;
         take(alloc, set, book, entry)??;
         take(alloc, twin, book, entry)??;
-        holds(rt, are_same(alloc, set, twin)?, "both took it");
+        are_alike(rt, set, twin, "both took it")?;
         return Err(error.into());
     }
     take(alloc, twin, book, entry)??;
@@ -122,7 +134,7 @@ fn advance_again(
 {
     let waited = set.advance(moment);
     if waited.is_err() {
-        holds(rt, are_same(rt.alloc(), set, twin)?, "the set is as it was");
+        are_alike(rt, set, twin, "the set is as it was")?;
         set.advance(moment)?;
     }
     is(
@@ -132,7 +144,7 @@ fn advance_again(
         "how many states are left",
     );
     twin.advance(moment)?;
-    holds(rt, are_same(rt.alloc(), set, twin)?, "both waited");
+    are_alike(rt, set, twin, "both waited")?;
     Ok(waited?)
 }
 
@@ -208,6 +220,7 @@ fn a_set_goes_on_after_a_refused_growth(rt: HostRuntime) -> Result<(), Fail> {
     play_again(&rt, &book(rt.alloc())?, SENDS, &[])
 }
 
+/// The INVITE comes again just before the 486 is sent once more.
 static REPEAT: &[Entry] = &[
     (0, Action::Received, INVITE),
     (0, Action::Sent, BUSY),
@@ -226,6 +239,7 @@ fn a_repeat_goes_on_after_a_refused_growth(rt: HostRuntime) -> Result<(), Fail> 
     )
 }
 
+/// An INVITE and its 200.
 static ACCEPTED: &[Entry] = &[(0, Action::Received, INVITE), (0, Action::Sent, OK)];
 
 /// After the 200 timer L ends the transaction between 31950 and 32050.
@@ -301,11 +315,22 @@ static INVITES: &[(u64, u64)] = &[(1, 300), (2, 200), (3, 100), (1, 0)];
 fn settle_each_again(rt: &(impl Abort + AllocGlobal), tables: &mut Folded) -> Result<(), Fail> {
     let book = book(rt.alloc())?;
     for &(number, moment) in INVITES {
-        touch_again(rt, tables, number)?;
-        put(rt.alloc(), tables, &book, number, &[invite(moment)])?;
-        settle_again(rt, tables, number, moment.saturating_add(251))?;
+        settle_invite_again(rt, tables, &book, number, moment)?;
     }
     Ok(())
+}
+
+/// Gives the key its INVITE of this moment, and settles the key.
+fn settle_invite_again(
+    rt: &(impl Abort + AllocGlobal),
+    tables: &mut Folded,
+    book: &Book,
+    number: u64,
+    moment: u64,
+) -> Result<(), Fail> {
+    touch_again(rt, tables, number)?;
+    put(rt.alloc(), tables, book, number, &[invite(moment)])?;
+    settle_again(rt, tables, number, moment.saturating_add(251))
 }
 
 #[test]

@@ -14,14 +14,19 @@ use std::test::Fail;
 /// An entry: its moment in milliseconds, what was done, and the number of its message.
 pub(crate) type Entry = (u64, Action, u64);
 
+/// The number of the INVITE.
 pub(crate) const INVITE: u64 = 1;
 
+/// The number of a 180.
 pub(crate) const RINGING: u64 = 2;
 
+/// The number of a 183.
 pub(crate) const PROGRESS: u64 = 3;
 
+/// The number of a 486.
 pub(crate) const BUSY: u64 = 4;
 
+/// The number of a 200.
 pub(crate) const OK: u64 = 5;
 
 /// The messages of the INVITE transaction, in the order of their numbers.
@@ -62,36 +67,42 @@ pub(crate) fn book(alloc: Global) -> Result<Book, AllocError> {
     Ok(book)
 }
 
+/// The INVITE comes at this moment.
 pub(crate) fn invite(moment: u64) -> Entry
     ensures { result.0 ≡ moment }
 {
     (moment, Action::Received, INVITE)
 }
 
+/// The message with this number is sent at this moment.
 fn sent(moment: u64, number: u64) -> Entry
     ensures { result.0 ≡ moment }
 {
     (moment, Action::Sent, number)
 }
 
+/// The 180 is sent at this moment.
 pub(crate) fn ringing(moment: u64) -> Entry
     ensures { result.0 ≡ moment }
 {
     sent(moment, RINGING)
 }
 
+/// The 183 is sent at this moment.
 pub(crate) fn progress(moment: u64) -> Entry
     ensures { result.0 ≡ moment }
 {
     sent(moment, PROGRESS)
 }
 
+/// The 486 is sent at this moment.
 pub(crate) fn busy(moment: u64) -> Entry
     ensures { result.0 ≡ moment }
 {
     sent(moment, BUSY)
 }
 
+/// The 200 is sent at this moment.
 pub(crate) fn ok(moment: u64) -> Entry
     ensures { result.0 ≡ moment }
 {

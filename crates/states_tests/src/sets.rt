@@ -15,6 +15,7 @@ use std::alloc::Global;
 use std::process::Abort;
 use std::test::Fail;
 
+/// An OPTIONS.
 const OPTIONS: &[u8] = b"OPTIONS sip:bob@example.com SIP/2.0\r\n\
     Via: SIP/2.0/UDP a.example.com;branch=z9hG4bK1\r\n\
     From: <sip:bob@example.com>;tag=1\r\n\

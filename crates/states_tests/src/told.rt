@@ -5,6 +5,7 @@ use sip_states::TakeError;
 use std::process::Abort;
 use std::test::Fail;
 
+/// Asserts what the error says.
 fn says(rt: &(impl Abort + AllocGlobal), error: TakeError, told: &str) -> Result<(), Fail> {
     let text = error.to_string(rt.alloc())?;
     is(rt, text.as_str(), told, "what it says");

@@ -1,46 +1,19 @@
 -- Accounts stay accounts, and owe what they owed, while gains and strikes grow, are let go or are dropped.
-use Rattle.std.proofs.Common.{◌≡◌, ◌≢◌, ℕ, ◌+◌, ◌<◌, ◌≤◌, ◌&&◌, ◌||◌, Bool, true, false, not, List, [], ◌∷◌, ◌++◌, length, take, drop, get_or, set, append-nil, refl, sym, ap, ap₂, ◌∙◌, subst, arith}
-use Rattle.std.proofs.lemmas.Bool.Decides.{nat_tests}
-use Rattle.std.specs.Prelude.{All, nat_le, nat_lt}
-use Rattle.std.proofs.lemmas.Bool.{cases_eq, cases_lt, le-leb, le-ltb, lt-leb, true≢false}
-use Rattle.std.proofs.Math.Bool.{and-false, and-true}
-use Rattle.std.proofs.lemmas.List.{drop-map, get_or_append_left, get_or-map, get_or-take, length-map, length-take, length-take-le, map-append, map-set, take-map, take-take}
-use Rattle.std.proofs.lemmas.List.Elements.{All-cons, All-drop, All-get_or, All-head, All-nil, All-push, All-set, All-tail, All-take, All-weaker}
-use Rattle.sip_ledger.specs.declared.debt.Debt.{Debt}
-use Rattle.sip_ledger.specs.declared.debt.Entry.{Entry}
-use Rattle.sip_ledger.specs.declared.accounts.account.Account.{Account}
-use Rattle.sip_ledger.specs.declared.accounts.gains.Gains.{Gains}
-use Rattle.sip_ledger.specs.declared.accounts.strikes.Strike.{Strike}
-use Rattle.sip_ledger.specs.Accounts.{debts_print}
-use Rattle.sip_ledger.specs.inner.Accounts.{AreAccounts, AreGains, AreSameGains, IsAccount, IsDropped, IsGain, IsKept, IsLetGo, KeepsAccounts, account_debts, accounts_debts, entries_of, entry_at, is_gone, is_left, is_struck, must_at, owes_at, strikes_of}
-use Rattle.sip_ledger.specs.Indexes.{holds}
-use Rattle.sip_ledger.proofs.debts.ListedLemmas.{back-none, front, listed-same, listed-none, parts}
+use Rattle.sip_ledger.proofs.Words.{common_steps, ◌≡◌, ◌≢◌, ℕ, ◌+◌, ◌<◌, ◌≤◌, ◌&&◌, true, false, not, List, [], ◌∷◌, ◌++◌, length, take, drop, get_or, set, append-nil, refl, sym, ap, ◌∙◌, subst, arith, nat_tests, All, nat_le, cases_eq, cases_lt, le-leb, le-ltb, lt-leb, true≢false, false_from_ne_true, and-false, and-true, drop-map, get_or_append_left, get_or-map, get_or-take, length-map, length-take, length-take-le, map-set, take-map, take-take, All-cons, All-drop, All-get_or, All-head, All-nil, All-set, All-tail, All-take, All-weaker, Debt, Account, Gains, Strike, debts_print, AreAccounts, AreGains, AreSameGains, IsAccount, IsDropped, IsGain, IsKept, IsLetGo, KeepsAccounts, account_debts, accounts_debts, entries_of, entry_at, is_gone, is_left, is_struck, must_at, owes_at, holds}
+use Rattle.sip_ledger.proofs.debts.ListedLemmas.{back-none, front, listed-same, listed-none, parts, back}
 use Rattle.sip_ledger.proofs.gains.FlagLemmas.{left-as}
-use Rattle.sip_ledger.proofs.gains.LeftLemmas.{entries_long, left-kept, listed-alike, owed-left, unleft-unowed}
-
--- an account keeps its strikes when others are put after them
-pub kept-strikes : (old new : List Strike) (a : Account) → take (length old) new ≡ old → a.last ≤ length old → strikes_of new a ≡ strikes_of old a
-kept-strikes old new a kept last = ap (drop a.first) (sym (take-take a.last (length old) new last) ∙ ap (take a.last) kept)
-
--- a list of strikes that keeps the old ones is at least as long
-pub kept-longer : (old new : List Strike) → take (length old) new ≡ old → length old ≤ length new
-kept-longer old new kept = omega (arith, ap length kept, length-take (length old) new)
-
--- an account owes the same when strikes are put after the others
-pub kept-owes : (gains : Gains) (old new : List Strike) (a : Account) (k : ℕ) → take (length old) new ≡ old → a.last ≤ length old →
-    owes_at gains new a k ≡ owes_at gains old a k
-unfolding owes_at
-kept-owes gains old new a k kept last = ap (λ own. nat_le a.start k && (nat_lt k a.end && not (is_gone gains own k))) (kept-strikes old new a kept last)
+use Rattle.sip_ledger.proofs.gains.LeftLemmas.{entries_long, left-kept, listed-alike, owed-left}
 
 -- the debts of an account stay when strikes are put after the others
 pub kept-debts : (gains : Gains) (old new : List Strike) (a : Account) → take (length old) new ≡ old → a.last ≤ length old →
     account_debts gains new a ≡ account_debts gains old a
-unfolding account_debts
-kept-debts gains old new a kept last = grind (arith, listed-same, kept-owes)
+unfolding account_debts owes_at
+kept-debts gains old new a kept last = grind (arith, listed-same, nat_tests, take-take)
 
 -- an account stays one when strikes are put after the others
 pub kept-account : (gains : Gains) (old new : List Strike) (a : Account) → take (length old) new ≡ old → IsAccount gains old a → IsAccount gains new a
-kept-account gains old new a kept is = grind (arith, nat_tests, kept-longer, kept-strikes, kept-owes, kept-debts)
+unfolding owes_at
+kept-account gains old new a kept is = grind (arith, nat_tests, kept-debts, length-take, take-take)
 
 -- the account is one over other gains and strikes too, and owes what it owed
 abbrev pub Stays : Gains → Gains → List Strike → List Strike → Account → Type 0
@@ -51,10 +24,7 @@ each-stays : (old new : Gains) (strikes strikes' : List Strike) (rows : List Acc
     All (IsAccount new strikes') rows × (accounts_debts new strikes' rows ≡ accounts_debts old strikes rows)
 unfolding accounts_debts
 each-stays old new strikes strikes' [] each = (All-nil (IsAccount new strikes'), refl)
-each-stays old new strikes strikes' (a ∷ rows) each =
-    let here = All-head (Stays old new strikes strikes') a rows each in
-    let rest = each-stays old new strikes strikes' rows (All-tail (Stays old new strikes strikes') a rows each) in
-    (All-cons (IsAccount new strikes') a rows here.0 rest.0, ap₂ (λ d ds. d ∷ ds) here.1 rest.1)
+each-stays old new strikes strikes' (a ∷ rows) each = grind (arith, nat_tests, All-head, All-tail, All-cons, each-stays old new strikes strikes' rows (All-tail (Stays old new strikes strikes') a rows each))
 
 -- where strikes are appended, accounts stay accounts and owe what they owed
 pub kept-all : (gains : Gains) (old new : List Strike) (rows : List Account) → take (length old) new ≡ old → All (IsAccount gains old) rows →
@@ -68,10 +38,7 @@ pub changed : (gains : Gains) (old new : List Strike) (rows : List Account) (row
     AreAccounts gains new (set rows row a) × (accounts_debts gains new (set rows row a) ≡ set (accounts_debts gains old rows) row (account_debts gains new a))
 unfolding accounts_debts
 changed gains old new rows row a kept are is =
-    let all = kept-all gains old new rows kept are.each in (
-      record { gained = are.gained; each = All-set (IsAccount gains new) rows row a is all.0 },
-      map-set (account_debts gains new) rows row a ∙ ap (λ l. set l row (account_debts gains new a)) all.1,
-    )
+    grind (arith, kept-all gains old new rows kept, All-set (IsAccount gains new) rows row a is, map-set)
 
 -- two accounts with the same `soft` must send the same gains
 pub soft-must : (gains : Gains) (a b : Account) (k : ℕ) → b.soft ≡ a.soft → must_at gains b k ≡ must_at gains a k
@@ -110,13 +77,7 @@ kept-from k are is low high = kept-passed k are is (omega (arith, low, high)) lo
 owes-over : (old new : Gains) (strikes : List Strike) (a : Account) (k : ℕ) → entry_at (entries_of new) k ≡ entry_at (entries_of old) k → is_left new k ≡ is_left old k →
     owes_at new strikes a k ≡ owes_at old strikes a k
 unfolding owes_at is_gone
-owes-over old new strikes a k entry left =
-    ap₂ (λ (l : Bool) (e : Entry). nat_le a.start k && (nat_lt k a.end && not (not l || is_struck (strikes_of strikes a) e.message k))) left entry
-
--- a gain whose place stands under no message is not left
-not-left : (gains : Gains) (k : ℕ) → ((m : ℕ) → holds gains.messages m k ≡ false) → is_left gains k ≡ false
-unfolding is_left
-not-left gains k none = none (entry_at (entries_of gains) k).message
+owes-over old new strikes a k entry left = grind (arith, nat_tests)
 
 -- an account owes over the new gains what it owes over the old ones
 pub record OwesAlike (old new : Gains) (strikes : List Strike) (a : Account) : Type 0 where
@@ -129,23 +90,15 @@ over-debts : (old new : Gains) (strikes : List Strike) (a : Account) → length 
 unfolding account_debts must_at
 over-debts old new strikes a long end alike =
     let n = length (entries_of old) in
-    let short : length (take n (entries_of new)) ≡ n = length-take-le n (entries_of new) long in
-    parts (owes_at new strikes a) (must_at new a) (entries_of new) n long
-    ∙ ap (λ l. front (owes_at new strikes a) (must_at new a) (entries_of new) n ++ l)
-    (back-none (owes_at new strikes a) (must_at new a) (entries_of new) n (λ k past. past-end new strikes a k (omega (arith, past, end))))
-    ∙ append-nil (front (owes_at new strikes a) (must_at new a) (entries_of new) n)
-    ∙ listed-alike (owes_at new strikes a) (must_at new a) (owes_at old strikes a) (must_at old a) 0 (take n (entries_of new)) (entries_of old) short
-    (λ j below. grind arith) (λ j below is. grind (arith, get_or-take))
-
--- an account that owes alike over old and new gains stays one
-over-account : (old new : Gains) (strikes : List Strike) (a : Account) → length (entries_of old) ≤ length (entries_of new) → OwesAlike old new strikes a → IsAccount old strikes a →
-    IsAccount new strikes a
-over-account old new strikes a long alike is = grind (arith, nat_tests, over-debts)
+    let short = length-take-le n (entries_of new) long in
+    let none : back (owes_at new strikes a) (must_at new a) (entries_of new) n ≡ [] = back-none _ _ (entries_of new) n (λ k past. past-end new strikes a k (omega (arith, past, end))) in
+    parts (owes_at new strikes a) (must_at new a) (entries_of new) n long ∙ ap (λ l. front (owes_at new strikes a) (must_at new a) (entries_of new) n ++ l) none ∙ append-nil _
+    ∙ listed-alike _ _ _ _ 0 (take n (entries_of new)) (entries_of old) short (λ j below. grind arith) (λ j below is. grind (arith, get_or-take))
 
 -- accounts that owe alike over old and new gains stay accounts, with the same debts
 pub over-all : (old new : Gains) (strikes : List Strike) (rows : List Account) → length (entries_of old) ≤ length (entries_of new) → All (OwesAlike old new strikes) rows →
     All (IsAccount old strikes) rows → All (IsAccount new strikes) rows × (accounts_debts new strikes rows ≡ accounts_debts old strikes rows)
-over-all old new strikes rows long alike each = grind (arith, nat_tests, each-stays, over-account, over-debts)
+over-all old new strikes rows long alike each = grind (arith, nat_tests, each-stays, over-debts)
 
 -- accounts are kept over gains that are the same
 pub same-keeps : (old new : Gains) → AreSameGains old new → KeepsAccounts old new
@@ -155,12 +108,14 @@ same-keeps old new same = record {
 
 -- an account owes alike where a gain is let go that it does not owe
 pub let_go-alike : (old new : Gains) (strikes : List Strike) (a : Account) (place : ℕ) → IsLetGo place old new → owes_at old strikes a place ≡ false → OwesAlike old new strikes a
-let_go-alike old new strikes a place gone unowed = grind (arith, nat_tests, cases_eq, unleft-unowed, not-left, owes-over, left-as, true≢false)
+unfolding is_left
+let_go-alike old new strikes a place gone unowed = grind (arith, nat_tests, cases_eq, owes-over, left-as, true≢false, false_from_ne_true, owed-left)
 
 -- an account owes alike where gains are dropped of which nothing is left
 pub dropped-alike : (old new : Gains) (strikes : List Strike) (a : Account) (place : ℕ) → IsDropped place old new → ((m k : ℕ) → k < place → holds old.messages m k ≡ false) →
     OwesAlike old new strikes a
-dropped-alike old new strikes a place dropped none = grind (arith, nat_tests, cases_lt, unleft-unowed, not-left, owes-over, left-as, true≢false)
+unfolding is_left
+dropped-alike old new strikes a place dropped none = grind (arith, nat_tests, cases_lt, owes-over, left-as, true≢false, false_from_ne_true, owed-left)
 
 -- an account that ends before a new gain owes alike with it
 pub grown-alike : (old new : Gains) (debt : Debt) (strikes : List Strike) (a : Account) → IsGain debt old new → a.end ≤ length (entries_of old) → OwesAlike old new strikes a
@@ -192,32 +147,17 @@ pub empty-account : (gains : Gains) (strikes : List Strike) → IsAccount gains 
 unfolding is_struck debts_print
 empty-account gains strikes = grind (arith, nat_tests, empty-debts)
 
--- accounts are accounts still when one more is put after them, and it owes what it owed
-pub pushed : (gains : Gains) (strikes : List Strike) (rows : List Account) (a : Account) → AreAccounts gains strikes rows → IsAccount gains strikes a →
-    AreAccounts gains strikes (rows ++ a ∷ []) × (accounts_debts gains strikes (rows ++ a ∷ []) ≡ accounts_debts gains strikes rows ++ account_debts gains strikes a ∷ [])
-unfolding accounts_debts
-pushed gains strikes rows a are is = (
-  record { gained = are.gained; each = All-push (IsAccount gains strikes) rows a are.each is },
-  map-append (account_debts gains strikes) rows (a ∷ []),
-)
-
 -- the first n accounts are accounts, and have the first n lists of debts
 pub truncated : (gains : Gains) (strikes : List Strike) (rows : List Account) (n : ℕ) → AreAccounts gains strikes rows →
     AreAccounts gains strikes (take n rows) × (accounts_debts gains strikes (take n rows) ≡ take n (accounts_debts gains strikes rows))
 unfolding accounts_debts
-truncated gains strikes rows n are = (
-  record { gained = are.gained; each = All-take (IsAccount gains strikes) n rows are.each },
-  sym (take-map (account_debts gains strikes) n rows),
-)
+truncated gains strikes rows n are = grind (arith, nat_tests, common_steps, All-take, take-map)
 
 -- the accounts after the first n are accounts, and have the lists of debts after the first n
 pub without-first_rows : (gains : Gains) (strikes : List Strike) (rows : List Account) (n : ℕ) → AreAccounts gains strikes rows →
     AreAccounts gains strikes (drop n rows) × (accounts_debts gains strikes (drop n rows) ≡ drop n (accounts_debts gains strikes rows))
 unfolding accounts_debts
-without-first_rows gains strikes rows n are = (
-  record { gained = are.gained; each = All-drop (IsAccount gains strikes) n rows are.each },
-  sym (drop-map (account_debts gains strikes) n rows),
-)
+without-first_rows gains strikes rows n are = grind (arith, nat_tests, common_steps, All-drop, drop-map)
 
 -- accounts that are kept over new gains are accounts there, and owe what they owed
 pub over : (old new : Gains) (strikes : List Strike) (rows : List Account) → KeepsAccounts old new → AreGains new → AreAccounts old strikes rows →

@@ -1,42 +1,19 @@
 -- An account drops what is past, place by place.
-use Rattle.std.proofs.Common.{◌≡◌, ℕ, ◌+◌, ◌<◌, ◌≤◌, ◌&&◌, ◌||◌, Bool, true, false, List, length, take, filter, sym, ap, ◌∙◌, inl, inr, arith}
-use Rattle.std.proofs.lemmas.Bool.Decides.{nat_tests}
-use Rattle.std.specs.Prelude.{nat_le}
-use Rattle.std.proofs.Math.Bool.{and-false, and-true, or-true}
-use Rattle.std.proofs.lemmas.Bool.{cases_eq, cases_lt, le-leb, lt-leb}
-use Rattle.std.proofs.lemmas.List.{get_or_default}
-use Rattle.sip_ledger.specs.declared.debt.Entry.{Entry}
-use Rattle.sip_ledger.specs.declared.accounts.account.Account.{Account}
-use Rattle.sip_ledger.specs.declared.accounts.gains.Gains.{Gains}
-use Rattle.sip_ledger.specs.declared.accounts.strikes.Strike.{Strike}
-use Rattle.sip_ledger.specs.Debts.{counts_at}
-use Rattle.sip_ledger.specs.inner.Accounts.{AreGains, IsAccount, IsExpiredTo, IsKept, IsWithout, account_debts, entries_of, entry_at, must_at, owes_at}
+use Rattle.sip_ledger.proofs.Words.{◌≡◌, ℕ, ◌+◌, ◌<◌, ◌≤◌, ◌&&◌, ◌||◌, Bool, true, false, List, length, take, filter, arith, nat_tests, nat_le, and-false, cases_eq, cases_lt, lt-leb, take-length, get_or_default, Entry, Account, Gains, Strike, counts_at, AreGains, IsAccount, IsExpiredTo, IsKept, IsWithout, account_debts, entries_of, entry_at, must_at, owes_at}
 use Rattle.sip_ledger.proofs.gains.LeftLemmas.{entries_long, rising_kept}
 use Rattle.sip_ledger.proofs.debts.ListedLemmas.{listed-counting, listed-same}
-use Rattle.sip_ledger.proofs.account.AccountLemmas.{past-end, soft-must}
+use Rattle.sip_ledger.proofs.account.AccountLemmas.{empty-debts, kept-passed, past-end, soft-must}
+use Rattle.sip_ledger.proofs.rows.GainEachLemmas.{none-goes}
 use Rattle.sip_ledger.proofs.account.WithoutLemmas.{before-start}
 
 -- whether what is owed at a place counts still at t: it must be sent, or its deadline is not past
 abbrev counting : ℕ → List Entry → (ℕ → Bool) → (ℕ → Bool) → ℕ → Bool
 counting t entries m o k = o k && (m k || nat_le t (entry_at entries k).deadline)
 
--- what is not owed is not owed once what is past is dropped
-unowed : (t : ℕ) (entries : List Entry) (m o o' : ℕ → Bool) (k : ℕ) → o' k ≡ o k → o k ≡ false → o' k ≡ counting t entries m o k
-unowed t entries m o o' k same none = same ∙ none ∙ sym (ap (λ b. b && (m k || nat_le t (entry_at entries k).deadline)) none)
-
--- what is owed and counts still is owed once what is past is dropped
-counted : (t : ℕ) (entries : List Entry) (m o o' : ℕ → Bool) (k : ℕ) → o' k ≡ o k → (m k || nat_le t (entry_at entries k).deadline) ≡ true → o' k ≡ counting t entries m o k
-counted t entries m o o' k same counts = same ∙ sym (ap (λ b. o k && b) counts ∙ and-true (o k))
-
 -- IsExpiredTo holds at the start of an account: nothing is owed before it
 pub expired-start : (t : ℕ) (gains : Gains) (strikes : List Strike) (m : ℕ → Bool) (a : Account) →
     IsExpiredTo t (entries_of gains) m (owes_at gains strikes a) (owes_at gains strikes a) a.start
 expired-start t gains strikes m a = grind (arith, nat_tests, before-start)
-
--- where the gain at the place counts still at t, or is not owed, the account has expired one place further
-stays : (t : ℕ) (entries : List Entry) (m o o' : ℕ → Bool) (place : ℕ) → IsExpiredTo t entries m o o' place → o' place ≡ counting t entries m o place →
-    IsExpiredTo t entries m o o' (place + 1)
-stays t entries m o o' place was here = grind (arith, nat_tests, cases_eq)
 
 -- IsExpiredTo goes on over a gain that must be sent
 pub stays-must : (t : ℕ) (entries : List Entry) (m o o' : ℕ → Bool) (place : ℕ) → IsExpiredTo t entries m o o' place → m place ≡ true → IsExpiredTo t entries m o o' (place + 1)
@@ -59,27 +36,15 @@ pub expired-end : (gains : Gains) (old new : List Strike) (a b : Account) (t pla
     IsExpiredTo t (entries_of gains) (must_at gains a) (owes_at gains old a) (owes_at gains new b) place →
     account_debts gains new b ≡ filter (counts_at t) (account_debts gains old a)
 expired-end gains old new a b t place soft end is =
-    finished gains old new a b t soft (λ k within. elim (cases_lt k place) [
-      | inl early ↦ is.gone k early
-      | inr late ↦
-          let none = past-end gains new b k (omega (arith, late, end)) in
-          unowed t (entries_of gains) (must_at gains a) (owes_at gains old a) (owes_at gains new b) k (is.later k late) (sym (is.later k late) ∙ none)
-    ])
+    finished gains old new a b t soft (λ k within. grind (arith, nat_tests, cases_lt, past-end, is.gone k, is.later k))
 
 -- where deadlines rise, and that of this place is not past, the account has expired whole
 pub expired-rising : (gains : Gains) (old new : List Strike) (a b : Account) (t place : ℕ) → b.soft ≡ a.soft → AreGains gains → gains.rises ≡ true → IsKept gains place →
     t ≤ (entry_at (entries_of gains) place).deadline → IsExpiredTo t (entries_of gains) (must_at gains a) (owes_at gains old a) (owes_at gains new b) place →
     account_debts gains new b ≡ filter (counts_at t) (account_debts gains old a)
 expired-rising gains old new a b t place soft gained rises kept early is =
-    finished gains old new a b t soft (λ k within. elim (cases_lt k place) [
-      | inl first ↦ is.gone k first
-      | inr late ↦
-          let count = entries_long gains gained.long in
-          let above = rising_kept gains place k gained rises kept late (omega (arith, within, count)) in
-          let counts : (must_at gains a k || nat_le t (entry_at (entries_of gains) k).deadline) ≡ true =
-          ap (λ b. must_at gains a k || b) (le-leb t (entry_at (entries_of gains) k).deadline (omega (arith, early, above))) ∙ or-true (must_at gains a k) in
-          counted t (entries_of gains) (must_at gains a) (owes_at gains old a) (owes_at gains new b) k (is.later k late) counts
-    ])
+    let count = entries_long gains gained.long in
+    finished gains old new a b t soft (λ k within. grind (arith, nat_tests, cases_lt, count, rising_kept gains place k gained rises kept, is.gone k, is.later k))
 
 -- the account b is a, without what is past at t before the place
 pub record IsExpiring (gains : Gains) (old new : List Strike) (a b : Account) (t place : ℕ) : Type 0 where
@@ -88,3 +53,6 @@ pub record IsExpiring (gains : Gains) (old new : List Strike) (a b : Account) (t
   pub account : IsAccount gains new b
   pub soft : b.soft ≡ a.soft
   pub gone : IsExpiredTo t (entries_of gains) (must_at gains a) (owes_at gains old a) (owes_at gains new b) place
+
+-- what is owed once what is past is dropped
+pub ruleset expired_by_place = (soft-must, goes, stays-must, take-length, empty-debts, kept-passed, expired-end, expired-rising, expired-start, none-goes)

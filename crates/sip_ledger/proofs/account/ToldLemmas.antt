@@ -1,33 +1,9 @@
 -- What an account owes, place by place: its debts, whether another account owes the same, and the least deadline of what it must send.
-use Rattle.std.proofs.Common.{◌≡◌, ◌≢◌, ℕ, ◌+◌, ◌<◌, ◌≤◌, ◌==◌, ◌&&◌, Bool, true, false, not, List, [], ◌∷◌, ◌++◌, length, take, drop, map, refl, sym, ap, ap₂, ◌∙◌, inl, inr, ◌⊎◌, arith, append-nil}
-use Rattle.std.proofs.lemmas.Bool.Decides.{nat_tests}
-use Rattle.std.specs.Prelude.{IsTrue, Option, Some, None, ◌↔◌, nat_le, option_to_list}
-use Rattle.std.specs.Bool.{OnTrue}
-use Rattle.std.proofs.lemmas.Bool.{and_left, and_right, cases_eq, cases_lt, eq-eqb, eqb-true, le-leb, true≢false}
-use Rattle.std.proofs.lemmas.List.{append_cancel_left, get_or-drop, get_or_default, length-append, length-drop, length-take-le, map-append, take-append-le, take_all}
-use Rattle.std.proofs.lemmas.List.Elements.{All-map}
-use Rattle.sip_ledger.specs.declared.debt.Debt.{Debt}
-use Rattle.sip_ledger.specs.declared.debt.Entry.{Entry}
-use Rattle.sip_ledger.specs.declared.accounts.account.Account.{Account}
-use Rattle.sip_ledger.specs.declared.accounts.gains.Gains.{Gains}
-use Rattle.sip_ledger.specs.declared.accounts.strikes.Strike.{Strike}
-use Rattle.sip_ledger.specs.Debts.{debt_deadlines, earliest}
-use Rattle.sip_ledger.specs.Entries.{debt_of, debts_from, IsGap}
-use Rattle.sip_ledger.specs.inner.Accounts.{AreAlike, AreGains, IsAccount, SharesRest, account_debts, entries_of, entry_at, is_struck, must_at, owes_at, strikes_of}
+use Rattle.sip_ledger.proofs.Words.{max, ◌≡◌, ◌≢◌, ℕ, ◌+◌, ◌<◌, ◌≤◌, ◌==◌, ◌&&◌, Bool, true, false, not, List, [], ◌∷◌, ◌++◌, length, take, drop, map, refl, sym, ap, ap₂, ◌∙◌, inl, ◌⊎◌, arith, append-nil, nat_tests, IsTrue, Option, Some, None, ◌↔◌, nat_le, option_to_list, OnTrue, and_left, and_right, cases_eq, cases_lt, eq-eqb, eqb-true, le-leb, true≢false, append_cancel_left, get_or-drop, get_or_default, length-append, length-drop, length-take-le, map-append, take-append-le, take_all, All-map, Debt, Entry, Account, Gains, Strike, debt_deadlines, earliest, debt_of, debts_from, IsGap, AreAlike, AreGains, IsAccount, SharesRest, account_debts, entries_of, entry_at, is_struck, must_at, owes_at, strikes_of, holds}
 use Rattle.sip_ledger.proofs.gains.LeftLemmas.{entries_long, gone-same, left-kept, owed-left, rising_kept}
-use Rattle.sip_ledger.specs.Indexes.{holds}
 use Rattle.sip_ledger.proofs.debts.ListedLemmas.{back, back-none, back-same, back-set, earliest-first, earliest-push, front, front-gap, front-next, listed-All, listed-must, listed-none, listed-same, no_entry, parts}
 use Rattle.sip_ledger.proofs.account.AccountLemmas.{must-below, must-from, past-end, soft-must}
 use Rattle.sip_ledger.proofs.account.WithoutLemmas.{before-start}
-
--- What follows is of all debts: what is told up to a place, and the next debt.
-pub front-start : (gains : Gains) (strikes : List Strike) (m : ℕ → Bool) (a : Account) → a.start ≤ length (entries_of gains) → front (owes_at gains strikes a) m (entries_of gains) a.start ≡ []
-front-start gains strikes m a within = grind (arith, listed-none, before-start, length-take-le)
-
--- up to the next place at which something is owed, one debt more is told: that of this place
-pub front-more : (entries : List Entry) (o m : ℕ → Bool) (at next : ℕ) → at < length entries → o at ≡ true → at < next → next ≤ length entries → IsGap o (at + 1) next →
-    front o m entries next ≡ front o m entries at ++ debt_of (entry_at entries at) (m at) ∷ []
-front-more entries o m at next inside is after within gap = grind (arith, front-gap, front-next)
 
 -- `next` is the next place after `at` at which the account owes something, or its end
 pub record IsAfter (gains : Gains) (strikes : List Strike) (a : Account) (at next : ℕ) : Type 0 where
@@ -42,15 +18,16 @@ pub record IsToldTo (gains : Gains) (strikes : List Strike) (a : Account) (place
   pub end : place ≤ a.end
   pub owed : place < a.end → owes_at gains strikes a place ≡ true
 
+-- What follows is of one account.
 module _ {gains : Gains} {strikes : List Strike} {a : Account} where
   -- an account owes nothing before its start
   pub told-none : {debts : List Debt} → IsAccount gains strikes a → debts ≡ [] → IsToldTo gains strikes a a.start debts
-  told-none is none = grind (arith, nat_tests, front-start)
+  told-none is none = grind (arith, nat_tests, listed-none, before-start, length-take-le)
 
   -- before the next place it owes one debt more: that of this place
   pub told-more : {place next : ℕ} {debt : Debt} {debts more : List Debt} → IsAccount gains strikes a → IsToldTo gains strikes a place debts → place < a.end → IsAfter gains strikes a place next →
       debt ≡ debt_of (entry_at (entries_of gains) place) (must_at gains a place) → more ≡ debts ++ debt ∷ [] → IsToldTo gains strikes a next more
-  told-more {place} {next} is was inside after debt_is more_is = grind (arith, nat_tests, front-more)
+  told-more {place} {next} is was inside after debt_is more_is = grind (arith, nat_tests, front-gap, front-next)
 
   -- what it owes is what it owes before a place and from there on
   pub told-split : {place : ℕ} {debts : List Debt} → IsAccount gains strikes a → IsToldTo gains strikes a place debts →
@@ -62,22 +39,17 @@ module _ {gains : Gains} {strikes : List Strike} {a : Account} where
   pub told-here : {place : ℕ} {debts : List Debt} → IsAccount gains strikes a → IsToldTo gains strikes a place debts → place < a.end →
       account_debts gains strikes a
       ≡ debts ++ debt_of (entry_at (entries_of gains) place) (must_at gains a place) ∷ back (owes_at gains strikes a) (must_at gains a) (entries_of gains) (place + 1)
-  told-here {place} {debts} is was inside =
-      told-split is was ∙ ap (λ l. debts ++ l) (back-set (owes_at gains strikes a) (must_at gains a) (entries_of gains) place no_entry (omega (arith, inside, is.end)) (was.owed inside))
+  told-here {place} {debts} is was inside = grind (arith, told-split is was, back-set (owes_at gains strikes a) (must_at gains a) (entries_of gains) place no_entry)
 
   -- before its end it owes all of its debts
   pub told-all : {place : ℕ} {debts : List Debt} → IsAccount gains strikes a → IsToldTo gains strikes a place debts → a.end ≤ place → debts ≡ account_debts gains strikes a
   told-all {place} {debts} is was past =
-      sym (told-split is was
-      ∙ ap (λ l. debts ++ l) (back-none (owes_at gains strikes a) (must_at gains a) (entries_of gains) place (λ k above. past-end gains strikes a k (omega (arith, above, past))))
-      ∙ append-nil debts)
+      let none : back (owes_at gains strikes a) (must_at gains a) (entries_of gains) place ≡ [] = grind (arith, back-none, past-end) in
+      sym (told-split is was ∙ ap (λ l. debts ++ l) none ∙ append-nil debts)
 
   -- before a place of it, it owes the first of its debts
   pub told-first : {place n : ℕ} {debts : List Debt} → IsAccount gains strikes a → IsToldTo gains strikes a place debts → length debts ≡ n → debts ≡ take n (account_debts gains strikes a)
-  told-first {place} {n} {debts} is was long =
-      sym (take_all n debts (omega (arith, long)))
-      ∙ sym (take-append-le n debts (back (owes_at gains strikes a) (must_at gains a) (entries_of gains) place) (omega (arith, long)))
-      ∙ ap (take n) (sym (told-split is was))
+  told-first {place} {n} {debts} is was long = grind (arith, told-split is was, take_all, take-append-le)
 
 -- an account with something left does not owe what an account at its end owes
 longer : {gains : Gains} {strikes : List Strike} {one other : Account} {at beside : ℕ} {debts : List Debt} → IsAccount gains strikes one → IsAccount gains strikes other →
@@ -93,6 +65,7 @@ pub record AreAt (gains : Gains) (strikes : List Strike) (one other : Account) (
   pub told : IsToldTo gains strikes one at debts
   pub told_beside : IsToldTo gains strikes other beside debts
 
+-- What follows is of two accounts that are compared.
 module _ {gains : Gains} {strikes : List Strike} {one other : Account} (is : IsAccount gains strikes one) (is_other : IsAccount gains strikes other) where
   -- AreAt holds at the starts of two accounts
   pub at-start : AreAt gains strikes one other one.start other.start
@@ -119,38 +92,25 @@ module _ {gains : Gains} {strikes : List Strike} {one other : Account} (is : IsA
       (debt_of (entry_at (entries_of gains) beside) (must_at gains other beside) ∷ rest_beside)
       (sym (told-here is are.told inside) ∙ same ∙ told-here is_other are.told_beside inside_beside)))
     where
+      -- equal lists of debts have the same first debt
       first : {d d' : Debt} {ds ds' : List Debt} → d ∷ ds ≡ d' ∷ ds' → d ≡ d'
       first equal = cc
 
   -- accounts at one place that owe the same from there on owe the same
   pub rest-same : {at beside : ℕ} → AreAt gains strikes one other at beside → at ≡ beside → SharesRest strikes one other at → account_debts gains strikes one ≡ account_debts gains strikes other
-  rest-same {at} are here shared =
-      told-split is are.told
-      ∙ ap (λ l. are.debts ++ l)
-      (back-same (owes_at gains strikes one) (must_at gains one) (owes_at gains strikes other) (must_at gains other) (entries_of gains) at
-      (λ k above. (shared.owes gains k above, soft-must gains other one k shared.soft))
-      ∙ ap (back (owes_at gains strikes other) (must_at gains other) (entries_of gains)) here)
-      ∙ sym (told-split is_other are.told_beside)
+  rest-same {at} are here shared = grind (arith, told-split is are.told, told-split is_other are.told_beside, back-same, soft-must)
 
   -- where one account is at its end, both owe the same exactly if the other one is at its end too
   pub end-same : {at beside : ℕ} → AreAt gains strikes one other at beside → at ≡ one.end → IsTrue (beside == other.end) ↔ (account_debts gains strikes one ≡ account_debts gains strikes other)
   end-same {at} {beside} are here = (
     λ same. sym (told-all is are.told (omega (arith, here))) ∙ told-all is_other are.told_beside (let there = eqb-true beside other.end same in omega (arith, there)),
-    λ same. elim (cases_eq beside other.end) [
-      | inl there ↦ eq-eqb beside other.end there
-      | inr short ↦
-          absurd (longer is_other is are.told_beside are.told (omega (arith, short, are.told_beside.end)) (omega (arith, here)) (sym same))
-    ],
+    λ same. grind (arith, nat_tests, cases_eq, eq-eqb, longer is_other is are.told_beside are.told),
   )
 
   -- where one account is not at its end and the other is, they do not owe the same
   pub end-other : {at beside : ℕ} → AreAt gains strikes one other at beside → at ≢ one.end → other.end ≤ beside →
       IsTrue (at == one.end) ↔ (account_debts gains strikes one ≡ account_debts gains strikes other)
-  end-other {at} are short past =
-      let end = are.told.end in (
-        λ here. absurd (short (eqb-true at one.end here)),
-        λ same. absurd (longer is is_other are.told are.told_beside (omega (arith, short, end)) past same),
-      )
+  end-other {at} are short past = grind (arith, nat_tests, longer is is_other are.told are.told_beside)
 
 -- accounts that begin and end alike and have the same strikes owe the same
 pub alike-debts : (gains : Gains) (strikes : List Strike) (one other : Account) → AreAlike strikes one other → account_debts gains strikes one ≡ account_debts gains strikes other
@@ -192,12 +152,7 @@ least_to entries m to = earliest (map (λ d. d.deadline) (front m m entries to))
 
 -- nothing has to be sent before a place below which nothing is due
 pub least-start : (entries : List Entry) (m : ℕ → Bool) (from : ℕ) → from ≤ length entries → ((k : ℕ) → k < from → m k ≡ false) → None ≡ least_to entries m from
-least-start entries m from within none =
-    sym (ap (λ l. earliest (map (λ (d : Debt). d.deadline) l)) (listed-none m m 0 (take from entries) (λ k _ below. none k (omega (arith, below, length-take-le from entries within)))))
-
--- the least deadline stays where nothing is due between two places
-pub least-over : (entries : List Entry) (m : ℕ → Bool) (from to : ℕ) → from ≤ to → to ≤ length entries → IsGap m from to → least_to entries m to ≡ least_to entries m from
-least-over entries m from to order within gap = ap (λ l. earliest (map (λ (d : Debt). d.deadline) l)) (front-gap m m entries from to order within gap)
+least-start entries m from within none = grind (arith, nat_tests, listed-none, length-take-le)
 
 -- the least deadline takes in that of the next place at which something is due
 pub least-more : (entries : List Entry) (m : ℕ → Bool) (from at : ℕ) → from ≤ at → at < length entries → IsGap m from at → m at ≡ true →
@@ -218,11 +173,10 @@ least-end entries m from within none =
 pub least-rising : (entries : List Entry) (m : ℕ → Bool) (at : ℕ) → ((k : ℕ) → at ≤ k → k < length entries → (entry_at entries at).deadline ≤ (entry_at entries k).deadline) →
     at < length entries → ((k : ℕ) → k < at → m k ≡ false) → m at ≡ true → Some (entry_at entries at).deadline ≡ earliest (map (λ d. d.deadline) (debts_from m m 0 entries))
 least-rising entries m at rising inside none is =
-    let d = debt_of (entry_at entries at) (m at) in
     let later = back m m entries (at + 1) in
-    let whole : debts_from m m 0 entries ≡ d ∷ later =
-    parts m m entries at (omega (arith, inside))
-    ∙ ap₂ (λ a b. a ++ b) (listed-none m m 0 (take at entries) (λ k _ below. none k (omega (arith, below, length-take-le at entries (omega (arith, inside)))))) (back-set m m entries at no_entry inside is) in
+    let nothing : front m m entries at ≡ [] = grind (arith, listed-none, length-take-le) in
+    let whole : debts_from m m 0 entries ≡ debt_of (entry_at entries at) (m at) ∷ later =
+    parts m m entries at (omega (arith, inside)) ∙ ap₂ (λ a b. a ++ b) nothing (back-set m m entries at no_entry inside is) in
     earliest-first (entry_at entries at).deadline (map (λ (x : Debt). x.deadline) later)
     (All-map (λ y. (entry_at entries at).deadline ≤ y) (λ (x : Debt). x.deadline) later
     (listed-All (λ x. (entry_at entries at).deadline ≤ x.deadline) m m (at + 1) (drop (at + 1) entries)
@@ -242,16 +196,10 @@ unmust : (gains : Gains) (a : Account) (k : ℕ) → holds gains.musts 0 k ≡ f
 unfolding must_at
 unmust gains a k none = and_left (holds gains.musts 0 k) (nat_le a.soft k) none
 
--- nothing is due before the start or the `soft` of an account
-not-due-before : (gains : Gains) (strikes : List Strike) (a : Account) (from k : ℕ) → from ≤ a.start ⊎ from ≤ a.soft → k < from →
-    due (owes_at gains strikes a) (must_at gains a) k ≡ false
-not-due-before gains strikes a from k (inl start) early = and_left (owes_at gains strikes a k) (must_at gains a k) (before-start gains strikes a k (omega (arith, start, early)))
-not-due-before gains strikes a from k (inr soft) early = and_right (owes_at gains strikes a k) (must_at gains a k) (sym (must-below gains a k (omega (arith, soft, early))))
-
 -- IsLeastTo holds at the later one of the start and the `soft` of an account, with no deadline
-pub least-first : (gains : Gains) (strikes : List Strike) (a : Account) (from : ℕ) → IsAccount gains strikes a → a.start ≤ from → a.soft ≤ from → from ≤ a.start ⊎ from ≤ a.soft →
+pub least-first : (gains : Gains) (strikes : List Strike) (a : Account) (from : ℕ) → IsAccount gains strikes a → a.start ≤ from → a.soft ≤ from → from ≤ max a.start a.soft →
     IsLeastTo gains strikes a from None
-least-first gains strikes a from is low soft one = grind (arith, nat_tests, least-start, not-due-before)
+least-first gains strikes a from is low soft one = grind (arith, nat_tests, least-start, and_left, before-start, and_right, must-below)
 
 -- nothing is due before the next place of a gain that must be sent
 gap-due : (gains : Gains) (strikes : List Strike) (a : Account) (from at : ℕ) → ((k : ℕ) → from ≤ k → k < at → holds gains.musts 0 k ≡ false) →
@@ -261,18 +209,13 @@ gap-due gains strikes a from at none k above below = and_right (owes_at gains st
 -- IsLeastTo goes on over places at which nothing has to be sent, and over one that the account does not owe
 pub least-passed : (gains : Gains) (strikes : List Strike) (a : Account) (from at : ℕ) (least : Option ℕ) → IsLeastTo gains strikes a from least → from ≤ at → at < length (entries_of gains) →
     ((k : ℕ) → from ≤ k → k < at → holds gains.musts 0 k ≡ false) → owes_at gains strikes a at ≡ false → IsLeastTo gains strikes a (at + 1) least
-least-passed gains strikes a from at least was above inside gap unowed = grind (arith, nat_tests, and_left, gap-due, least-over, cases_lt)
-
--- what an account owes at `soft` or after it is due if it must be sent as it was gained
-is-due : (gains : Gains) (strikes : List Strike) (a : Account) (at : ℕ) → a.soft ≤ at → holds gains.musts 0 at ≡ true → owes_at gains strikes a at ≡ true →
-    due (owes_at gains strikes a) (must_at gains a) at ≡ true
-is-due gains strikes a at soft held owed = ap₂ (λ x y. x && y) owed (sym (must-from gains a at soft) ∙ held)
+least-passed gains strikes a from at least was above inside gap unowed = grind (arith, nat_tests, and_left, gap-due, cases_lt, front-gap)
 
 -- IsLeastTo goes on over a place that is due, with its deadline among the others
 pub least-found : (gains : Gains) (strikes : List Strike) (a : Account) (from at moment : ℕ) (least : Option ℕ) → IsLeastTo gains strikes a from least → from ≤ at → at < length (entries_of gains) →
     ((k : ℕ) → from ≤ k → k < at → holds gains.musts 0 k ≡ false) → holds gains.musts 0 at ≡ true → owes_at gains strikes a at ≡ true →
     Some moment ≡ earliest ((entry_at (entries_of gains) at).deadline ∷ option_to_list least) → gains.rises ≡ false → IsLeastTo gains strikes a (at + 1) (Some moment)
-least-found gains strikes a from at moment least was above inside gap held owed is falls = grind (arith, nat_tests, least-more, gap-due, is-due, true≢false)
+least-found gains strikes a from at moment least was above inside gap held owed is falls = grind (arith, nat_tests, least-more, gap-due, true≢false, must-from)
 
 -- where deadlines rise, the first one that is found is the least of all
 pub least-first_due : (gains : Gains) (strikes : List Strike) (a : Account) (from at moment : ℕ) (least : Option ℕ) → AreGains gains → IsLeastTo gains strikes a from least → from ≤ at →
@@ -280,7 +223,7 @@ pub least-first_due : (gains : Gains) (strikes : List Strike) (a : Account) (fro
     Some moment ≡ earliest ((entry_at (entries_of gains) at).deadline ∷ option_to_list least) → gains.rises ≡ true →
     Some moment ≡ earliest (debt_deadlines (account_debts gains strikes a))
 unfolding account_debts
-least-first_due gains strikes a from at moment least gained was above inside gap held owed is rises = grind (arith, nat_tests, least-start, least-rising, rising_kept, left-kept, owed-left, entries_long, cases_lt, gap-due, is-due, due-deadlines)
+least-first_due gains strikes a from at moment least gained was above inside gap held owed is rises = grind (arith, nat_tests, least-start, least-rising, rising_kept, left-kept, owed-left, entries_long, cases_lt, gap-due, due-deadlines, must-from)
 
 -- where nothing is due from a place on, the least deadline so far is that of all
 pub least-last : (gains : Gains) (strikes : List Strike) (a : Account) (from at : ℕ) (least : Option ℕ) → IsLeastTo gains strikes a from least →
@@ -297,7 +240,5 @@ pub leading : (gains : Gains) (strikes : List Strike) (a : Account) (moment : �
     must_at gains a a.start ≡ true → moment ≡ (entry_at (entries_of gains) a.start).deadline → Some moment ≡ earliest (debt_deadlines (account_debts gains strikes a))
 leading gains strikes a moment are is some rises must here =
     let parts = must-parts gains a a.start must in
-    let deadline = (entry_at (entries_of gains) a.start).deadline in
-    ap Some here
-    ∙ least-first_due gains strikes a a.start a.start deadline None are (least-first gains strikes a a.start is (omega arith) parts.1 (inl (omega arith))) (omega arith) (omega (arith, some, is.end))
-    (λ k above below. absurd (omega (arith, above, below))) parts.0 (is.begins some) refl rises
+    let least = least-first gains strikes a a.start is (omega arith) parts.1 (omega arith) in
+    grind (arith, nat_tests, parts, least, least-first_due gains strikes a a.start a.start moment None)

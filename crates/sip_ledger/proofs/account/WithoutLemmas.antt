@@ -1,20 +1,5 @@
 -- An account loses one of its debts.
-use Rattle.std.proofs.Common.{◌≡◌, ◌≢◌, ℕ, ◌+◌, ◌-◌, ◌<◌, ◌≤◌, ◌%◌, ◌^◌, ◌==◌, ◌&&◌, Bool, true, false, not, List, ◌∷◌, length, refl, sym, ap, ◌∙◌, subst, arith, lit<}
-use Rattle.std.specs.Prelude.{nat_le, nat_lt}
-use Rattle.std.specs.List.{sum_by}
-use Rattle.std.proofs.lemmas.Bool.{and_right, cases_lt, eq-eqb, le-leb, lt-leb, lt-ltb, ne_eqb, true≢false}
-use Rattle.std.proofs.Math.Bool.{and-false, or-false, or-true}
-use Rattle.std.proofs.lemmas.Bool.Decides.{nat_tests}
-use Rattle.std.proofs.lemmas.List.Sums.{sum_by-append, sum_by-cons}
-use Rattle.std.proofs.lemmas.Nat.{mod_below}
-use Rattle.std.proofs.Math.Nat.{add-mod_right, mod-add-mod, mod-eq_of_lt}
-use Rattle.sip_ledger.specs.declared.debt.Debt.{Debt}
-use Rattle.sip_ledger.specs.declared.accounts.account.Account.{Account}
-use Rattle.sip_ledger.specs.declared.accounts.gains.Gains.{Gains}
-use Rattle.sip_ledger.specs.declared.accounts.strikes.Strike.{Strike}
-use Rattle.sip_ledger.specs.Accounts.{debts_print, worth_of}
-use Rattle.sip_ledger.specs.Entries.{debt_of}
-use Rattle.sip_ledger.specs.inner.Accounts.{IsAccount, IsStruck, IsWithout, account_debts, entries_of, entry_at, is_gone, is_struck, must_at, owes_at, strikes_of}
+use Rattle.sip_ledger.proofs.Words.{common_steps, ◌≡◌, ◌≢◌, ℕ, ◌+◌, ◌-◌, ◌<◌, ◌≤◌, ◌%◌, ◌^◌, ◌&&◌, Bool, true, false, not, List, length, refl, sym, ap, ◌∙◌, arith, lit<, nat_lt, sum_by, and_right, cases_lt, eq-eqb, le-leb, lt-leb, lt-ltb, ne_eqb, true≢false, and-false, or-false, or-true, nat_tests, sum_by-append, sum_by-cons, mod_below, add-mod_right, mod-add-mod, mod-eq_of_lt, Debt, Account, Gains, Strike, debts_print, worth_of, debt_of, IsAccount, IsStruck, IsWithout, account_debts, entries_of, entry_at, is_gone, is_struck, must_at, owes_at, strikes_of}
 use Rattle.sip_ledger.proofs.debts.OwedLemmas.{IsCut, cut-at}
 use Rattle.sip_ledger.proofs.gains.LeftLemmas.{gone-same, gone-struck}
 use Rattle.sip_ledger.proofs.account.AccountLemmas.{owed-within, past-end, soft-must}
@@ -27,10 +12,7 @@ worths debts = sum_by (λ debt. worth_of debt.message debt.deadline) debts
 pub cut-print : {before after : List Debt} (debt : Debt) (old new : List Debt) → IsCut before debt after old new → (w : ℕ) → w ≡ worth_of debt.message debt.deadline →
     (debts_print new + w) % 2 ^ 64 ≡ debts_print old
 unfolding debts_print
-cut-print {before} {after} debt old new cut w is =
-    mod-add-mod (worths new) (2 ^ 64) w
-    ∙ ap (λ n. n % 2 ^ 64) (let whole = sum_by-append (λ debt. worth_of debt.message debt.deadline) before (debt ∷ after) in let rest = sum_by-append (λ debt. worth_of debt.message debt.deadline) before after in
-    let one = sum_by-cons (λ debt. worth_of debt.message debt.deadline) debt after in omega (arith, ap worths cut.rest, ap worths cut.whole, whole, rest, one, is))
+cut-print {before} {after} debt old new cut w is = grind (arith, nat_tests, common_steps, mod-add-mod, sum_by-append, sum_by-cons)
 
 -- a print is a number of 64 bits
 pub print-fits : (debts : List Debt) → debts_print debts < 2 ^ 64
@@ -62,15 +44,11 @@ pub earlier-end : (gains : Gains) (strikes : List Strike) (a b : Account) (place
 unfolding owes_at
 earlier-end gains strikes a b place end now start first last = grind (arith, nat_tests, past-end, cases_lt, lt-ltb)
 
--- a place lies from `place` up to the one after it exactly if it is `place`
-one-place : (place k : ℕ) → (nat_le place k && nat_lt k (place + 1)) ≡ (k == place)
-one-place place k = grind (arith, nat_tests)
-
 -- where the gain at the place is struck, the account is without it
 pub struck-without : (gains : Gains) (old new : List Strike) (a b c : Account) (place : ℕ) → IsStruck gains place (place + 1) old new a b →
     a.start ≤ place → c.start ≡ b.start → c.end ≡ b.end → c.first ≡ b.first → c.last ≡ b.last → IsWithout place (owes_at gains old a) (owes_at gains new c)
 unfolding owes_at
-struck-without gains old new a b c place s low start end first last = grind (arith, nat_tests, gone-struck, one-place, eq-eqb, or-true, and_right, and-false, cases_lt, before-start, gone-same, ne_eqb, or-false)
+struck-without gains old new a b c place s low start end first last = grind (arith, nat_tests, gone-struck, eq-eqb, or-true, and_right, and-false, cases_lt, before-start, gone-same, ne_eqb, or-false)
 
 -- an account without one of its gains is an account, and owes the debts without that one
 pub without-account : (gains : Gains) (old new : List Strike) (a b : Account) (place w : ℕ) → IsAccount gains old a → owes_at gains old a place ≡ true →
@@ -104,14 +82,10 @@ pub without-first : (gains : Gains) (strikes : List Strike) (a : Account) (place
     IsWithout place (owes_at gains strikes a) (owes_at gains strikes (record a { start = next; print = print }))
 without-first gains strikes a place w next print is owed here worth printed order none begins =
     let b : Account = record a { start = next; print = print } in
-    let entries = (entries_of gains) in
     let without : IsWithout place (owes_at gains strikes a) (owes_at gains strikes b) =
     later-start gains strikes a b place (sym here) (omega (arith, order.0)) refl refl refl (λ k above below. none k (omega (arith, above)) below) in
-    let other : next ≢ place = omega (arith, order.0) in (
-      without-account gains strikes strikes a b place w is owed without refl order.1 (omega arith) is.first is.last (λ m k past. is.bound m k past)
-          (λ some. without.others next other ∙ begins some) worth printed (subst (λ n. n < 2 ^ 64) (sym worth) (worth-fits (entry_at entries place).message (entry_at entries place).deadline)),
-      without,
-    )
+    let account : IsAccount gains strikes b = grind (arith, nat_tests, without-account gains strikes strikes a b place w, without, worth-fits, without.others next) in
+    (account, without)
 
 -- an account without its last debt is an account, and owes the others
 pub without-last : (gains : Gains) (strikes : List Strike) (a : Account) (place w print : ℕ) → IsAccount gains strikes a → owes_at gains strikes a place ≡ true →
@@ -121,15 +95,10 @@ pub without-last : (gains : Gains) (strikes : List Strike) (a : Account) (place 
     IsWithout place (owes_at gains strikes a) (owes_at gains strikes (record a { end = place; print = print }))
 without-last gains strikes a place w print is owed later last worth printed =
     let b : Account = record a { end = place; print = print } in
-    let entries = (entries_of gains) in
     let from = owed-from gains strikes a place owed in
     let without : IsWithout place (owes_at gains strikes a) (owes_at gains strikes b) = earlier-end gains strikes a b place last refl refl refl refl in
-    let other : a.start ≢ place = λ same. later (sym same) in (
-      without-account gains strikes strikes a b place w is owed without refl from (omega (arith, last)) is.first is.last (λ m k past. is.bound m k past)
-          (λ some. without.others a.start other ∙ is.begins (omega (arith, some, last))) worth printed
-          (subst (λ n. n < 2 ^ 64) (sym worth) (worth-fits (entry_at entries place).message (entry_at entries place).deadline)),
-      without,
-    )
+    let account : IsAccount gains strikes b = grind (arith, nat_tests, without-account gains strikes strikes a b place w, without, worth-fits, without.others a.start) in
+    (account, without)
 
 -- an account without a debt between others is an account, and owes the others
 pub without-middle : (gains : Gains) (old new : List Strike) (a b : Account) (place w print : ℕ) → IsAccount gains old a → owes_at gains old a place ≡ true →
@@ -139,14 +108,7 @@ pub without-middle : (gains : Gains) (old new : List Strike) (a b : Account) (pl
     IsWithout place (owes_at gains old a) (owes_at gains new (record b { print = print }))
 without-middle gains old new a b place w print is owed later struck worth printed =
     let c : Account = record b { print = print } in
-    let entries = (entries_of gains) in
     let from = owed-from gains old a place owed in
-    let start = struck.start in
     let without : IsWithout place (owes_at gains old a) (owes_at gains new c) = struck-without gains old new a b c place struck from refl refl refl refl in
-    let other : a.start ≢ place = λ same. later (sym same) in (
-      without-account gains old new a c place w is owed without struck.soft (omega (arith, start, struck.end, is.order)) (omega (arith, struck.end)) struck.first struck.last
-          (λ m k past. struck.bound m k past (is.bound m k past))
-          (λ some. ap (owes_at gains new c) start ∙ without.others a.start other ∙ is.begins (omega (arith, some, start, struck.end))) worth printed
-          (subst (λ n. n < 2 ^ 64) (sym worth) (worth-fits (entry_at entries place).message (entry_at entries place).deadline)),
-      without,
-    )
+    let account : IsAccount gains new c = grind (arith, nat_tests, without-account gains old new a c place w, without, worth-fits, without.others a.start) in
+    (account, without)

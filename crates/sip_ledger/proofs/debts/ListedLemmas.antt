@@ -1,37 +1,9 @@
 -- The debts of a list of entries: `o` tells which places are owed, and `m` which of them must be sent.
-use Rattle.std.proofs.Common.{◌≡◌, ℕ, zero, suc, ◌+◌, ◌-◌, ◌<◌, ◌≤◌, Bool, true, false, ◌&&◌, ◌||◌, cond, List, [], ◌∷◌, ◌++◌, length, take, drop, get_or, map, filter, refl, sym, ap, ◌∙◌, subst, arith}
-use Rattle.std.specs.Prelude.{All, nat_le, Some, option_to_list, min}
-use Rattle.std.specs.List.{fold}
-use Rattle.std.proofs.lemmas.List.{append_cancel_right, drop_more, length-take-le, take-append-drop, take_more}
-use Rattle.std.proofs.lemmas.List.Elements.{All-nil, All-cons, All-head, All-tail}
-use Rattle.sip_ledger.specs.declared.debt.Debt.{Debt}
-use Rattle.sip_ledger.specs.declared.debt.Entry.{Entry}
-use Rattle.sip_ledger.specs.Debts.{counts_at, softened_debt, debt_deadlines, earliest}
-use Rattle.sip_ledger.specs.Entries.{debt_of, debts_from, IsGap}
+use Rattle.sip_ledger.proofs.Words.{common_steps, nat_tests, ◌≡◌, ℕ, zero, suc, ◌+◌, ◌-◌, ◌<◌, ◌≤◌, Bool, true, false, ◌&&◌, ◌||◌, cond, List, [], ◌∷◌, ◌++◌, length, take, drop, get_or, map, filter, refl, sym, ap, ◌∙◌, subst, arith, ap₂, All, nat_le, Some, option_to_list, min, fold, append_cancel_right, drop_more, length-take-le, take-append-drop, take_more, get_or_default, All-nil, All-cons, All-head, All-tail, Debt, Entry, counts_at, softened_debt, debt_deadlines, earliest, debt_of, debts_from, IsGap}
 
 -- what stands where there is no entry
 abbrev pub no_entry : Entry
 no_entry = record { message = 0; deadline = 0 }
-
--- where all debts are xs and ys, it comes to the same to put d before all, or before xs, or to leave it out of both
-cond-append : (b : Bool) (d : Debt) (all xs ys : List Debt) → all ≡ xs ++ ys → cond b (d ∷ all) all ≡ cond b (d ∷ xs) xs ++ ys
-cond-append true d all xs ys e = ap (λ l. d ∷ l) e
-cond-append false d all xs ys e = e
-
--- where tests, debts and lists are the same, what the test lets stand is the same
-cond-same : (b b' : Bool) (d d' : Debt) (xs xs' : List Debt) → b ≡ b' → d ≡ d' → xs ≡ xs' → cond b (d ∷ xs) xs ≡ cond b' (d' ∷ xs') xs'
-cond-same b b' d d' xs xs' same_b same_d same_xs =
-    ap (λ a. cond a (d ∷ xs) xs) same_b ∙ ap (λ x. cond b' (x ∷ xs) xs) same_d ∙ ap (λ l. cond b' (d' ∷ l) l) same_xs
-
--- where a list is filtered, a first debt that a test lets stand stays if it passes both tests
-cond-filter : (p : Debt → Bool) (b : Bool) (d : Debt) (xs : List Debt) → filter p (cond b (d ∷ xs) xs) ≡ cond (b && p d) (d ∷ filter p xs) (filter p xs)
-cond-filter p true d xs = refl
-cond-filter p false d xs = refl
-
--- what a map gives of a list whose first debt a test lets stand
-cond-map : {X : Type 0} (f : Debt → X) (b : Bool) (d : Debt) (xs : List Debt) → map f (cond b (d ∷ xs) xs) ≡ cond b (f d ∷ map f xs) (map f xs)
-cond-map f true d xs = refl
-cond-map f false d xs = refl
 
 -- where P holds of all of a list, and of a first debt if the test lets it stand, it holds of all that stands
 cond-All : (P : Debt → Type 0) (b : Bool) (d : Debt) (xs : List Debt) → (b ≡ true → P d) → All P xs → All P (cond b (d ∷ xs) xs)
@@ -41,26 +13,18 @@ cond-All P false d xs here rest = rest
 -- the debts of two lists of entries together are those of the first list and those of the second, whose places follow
 pub listed-append : (o m : ℕ → Bool) (i : ℕ) (xs ys : List Entry) → debts_from o m i (xs ++ ys) ≡ debts_from o m i xs ++ debts_from o m (i + length xs) ys
 listed-append o m i [] ys = let none : i ≡ i + 0 = omega arith in ap (λ n. debts_from o m n ys) none
-listed-append o m i (x ∷ xs) ys =
-    let next : i + 1 + length xs ≡ i + suc (length xs) = omega arith in
-    cond-append (o i) (debt_of x (m i)) (debts_from o m (i + 1) (xs ++ ys)) (debts_from o m (i + 1) xs) (debts_from o m (i + suc (length xs)) ys)
-    (listed-append o m (i + 1) xs ys ∙ ap (λ n. debts_from o m (i + 1) xs ++ debts_from o m n ys) next)
+listed-append o m i (x ∷ xs) ys = grind (arith, nat_tests, listed-append o m (i + 1) xs ys)
 
 -- where the same places are owed and must be sent, the debts are the same
 pub listed-same : (o m o' m' : ℕ → Bool) (i : ℕ) (xs : List Entry) → ((k : ℕ) → i ≤ k → k < i + length xs → (o k ≡ o' k) × (m k ≡ m' k)) →
     debts_from o m i xs ≡ debts_from o' m' i xs
 listed-same o m o' m' i [] agree = refl
-listed-same o m o' m' i (x ∷ xs) agree =
-    let here = agree i (omega arith) (omega arith) in
-    cond-same (o i) (o' i) (debt_of x (m i)) (debt_of x (m' i)) (debts_from o m (i + 1) xs) (debts_from o' m' (i + 1) xs) here.0
-    (ap (debt_of x) here.1) (listed-same o m o' m' (i + 1) xs (λ k from below. agree k (omega (arith, from)) (omega (arith, below))))
+listed-same o m o' m' i (x ∷ xs) agree = grind (arith, nat_tests, listed-same o m o' m' (i + 1) xs)
 
 -- where no place of the entries is owed, there are no debts
 pub listed-none : (o m : ℕ → Bool) (i : ℕ) (xs : List Entry) → ((k : ℕ) → i ≤ k → k < i + length xs → o k ≡ false) → debts_from o m i xs ≡ []
 listed-none o m i [] none = refl
-listed-none o m i (x ∷ xs) none =
-    ap (λ b. cond b (debt_of x (m i) ∷ debts_from o m (i + 1) xs) (debts_from o m (i + 1) xs)) (none i (omega arith) (omega arith))
-    ∙ listed-none o m (i + 1) xs (λ k from below. none k (omega (arith, from)) (omega (arith, below)))
+listed-none o m i (x ∷ xs) none = grind (arith, nat_tests, listed-none o m (i + 1) xs)
 
 -- there are no more debts than entries
 pub listed-few : (o m : ℕ → Bool) (i : ℕ) (xs : List Entry) → length (debts_from o m i xs) ≤ length xs
@@ -75,9 +39,14 @@ listed-All P o m i (x ∷ xs) each =
     let none : i + 0 ≡ i = omega arith in
     cond-All P (o i) (debt_of x (m i)) (debts_from o m (i + 1) xs)
     (λ is. subst (λ n. P (debt_of x (m n))) none (each 0 x (omega arith) (ap o none ∙ is)))
-    (listed-All P o m (i + 1) xs (λ j e below is.
-    let next : i + 1 + j ≡ i + suc j = omega arith in
-    subst (λ n. P (debt_of (get_or xs j e) (m n))) (sym next) (each (suc j) e (omega (arith, below)) (ap o (sym next) ∙ is))))
+    (listed-All P o m (i + 1) xs (λ j e below is. grind (arith, each (suc j) e)))
+
+-- where P holds of the debt of each place that is owed, it holds of all debts that these places have
+pub listed-each : (P : Debt → Type 0) (o m : ℕ → Bool) (entries : List Entry) → ((k : ℕ) → k < length entries → o k ≡ true → P (debt_of (get_or entries k no_entry) (m k))) →
+    All P (debts_from o m 0 entries)
+listed-each P o m entries each = listed-All P o m 0 entries (λ j e below set.
+    let here : 0 + j ≡ j = omega arith in
+    subst P (ap₂ debt_of (get_or_default entries j no_entry e below) (ap m (sym here))) (each j below (ap o (sym here) ∙ set)))
 
 -- the debts of the places before k
 abbrev pub front : (ℕ → Bool) → (ℕ → Bool) → List Entry → ℕ → List Debt
@@ -102,8 +71,7 @@ back-at o m entries k e within = ap (debts_from o m k) (drop_more entries k e wi
 -- where k is owed, the debts from k on are its debt and those from k + 1 on
 pub back-set : (o m : ℕ → Bool) (entries : List Entry) (k : ℕ) (e : Entry) → k < length entries → o k ≡ true →
     back o m entries k ≡ debt_of (get_or entries k e) (m k) ∷ back o m entries (k + 1)
-back-set o m entries k e within is =
-    back-at o m entries k e within ∙ ap (λ b. cond b (debt_of (get_or entries k e) (m k) ∷ back o m entries (k + 1)) (back o m entries (k + 1))) is
+back-set o m entries k e within is = grind (arith, nat_tests, common_steps, back-at)
 
 -- where k is not owed, the debts from k on are those from k + 1 on
 pub back-unset : (o m : ℕ → Bool) (entries : List Entry) (k : ℕ) → k < length entries → o k ≡ false → back o m entries k ≡ back o m entries (k + 1)
@@ -118,8 +86,7 @@ back-none o m entries k none = listed-none o m k (drop k entries) (λ j from bel
 -- where the same places before k are owed and must be sent, the debts before k are the same
 pub front-same : (o m o' m' : ℕ → Bool) (entries : List Entry) (k : ℕ) → k ≤ length entries → ((j : ℕ) → j < k → (o j ≡ o' j) × (m j ≡ m' j)) →
     front o m entries k ≡ front o' m' entries k
-front-same o m o' m' entries k within agree =
-    listed-same o m o' m' 0 (take k entries) (λ j from below. agree j (omega (arith, below, length-take-le k entries within)))
+front-same o m o' m' entries k within agree = grind (arith, nat_tests, listed-same, length-take-le)
 
 -- where the same places from k on are owed and must be sent, the debts from k on are the same
 pub back-same : (o m o' m' : ℕ → Bool) (entries : List Entry) (k : ℕ) → ((j : ℕ) → k ≤ j → (o j ≡ o' j) × (m j ≡ m' j)) →
@@ -129,17 +96,11 @@ back-same o m o' m' entries k agree = listed-same o m o' m' k (drop k entries) (
 -- where no place from i up to i + n is owed, the debts from i on are those from i + n on
 pub back-gap : (o m : ℕ → Bool) (entries : List Entry) (i n : ℕ) → i + n ≤ length entries → IsGap o i (i + n) → back o m entries i ≡ back o m entries (i + n)
 back-gap o m entries i zero within gap = let none : i ≡ i + 0 = omega arith in ap (back o m entries) none
-back-gap o m entries i (suc n) within gap =
-    let next : i + 1 + n ≡ i + suc n = omega arith in
-    back-unset o m entries i (omega (arith, within)) (gap i (omega arith) (omega arith))
-    ∙ back-gap o m entries (i + 1) n (omega (arith, within)) (λ j from below. gap j (omega (arith, from)) (omega (arith, below)))
-    ∙ ap (back o m entries) next
+back-gap o m entries i (suc n) within gap = grind (arith, nat_tests, back-unset, back-gap o m entries (i + 1) n)
 
 -- where no place from i up to k is owed, the debts from i on are those from k on
 pub back-over : (o m : ℕ → Bool) (entries : List Entry) (i k : ℕ) → i ≤ k → k ≤ length entries → IsGap o i k → back o m entries i ≡ back o m entries k
-back-over o m entries i k order within gap =
-    let is : i + (k - i) ≡ k = omega (arith, order) in
-    back-gap o m entries i (k - i) (omega (arith, within, is)) (λ j from below. gap j from (omega (arith, below, is))) ∙ ap (back o m entries) is
+back-over o m entries i k order within gap = let is : i + (k - i) ≡ k = omega (arith, order) in grind (arith, is, back-gap o m entries i (k - i))
 
 -- where the places that stay owed are those whose debts count still at t, the debts are those that count still
 pub listed-counting : (t : ℕ) (o m o' : ℕ → Bool) (i : ℕ) (xs : List Entry) →
@@ -148,23 +109,15 @@ pub listed-counting : (t : ℕ) (o m o' : ℕ → Bool) (i : ℕ) (xs : List Ent
 listed-counting t o m o' i [] each = refl
 listed-counting t o m o' i (x ∷ xs) each =
     let none : i ≡ i + 0 = omega arith in
-    let here : o' i ≡ (o i && (m i || nat_le t x.deadline)) =
-    subst (λ n. o' n ≡ (o n && (m n || nat_le t x.deadline))) (sym none) (each 0 x (omega arith)) in
-    let rest = listed-counting t o m o' (i + 1) xs (λ j e below.
-    let next : i + 1 + j ≡ i + suc j = omega arith in
-    subst (λ n. o' n ≡ (o n && (m n || nat_le t (get_or xs j e).deadline))) (sym next) (each (suc j) e (omega (arith, below)))) in
-    cond-same (o' i) (o i && (m i || nat_le t x.deadline)) (debt_of x (m i)) (debt_of x (m i)) (debts_from o' m (i + 1) xs)
-    (filter (counts_at t) (debts_from o m (i + 1) xs)) here refl rest
-    ∙ sym (cond-filter (counts_at t) (o i) (debt_of x (m i)) (debts_from o m (i + 1) xs))
+    let here : o' i ≡ (o i && (m i || nat_le t x.deadline)) = subst (λ n. o' n ≡ (o n && (m n || nat_le t x.deadline))) (sym none) (each 0 x (omega arith)) in
+    let rest : debts_from o' m (i + 1) xs ≡ filter (counts_at t) (debts_from o m (i + 1) xs) = listed-counting t o m o' (i + 1) xs (λ j e below. grind (arith, each (suc j) e)) in
+    grind (arith, nat_tests, here, rest)
 
 -- where no place must be sent any more, the debts are the softened ones
 pub listed-softened : (o m m' : ℕ → Bool) (i : ℕ) (xs : List Entry) → ((k : ℕ) → m' k ≡ false) →
     debts_from o m' i xs ≡ map softened_debt (debts_from o m i xs)
 listed-softened o m m' i [] none = refl
-listed-softened o m m' i (x ∷ xs) none =
-    cond-same (o i) (o i) (debt_of x (m' i)) (softened_debt (debt_of x (m i))) (debts_from o m' (i + 1) xs)
-    (map softened_debt (debts_from o m (i + 1) xs)) refl (ap (debt_of x) (none i)) (listed-softened o m m' (i + 1) xs none)
-    ∙ sym (cond-map softened_debt (o i) (debt_of x (m i)) (debts_from o m (i + 1) xs))
+listed-softened o m m' i (x ∷ xs) none = grind (arith, nat_tests, listed-softened o m m' (i + 1) xs none)
 
 -- where no place from `from` up to `at` is owed, the debts before `at` are those before `from`
 pub front-gap : (o m : ℕ → Bool) (entries : List Entry) (from at : ℕ) → from ≤ at → at ≤ length entries → IsGap o from at →
@@ -177,35 +130,13 @@ front-gap o m entries from at order within gap =
 -- where the next place from `from` on that is owed is `at`, the debts before `at + 1` are those before `from` and its own
 pub front-next : (o m : ℕ → Bool) (entries : List Entry) (from at : ℕ) (e : Entry) → from ≤ at → at < length entries → IsGap o from at → o at ≡ true →
     front o m entries (at + 1) ≡ front o m entries from ++ debt_of (get_or entries at e) (m at) ∷ []
-front-next o m entries from at e order within gap set =
-    let entry = get_or entries at e in
-    let debt = debt_of entry (m at) in
-    let less : at ≤ length entries = omega (arith, within) in
-    let long : 0 + length (take at entries) ≡ at = omega (arith, length-take-le at entries less) in
-    ap (debts_from o m 0) (take_more entries at e within)
-    ∙ listed-append o m 0 (take at entries) (entry ∷ [])
-    ∙ ap (λ n. front o m entries at ++ debts_from o m n (entry ∷ [])) long
-    ∙ ap (λ b. front o m entries at ++ cond b (debt ∷ []) []) set
-    ∙ ap (λ l. l ++ debt ∷ []) (front-gap o m entries from at order less gap)
-
--- where what must be sent is owed, a place is owed and must be sent exactly if it must be sent
-must-of : (b c : Bool) → (c ≡ true → b ≡ true) → (b && c) ≡ c
-must-of true c among = refl
-must-of false true among = among refl
-must-of false false among = refl
+front-next o m entries from at e order within gap set = grind (arith, nat_tests, common_steps, length-take-le, take_more, listed-append, front-gap)
 
 -- where what must be sent is owed, the deadlines of the debts that must be sent are those of the places that must be sent
 pub listed-must : (o m : ℕ → Bool) (i : ℕ) (xs : List Entry) → ((k : ℕ) → m k ≡ true → o k ≡ true) →
     debt_deadlines (debts_from o m i xs) ≡ map (λ d. d.deadline) (debts_from m m i xs)
 listed-must o m i [] among = refl
-listed-must o m i (x ∷ xs) among =
-    let debt = debt_of x (m i) in
-    let rest = debts_from o m (i + 1) xs in
-    ap (map (λ (d : Debt). d.deadline)) (cond-filter (λ d. d.must) (o i) debt rest)
-    ∙ cond-map (λ d. d.deadline) (o i && m i) debt (filter (λ d. d.must) rest)
-    ∙ ap (λ b. cond b (x.deadline ∷ debt_deadlines rest) (debt_deadlines rest)) (must-of (o i) (m i) (among i))
-    ∙ ap (λ l. cond (m i) (x.deadline ∷ l) l) (listed-must o m (i + 1) xs among)
-    ∙ sym (cond-map (λ d. d.deadline) (m i) debt (debts_from m m (i + 1) xs))
+listed-must o m i (x ∷ xs) among = grind (arith, nat_tests, listed-must o m (i + 1) xs among)
 
 -- the least of some moments and a further one is the lesser of their least and of that one
 fold-push : (a m : ℕ) (ms : List ℕ) → fold min a (ms ++ m ∷ []) ≡ min (fold min a ms) m
@@ -221,8 +152,7 @@ earliest-push (x ∷ xs) m = let turned : min (fold min x xs) m ≡ min m (fold 
 fold-first : (x : ℕ) (xs : List ℕ) → All (λ y. x ≤ y) xs → fold min x xs ≡ x
 fold-first x [] above = refl
 fold-first x (y ∷ ys) above =
-    let here : min x y ≡ x = omega (arith, All-head (λ z. x ≤ z) y ys above) in
-    ap (λ n. fold min n ys) here ∙ fold-first x ys (All-tail (λ z. x ≤ z) y ys above)
+    let here : min x y ≡ x = omega (arith, All-head (λ z. x ≤ z) y ys above) in grind (arith, here, fold-first x ys (All-tail (λ z. x ≤ z) y ys above))
 
 -- a moment that none of the others is before is the earliest
 pub earliest-first : (x : ℕ) (xs : List ℕ) → All (λ y. x ≤ y) xs → Some x ≡ earliest (x ∷ xs)

@@ -1,15 +1,6 @@
 -- What is owed once a place is owed no more, or is owed too.
-use Rattle.std.proofs.Common.{◌≡◌, ◌≢◌, ℕ, ◌+◌, ◌<◌, ◌≤◌, Bool, true, false, List, [], ◌∷◌, ◌++◌, length, take, get_or, append-nil, sym, ap, ap₂, ◌∙◌, subst, arith}
-use Rattle.std.specs.List.{list_any}
-use Rattle.std.proofs.lemmas.Bool.{or_left, or_right}
-use Rattle.std.proofs.lemmas.List.Folds.{list_any-append}
-use Rattle.std.proofs.lemmas.List.{get_or-take, get_or_default, length-append, length-take-le}
-use Rattle.sip_ledger.specs.declared.debt.Debt.{Debt}
-use Rattle.sip_ledger.specs.declared.debt.Entry.{Entry}
-use Rattle.sip_ledger.specs.Debts.{IsWithoutFirst}
-use Rattle.sip_ledger.specs.Entries.{debt_of, debts_from}
-use Rattle.sip_ledger.specs.inner.Accounts.{IsWithout}
-use Rattle.sip_ledger.proofs.debts.ListedLemmas.{no_entry, front, back, parts, back-set, back-unset, back-same, back-none, front-same, listed-All}
+use Rattle.sip_ledger.proofs.Words.{nat_tests, ◌≡◌, ◌≢◌, ℕ, ◌+◌, ◌<◌, ◌≤◌, Bool, true, false, List, [], ◌∷◌, ◌++◌, length, take, get_or, append-nil, sym, ap, ap₂, ◌∙◌, subst, arith, list_any, list_any-append, get_or-take, length-append, length-take-le, Debt, Entry, IsWithoutFirst, debt_of, debts_from, IsWithout}
+use Rattle.sip_ledger.proofs.debts.ListedLemmas.{no_entry, front, back, parts, back-set, back-unset, back-same, back-none, front-same, listed-each}
 
 -- the new debts are the old ones without one, which stood between these
 pub record IsCut (before : List Debt) (debt : Debt) (after old new : List Debt) : Type 0 where
@@ -42,12 +33,9 @@ removed P entries o m o' m' at within is without must holds none =
       after = back o m entries (at + 1);
       whole = cut.whole;
       holds = holds;
-      none_before = listed-All (λ d. ¬ (P d)) o m 0 (take at entries) (λ j e below set.
-          let early : j < at = omega (arith, below, length-take-le at entries (omega (arith, within))) in
-          let here : 0 + j ≡ j = omega arith in
-          let same : debt_of (get_or (take at entries) j e) (m (0 + j)) ≡ debt_of (get_or entries j no_entry) (m j) =
-          ap₂ debt_of (get_or-take at entries j e early ∙ get_or_default entries j e no_entry (omega (arith, early, within))) (ap m here) in
-          subst (λ d. ¬ (P d)) (sym same) (none j early (sym (ap o here) ∙ set)));
+      none_before = listed-each (λ d. ¬ (P d)) o m (take at entries) (λ k below set.
+          let early : k < at = omega (arith, below, length-take-le at entries (omega (arith, within))) in
+          subst (λ e. ¬ (P (debt_of e (m k)))) (sym (get_or-take at entries k no_entry early)) (none k early set));
       rest = cut.rest;
     }
 
@@ -69,19 +57,11 @@ gained-debts entries o m o' m' at inside last here others must_others =
 -- where the debt of a place that is owed passes a test, one of the debts does
 pub listed-any : (test : Debt → Bool) (entries : List Entry) (o m : ℕ → Bool) (at : ℕ) → at < length entries → o at ≡ true →
     test (debt_of (get_or entries at no_entry) (m at)) ≡ true → list_any test (debts_from o m 0 entries) ≡ true
-listed-any test entries o m at within is passes =
-    let debt = debt_of (get_or entries at no_entry) (m at) in
-    let before = front o m entries at in
-    let behind = back o m entries (at + 1) in
-    ap (list_any test) (parts o m entries at (omega (arith, within)) ∙ ap (λ l. before ++ l) (back-set o m entries at no_entry within is))
-    ∙ list_any-append test before (debt ∷ behind)
-    ∙ or_right (list_any test before) (list_any test (debt ∷ behind)) (or_left (test debt) (list_any test behind) passes)
+listed-any test entries o m at within is passes = grind (arith, nat_tests, parts o m entries at, back-set o m entries at no_entry, list_any-append)
 
 -- where a place is owed, there is a debt
 pub some-debt : (entries : List Entry) (o m : ℕ → Bool) (k : ℕ) → k < length entries → o k ≡ true → debts_from o m 0 entries ≢ []
 some-debt entries o m k within is none =
-    let debt = debt_of (get_or entries k no_entry) (m k) in
-    let before = front o m entries k in
-    let behind = back o m entries (k + 1) in
-    let whole = sym (parts o m entries k (omega (arith, within)) ∙ ap (λ l. before ++ l) (back-set o m entries k no_entry within is)) ∙ none in
-    absurd (omega (arith, ap length whole, length-append before (debt ∷ behind)))
+    let whole = parts o m entries k (omega (arith, within)) ∙ ap (λ l. front o m entries k ++ l) (back-set o m entries k no_entry within is) in
+    let long = length-append (front o m entries k) (debt_of (get_or entries k no_entry) (m k) ∷ back o m entries (k + 1)) in
+    absurd (omega (arith, ap length (sym whole ∙ none), long))

@@ -1,22 +1,10 @@
 -- What is known beside each gain by its flags, so that the index is not asked.
-use Rattle.std.proofs.Common.{◌≡◌, ℕ, Bool, ◌+◌, ◌-◌, ◌≤◌, true, false, [], ◌∷◌, ◌++◌, length, drop, set, ap, ◌∙◌, arith}
-use Rattle.std.proofs.lemmas.Bool.Decides.{nat_tests}
-use Rattle.std.proofs.lemmas.Bool.{cases_eq}
-use Rattle.std.proofs.lemmas.List.{get_or-drop, get_or-set_other, get_or-set_same, get_or_append_left, get_or_push, length-append, length-drop, length-set}
-use Rattle.sip_ledger.specs.declared.debt.Debt.{Debt}
-use Rattle.sip_ledger.specs.declared.debt.Entry.{Entry}
-use Rattle.sip_ledger.specs.declared.accounts.gains.Gains.{Gains}
-use Rattle.sip_ledger.specs.inner.Accounts.{AreFlags, AreSameGains, IsDropped, IsGain, IsKept, IsLetGo, blank, entries_of, entry_at, is_left, no_flags}
-use Rattle.sip_ledger.specs.Indexes.{holds}
+use Rattle.sip_ledger.proofs.Words.{◌≡◌, ℕ, Bool, ◌+◌, ◌-◌, ◌≤◌, true, false, [], ◌∷◌, ◌++◌, length, drop, set, ap, ◌∙◌, arith, nat_tests, cases_eq, get_or-drop, get_or-set_other, get_or-set_same, get_or_append_left, get_or_push, length-append, length-drop, length-set, Debt, Entry, Gains, AreFlags, AreSameGains, IsDropped, IsGain, IsKept, IsLetGo, blank, entries_of, entry_at, is_left, no_flags, holds}
 
 -- whether a gain is left depends on its entry and the index alone
 pub left-as : (old new : Gains) (k : ℕ) → entry_at (entries_of new) k ≡ entry_at (entries_of old) k → ((m : ℕ) → holds new.messages m k ≡ holds old.messages m k) → is_left new k ≡ is_left old k
 unfolding is_left
 left-as old new k same messages = ap (λ (e : Entry). holds new.messages e.message k) same ∙ messages (entry_at (entries_of old) k).message
-
--- where nothing was gained, no flags are right flags
-pub flags-none : (gains : Gains) → gains.entries.items ≡ [] → gains.flags.items ≡ [] → AreFlags gains
-flags-none gains entries flags = grind (arith, nat_tests)
 
 -- flags stay right where entries, flags and index stay the same
 pub flags-same : (old new : Gains) → AreFlags old → new.entries.items ≡ old.entries.items → new.flags.items ≡ old.flags.items → new.end ≡ old.end → AreSameGains old new → AreFlags new

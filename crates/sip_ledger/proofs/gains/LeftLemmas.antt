@@ -1,20 +1,5 @@
 -- Which gains are left, and what changes of that when gains come, are let go or are dropped.
-use Rattle.std.proofs.Common.{◌≡◌, ◌≢◌, ℕ, suc, ◌+◌, ◌-◌, ◌^◌, ◌<◌, ◌≤◌, ◌==◌, ◌&&◌, ◌||◌, Bool, true, false, cond, not, List, [], ◌∷◌, ◌++◌, length, drop, get_or, refl, sym, ap, ap₂, ◌∙◌, subst, inl, inr, arith}
-use Rattle.std.proofs.lemmas.Bool.Decides.{nat_tests}
-use Rattle.std.specs.Prelude.{replicate}
-use Rattle.std.proofs.lemmas.Bool.{cases_eq, cases_lt, eq-eqb, false_from_ne_true, ne_eqb, true≢false}
-use Rattle.std.proofs.Math.Bool.{and-false}
-use Rattle.std.proofs.lemmas.List.{append_assoc, get_or-append_right, get_or_append_left, get_or-drop, get_or_default, get_or_past, get_or_push, length-append, length-drop, length-replicate}
-use Rattle.sip_ledger.specs.declared.debt.Debt.{Debt}
-use Rattle.sip_ledger.specs.declared.debt.Entry.{Entry}
-use Rattle.sip_ledger.specs.declared.accounts.account.Account.{Account}
-use Rattle.sip_ledger.specs.declared.accounts.gains.Gains.{Gains}
-use Rattle.sip_ledger.specs.declared.accounts.strikes.Strike.{Strike}
-use Rattle.sip_ledger.specs.Entries.{debts_from}
-use Rattle.sip_ledger.specs.inner.Accounts.{AreFlags, AreGains, AreSameGains, IsDropped, IsGain, IsKept, IsLetGo, IsNoted, IsPlaceOf, blank, entries_of, entry_at, is_gone, is_left, is_struck, owes_at}
-use Rattle.sip_ledger.specs.Indexes.{holds}
-use Rattle.sip_ledger.specs.inner.Deadlines.{AreRising}
-use Rattle.sip_ledger.proofs.gains.FlagLemmas.{flags-none}
+use Rattle.sip_ledger.proofs.Words.{◌≡◌, ◌≢◌, ℕ, suc, ◌+◌, ◌-◌, ◌^◌, ◌<◌, ◌≤◌, ◌==◌, ◌&&◌, ◌||◌, Bool, true, false, cond, not, List, [], ◌∷◌, ◌++◌, length, drop, get_or, refl, sym, ap, ap₂, arith, nat_tests, replicate, cases_eq, cases_lt, eq-eqb, false_from_ne_true, ne_eqb, true≢false, and-false, append_assoc, get_or-append_right, get_or_append_left, get_or-drop, get_or_default, get_or_past, get_or_push, length-append, length-drop, length-replicate, Debt, Entry, Account, Gains, Strike, debts_from, AreFlags, AreGains, AreSameGains, IsDropped, IsGain, IsKept, IsLetGo, IsNoted, IsPlaceOf, blank, entries_of, entry_at, is_gone, is_left, is_struck, owes_at, holds, AreRising}
 use Rattle.sip_ledger.proofs.debts.ListedLemmas.{no_entry}
 
 -- there are as many entries as there were gains
@@ -54,7 +39,7 @@ not-noted gains m k are past = grind (arith, false_from_ne_true)
 -- empty lists are right gains
 pub none-gained : (gains : Gains) → gains.entries.items ≡ [] → gains.flags.items ≡ [] → gains.end ≡ 0 → gains.messages ≡ [] → gains.musts ≡ [] → AreGains gains
 unfolding holds
-none-gained gains entries flags end messages musts = grind (arith, nat_tests, true≢false, flags-none)
+none-gained gains entries flags end messages musts = grind (arith, nat_tests, true≢false)
 
 -- where nothing was gained there are no entries
 pub none-entries : (gains : Gains) → gains.entries.items ≡ [] → gains.end ≡ 0 → entries_of gains ≡ []
@@ -88,19 +73,10 @@ pub gone-struck : (gains : Gains) (own : List Strike) (k : ℕ) → (is_left gai
 unfolding is_gone
 gone-struck gains own k struck = grind (arith, nat_tests)
 
--- a gain that is not gone is left
-pub not-gone : (gains : Gains) (own : List Strike) (k : ℕ) → is_gone gains own k ≡ false → is_left gains k ≡ true
-unfolding is_gone
-not-gone gains own k is = grind (arith, nat_tests)
-
 -- a gain that is owed is left
 pub owed-left : (gains : Gains) (strikes : List Strike) (a : Account) (k : ℕ) → owes_at gains strikes a k ≡ true → is_left gains k ≡ true
-unfolding owes_at
-owed-left gains strikes a k is = grind (arith, nat_tests, not-gone, true≢false)
-
--- a gain that is not left is not owed
-pub unleft-unowed : (gains : Gains) (strikes : List Strike) (a : Account) (k : ℕ) → is_left gains k ≡ false → owes_at gains strikes a k ≡ false
-unleft-unowed gains strikes a k none = false_from_ne_true (owes_at gains strikes a k) (λ is. true≢false (sym (owed-left gains strikes a k is) ∙ none))
+unfolding owes_at is_gone
+owed-left gains strikes a k is = grind (arith, nat_tests, true≢false)
 
 -- all gains with one more are the gains and this one after them
 pub more-entries : (old new : Gains) (entry : Entry) → length old.entries.items ≤ old.end → new.entries.items ≡ old.entries.items ++ entry ∷ [] → new.end ≡ old.end + 1 →
@@ -114,65 +90,12 @@ pub gains-more : (old new : Gains) (debt : Debt) → AreGains old → new.entrie
     (new.rises ≡ true → AreRising (old.entries.items ++ (record { message = debt.message; deadline = debt.deadline }) ∷ [])) → old.highest ≤ new.highest → debt.message ≤ new.highest →
     (IsGain debt old new → AreFlags new) → AreGains new × IsGain debt old new
 gains-more old new debt are entries end small noted rises higher own flags =
-    let n = old.end in
-    let e : Entry = record { message = debt.message; deadline = debt.deadline } in
-    let long = are.long in
-    let all : entries_of new ≡ entries_of old ++ e ∷ [] = more-entries old new e long entries end in
-    let count = entries_long old long in
-    let longer = length-append old.entries.items (e ∷ []) in
-    let some : length new.entries.items ≡ length old.entries.items + 1 = ap length entries ∙ longer in
-    let here : entry_at (entries_of new) n ≡ e = ap (λ l. entry_at l n) all ∙ get_or_push (entries_of old) e blank n count in
-    let others : (m k : ℕ) → k ≢ n → holds new.messages m k ≡ holds old.messages m k = λ m k other.
-    noted.messages m k ∙ ap (λ b. cond (m == debt.message && b) true (holds old.messages m k)) (ne_eqb k n other)
-    ∙ ap (λ b. cond b true (holds old.messages m k)) (and-false (m == debt.message)) in
-    let gain : IsGain debt old new = record {
-      entries = all;
-      message = ap (holds new.messages debt.message) count ∙ noted.messages debt.message n ∙ ap₂ (λ a b. cond (a && b) true (holds old.messages debt.message n)) (eq-eqb debt.message debt.message refl) (eq-eqb n n refl);
-      messages = λ m k other. others m k (λ same. other (same ∙ sym count));
-      must = ap (holds new.musts 0) count ∙ noted.must;
-      musts = λ k other. noted.musts k (λ same. other (same ∙ sym count));
-    } in (
-      record {
-        long = omega (arith, some, end, long);
-        small = small;
-        messages = λ m k is. elim (cases_eq k n) [
-          | inl there ↦
-              let same : m ≡ debt.message = named m k there is in
-              record {
-                kept = record { from = omega (arith, there, some, end); within = omega (arith, there, end) };
-                message = ap (λ i. (entry_at (entries_of new) i).message) there ∙ ap (λ (x : Entry). x.message) here ∙ sym same;
-              }
-          | inr other ↦
-              let was = are.messages m k (sym (others m k other) ∙ is) in
-              let from = was.kept.from in
-              let within = was.kept.within in
-              record {
-                kept = record { from = omega (arith, from, some, end); within = omega (arith, within, end) };
-                message = ap (λ (l : List Entry). (entry_at l k).message) all
-                    ∙ ap (λ (x : Entry). x.message) (get_or_append_left (entries_of old) (e ∷ []) blank k (omega (arith, within, count))) ∙ was.message;
-              }
-        ];
-        musts = λ k is. elim (cases_eq k n) [
-          | inl there ↦ omega (arith, there, end)
-          | inr other ↦
-              let within = are.musts k (sym (noted.musts k other) ∙ is) in
-              omega (arith, within, end)
-        ];
-        rises = λ said. subst AreRising (sym entries) (rises said);
-        highest = λ k is. grind (arith, more-entries, entries_long, length-append, get_or_push, cases_eq, get_or_append_left);
-        flags = flags gain;
-      },
-      gain,
-    )
-  where
-    named : (m k : ℕ) → k ≡ old.end → holds new.messages m k ≡ true → m ≡ debt.message
-    named m k there is = elim (cases_eq m debt.message) [
-      | inl same ↦ same
-      | inr other ↦ absurd (true≢false (sym is
-          ∙ noted.messages m k
-          ∙ ap (λ b. cond (b && k == old.end) true (holds old.messages m k)) (ne_eqb m debt.message other)
-          ∙ not-noted old m k are (omega (arith, there))))
-    ]
+    let all : entries_of new ≡ entries_of old ++ (record { message = debt.message; deadline = debt.deadline }) ∷ [] = more-entries old new (record { message = debt.message; deadline = debt.deadline }) are.long entries end in
+    let count = entries_long old are.long in
+    let longer = length-append old.entries.items ((record { message = debt.message; deadline = debt.deadline }) ∷ []) in
+    let gain : IsGain debt old new = grind (arith, nat_tests, all, count, ne_eqb, and-false, eq-eqb) in
+    let right = flags gain in
+    (grind (arith, nat_tests, cases_eq, ne_eqb, and-false, not-noted, get_or_push, get_or_append_left, all, count, entries, longer, rises, right), gain)
 
 -- where the entries and the places under the messages stay, the gains are right still, and the same
 pub gains-same : (old new : Gains) → AreGains old → new.entries.items ≡ old.entries.items → new.end ≡ old.end → ((m k : ℕ) → holds new.messages m k ≡ holds old.messages m k) →
@@ -193,18 +116,9 @@ pub gains-dropped : (old new : Gains) (place count : ℕ) → AreGains old → c
     new.entries.items ≡ drop count old.entries.items → new.end ≡ old.end → new.messages ≡ old.messages → new.musts ≡ old.musts → new.rises ≡ old.rises → new.highest ≡ old.highest →
     ((m k : ℕ) → k < place → holds old.messages m k ≡ false) → (IsDropped place old new → AreFlags new) → AreGains new × IsDropped place old new
 gains-dropped old new place count are here within entries end messages musts rises highest none flags =
-    let dropped : IsDropped place old new = grind (arith, nat_tests, length-drop, cases_lt, entry-kept, get_or-drop, entries_long, true≢false, get_or_past) in (
-      record {
-        long = grind (arith, length-drop);
-        small = grind (arith);
-        messages = grind (arith, nat_tests, length-drop, cases_lt, entry-kept, get_or-drop, entries_long, true≢false, get_or_past);
-        musts = grind (arith, nat_tests, length-drop, cases_lt, entry-kept, get_or-drop, entries_long, true≢false, get_or_past);
-        rises = grind (arith, length-drop, get_or-drop);
-        highest = λ k is. grind (arith, length-drop, entry-kept, get_or-drop, entries_long);
-        flags = flags dropped;
-      },
-      dropped,
-    )
+    let dropped : IsDropped place old new = grind (arith, nat_tests, length-drop, cases_lt, entry-kept, get_or-drop, entries_long, true≢false, get_or_past) in
+    let right = flags dropped in
+    (grind (arith, nat_tests, length-drop, cases_lt, entry-kept, get_or-drop, entries_long, true≢false, get_or_past, right), dropped)
 
 -- debts that are told over two lists of entries are the same where the entries that are owed are
 pub listed-alike : (o m o' m' : ℕ → Bool) (i : ℕ) (xs ys : List Entry) → length xs ≡ length ys → ((j : ℕ) → j < length xs → o (i + j) ≡ o' (i + j)) →

@@ -1,10 +1,5 @@
 -- Indexes as pairs of a key and a number, and the order of the pairs.
-use Rattle.std.proofs.Common.{◌≡◌, ◌==◌, ◌&&◌, ◌<◌, ◌≤◌, ℕ, Bool, true, false, List, [], ◌∷◌, cond, length, refl, sym, ap, arith, true≢false}
-use Rattle.std.specs.Ordering.{is_eq, is_gt, is_lt}
-use Rattle.std.specs.BTreeSet.{BTreeSet, IsKeyRangeOf, IsLowerBound, IsUpperBound}
-use Rattle.std.specs.declared.ops.Bound.TheVariants.{Included, Unbounded}
-use Rattle.std.proofs.lemmas.Bool.Decides.{nat_tests}
-use Rattle.sip_ledger.specs.Indexes.{pair_cmp, holds, IsFrom, IsFirstFrom, NoneFrom}
+use Rattle.sip_ledger.proofs.Words.{◌≡◌, ◌==◌, ◌&&◌, ◌<◌, ◌≤◌, ℕ, Bool, true, false, List, [], ◌∷◌, cond, length, refl, sym, ap, arith, true≢false, is_eq, is_gt, BTreeSet, IsKeyRangeOf, IsLowerBound, IsUpperBound, Included, Unbounded, nat_tests, pair_cmp, holds, IsFrom, IsFirstFrom, NoneFrom}
 
 -- two pairs compare as equal exactly if both their numbers are equal
 pub is_pair : (a b c d : ℕ) → is_eq (pair_cmp (a, b) (c, d)) ≡ (c == a && d == b)
@@ -14,10 +9,6 @@ is_pair a b c d = grind (arith, nat_tests)
 pub at-pair : (a b c d : ℕ) (here old : Bool) → cond (is_eq (pair_cmp (a, b) (c, d))) here old ≡ cond (c == a && d == b) here old
 at-pair a b c d here old = ap (λ x. cond x here old) (is_pair a b c d)
 
--- a pair that does not compare as greater is from there on
-from-not_gt : (a b c d : ℕ) → is_gt (pair_cmp (a, b) (c, d)) ≡ false → IsFrom a b c d
-from-not_gt a b c d h = record { keys = grind (arith, nat_tests); numbers = λ e. grind (arith, nat_tests) }
-
 -- a pair from there on does not compare as greater
 not_gt-from : (a b c d : ℕ) → IsFrom a b c d → is_gt (pair_cmp (a, b) (c, d)) ≡ false
 not_gt-from a b c d h = let k = h.keys in let n = h.numbers in grind (arith, nat_tests)
@@ -26,23 +17,18 @@ not_gt-from a b c d h = let k = h.keys in let n = h.numbers in grind (arith, nat
 pub range-first : (s : BTreeSet (ℕ × ℕ)) (key number : ℕ) (p : ℕ × ℕ) (rest : List (ℕ × ℕ)) → IsKeyRangeOf pair_cmp (Included (key, number)) Unbounded s (p ∷ rest) →
     IsFirstFrom s.keys key number p
 unfolding holds
-range-first s key number p rest h = grind (arith, nat_tests, from-not_gt, not_gt-from)
+range-first s key number p rest h = grind (arith, nat_tests, not_gt-from)
 
--- an empty range from a pair on has no key from there on
+-- where the range from (key, number) on is empty, there is no pair from there on
 pub range-none : (s : BTreeSet (ℕ × ℕ)) (key number : ℕ) → IsKeyRangeOf pair_cmp (Included (key, number)) Unbounded s [] → NoneFrom s.keys key number
 unfolding holds
 range-none s key number h k n after = h.5 refl (k, n) (not_gt-from key number k n after, tt)
-
--- a pair that does not compare as less has no lesser key
-key-not_lt : (a b c d : ℕ) → is_lt (pair_cmp (a, b) (c, d)) ≡ false → c ≤ a
-key-not_lt a b c d h = grind (arith, nat_tests)
 
 -- all keys lie between that of the first pair and that of the last one
 pub span-held : (s : BTreeSet (ℕ × ℕ)) (first last : ℕ × ℕ) → IsLowerBound pair_cmp s first → IsUpperBound pair_cmp s last →
     (k n : ℕ) → holds s.keys k n ≡ true → (first.0 ≤ k) × (k ≤ last.0)
 unfolding holds
-span-held s first last least greatest k n held =
-    ((from-not_gt first.0 first.1 k n (least (k, n) held)).keys, key-not_lt last.0 last.1 k n (greatest (k, n) held))
+span-held s first last least greatest k n held = grind (arith, nat_tests)
 
 -- where there are no pairs, nothing stands under a key
 pub none-held : (pairs : List (ℕ × ℕ)) → ¬ (0 < length pairs) → (k n : ℕ) → ¬ (holds pairs k n ≡ true)

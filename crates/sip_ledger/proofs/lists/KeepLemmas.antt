@@ -1,11 +1,5 @@
 -- Some elements of a list, at rising places, are kept and come to its front.
-use Rattle.std.proofs.Common.{◌≡◌, ℕ, zero, suc, ◌+◌, ◌-◌, ◌<◌, ◌≤◌, List, length, take, get_or, set, map, sym, ◌∙◌, arith}
-use Rattle.std.proofs.lemmas.Bool.Decides.{nat_tests}
-use Rattle.std.specs.Prelude.{All}
-use Rattle.std.proofs.lemmas.Bool.{cases_eq, cases_lt}
-use Rattle.std.proofs.lemmas.List.{length-set, get_or-map, get_or_default, length-map, get_or-set_same, get_or-set_other, get_or-take, length-take-le, same_lists}
-use Rattle.std.proofs.lemmas.List.Elements.{All-get_or}
-use Rattle.sip_ledger.specs.Lists.{Rise}
+use Rattle.sip_ledger.proofs.Words.{◌≡◌, ℕ, zero, suc, ◌+◌, ◌-◌, ◌<◌, ◌≤◌, List, length, take, get_or, set, map, arith, nat_tests, All, cases_eq, cases_lt, length-set, get_or-map, get_or_default, length-map, get_or-set_same, get_or-set_other, get_or-take, length-take-le, same_lists, All-get_or, Rise}
 
 -- each number of a list that rises is at least its place in the list
 pub rise-above : (places : List ℕ) (i : ℕ) → Rise places → i < length places → i ≤ get_or places i 0
@@ -31,11 +25,6 @@ kept-more d places to old new was rise inside within = grind (arith, nat_tests, 
 pub kept-all : {X : Type 0} (d : X) (places : List ℕ) (to : ℕ) (old new : List X) → IsKeptTo d places to old new → length places ≤ to → length places ≤ length old →
     take (length places) new ≡ map (λ place. get_or old place d) places
 kept-all d places to old new was done few =
-    let n = length places in
-    let size : length (take n new) ≡ n = length-take-le n new (omega (arith, few, was.long)) in
-    same_lists (take n new) (map (λ place. get_or old place d) places) (size ∙ sym (length-map places (λ place. get_or old place d))) (λ k e below.
-    let inside : k < n = omega (arith, below, size) in
-    get_or-take n new k e inside
-    ∙ get_or_default new k e d (omega (arith, inside, few, was.long))
-    ∙ was.front k (omega (arith, inside, done))
-    ∙ sym (get_or-map (λ place. get_or old place d) places k 0 e inside))
+    same_lists (take (length places) new) (map (λ place. get_or old place d) places) (grind (arith, nat_tests, length-take-le, length-map)) (λ k e below.
+    let size = length-take-le (length places) new (omega (arith, few, was.long)) in
+    grind (arith, nat_tests, size, get_or-take, get_or_default new k e d, get_or-map, was.front k))

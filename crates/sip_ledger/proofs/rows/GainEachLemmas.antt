@@ -1,21 +1,10 @@
 -- Many rows gain a debt, and rows of which nothing is past lose nothing.
-use Rattle.std.proofs.Common.{◌≡◌, ◌<◌, ◌≤◌, ℕ, ◌+◌, true, List, [], ◌∷◌, ◌++◌, length, drop, take, get_or, set, map, filter, refl, sym, ap, ◌∙◌, arith}
-use Rattle.std.specs.Prelude.{All, cond, fold, min, nat_le}
-use Rattle.std.proofs.lemmas.Bool.{le-leb, or_right}
-use Rattle.std.proofs.lemmas.List.{get_or_default}
-use Rattle.std.proofs.lemmas.List.Elements.{All-filter, All-get_or, All-head, All-map, All-tail, All-weaker}
-use Rattle.sip_ledger.specs.declared.debt.Debt.{Debt}
-use Rattle.sip_ledger.specs.declared.accounts.account.Account.{Account}
-use Rattle.sip_ledger.specs.declared.accounts.gains.Gains.{Gains}
-use Rattle.sip_ledger.specs.declared.accounts.strikes.Strike.{Strike}
-use Rattle.sip_ledger.specs.declared.debt.Entry.{Entry}
-use Rattle.sip_ledger.specs.Debts.{counts_at, debt_deadlines, earliest, is_timely, is_within}
-use Rattle.sip_ledger.specs.inner.Accounts.{AreAccounts, AreGains, IsAccount, IsKept, KeepsAccounts, account_debts, accounts_debts, entries_of, entry_at, must_at, owes_at}
-use Rattle.sip_ledger.proofs.debts.ListedLemmas.{listed-All, no_entry}
-use Rattle.sip_ledger.proofs.lists.EachLemmas.{changing, changing-front, changing-length, changing-more, unchanged-each}
+use Rattle.sip_ledger.proofs.Words.{nat_tests, ◌≡◌, ◌<◌, ◌≤◌, ℕ, ◌+◌, true, List, [], ◌∷◌, ◌++◌, length, drop, take, get_or, set, map, filter, refl, sym, ap, ◌∙◌, arith, All, fold, min, nat_le, le-leb, or_right, All-filter, All-get_or, All-head, All-map, All-tail, All-weaker, Debt, Account, Gains, Strike, counts_at, debt_deadlines, earliest, is_timely, is_within, AreAccounts, AreGains, IsAccount, IsKept, KeepsAccounts, account_debts, accounts_debts, entries_of, entry_at, must_at, owes_at}
+use Rattle.sip_ledger.proofs.debts.ListedLemmas.{listed-each}
+use Rattle.sip_ledger.proofs.lists.EachLemmas.{changing, changing-front, changing-length, changing-more, changing-all, unchanged-each}
 use Rattle.sip_ledger.proofs.account.AccountLemmas.{debts_length}
 use Rattle.sip_ledger.proofs.gains.LeftLemmas.{left-kept, owed-left}
-use Rattle.sip_ledger.proofs.rows.SeenLemmas.{changed-by, over-to, unchanged}
+use Rattle.sip_ledger.proofs.rows.SeenLemmas.{changed-by, on-error, over-to, unchanged}
 
 -- what is owed, with one debt more
 abbrev pub with_debt : Debt → List Debt → List Debt
@@ -30,6 +19,7 @@ pub record HaveGained (debt : Debt) (from k : ℕ) (old : List (List Debt)) (gai
 pub debts-count : (gains : Gains) (strikes : List Strike) (rows : List Account) (n : ℕ) → n ≡ length rows → n ≡ length (accounts_debts gains strikes rows)
 debts-count gains strikes rows n is = is ∙ sym (debts_length gains strikes rows)
 
+-- What follows is of the rows from `from` up to k, which gain a debt one after the other.
 module _ {debt : Debt} {from k : ℕ} {old : List (List Debt)} {gains : Gains} {strikes : List Strike} {rows : List Account} where
   -- HaveGained stays true over more gains
   pub gained-over : (new : Gains) → KeepsAccounts gains new → AreGains new → HaveGained debt from k old gains strikes rows → HaveGained debt from k old new strikes rows
@@ -37,9 +27,7 @@ module _ {debt : Debt} {from k : ℕ} {old : List (List Debt)} {gains : Gains} {
 
   -- HaveGained stays true over more strikes
   pub gained-grown : (new : List Strike) → take (length strikes) new ≡ strikes → HaveGained debt from k old gains strikes rows → HaveGained debt from k old gains new rows
-  gained-grown new kept are =
-      let all = unchanged new kept are.accounts are.debts in
-      record { accounts = all.0; debts = all.1 }
+  gained-grown new kept are = let all = unchanged new kept are.accounts are.debts in grind (arith, all)
 
   -- HaveGained stays true with one row more that gains the debt
   pub gained-more : (new : List Strike) (a b : Account) → take (length strikes) new ≡ strikes → HaveGained debt from k old gains strikes rows → from ≤ k → k < length old →
@@ -57,21 +45,14 @@ module _ {debt : Debt} {from k : ℕ} {old : List (List Debt)} {gains : Gains} {
 -- where no debt is past, none goes
 kept-each : (t : ℕ) (xs : List Debt) → All (λ d. counts_at t d ≡ true) xs → filter (counts_at t) xs ≡ xs
 kept-each t [] all = refl
-kept-each t (x ∷ xs) all =
-    ap (λ b. cond b (x ∷ filter (counts_at t) xs) (filter (counts_at t) xs)) (All-head (λ d. counts_at t d ≡ true) x xs all)
-    ∙ ap (λ l. x ∷ l) (kept-each t xs (All-tail (λ d. counts_at t d ≡ true) x xs all))
+kept-each t (x ∷ xs) all = grind (arith, nat_tests, All-head (λ d. counts_at t d ≡ true) x xs all, kept-each t xs (All-tail (λ d. counts_at t d ≡ true) x xs all))
 
 -- where no gain that is kept is past, no debt of an account is
 debts-late : (gains : Gains) (strikes : List Strike) (a : Account) (t : ℕ) → AreGains gains → ((k : ℕ) → IsKept gains k → t ≤ (entry_at (entries_of gains) k).deadline) →
     All (λ (d : Debt). t ≤ d.deadline) (account_debts gains strikes a)
 unfolding account_debts
 debts-late gains strikes a t are late =
-    listed-All (λ (d : Debt). t ≤ d.deadline) (owes_at gains strikes a) (must_at gains a) 0 (entries_of gains)
-    (λ j e below owed.
-    let here : 0 + j ≡ j = omega arith in
-    let same : get_or (entries_of gains) j e ≡ entry_at (entries_of gains) j = get_or_default (entries_of gains) j e no_entry below in
-    let is = late j (left-kept gains j are (owed-left gains strikes a j (ap (owes_at gains strikes a) (sym here) ∙ owed))) in
-    omega (arith, is, ap (λ (x : Entry). x.deadline) same))
+    listed-each (λ (d : Debt). t ≤ d.deadline) (owes_at gains strikes a) (must_at gains a) (entries_of gains) (λ k below owed. late k (left-kept gains k are (owed-left gains strikes a k owed)))
 
 -- a debt that is not past counts still
 late-counts : (t : ℕ) (d : Debt) → t ≤ d.deadline → counts_at t d ≡ true
@@ -113,3 +94,6 @@ none_late gains strikes a t are late =
     let must = filter (λ (d : Debt). d.must) (account_debts gains strikes a) in
     within-all t (debt_deadlines (account_debts gains strikes a))
     (All-map (λ m. t ≤ m) (λ (d : Debt). d.deadline) must (All-filter (λ (d : Debt). d.must) (λ (d : Debt). t ≤ d.deadline) (account_debts gains strikes a) (debts-late gains strikes a t are late)))
+
+-- what rows owe once some of them have gained a debt
+pub ruleset gained_by_rows = (changing-all, debts-count, gained-front, gained-grown, gained-more, gained-over, on-error)

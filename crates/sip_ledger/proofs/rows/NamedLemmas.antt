@@ -1,40 +1,20 @@
 -- Which messages the accounts owe.
-use Rattle.std.proofs.Common.{◌≡◌, ℕ, ◌+◌, ◌-◌, ◌<◌, ◌≤◌, ◌==◌, ◌&&◌, ◌||◌, true, false, List, [], ◌∷◌, ◌++◌, length, get_or, map, refl, sym, ap, ap₂, ◌∙◌, subst, inl, inr, arith}
-use Rattle.std.proofs.lemmas.Bool.Decides.{nat_tests}
-use Rattle.std.specs.Prelude.{All, Contains}
-use Rattle.std.specs.List.{list_any}
-use Rattle.std.proofs.Math.Bool.{and-true}
-use Rattle.std.proofs.lemmas.Bool.{cases_eq, cases_lt, eqb-true, false_from_ne_true, le-leb, true≢false}
-use Rattle.std.proofs.lemmas.List.{append_assoc, get_or_append_left, get_or_default, get_or_push, length_push}
-use Rattle.std.proofs.lemmas.List.Elements.{All-map, Contains-append_left, Contains-push, Contains-push_cases}
-use Rattle.std.proofs.lemmas.List.Folds.{list_any_at, list_any_none}
-use Rattle.sip_ledger.specs.declared.debt.Debt.{Debt}
-use Rattle.sip_ledger.specs.declared.debt.Entry.{Entry}
-use Rattle.sip_ledger.specs.declared.accounts.account.Account.{Account}
-use Rattle.sip_ledger.specs.declared.accounts.gains.Gains.{Gains}
-use Rattle.sip_ledger.specs.declared.accounts.strikes.Strike.{Strike}
-use Rattle.sip_ledger.specs.Accounts.{AppendsOwed, owes_message, some_owes}
-use Rattle.sip_ledger.specs.Debts.{is_payable}
-use Rattle.sip_ledger.specs.Lists.{Rise}
-use Rattle.sip_ledger.specs.inner.Accounts.{account_debts, accounts_debts, entries_of, entry_at, must_at, owes_at}
-use Rattle.sip_ledger.specs.Indexes.{holds}
-use Rattle.sip_ledger.proofs.debts.ListedLemmas.{listed-All, no_entry}
+use Rattle.sip_ledger.proofs.Words.{◌≡◌, ℕ, ◌+◌, ◌-◌, ◌<◌, ◌≤◌, ◌==◌, true, false, List, [], ◌∷◌, ◌++◌, length, get_or, map, refl, sym, ap, ◌∙◌, subst, inl, inr, arith, nat_tests, All, Contains, list_any, and-true, cases_eq, cases_lt, eqb-true, false_from_ne_true, le-leb, true≢false, append_assoc, get_or_append_left, get_or_default, get_or_push, length_push, All-map, Contains-append_left, Contains-push, Contains-push_cases, list_any_at, list_any_none, Debt, Account, Gains, Strike, AppendsOwed, owes_message, some_owes, is_payable, Rise, account_debts, accounts_debts, entries_of, entry_at, must_at, owes_at, holds}
+use Rattle.sip_ledger.proofs.debts.ListedLemmas.{listed-each}
 use Rattle.sip_ledger.proofs.account.AccountLemmas.{debts_length, row-debts}
 use Rattle.sip_ledger.proofs.gains.LeftLemmas.{held_left, owed-left}
+use Rattle.sip_ledger.proofs.rows.SeenLemmas.{can-pay}
 
 -- a send at moment 0 can pay each debt of its message
 pub payable-owes : (message : ℕ) (debts : List Debt) → list_any (is_payable message 0) debts ≡ owes_message message debts
 payable-owes message [] = refl
-payable-owes message (debt ∷ debts) =
-    ap₂ (λ a b. a || b) (ap (λ late. debt.message == message && late) (le-leb 0 debt.deadline (omega arith)) ∙ and-true (debt.message == message)) (payable-owes message debts)
+payable-owes message (debt ∷ debts) = grind (arith, nat_tests, le-leb, and-true, payable-owes message debts)
 
 -- where one of the accounts owes the message, some row does
 pub named-here : (gains : Gains) (strikes : List Strike) (rows : List Account) (message at : ℕ) (none : Account) → at < length rows →
     owes_message message (account_debts gains strikes (get_or rows at none)) ≡ true → some_owes message (accounts_debts gains strikes rows) ≡ true
 named-here gains strikes rows message at none inside is =
-    let a = get_or rows at none in
-    list_any_at (owes_message message) (accounts_debts gains strikes rows) at [] (omega (arith, inside, debts_length gains strikes rows))
-    (ap (owes_message message) (row-debts gains strikes rows at a inside (get_or_default rows at none a inside)) ∙ is)
+    grind (arith, debts_length, list_any_at (owes_message message) (accounts_debts gains strikes rows) at [], row-debts gains strikes rows at (get_or rows at none), get_or_default rows at none)
 
 -- where none of the accounts owes the message, none of their lists of debts has it
 pub named-nowhere : (gains : Gains) (strikes : List Strike) (rows : List Account) (message : ℕ) → All (λ a. owes_message message (account_debts gains strikes a) ≡ false) rows →
@@ -49,13 +29,9 @@ unleft-account : (gains : Gains) (strikes : List Strike) (a : Account) (message 
 unfolding account_debts
 unleft-account gains strikes a message none =
     list_any_none (λ (d : Debt). d.message == message) (account_debts gains strikes a)
-    (listed-All (λ (debt : Debt). (debt.message == message) ≡ false) (owes_at gains strikes a) (must_at gains a) 0 (entries_of gains)
-    (λ j e below owed. false_from_ne_true ((get_or (entries_of gains) j e).message == message) (λ is.
-    let here : 0 + j ≡ j = omega arith in
-    let same : get_or (entries_of gains) j e ≡ entry_at (entries_of gains) j = get_or_default (entries_of gains) j e no_entry below in
-    let named : (entry_at (entries_of gains) j).message ≡ message = ap (λ (x : Entry). x.message) (sym same) ∙ eqb-true (get_or (entries_of gains) j e).message message is in
-    let left = owed-left gains strikes a j (ap (owes_at gains strikes a) (sym here) ∙ owed) in
-    absurd (true≢false (sym (held_left gains message j named ∙ left) ∙ none j)))))
+    (listed-each (λ (debt : Debt). (debt.message == message) ≡ false) (owes_at gains strikes a) (must_at gains a) (entries_of gains) (λ k below owed.
+    false_from_ne_true ((entry_at (entries_of gains) k).message == message) (λ is.
+    true≢false (sym (held_left gains message k (eqb-true (entry_at (entries_of gains) k).message message is) ∙ owed-left gains strikes a k owed) ∙ none k))))
 
 -- a message of which nothing is left is owed by none of the accounts
 pub unleft-unnamed : (gains : Gains) (strikes : List Strike) (rows : List Account) (message : ℕ) → ((k : ℕ) → holds gains.messages message k ≡ false) →
@@ -74,36 +50,15 @@ pub record AreNamedTo (rows : List (List Debt)) (low : ℕ) (old new : List ℕ)
 -- AreNamedTo goes on over messages that are not owed
 pub named-past : (rows : List (List Debt)) (low message : ℕ) (old new : List ℕ) → AreNamedTo rows low old new → low ≤ message →
     ((m : ℕ) → low ≤ m → m < message → some_owes m rows ≡ false) → some_owes message rows ≡ false → AreNamedTo rows (message + 1) old new
-named-past rows low message old new are order between none = record {
-  names = are.names;
-  whole = are.whole;
-  rise = are.rise;
-  below = λ m there. let early = are.below m there in omega (arith, early, order);
-  owed = are.owed;
-  all = λ m early is. elim (cases_lt m low) [
-    | inl first ↦ are.all m first is
-    | inr later ↦ elim (cases_eq m message) [
-      | inl here ↦ absurd (true≢false (sym is ∙ ap (λ n. some_owes n rows) here ∙ none))
-      | inr other ↦ absurd (true≢false (sym is ∙ between m later (omega (arith, early, other))))
-    ]
-  ];
-}
+named-past rows low message old new are order between none =
+    let all : (m : ℕ) → m < message + 1 → some_owes m rows ≡ true → Contains are.names m = λ m early is. grind (arith, nat_tests, cases_lt, cases_eq, true≢false, are.all m, between m) in
+    record { names = are.names; whole = are.whole; rise = are.rise; below = λ m there. grind (arith, are.below m there); owed = are.owed; all = all }
 
 -- numbers rise with one more that is above all of them
 rise-more : (names : List ℕ) (low message : ℕ) → Rise names → ((m : ℕ) → Contains names m → m < low) → low ≤ message → Rise (names ++ message ∷ [])
-rise-more names low message rise below order = λ i k early late. elim (cases_lt k (length names)) [
-  | inl inside ↦
-      let first = get_or_append_left names (message ∷ []) 0 i (omega (arith, early, inside)) in
-      let second = get_or_append_left names (message ∷ []) 0 k inside in
-      omega (arith, first, second, rise i k early inside)
-  | inr past ↦
-      let here : length names ≡ k = omega (arith, past, late, length_push names message) in
-      let first = get_or_append_left names (message ∷ []) 0 i (omega (arith, early, here)) in
-      let second = get_or_push names message 0 k here in
-      let within : i < length names = omega (arith, early, here) in
-      let under = below (get_or names i 0) (i, within, get_or_default names i (get_or names i 0) 0 within) in
-      omega (arith, first, second, under, order)
-]
+rise-more names low message rise below order = λ i k early late.
+    let within = λ (i : ℕ) (low : i < length names). below (get_or names i 0) (i, low, get_or_default names i (get_or names i 0) 0 low) in
+    grind (arith, nat_tests, cases_lt, get_or_append_left, length_push, get_or_push, rise i k, within i)
 
 -- AreNamedTo goes on with the next message that is owed, once it is told
 pub named-more : (rows : List (List Debt)) (low message : ℕ) (old new now : List ℕ) → AreNamedTo rows low old new → low ≤ message →
@@ -112,14 +67,8 @@ named-more rows low message old new now are order between some is = record {
   names = are.names ++ message ∷ [];
   whole = is ∙ ap (λ l. l ++ message ∷ []) are.whole ∙ append_assoc old are.names (message ∷ []);
   rise = rise-more are.names low message are.rise are.below order;
-  below = λ m there. elim (Contains-push_cases are.names message m there) [
-    | inl before ↦ let early = are.below m before in omega (arith, early, order)
-    | inr last ↦ omega (arith, last)
-  ];
-  owed = λ m there. elim (Contains-push_cases are.names message m there) [
-    | inl before ↦ are.owed m before
-    | inr last ↦ ap (λ n. some_owes n rows) (sym last) ∙ some
-  ];
+  below = λ m there. grind (arith, Contains-push_cases are.names message m there, are.below m);
+  owed = λ m there. grind (arith, Contains-push_cases are.names message m there, are.owed m);
   all = λ m early owed. elim (cases_lt m low) [
     | inl first ↦ Contains-append_left are.names (message ∷ []) m (are.all m first owed)
     | inr later ↦ elim (cases_eq m message) [
@@ -138,14 +87,8 @@ spanned-account : (gains : Gains) (strikes : List Strike) (a : Account) (low hig
     All (λ (debt : Debt). (low ≤ debt.message) × (debt.message ≤ high)) (account_debts gains strikes a)
 unfolding account_debts
 spanned-account gains strikes a low high within =
-    listed-All (λ (debt : Debt). (low ≤ debt.message) × (debt.message ≤ high)) (owes_at gains strikes a) (must_at gains a) 0 (entries_of gains)
-    (λ j e below owed.
-    let here : 0 + j ≡ j = omega arith in
-    let m = (get_or (entries_of gains) j e).message in
-    let same : get_or (entries_of gains) j e ≡ entry_at (entries_of gains) j = get_or_default (entries_of gains) j e no_entry below in
-    let named : (entry_at (entries_of gains) j).message ≡ m = ap (λ (x : Entry). x.message) (sym same) in
-    let left = owed-left gains strikes a j (ap (owes_at gains strikes a) (sym here) ∙ owed) in
-    within m j (held_left gains m j named ∙ left))
+    listed-each (λ (debt : Debt). (low ≤ debt.message) × (debt.message ≤ high)) (owes_at gains strikes a) (must_at gains a) (entries_of gains)
+    (λ k below owed. within (entry_at (entries_of gains) k).message k (held_left gains (entry_at (entries_of gains) k).message k refl ∙ owed-left gains strikes a k owed))
 
 -- where what is left of messages lies between two numbers, the messages of all that rows owe do
 pub spanned : (gains : Gains) (strikes : List Strike) (rows : List Account) (low high : ℕ) → ((m k : ℕ) → holds gains.messages m k ≡ true → (low ≤ m) × (m ≤ high)) →
@@ -156,4 +99,4 @@ spanned gains strikes rows low high within =
     (λ k d below. spanned-account gains strikes (get_or rows k d) low high within)
 
 -- what is named, message by message
-pub ruleset named_by_message = (named-all, named-more, named-past, unleft-unnamed)
+pub ruleset named_by_message = (named-all, named-more, named-past, unleft-unnamed, payable-owes, can-pay)

@@ -1,19 +1,10 @@
 -- Rows that a send pays are put after the others, without the debt that it pays.
-use Rattle.std.proofs.Common.{◌≡◌, ◌<◌, ◌≤◌, ℕ, ◌+◌, Bool, true, false, cond, List, [], ◌∷◌, ◌++◌, length, take, get_or, map, filter, refl, sym, ap, ◌∙◌, subst, arith}
-use Rattle.std.specs.Prelude.{◌&&◌, Option, Some, None, IfSome, option_to_list}
-use Rattle.std.specs.List.{list_any}
-use Rattle.std.proofs.Math.Seq.{take-append_seam}
-use Rattle.std.proofs.lemmas.List.{append-nil, append_assoc, get_or_append_left, length-append, map-append}
-use Rattle.sip_ledger.specs.declared.debt.Debt.{Debt}
-use Rattle.sip_ledger.specs.declared.accounts.account.Account.{Account}
-use Rattle.sip_ledger.specs.declared.accounts.gains.Gains.{Gains}
-use Rattle.sip_ledger.specs.declared.accounts.strikes.Strike.{Strike}
-use Rattle.sip_ledger.specs.Accounts.{owed_in, paid_rows}
-use Rattle.sip_ledger.specs.Debts.{counts_at, is_payable, is_timely, paid_by}
-use Rattle.sip_ledger.specs.Lists.{from_to}
-use Rattle.sip_ledger.specs.inner.Accounts.{AreAccounts, IsAccount, account_debts, accounts_debts}
-use Rattle.sip_ledger.proofs.lists.EachLemmas.{passing-more}
-use Rattle.sip_ledger.proofs.rows.SeenLemmas.{account-at, pushed-to, row-inside, unchanged}
+use Rattle.sip_ledger.proofs.Words.{common_steps, nat_tests, ◌≡◌, ◌<◌, ◌≤◌, ℕ, ◌+◌, Bool, true, false, cond, List, [], ◌∷◌, ◌++◌, length, take, get_or, map, filter, refl, sym, ap, ◌∙◌, arith, ◌&&◌, Option, Some, None, IfSome, option_to_list, list_any, take-append_seam, append-nil, append_assoc, get_or_append_left, length-append, map-append, Debt, Account, Gains, Strike, owed_in, paid_rows, counts_at, is_payable, is_timely, paid_by, from_to, AreAccounts, IsAccount, account_debts, accounts_debts}
+use Rattle.sip_ledger.proofs.debts.PayLemmas.{unpaid-is}
+use Rattle.sip_ledger.proofs.lists.EachLemmas.{from_to-end, passing-more}
+use Rattle.sip_ledger.proofs.account.AccountLemmas.{debts_length}
+use Rattle.sip_ledger.proofs.account.FindLemmas.{paid-account, unpaid-account}
+use Rattle.sip_ledger.proofs.rows.SeenLemmas.{account-at, can-pay, on-error, pushed-to, row-inside, unchanged}
 
 -- whether a row is paid, and what is left to it
 abbrev pub is_paid : ℕ → ℕ → List Debt → Bool
@@ -36,25 +27,17 @@ pub paid-row : (message t : ℕ) (owes debts : List Debt) → list_any (is_payab
     debts ∷ [] ≡ paid_rows message t (owes ∷ [])
 paid-row message t owes debts some timely same = grind (arith)
 
--- paid rows up to the next row are those up to it, and that row if it is paid
-paid-more : (message t from k : ℕ) (rows : List (List Debt)) → from ≤ k → k < length rows →
-    paid_rows message t (from_to from (k + 1) rows) ≡ paid_rows message t (from_to from k rows) ++ paid_rows message t (owed_in rows k ∷ [])
-paid-more message t from k rows low within =
-    let o = owed_in rows k in
-    ap (map (left_by message t)) (passing-more (is_paid message t) from k rows [] low within)
-    ∙ map-append (left_by message t) (filter (is_paid message t) (from_to from k rows)) (cond (is_paid message t o) (o ∷ []) [])
-
 -- the paid rows up to the next one are those up to this one, and this one if it is paid
 next-left : (message t from k : ℕ) (old : List (List Debt)) (owes : List Debt) (d : List (List Debt)) → d ≡ paid_rows message t (owes ∷ []) → owes ≡ owed_in old k → from ≤ k →
     k < length old → paid_rows message t (from_to from k old) ++ d ≡ paid_rows message t (from_to from (k + 1) old)
-next-left message t from k old owes d debts same low within =
-    ap (λ l. paid_rows message t (from_to from k old) ++ l) (debts ∙ ap (λ o. paid_rows message t (o ∷ [])) same) ∙ sym (paid-more message t from k old low within)
+next-left message t from k old owes d debts same low within = grind (arith, nat_tests, common_steps, passing-more, map-append)
 
 -- the accounts owe what the old rows owed, and after them what is left to each paid row from `from` up to k
 pub record ArePaidTo (gains : Gains) (message t from k : ℕ) (old : List (List Debt)) (strikes : List Strike) (rows : List Account) : Type 0 where
   pub accounts : AreAccounts gains strikes rows
   pub debts : accounts_debts gains strikes rows ≡ old ++ paid_rows message t (from_to from k old)
 
+-- What follows is of the rows from `from` up to k, of which a send of a message at the moment t pays a debt one after the other.
 module _ {gains : Gains} {message t from k : ℕ} {old : List (List Debt)} {strikes : List Strike} {rows : List Account} where
   -- a row of the old ones is one of the accounts
   pub row-there : (row : ℕ) → ArePaidTo gains message t from k old strikes rows → row < length old → row < length rows
@@ -70,29 +53,26 @@ module _ {gains : Gains} {message t from k : ℕ} {old : List (List Debt)} {stri
 
   -- ArePaidTo stays true where strikes are put after the others
   pub paid-grown : (new : List Strike) → take (length strikes) new ≡ strikes → ArePaidTo gains message t from k old strikes rows → ArePaidTo gains message t from k old new rows
-  paid-grown new kept are =
-      let over = unchanged new kept are.accounts are.debts in
-      record { accounts = over.0; debts = over.1 }
+  paid-grown new kept are = let all = unchanged new kept are.accounts are.debts in grind (arith, all)
 
   -- ArePaidTo goes on with the next row, which is put after the others if it is paid
   pub paid-next : (owes : List Debt) (left : Option Account) → ArePaidTo gains message t from k old strikes rows → IfSome left (IsAccount gains strikes) →
       map (account_debts gains strikes) (option_to_list left) ≡ paid_rows message t (owes ∷ []) → owes ≡ owed_in old k → from ≤ k → k < length old →
       ArePaidTo gains message t from (k + 1) old strikes (rows ++ option_to_list left)
-  paid-next owes None are is debts same low within =
-      let more = paid_rows message t (from_to from k old) in
-      subst (λ r. ArePaidTo gains message t from (k + 1) old strikes r) (sym (append-nil rows)) (record {
-        accounts = are.accounts;
-        debts = are.debts ∙ ap (λ l. old ++ l) (sym (append-nil more) ∙ next-left message t from k old owes [] debts same low within);
-      })
+  paid-next owes None are is debts same low within = grind (arith, append-nil, next-left message t from k old owes [])
   paid-next owes (Some b) are is debts same low within =
-      let more = paid_rows message t (from_to from k old) in
-      let d = account_debts gains strikes b in
-      let put = pushed-to b d are.accounts are.debts is refl in
+      let put = pushed-to b (account_debts gains strikes b) are.accounts are.debts is refl in
       record {
         accounts = put.0;
-        debts = put.1 ∙ append_assoc old more (d ∷ []) ∙ ap (λ l. old ++ l) (next-left message t from k old owes (d ∷ []) debts same low within);
+        debts = grind (arith, put, append_assoc, next-left message t from k old owes (account_debts gains strikes b ∷ []));
       }
 
   -- the first rows are the old ones still
   pub paid-front : (n : ℕ) → ArePaidTo gains message t from k old strikes rows → n ≡ length old → take n (accounts_debts gains strikes rows) ≡ old
   paid-front n are is = grind (arith, take-append_seam)
+
+-- what a send pays of one row
+pub ruleset paid_of_row = (paid-account, unpaid-account, unpaid-is, other-row, paid-row, can-pay)
+
+-- what a send pays of many rows
+pub ruleset paid_of_rows = (from_to-end, debts_length, account-there, paid-front, paid-grown, paid-next, row-there, on-error)

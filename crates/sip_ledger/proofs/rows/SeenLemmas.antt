@@ -1,24 +1,9 @@
 -- Accounts as contracts see them: a list of what each row owes.
-use Rattle.std.proofs.Common.{◌≡◌, ◌≢◌, ℕ, ◌+◌, ◌<◌, ◌≤◌, ◌%◌, ◌^◌, ◌==◌, true, false, List, [], ◌∷◌, ◌++◌, length, take, get_or, set, map, refl, sym, ap, ap₂, ◌∙◌, arith}
-use Rattle.std.proofs.lemmas.Bool.Decides.{nat_tests}
-use Rattle.std.specs.Prelude.{IsTrue, Option, Some, None, IfSome, IfNone, Result, Ok, Err, IsErr, OnErr, ◌↔◌, is_err, is_some}
-use Rattle.std.specs.List.{list_any, sum_by}
-use Rattle.std.proofs.lemmas.Bool.{cases_eq, eq-eqb, eqb-true, false_from_ne_true, true≢false}
-use Rattle.std.proofs.lemmas.List.{drop_min, get_or_default}
-use Rattle.std.proofs.lemmas.List.Elements.{All-weaker}
-use Rattle.std.proofs.lemmas.List.Folds.{list_any_none}
-use Rattle.std.proofs.lemmas.List.Sums.{sum_by-cons}
-use Rattle.sip_ledger.specs.declared.debt.Debt.{Debt}
-use Rattle.sip_ledger.specs.declared.accounts.account.Account.{Account}
-use Rattle.sip_ledger.specs.declared.accounts.gains.Gains.{Gains}
-use Rattle.sip_ledger.specs.declared.accounts.strikes.Strike.{Strike}
-use Rattle.sip_ledger.specs.Accounts.{debts_print, owed_in, worth_of}
-use Rattle.sip_ledger.specs.Debts.{is_payable, softened_debt}
-use Rattle.sip_ledger.specs.inner.Accounts.{AreAccounts, AreGains, IsAccount, IsFirstPayable, KeepsAccounts, account_debts, accounts_debts, entries_of, must_at, owes_at, pays_at}
+use Rattle.sip_ledger.proofs.Words.{common_steps, ◌≡◌, ◌≢◌, ℕ, ◌+◌, ◌<◌, ◌^◌, ◌==◌, true, false, List, [], ◌∷◌, ◌++◌, length, take, get_or, set, map, refl, sym, ap, ◌∙◌, arith, nat_tests, IsTrue, Option, Some, None, IfSome, IfNone, Result, Ok, Err, IsErr, OnErr, ◌↔◌, is_err, is_some, list_any, cases_eq, eq-eqb, eqb-true, false_from_ne_true, true≢false, drop_min, get_or_default, All-weaker, list_any_none, sum_by-cons, Debt, Account, Gains, Strike, debts_print, owed_in, is_payable, softened_debt, AreAccounts, AreGains, IsAccount, IsFirstPayable, KeepsAccounts, account_debts, accounts_debts, entries_of, must_at, owes_at, pays_at, map-append, All-push}
 use Rattle.sip_ledger.proofs.debts.ListedLemmas.{listed-few, listed-same, listed-softened}
 use Rattle.sip_ledger.proofs.debts.OwedLemmas.{listed-any, some-debt}
 use Rattle.sip_ledger.proofs.gains.LeftLemmas.{entries_long}
-use Rattle.sip_ledger.proofs.account.AccountLemmas.{changed, debts_length, empty-debts, kept-all, must-below, over, owed-within, pushed, row-account, row-debts, truncated, without-first_rows}
+use Rattle.sip_ledger.proofs.account.AccountLemmas.{changed, debts_length, empty-debts, kept-all, must-below, over, owed-within, row-account, row-debts, truncated, without-first_rows}
 use Rattle.sip_ledger.proofs.account.FindLemmas.{unpaid-account}
 
 -- what holds is said of an answer that is an error
@@ -31,6 +16,7 @@ pub on-err : {T E : Type 0} (r : Result T E) (P : Type 0) → is_err r ≡ true 
 on-err (Ok x) P is p = absurd (true≢false (sym is))
 on-err (Err e) P is p = p
 
+-- What follows is of accounts, and the debts as which contracts see them.
 module _ {gains : Gains} {strikes : List Strike} {rows : List Account} {seen : List (List Debt)} where
   -- a row of the list that contracts see is the row of one of the accounts
   pub row-inside : (row : ℕ) → AreAccounts gains strikes rows → accounts_debts gains strikes rows ≡ seen → row < length seen → row < length rows
@@ -40,29 +26,23 @@ module _ {gains : Gains} {strikes : List Strike} {rows : List Account} {seen : L
   pub account-at : (row : ℕ) (a : Account) → AreAccounts gains strikes rows → accounts_debts gains strikes rows ≡ seen → row < length seen → a ≡ get_or rows row a →
       IsAccount gains strikes a × (account_debts gains strikes a ≡ owed_in seen row)
   account-at row a are view inside is =
-      let within = row-inside row are view inside in (
-        row-account gains strikes rows row a within is are.each,
-        sym (row-debts gains strikes rows row a within is) ∙ ap (λ l. owed_in l row) view,
-      )
+      let within = row-inside row are view inside in
+      let debts = row-debts gains strikes rows row a within is in
+      grind (arith, row-account, debts)
 
   -- a row owes no more debts than were gained
   pub row-few : (row : ℕ) → AreAccounts gains strikes rows → accounts_debts gains strikes rows ≡ seen → row < length seen → length (owed_in seen row) < 2 ^ 64
   unfolding account_debts
   row-few row are view inside =
       let none : Account = record { start = 0; end = 0; soft = 0; first = 0; last = 0; print = 0 } in
-      let a = get_or rows row none in
-      let at = account-at row a are view inside (get_or_default rows row none a (row-inside row are view inside)) in
-      let few : length (account_debts gains strikes a) ≤ length (entries_of gains) = listed-few (owes_at gains strikes a) (must_at gains a) 0 (entries_of gains) in
-      let count = entries_long gains are.gained.long in
-      omega (arith, ap length at.1, few, count, are.gained.small)
+      let at = account-at row (get_or rows row none) are view inside (get_or_default rows row none (get_or rows row none) (row-inside row are view inside)) in
+      grind (arith, at, listed-few, entries_long)
 
   -- where one of the accounts changes, contracts see its row changed
   pub changed-to : (new : List Strike) (row : ℕ) (a : Account) (debts : List Debt) → take (length strikes) new ≡ strikes →
       AreAccounts gains strikes rows → accounts_debts gains strikes rows ≡ seen → IsAccount gains new a → account_debts gains new a ≡ debts →
       AreAccounts gains new (set rows row a) × (accounts_debts gains new (set rows row a) ≡ set seen row debts)
-  changed-to new row a debts kept are view is owes =
-      let all = changed gains strikes new rows row a kept are is in
-      (all.0, all.1 ∙ ap₂ (λ l d. set l row d) view owes)
+  changed-to new row a debts kept are view is owes = let all = changed gains strikes new rows row a kept are is in grind (arith, all)
 
   -- where an account of a row becomes one whose debts are its by f, contracts see the row changed by f
   pub changed-by : (f : List Debt → List Debt) (new : List Strike) (row : ℕ) (a b : Account) → take (length strikes) new ≡ strikes →
@@ -75,9 +55,7 @@ module _ {gains : Gains} {strikes : List Strike} {rows : List Account} {seen : L
   -- where no account changes, and the strikes may have grown, contracts see the same rows
   pub unchanged : (new : List Strike) → take (length strikes) new ≡ strikes → AreAccounts gains strikes rows →
       accounts_debts gains strikes rows ≡ seen → AreAccounts gains new rows × (accounts_debts gains new rows ≡ seen)
-  unchanged new kept are view =
-      let all = kept-all gains strikes new rows kept are.each in
-      (record { gained = are.gained; each = all.0 }, all.1 ∙ view)
+  unchanged new kept are view = let all = kept-all gains strikes new rows kept are.each in grind (arith, all)
 
   -- where the gains may have grown, contracts see the same rows
   pub over-to : (new : Gains) → KeepsAccounts gains new → AreGains new → AreAccounts gains strikes rows → accounts_debts gains strikes rows ≡ seen →
@@ -88,9 +66,8 @@ module _ {gains : Gains} {strikes : List Strike} {rows : List Account} {seen : L
   pub pushed-to : (a : Account) (debts : List Debt) → AreAccounts gains strikes rows →
       accounts_debts gains strikes rows ≡ seen → IsAccount gains strikes a → account_debts gains strikes a ≡ debts →
       AreAccounts gains strikes (rows ++ a ∷ []) × (accounts_debts gains strikes (rows ++ a ∷ []) ≡ seen ++ debts ∷ [])
-  pushed-to a debts are view is owes =
-      let all = pushed gains strikes rows a are is in
-      (all.0, all.1 ∙ ap₂ (λ l d. l ++ d ∷ []) view owes)
+  unfolding accounts_debts
+  pushed-to a debts are view is owes = grind (arith, nat_tests, common_steps, All-push, map-append)
 
 -- the account, of which no gain below the place must be sent any more
 abbrev pub softened_account : ℕ → Account → Account
@@ -102,41 +79,24 @@ soft-owes : (gains : Gains) (strikes : List Strike) (a : Account) (place k : ℕ
 unfolding owes_at
 soft-owes gains strikes a place k = refl
 
--- debts that need not be sent any more have the same worths
-soft-worths : (debts : List Debt) → sum_by (λ debt. worth_of debt.message debt.deadline) (map softened_debt debts) ≡ sum_by (λ debt. worth_of debt.message debt.deadline) debts
-soft-worths [] = refl
-soft-worths (debt ∷ debts) =
-    sum_by-cons (λ (d : Debt). worth_of d.message d.deadline) (softened_debt debt) (map softened_debt debts)
-    ∙ ap (λ n. worth_of debt.message debt.deadline + n) (soft-worths debts)
-    ∙ sym (sum_by-cons (λ (d : Debt). worth_of d.message d.deadline) debt debts)
-
--- debts that need not be sent any more have the same print
-soft-print : (debts : List Debt) → debts_print (map softened_debt debts) ≡ debts_print debts
-unfolding debts_print
-soft-print debts = ap (λ n. n % 2 ^ 64) (soft-worths debts)
-
 -- the debts of a softened account are the softened ones
 soft-debts : (gains : Gains) (strikes : List Strike) (a : Account) → account_debts gains strikes (softened_account (length (entries_of gains)) a) ≡ map softened_debt (account_debts gains strikes a)
 unfolding account_debts
 soft-debts gains strikes a =
-    let entries = (entries_of gains) in
-    let b = softened_account (length entries) a in
-    listed-same (owes_at gains strikes b) (must_at gains b) (owes_at gains strikes a) (λ _. false) 0 entries
-    (λ k from below. (soft-owes gains strikes a (length entries) k, sym (must-below gains b k (omega (arith, below)))))
-    ∙ listed-softened (owes_at gains strikes a) (must_at gains a) (λ _. false) 0 entries (λ _. refl)
+    let b = softened_account (length (entries_of gains)) a in
+    grind (arith, listed-same (owes_at gains strikes b) (must_at gains b) (owes_at gains strikes a) (λ _. false) 0, soft-owes, must-below, listed-softened (owes_at gains strikes a) (must_at gains a) (λ _. false) 0)
 
 -- a softened account is an account, and has the softened debts
 pub softened-account : (gains : Gains) (strikes : List Strike) (a : Account) → IsAccount gains strikes a →
     IsAccount gains strikes (softened_account (length (entries_of gains)) a) ×
     (account_debts gains strikes (softened_account (length (entries_of gains)) a) ≡ map softened_debt (account_debts gains strikes a))
-softened-account gains strikes a is = grind (arith, nat_tests, soft-debts, soft-owes, soft-print)
+unfolding debts_print
+softened-account gains strikes a is = grind (arith, nat_tests, soft-debts, soft-owes, common_steps, sum_by-cons)
 
 -- an account that does not end where it starts owes something
 nothing-owed : (gains : Gains) (strikes : List Strike) (a : Account) → IsAccount gains strikes a → a.start ≢ a.end → account_debts gains strikes a ≢ []
 unfolding account_debts
-nothing-owed gains strikes a is other none =
-    let early : a.start < a.end = omega (arith, is.order, other) in
-    some-debt (entries_of gains) (owes_at gains strikes a) (must_at gains a) a.start (omega (arith, early, is.end)) (is.begins early) none
+nothing-owed gains strikes a is other none = some-debt (entries_of gains) (owes_at gains strikes a) (must_at gains a) a.start (omega (arith, is.order, is.end, other)) (is.begins (omega (arith, is.order, other))) none
 
 -- an account owes nothing exactly if it ends where it starts
 pub owes-nothing : (gains : Gains) (strikes : List Strike) (a : Account) (debts : List Debt) → IsAccount gains strikes a → account_debts gains strikes a ≡ debts →
@@ -149,12 +109,8 @@ pub can-pay : (gains : Gains) (strikes : List Strike) (a : Account) (message t :
     IfNone found ((k : ℕ) → owes_at gains strikes a k ≡ true → pays_at (entries_of gains) message t k ≡ false) →
     is_some found ≡ list_any (is_payable message t) (account_debts gains strikes a)
 unfolding account_debts
-can-pay gains strikes a message t (Some place) is some none =
-    sym (listed-any (is_payable message t) (entries_of gains) (owes_at gains strikes a) (must_at gains a) place
-    (omega (arith, owed-within gains strikes a place some.owed, is.end)) some.owed some.pays)
-can-pay gains strikes a message t None is some none =
-    sym (list_any_none (is_payable message t) (account_debts gains strikes a) (All-weaker (λ debt. ¬ (IsTrue (is_payable message t debt))) (λ debt. is_payable message t debt ≡ false) (λ debt no. false_from_ne_true (is_payable message t debt) no) (account_debts gains strikes a)
-    (unpaid-account gains strikes a message t none)))
+can-pay gains strikes a message t (Some place) is some none = grind (arith, nat_tests, listed-any, owed-within)
+can-pay gains strikes a message t None is some none = grind (arith, nat_tests, list_any_none, All-weaker, false_from_ne_true, unpaid-account)
 
 -- what contracts see of rows, by their accounts
-pub ruleset of_rows = (debts_length, account-at, can-pay, truncated, on-err, without-first_rows, drop_min)
+pub ruleset of_rows = (debts_length, account-at, can-pay, truncated, on-err, on-error, over-to, unchanged, without-first_rows, drop_min)

@@ -1,17 +1,5 @@
 -- Which gains the strikes of an account strike, as strikes are made longer, written and looked for.
-use Rattle.std.proofs.Common.{◌≡◌, ◌≢◌, ℕ, zero, suc, ◌+◌, ◌-◌, ◌<◌, ◌≤◌, ◌==◌, ◌&&◌, ◌||◌, Bool, true, false, List, [], ◌∷◌, ◌++◌, length, take, drop, get_or, set, filter, refl, sym, ap, ap₂, ◌∙◌, subst, arith}
-use Rattle.std.specs.Prelude.{nat_le, nat_lt}
-use Rattle.std.specs.List.{list_any}
-use Rattle.std.proofs.Math.Bool.{or-false, or_assoc}
-use Rattle.std.proofs.lemmas.Bool.{true≢false}
-use Rattle.std.proofs.lemmas.Bool.Decides.{nat_tests}
-use Rattle.std.proofs.lemmas.List.Folds.{list_any-append, list_any_at}
-use Rattle.std.proofs.Math.Seq.{take-append_seam, drop-append_seam}
-use Rattle.std.proofs.lemmas.List.{drop-append-le, drop-set-add, get_or_default, get_or-drop, length-drop, take-append-le, take-set-le, take_more}
-use Rattle.sip_ledger.specs.declared.accounts.account.Account.{Account}
-use Rattle.sip_ledger.specs.declared.accounts.strikes.Strike.{Strike}
-use Rattle.sip_ledger.specs.declared.accounts.gains.Gains.{Gains}
-use Rattle.sip_ledger.specs.inner.Accounts.{IsWritten, Lengthens, Reaches, StrikeToo, entries_of, entry_at, is_left, is_struck, strikes_of, is_out}
+use Rattle.sip_ledger.proofs.Words.{◌≡◌, ◌≢◌, ℕ, zero, suc, ◌+◌, ◌-◌, ◌<◌, ◌≤◌, ◌==◌, ◌&&◌, ◌||◌, Bool, true, false, List, [], ◌∷◌, ◌++◌, length, take, drop, get_or, set, filter, refl, sym, ap, ap₂, ◌∙◌, subst, arith, nat_le, nat_lt, list_any, or-false, or_assoc, true≢false, nat_tests, list_any-append, list_any_at, take-append_seam, drop-append_seam, drop-append-le, drop-set-add, get_or_default, get_or-drop, length-drop, take-append-le, take-set-le, take_more, Account, Strike, Gains, IsWritten, Lengthens, Reaches, StrikeToo, entries_of, entry_at, is_left, is_struck, strikes_of, is_out}
 use Rattle.sip_ledger.proofs.gains.LeftLemmas.{held_left}
 
 -- the strikes that end after the start
@@ -46,13 +34,9 @@ longer-out : (m mp sm from to place k : ℕ) → sm ≡ mp → from ≤ place �
     (sm == m && (nat_le from k && nat_lt k (place + 1))) ≡ ((sm == m && (nat_le from k && nat_lt k to)) || k == place)
 longer-out m mp sm from to place k is low high between here = grind (arith, nat_tests)
 
--- a new strike of one place strikes the gain there alone
-one-out : (m mp place k : ℕ) → (k ≡ place → m ≡ mp) → (mp == m && (nat_le place k && nat_lt k (place + 1))) ≡ (k == place)
-one-out m mp place k here = grind (arith, nat_tests)
-
--- a new strike of one place strikes nothing after it
-past-out : (m mp from place k : ℕ) → place < k → (mp == m && (nat_le from k && nat_lt k (place + 1))) ≡ false
-past-out m mp from place k past = grind (arith, nat_tests)
+-- a strike strikes nothing at its end or after it
+pub struck-by_end : (m k sm from to : ℕ) → to ≤ k → (sm == m && (nat_le from k && nat_lt k to)) ≡ false
+struck-by_end m k sm from to past = grind (arith, nat_tests)
 
 -- where a strike is made longer by the place that it reaches, it strikes the gain there too, and no other that is left
 pub lengthened : (gains : Gains) (place k : ℕ) (old : List Strike) (at : ℕ) (s : Strike) → at < length old → Reaches gains place (get_or old at s) → is_left gains k ≡ true →
@@ -73,7 +57,7 @@ lengthened gains place k old at s within reaches left =
 pub lengthened-bound : (gains : Gains) (place m k : ℕ) (old : List Strike) (at : ℕ) (s : Strike) → place < k → is_struck old m k ≡ false →
     is_struck (set old at (record { message = (get_or old at s).message; from = (get_or old at s).from; to = place + 1 })) m k ≡ false
 unfolding is_struck
-lengthened-bound gains place m k old at s past none = grind (arith, none-set, past-out)
+lengthened-bound gains place m k old at s past none = grind (arith, none-set, struck-by_end)
 
 -- strikes with one more strike what they struck and what the new one strikes
 pub struck-push : (xs : List Strike) (s : Strike) (m k : ℕ) → is_struck (xs ++ s ∷ []) m k ≡ (is_struck xs m k || is_out m k s)
@@ -88,23 +72,12 @@ struck-next xs at m k d within = ap (λ l. is_struck l m k) (take_more xs at d w
 added : (gains : Gains) (place k : ℕ) (old : List Strike) →
     is_struck (old ++ (record { message = (entry_at (entries_of gains) place).message; from = place; to = place + 1 }) ∷ []) (entry_at (entries_of gains) k).message k
     ≡ (is_struck old (entry_at (entries_of gains) k).message k || k == place)
-added gains place k old = grind (arith, nat_tests, struck-push, one-out)
+added gains place k old = grind (arith, nat_tests, struck-push)
 
 -- where a strike of one place is put after the others, nothing more is struck after the place
 added-bound : (m mp place k : ℕ) (old : List Strike) → place < k → is_struck old m k ≡ false →
     is_struck (old ++ (record { message = mp; from = place; to = place + 1 }) ∷ []) m k ≡ false
-added-bound m mp place k old past none =
-    struck-push old (record { message = mp; from = place; to = place + 1 }) m k ∙ ap₂ (λ a b. a || b) none (past-out m mp place place k past)
-
--- without the strikes that end at the start or before it, the same is struck from there on
-pub struck-ending : (m k start : ℕ) (xs : List Strike) → start ≤ k → is_struck (ending start xs) m k ≡ is_struck xs m k
-unfolding is_struck
-struck-ending m k start xs above = any-ending m k start xs above
-
--- without the strikes that end at the start or before it, nothing more is struck
-pub bound-ending : (m k start : ℕ) (xs : List Strike) → is_struck xs m k ≡ false → is_struck (ending start xs) m k ≡ false
-unfolding is_struck
-bound-ending m k start xs none = none-ending (is_out m k) start xs none
+added-bound m mp place k old past none = grind (arith, nat_tests, struck-push, struck-by_end)
 
 -- where one of the strikes from `first` on is made longer, they strike the gain at the place too
 pub longer-too : (gains : Gains) (place first : ℕ) (old new : List Strike) → Lengthens gains place first old new → StrikeToo gains place first old new
@@ -128,31 +101,16 @@ longer-too gains place first old new l =
 -- where a new strike of the place is put after the others, the strikes strike the gain at the place too
 pub more-too : (gains : Gains) (place first : ℕ) (old new : List Strike) → first ≤ length old →
     new ≡ old ++ (record { message = (entry_at (entries_of gains) place).message; from = place; to = place + 1 }) ∷ [] → StrikeToo gains place first old new
-more-too gains place first old new within is =
-    let m = (entry_at (entries_of gains) place).message in
-    let s : Strike = record { message = m; from = place; to = place + 1 } in
-    let rest : drop first new ≡ drop first old ++ s ∷ [] = ap (drop first) is ∙ drop-append-le first old (s ∷ []) within in
-    record {
-      before = ap (take first) is ∙ take-append-le first old (s ∷ []) within;
-      struck = λ k left. ap (λ x. is_struck x (entry_at (entries_of gains) k).message k) rest ∙ added gains place k (drop first old);
-      bound = λ m' k past none. ap (λ x. is_struck x m' k) rest ∙ added-bound m' m place k (drop first old) past none;
-    }
-
--- no place lies from one place up to an earlier one
-none-between : (from to k : ℕ) → to ≤ from → (nat_le from k && nat_lt k to) ≡ false
-none-between from to k order = grind (arith, nat_tests)
+more-too gains place first old new within is = grind (arith, nat_tests, drop-append-le, take-append-le, added, added-bound)
 
 -- a place lies up to `at` or is `at` exactly if it lies up to the one after `at`
 one-more : (from at k : ℕ) → from ≤ at → ((nat_le from k && nat_lt k at) || k == at) ≡ (nat_le from k && nat_lt k (at + 1))
 one-more from at k low = grind (arith, nat_tests)
 
--- a strike of no place adds nothing
-none-too : (from to k : ℕ) (w : Bool) → to ≤ from → w ≡ (w || (nat_le from k && nat_lt k to))
-none-too from to k w order = sym (ap (λ b. w || b) (none-between from to k order) ∙ or-false w)
-
 -- IsWritten holds once the account's strikes are written
 pub written-none : (gains : Gains) (from : ℕ) (old new : List Strike) (a : Account) → new ≡ old ++ ending a.start (strikes_of old a) → IsWritten gains from from old new a
-written-none gains from old new a is = grind (arith, nat_tests, drop-append_seam, take-append_seam, struck-ending, none-too, bound-ending)
+unfolding is_struck
+written-none gains from old new a is = grind (arith, nat_tests, drop-append_seam, take-append_seam, any-ending, none-ending, or-false)
 
 -- IsWritten goes on with the gain at the next place, where it is struck too
 pub written-more : (gains : Gains) (from at : ℕ) (old one new : List Strike) (a : Account) → IsWritten gains from at old one a → StrikeToo gains at (length old) one new → from ≤ at →
@@ -169,35 +127,15 @@ pub struck-more : (xs : List Strike) (i m k : ℕ) (s : Strike) → i < length x
     is_struck (take (i + 1) xs) m k ≡ false
 struck-more xs i m k s within none not = struck-next xs i m k s within ∙ ap₂ (λ a b. a || b) none not
 
--- a strike strikes a place between its own places, under its message
-out-yes : (m from to sm k : ℕ) → sm ≡ m → from ≤ k → k < to → (sm == m && (nat_le from k && nat_lt k to)) ≡ true
-out-yes m from to sm k is low high = grind (arith, nat_tests)
-
--- where one of the strikes is of the message and has the place between its own, the place is struck
-pub struck-by : (xs : List Strike) (i m k : ℕ) (s : Strike) → i < length xs → (get_or xs i s).message ≡ m → (get_or xs i s).from ≤ k → k < (get_or xs i s).to → is_struck xs m k ≡ true
-unfolding is_struck
-struck-by xs i m k s within is low high = grind (arith, list_any_at, out-yes)
-
--- what a strike strikes stands at its first place or after it
-pub out-low : (m sm from to k : ℕ) → (sm == m && (nat_le from k && nat_lt k to)) ≡ true → from ≤ k
-out-low m sm from to k is = grind (arith, nat_tests)
-
--- what a strike strikes stands before its end
-pub out-high : (m sm from to k : ℕ) → (sm == m && (nat_le from k && nat_lt k to)) ≡ true → k < to
-out-high m sm from to k is = grind (arith, nat_tests)
-
--- what a strike strikes is of its message
-pub out-is : (m sm from to k : ℕ) → (sm == m && (nat_le from k && nat_lt k to)) ≡ true → sm ≡ m
-out-is m sm from to k is = grind (arith, nat_tests)
+-- what a strike strikes is of its message, and stands at its places
+pub out-parts : (m sm from to k : ℕ) → (sm == m && (nat_le from k && nat_lt k to)) ≡ true → (sm ≡ m) × (from ≤ k) × (k < to)
+out-parts m sm from to k is = (grind (arith, nat_tests), grind (arith, nat_tests), grind (arith, nat_tests))
 
 -- where a strike strikes a place, it strikes each place from there up to its end
 pub out-struck : (xs : List Strike) (i m k : ℕ) (s : Strike) → i < length xs → is_out m k (get_or xs i s) ≡ true →
     (k < (get_or xs i s).to) × ((j : ℕ) → k ≤ j → j < (get_or xs i s).to → is_struck xs m j ≡ true)
-out-struck xs i m k s within out = grind (arith, nat_tests, out-low, out-high, struck-by, out-is)
-
--- a strike strikes nothing at its end or after it
-pub struck-by_end : (m k sm from to : ℕ) → to ≤ k → (sm == m && (nat_le from k && nat_lt k to)) ≡ false
-struck-by_end m k sm from to past = grind (arith, nat_tests)
+unfolding is_struck
+out-struck xs i m k s within out = grind (arith, nat_tests, list_any_at, out-parts m (get_or xs i s).message (get_or xs i s).from (get_or xs i s).to k out)
 
 -- what some of the strikes strike
 pub ruleset struck_by_some = (none-struck, out-struck, struck-more)

@@ -50,6 +50,7 @@ pub record IsPlaceOf (gains : Gains) (m k : ℕ) : Type 0 where
 abbrev pub no_flags : Flags
 no_flags = record { must = false; left = false; newest = false }
 
+-- the flags of the gain at place k
 abbrev pub flags_at : Gains → ℕ → Flags
 flags_at gains k = get_or gains.flags.items (k - (gains.end - length gains.entries.items)) no_flags
 

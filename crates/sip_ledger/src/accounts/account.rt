@@ -6,7 +6,7 @@ ghost use Rattle.sip_ledger.specs.Accounts.{worth_of};
 ghost use Rattle.sip_ledger.specs.Entries.{debt_of};
 ghost use Rattle.sip_ledger.specs.declared.accounts.account.Account.{Account};
 ghost use Rattle.sip_ledger.specs.inner.Accounts.{AreAlike, AreGains, IsAccount, IsExpiredTo, IsFirstOf, IsFirstPayable, IsGainAt, IsKept, IsNextGain, IsPlaceOf, IsSeek, IsStruck, IsWithout, KeepsAccounts, SharesRest, account_debts, entries_of, entry_at, is_gone, is_struck, must_at, owes_at, pays_at, sooner, strikes_of};
-ghost use Rattle.sip_ledger.specs.Indexes.{holds};
+ghost use Rattle.sip_ledger.specs.Indexes.{count_under, holds};
 
 use crate::accounts::gains::Gains;
 use crate::accounts::seek::Seek;
@@ -25,7 +25,7 @@ pub(crate) struct Account {
     /// Its strikes stand from `first` up to `last` among those of all rows.
     pub first: usize,
     pub last: usize,
-    /// The number of its debts.
+    /// A number made of its debts: accounts that owe the same have the same one, and others hardly ever do.
     pub print: u64,
 }
 
@@ -188,9 +188,10 @@ pub(crate) fn find(
     None
 }
 
-/// The first place whose debt a send of a message at the moment pays that stands under the key. The messages that stand there and are left
-/// are gone through from the least on, until what is found stands before all greater ones. Where that takes more than `most` steps, the
-/// answer is None.
+/// The first place whose debt a send of one of the messages under the key pays at the moment. The index gives the messages under the key
+/// and the gains give those that are still owed. Both are asked in turn, so that each step goes to a greater message, and passes one that
+/// stands under the key. The search ends where nothing greater is left or was gained, or where what is found stands before all greater ones.
+/// Where it takes more than `most` steps, the answer is None.
 pub(crate) fn find_under(
     gains: &Gains,
     strikes: &[Strike],
@@ -202,11 +203,12 @@ pub(crate) fn find_under(
 ) -> Option<Option<usize>>
     requires gained { AreGains gains.now }
     requires account { IsAccount gains.now strikes.now account }
-    ensures { IfSome result (IsFirstOf (entries_of gains.now) (owes_at gains.now strikes.now account) (holds index.now key) moment) }
+    ensures first { IfSome result (IsFirstOf (entries_of gains.now) (owes_at gains.now strikes.now account) (holds index.now key) moment) }
+    ensures told { IfNone result (most ≤ count_under index.now key) }
 {
     let mut first = None;
     let mut from = 0;
-    for _ in 0..most {
+    for _step in 0..most {
         let Some(message) = index.next(key, from) else {
             return Some(first);
         };
@@ -221,7 +223,10 @@ pub(crate) fn find_under(
             if gains.is_newest(place) {
                 return Some(first);
             }
-            from = message.checked_add(1)?;
+            if gains.highest <= message {
+                return Some(first);
+            }
+            from = message + 1;
         }
     }
     None
@@ -252,6 +257,7 @@ fn must(gains: &Gains, account: Account, place: usize) -> bool
 }
 
 /// The account without what was gained at the place, if it owes and may send that and its deadline is below the moment.
+#[tactic(auto, using(crate::proofs::account::ExpiringLemmas::expired_by_place))]
 fn expired_at(
     gains: &Gains,
     strikes: &mut Vec<Strike>,
@@ -284,6 +290,7 @@ fn expired_at(
 
 /// The account without what it may send and whose deadline is below the moment. On an error what is left of the others' strikes is
 /// as before.
+#[tactic(auto, using(crate::proofs::account::ExpiringLemmas::expired_by_place))]
 #[inline(always)]
 pub(crate) fn expired(
     gains: &Gains,
@@ -336,6 +343,7 @@ pub(crate) fn paid_and_expired(
 }
 
 /// The account without the first debt that a send of the message at the moment pays, if there is one. The strikes that were there stay.
+#[tactic(auto, using(crate::proofs::rows::PaidLemmas::paid_of_row))]
 fn without_paid(
     gains: &Gains,
     strikes: &mut Vec<Strike>,

@@ -13,7 +13,7 @@ use crate::accounts::strikes::Strike;
 use crate::debt::Debt;
 use std::alloc::{AllocError, Global};
 
-#[tactic(auto, using(crate::proofs::account::AccountLemmas::debts_length))]
+#[tactic(auto, using(crate::proofs::rows::SeenLemmas::of_rows))]
 impl Accounts {
     /// Whether nothing that the row must send is past at the moment.
     pub fn is_timely(&self, row: usize, moment: u64) -> bool
@@ -124,6 +124,7 @@ impl Accounts {
 }
 
 /// Lets each account from one on owe one more debt, after its others. On an error some of them may owe it.
+#[tactic(auto, using(crate::proofs::rows::GainEachLemmas::gained_by_rows))]
 fn gain_some(
     gains: &mut Gains,
     strikes: &mut Vec<Strike>,
@@ -152,6 +153,7 @@ fn gain_some(
 
 /// Puts after the others what a send of the message at the moment leaves of each account from one up to another that it pays. On an error
 /// some of these may be there.
+#[tactic(auto, using(crate::proofs::rows::PaidLemmas::paid_of_rows))]
 fn push_some(
     gains: &Gains,
     strikes: &mut Vec<Strike>,
@@ -189,6 +191,7 @@ fn push_left(rows: &mut Vec<Account>, left: Option<Account>) -> Result<(), Alloc
 
 /// The account without the first debt that a send of the message at the moment pays and without what is past then, if it has such a debt and
 /// must send nothing that is past. The strikes that were there stay.
+#[tactic(auto, using(crate::proofs::rows::PaidLemmas::paid_of_row))]
 fn paid(
     gains: &Gains,
     strikes: &mut Vec<Strike>,

@@ -47,6 +47,7 @@ fn is_named(gains: &Gains, strikes: &[Strike], rows: &[Account], message: u64) -
 }
 
 /// Whether the account owes the message.
+#[tactic(auto, using(crate::proofs::rows::NamedLemmas::named_by_message))]
 fn names(gains: &Gains, strikes: &[Strike], account: Account, seek: &mut Seek, message: u64) -> bool
     requires gained { AreGains gains.now }
     requires account { IsAccount gains.now strikes.now account }

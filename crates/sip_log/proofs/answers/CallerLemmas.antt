@@ -77,6 +77,7 @@ module _ (input : List ℕ) (format : Format) (p : Times) (items : List Item) (r
 pub Begins-header : (input : List ℕ) (format : Format) (p : Times) (behind : List ℕ) → Header format p input behind → Begins input format p [] behind
 Begins-header input format p behind is = record { header = is; few = omega arith; order = tt }
 
+-- the spelling of items and of others after them is both spellings, one after the other
 pub flat_map-append : (xs ys : List Item) → flat_map entry_says (xs ++ ys) ≡ flat_map entry_says xs ++ flat_map entry_says ys
 flat_map-append [] ys = refl
 flat_map-append (x ∷ xs) ys = ap (λ (t : List ℕ). entry_says x ++ t) (flat_map-append xs ys) ∙ sym (append_assoc (entry_says x) (flat_map entry_says xs) (flat_map entry_says ys))
@@ -150,6 +151,7 @@ module _ (start left : Option (List ℕ)) (before after : Bool) where
             (subst (λ t. HasRead start place.format t [] (beside_source place left after).left) (sym times) (has start says.1), ap (λ (x : ProgressState). x.count) is, ap (λ (x : ProgressState). x.last) is);
       }
     where
+      -- where the header comes first in what was left, it was read
       has : (s : Option (List ℕ)) → IfSome s (λ xs. (ys : List ℕ) × (prepend_known place.held left ≡ Some ys) × Heads place.format xs (gives p ys)) → HasRead s place.format (Some p) [] (prepend_known place.held left)
       has None says = tt
       has (Some xs) (ys, left_is, header) = (ys, left_is, Begins-header xs place.format p ys header)
@@ -173,6 +175,7 @@ module _ (start : Option (List ℕ)) (items : List Item) (old new : ReaderState)
 
   -- What follows is of an answer with an entry.
   module _ (e : Entry) where
+    -- where the reader moved on over the entry, it stands after the items with that one
     closed : Moves old.count old.last new (Ok (Some e)) → HasRead start new.format new.times (items ++ item e ∷ []) new.left → old.count ≡ length items → Stands start (items ++ item e ∷ []) new
     closed moves has counts =
         subst (λ s. StandsAt s start (items ++ item e ∷ []) new) (sym moves.0)
@@ -197,10 +200,12 @@ module _ (start : Option (List ℕ)) (items : List Item) (old new : ReaderState)
 
     -- an answer with an entry says that it was read after the entries before it, at whatever stage
     gave-at : (s : Stage) → old.stage ≡ s → StandsAt s start items old → NextsAt s old new (Ok (Some e)) → Stands start (items ++ item e ∷ []) new
+    -- the first answer: the format and the times are read with it
     gave-at fresh at h steps =
         let says = subst (λ s. IfSome old.left (λ xs. (ys : List ℕ) × (new.left ≡ Some ys) × Comes s old new xs (gives (item e) ys))) at steps.says.1 in
         closed steps.moves (gave-first new.times start h.0 steps.times (subst (λ o. IfSome o (λ xs. (ys : List ℕ) × (new.left ≡ Some ys) × ComesFirst new.format new.times xs (gives (item e) ys))) h.1 says))
         (h.3 ∙ sym (ap length h.0))
+    -- a later answer: the format and the times are those of the old state
     gave-at entries at h steps =
         let says = subst (λ s. IfSome old.left (λ xs. (ys : List ℕ) × (new.left ≡ Some ys) × Comes s old new xs (gives (item e) ys))) at steps.says.1 in
         let same = same-times old.times h.0 steps.kept in
@@ -208,9 +213,11 @@ module _ (start : Option (List ℕ)) (items : List Item) (old new : ReaderState)
         closed steps.moves
         (subst (λ f. HasRead start f new.times (items ++ item e ∷ []) new.left) (sym format)
         (gave-next new.times start h.1 h.2 (subst (λ t. HasRead start old.format t items old.left) (sym same) h.0) says)) h.1
+    -- after the end and after a failure no entry is answered
     gave-at ended at h again = cc
     gave-at failed at h again = cc
 
+    -- where the reader stands after the items and gives an entry, it stands after the items with that one
     pub Stands-gives : Stands start items old → Nexts old new (Ok (Some e)) → Stands start (items ++ item e ∷ []) new
     Stands-gives stands nexts = gave-at old.stage refl stands nexts
 

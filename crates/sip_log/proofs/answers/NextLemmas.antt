@@ -163,6 +163,7 @@ front-told format last rest next (inr (line, behind, front, inl (none, same))) =
     inl (faults.EntryLine, same, inr (line, behind, front, inl ((λ action moment len of is. let h = line-read format line action moment len front.short of is in none h.0 h.1), refl)))
 front-told format last rest next (inr (line, behind, front, inr (head, is, at))) = go (line-told format last line head behind next front.short is at)
   where
+    -- what the line says is what the front of the rest says
     go : Told (LineFault format last line behind) (Entered format last line behind) next → Told (AtFront format last rest) (λ e after. (rest ≡ entry_says e ++ after) × (last ≤ e.moment) × IsEntry format e) next
     go (inl (fault, same, at)) = inl (fault, same, inr (line, behind, front, at))
     go (inr (e, after, same, (whole, order, entry))) = inr (e, after, same, (front.whole ∙ whole, order, entry))

@@ -41,6 +41,7 @@ message-numbers last action moment len behind fault other (inr (inside, rest)) =
   | inl keeps ↦ inr (keeps, order rest)
 ]
   where
+    -- the order is at fault, or what comes after it
     order : First (moment < last) faults.Order fault (AtBody action len behind fault) → read.MomentComes last (message action moment len) behind (stops fault)
     order (inl (early, same)) = inl ((λ le. omega arith), ap stops same)
     order (inr (late, body)) = inr (not_below moment last late, message-stops action moment len behind fault body)
@@ -53,6 +54,7 @@ plain-numbers last action moment len behind fault none (inr (inside, rest)) = el
   | inl keeps ↦ inr (keeps, order rest)
 ]
   where
+    -- the order is at fault, or what comes after it
     order : First (moment < last) faults.Order fault (AtBody action len behind fault) → read.MomentComes last (plain action moment) behind (stops fault)
     order (inl (early, same)) = inl ((λ le. omega arith), ap stops same)
     order (inr (late, body)) = absurd (none body.0)
@@ -141,6 +143,7 @@ entry-read format last rest e behind whole order entry =
       ],
     )
   where
+    -- the bytes of the message and a line feed stand after its line
     closed : HasMessage e.action → read.MessageComes e.action e.moment (length e.text) (body_says e.action e.text ++ behind) (gives e behind)
     closed has =
         let body : body_says e.action e.text ++ behind ≡ e.text ++ line_feed ∷ behind = ap (λ (t : List ℕ). t ++ behind) (body-message e.action e.text has) ∙ append_assoc e.text (line_feed ∷ []) behind in

@@ -89,6 +89,7 @@ Says-headed old mid new before between after format p (Err e) first says =
     subst (λ b. FailsAs b after (λ fault. IfSome old (λ xs. ComesFirst format (Some p) xs (stops fault))) e) first.0
     (FailsAs-map between after _ _ e (λ fault. value old fault first.1) says)
   where
+    -- the header is followed by this fault
     value : (o : Option (List ℕ)) (fault : LogReason) → IfSome o (λ xs. (ys : List ℕ) × (mid ≡ Some ys) × read.HeaderComes xs (gives (format, p) ys)) → IfSome mid (λ xs. entry.EntryComes format 0 0 xs (stops fault))
         → IfSome o (λ xs. ComesFirst format (Some p) xs (stops fault))
     value None fault is behind = tt
@@ -118,6 +119,7 @@ always : {A E : Type 0} (r : Result A E) (P : Type 0) → P → OnOk r P
 always (Ok a) P p = p
 always (Err e) P p = tt
 
+-- times and a format that did not change are kept
 keeps : (old new : Option Times) (format format2 : Format) → new ≡ old → format2 ≡ format → IfSome old (λ p. (new ≡ Some p) × (format2 ≡ format))
 keeps None new format format2 same same2 = tt
 keeps (Some p) new format format2 same same2 = (same, same2)

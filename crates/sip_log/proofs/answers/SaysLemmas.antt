@@ -11,6 +11,7 @@ use Rattle.sip_log.specs.Next.{Next, stops}
 use Rattle.sip_log.specs.Told.{TellsWhatComes}
 use Rattle.sip_log.proofs.answers.ToldLemmas.{told, known}
 
+-- What follows is of a reader that has read on from its source, and of what P says of the bytes that come.
 module _ {B : Type 0} {held held2 : List ℕ} {left left2 : Option (List ℕ)} {before mid : Bool} (reads : Reads held held2 left left2 before mid)
     (P : List ℕ → Next B → Type 0) where
   -- where P holds of the held bytes and those left, an answer with a value tells what comes in the input by P

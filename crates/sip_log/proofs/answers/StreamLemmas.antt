@@ -33,6 +33,7 @@ pub record HasStreamed (start : Option (List ℕ)) (p : Times) (items : List Ite
   pub last : now.last ≡ last_of 0 items
   pub starts : StartsAt start now.format p items now.left
 
+-- What follows is of an input that begins with a header and some items.
 module _ (input : List ℕ) (format : Format) (p : Times) (items : List Item) (rest : List ℕ) (is : Starts input format p items rest) where
   -- where an entry comes next in the rest, the header and the entries with that one stand at the front of the input
   starts_push : (e : Item) (behind : List ℕ) → ComesNext format 0 (last_of 0 items) rest (gives e behind) → Starts input format p (items ++ e ∷ []) behind
@@ -45,6 +46,7 @@ module _ (input : List ℕ) (format : Format) (p : Times) (items : List Item) (r
   starts_end : (end : LogEnd) → EndsWith format 0 (last_of 0 items) rest end → StreamSays input p items end
   starts_end end next = record { format = format; rest = rest; header = is.header; order = is.order; next = next }
 
+-- What follows is of a reader that has read these items, and reads the next one.
 module _ (start : Option (List ℕ)) (p : Times) (items : List Item) (old new : ReaderState) (has : HasStreamed start p items old) (none : old.count ≡ 0) where
   -- at the stage of entries the reader reads the next one
   steps : (r : Result (Option Entry) LogError) → Nexts old new r → ReadsNext old new r

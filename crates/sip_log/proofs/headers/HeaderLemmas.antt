@@ -32,6 +32,7 @@ module _ (word text : List ℕ) where
       let parts = part-one space is.number behind is2.number behind2 (IsNumber-no_space _ n is.number_is) (IsNumber-no_space _ n2 is2.number_is) is.parted is2.parted rest in
       (IsNumber-one is.number is2.number n n2 parts.0 is.number_is is2.number_is, parts.1)
 
+  -- What follows is of the text after the word, cut in two before its first blank.
   module _ (front back : List ℕ) (after : text ≡ word ++ (front ++ back)) (lacks : Lacks space front) (parted : Parted back) where
     -- the number after the word is what stands before the first blank
     pub NumberAfter-part : (n : ℕ) (behind : List ℕ) → NumberAfter word text n behind → IsNumber front n
@@ -87,27 +88,37 @@ Tolerances-length Two text early late low low2 is =
 
 -- What follows shows that the times that are read of line 2, word by word, are those that stand there.
 module _ (format : Format) (line : List ℕ) (p : Times) (is : TimesLine format line p) (n1 : ℕ) (rest1 : List ℕ) (first : NumberAfter (codes "t1 ") line n1 rest1) where
+  -- the first number of the line is t1, and what follows it is what follows t1
   same1 : (p.t1 ≡ n1) × (is.rest1 ≡ rest1)
   same1 = NumberAfter-one (codes "t1 ") line p.t1 n1 is.rest1 rest1 is.t1_is first
 
+  -- after the first number comes t2
   pub t2-after : NumberAfter (codes " t2 ") rest1 p.t2 is.rest2
   t2-after = subst (λ t. NumberAfter (codes " t2 ") t p.t2 is.rest2) same1.1 is.t2_is
 
+  -- What follows is of the second number of the line.
   module _ (n2 : ℕ) (rest2 : List ℕ) (second : NumberAfter (codes " t2 ") rest1 n2 rest2) where
+    -- the second number of the line is t2, and what follows it is what follows t2
     same2 : (p.t2 ≡ n2) × (is.rest2 ≡ rest2)
     same2 = NumberAfter-one (codes " t2 ") rest1 p.t2 n2 is.rest2 rest2 t2-after second
 
+    -- after the second number comes t4
     pub t4-after : NumberAfter (codes " t4 ") rest2 p.t4 is.rest3
     t4-after = subst (λ t. NumberAfter (codes " t4 ") t p.t4 is.rest3) same2.1 is.t4_is
 
+    -- What follows is of the third number of the line.
     module _ (n3 : ℕ) (rest3 : List ℕ) (third : NumberAfter (codes " t4 ") rest2 n3 rest3) where
+      -- the third number of the line is t4, and what follows it is what follows t4
       same3 : (p.t4 ≡ n3) × (is.rest3 ≡ rest3)
       same3 = NumberAfter-one (codes " t4 ") rest2 p.t4 n3 is.rest3 rest3 t4-after third
 
+      -- after the third number come the tolerances
       pub tolerances-after : Tolerances format rest3 p.early p.late
       tolerances-after = subst (λ t. Tolerances format t p.early p.late) same3.1 is.tolerances
 
+      -- What follows is of the tolerances at the end of the line.
       module _ (early late : ℕ) (fourth : Tolerances format rest3 early late) where
+        -- the times of the line are these numbers
         pub times-after : p ≡ record { t1 = n1; t2 = n2; t4 = n3; early = early; late = late; rules = R6026 }
         times-after =
             let same4 = Tolerances-one format rest3 p.early p.late early late tolerances-after fourth in
@@ -187,6 +198,7 @@ module _ (format : Format) (held ys : List ℕ) where
   ComesSecond-none none enough =
       inr ((λ p behind is. line-none longest_times held ys none enough is.line behind is.whole (TimesLine-short format is.line p is.times is.within)), refl)
 
+  -- What follows is of a first line that ends at the place k.
   module _ (k : ℕ) (found : IsFirstByte (is_byte line_feed) (take longest_times held) (Some k)) where
     -- where the first line is no line 2 with times within their limits, the header is at fault
     pub ComesSecond-other : ((p : Times) → TimesLine format (take k held) p → ¬ (AreTimes p)) → ComesSecond format (held ++ ys) (stops faults.Header)
@@ -242,6 +254,7 @@ rules-first R6026 rest = refl
 under-same : (p : Times) → p.rules ≡ R6026 → p ≡ under R6026 p
 under-same p is = λ i. record { t1 = p.t1; t2 = p.t2; t4 = p.t4; early = p.early; late = p.late; rules = is i }
 
+-- What follows is of what may come after the second line of the header: a line of rules, or the entries.
 module _ (format : Format) (p : Times) (is : p.rules ≡ R6026) where
   -- where no line of rules stands in the rest, the header ends before it
   pub ComesThird-none : (rest : List ℕ) → ((rules : Rules) (more : List ℕ) → ¬ (rest ≡ rules_text rules ++ more)) → ComesThird format p rest (gives (format, p) rest)

@@ -35,6 +35,7 @@ module _ (most : ℕ) (held ys : List ℕ) where
       ∙ ap (λ (t : List ℕ). get_or t (length line) 0) whole ∙ get_or-append_seam line line_feed behind 0 in
       (first-none line_feed front none).nowhere (length line) low here
     where
+      -- a line shorter than `most` would lie within the held bytes, which have no line feed
       inside-held : (most ≤ length held) ⊎ (ys ≡ []) → length (held ++ ys) ≡ length line + length (line_feed ∷ behind) → length line < most
           → length line < length held
       inside-held (inl many) len short = omega arith
@@ -68,6 +69,7 @@ module _ (format : Format) (last : ℕ) (held ys : List ℕ) where
   AtLine-long none many =
       inl (FrontLine-none held ys none (inl many), inr (omega (arith, length-append held ys), refl))
 
+  -- What follows is of a front line that ends at the place k.
   module _ (k : ℕ) (short : k < longest_line) (found : IsFirstByte (is_byte line_feed) (take longest_line held) (Some k)) where
     -- where the front line does not have the form of an entry's line, the line of the entry is at fault
     pub AtLine-other : ((head : Head) → ¬ (HeadLine format (take k held) head)) → LineComes format last (held ++ ys) (stops faults.EntryLine)

@@ -137,5 +137,6 @@ part-found m xs (Some k) found =
     let at = first-cut m xs k found in
     (at.first, inr (drop (k + 1) xs, drop-from at))
   where
+    -- from k on stand the m and what follows it
     drop-from : Cut m xs (take k xs) (drop (k + 1) xs) → drop k xs ≡ m ∷ drop (k + 1) xs
     drop-from at = append_cancel_left (take k xs) _ _ (take-append-drop k xs ∙ at.whole)

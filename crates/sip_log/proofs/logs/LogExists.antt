@@ -345,6 +345,7 @@ number_after-or-not word text = elim (begins-or-not word text) [
   ]
 ]
 
+-- the text is the word and a number, or it is not
 abbrev LastOrNot : List ℕ → List ℕ → Type 0
 LastOrNot word text = ((n : ℕ) × NumberAfter word text n []) ⊎ ((n : ℕ) → ¬ (NumberAfter word text n []))
 
@@ -362,6 +363,7 @@ last-or-not word text = elim (number_after-or-not word text) as (λ _. LastOrNot
         nil-cons : [] ≢ x ∷ xs
         nil-cons same = cc
 
+-- the text tells tolerances of the format, or it tells none
 abbrev TolerancesOrNot : Format → List ℕ → Type 0
 TolerancesOrNot format text = ((early : ℕ) × (late : ℕ) × Tolerances format text early late) ⊎ ((early late : ℕ) → ¬ (Tolerances format text early late))
 
@@ -380,6 +382,7 @@ tolerances-or-not Two text = elim (number_after-or-not (codes " early ") text) a
   ]
 ]
 
+-- the line is a line 2 of the format, or it is none
 abbrev TimesOrNot : Format → List ℕ → Type 0
 TimesOrNot format line = ((p : Times) × TimesLine format line p) ⊎ ((p : Times) → ¬ (TimesLine format line p))
 
@@ -428,6 +431,7 @@ are-times-or-not p =
       | inr other ↦ inr (λ is. other (((is.t1_low, is.t1_high), (is.t2_low, is.t2_high)), ((is.t4_low, is.t4_high), (is.early_high, is.late_high))))
     ]
 
+-- the rest begins with a line 2 of the format, or it does not
 abbrev SecondOrNot : Format → List ℕ → Type 0
 SecondOrNot format rest = ((p : Times) × (behind : List ℕ) × TimesFront format rest p behind) ⊎ ((p : Times) (behind : List ℕ) → ¬ (TimesFront format rest p behind))
 
@@ -444,6 +448,7 @@ second-or-not format rest = elim (cut-or-lacks line_feed rest) as (λ _. SecondO
   ]
 ]
   where
+    -- the line of the times is what stands before the first line feed
     line-is : (front back : List ℕ) → Cut line_feed rest front back → (p : Times) (behind : List ℕ) → TimesFront format rest p behind → TimesLine format front p
     line-is front back at p behind is =
         let parts = cut-one line_feed is.line behind front back (TimesLine-lacks format is.line p is.times) at.first (sym is.whole ∙ at.whole) in
@@ -491,6 +496,7 @@ first-not-ends input (inl (format, rest, title, inl (p, behind, front, (rules, m
 first-not-ends input (inl (format, rest, title, inr (none, same))) = cc
 first-not-ends input (inr (none, same)) = cc
 
+-- the input has a header, or it lacks one
 abbrev pub HeaderOrNot : List ℕ → Type 0
 HeaderOrNot input = ((format : Format) × (p : Times) × (behind : List ℕ) × Header format p input behind) ⊎ LacksHeader input
 

@@ -26,6 +26,7 @@ Follows format last rest (e ∷ es) end = (behind : List ℕ) × EntryComes form
 abbrev pub SomeFollow : Format → ℕ → List ℕ → Type 0
 SomeFollow format last rest = (es : List Item) × (end : LogEnd) × Follows format last rest es end
 
+-- where some entries and an end follow after any entry that comes next, some follow in the rest
 follows_from : (format : Format) (last : ℕ) (rest : List ℕ) (next : Next Item) → EntryComes format 0 last rest next
     → ((e : Item) (behind : List ℕ) → length behind < length rest → SomeFollow format e.moment behind) → SomeFollow format last rest
 follows_from format last rest ends next more = ([], Clean, next)
@@ -34,6 +35,7 @@ follows_from format last rest (gives e behind) next more =
     let (es, end, follow) = more e behind (next-shorter format 0 last rest e behind next) in
     (e ∷ es, end, (behind, next, follow))
 
+-- some entries and an end follow in a rest that is shorter than `most`
 follows_within : (format : Format) (most last : ℕ) (rest : List ℕ) → length rest < most → SomeFollow format last rest
 follows_within format zero last rest short = absurd (omega arith)
 follows_within format (suc most) last rest short =
@@ -67,6 +69,7 @@ pub record Spelled (format : Format) (last : ℕ) (rest : List ℕ) (items : Lis
   pub order : InOrder format last items
   pub next : EndsWith format 0 (last_of last items) left end
 
+-- entries that follow in the rest are its spelling up to its end
 pub follows_spelled : (format : Format) (last : ℕ) (rest : List ℕ) (items : List Item) (end : LogEnd) → Follows format last rest items end → Spelled format last rest items end
 follows_spelled format last rest [] end next = record { left = rest; whole = refl; order = tt; next = comes-end format 0 last rest end (next-told format 0 last rest (next_at end) next) }
 follows_spelled format last rest (e ∷ es) end (behind, next, follow) =
@@ -79,6 +82,7 @@ follows_spelled format last rest (e ∷ es) end (behind, next, follow) =
       next = more.next;
     }
 
+-- entries in order, spelled before the end, follow there
 spelled_follows : (format : Format) (last : ℕ) (items : List Item) (rest : List ℕ) (end : LogEnd) → InOrder format last items → EndsWith format 0 (last_of last items) rest end
     → Follows format last (flat_map entry_says items ++ rest) items end
 spelled_follows format last [] rest end order next = next-read format 0 last rest (next_at end) (end-comes format 0 last rest end next)

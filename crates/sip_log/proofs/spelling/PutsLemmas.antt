@@ -22,6 +22,7 @@ puts-then : {E : Type 0} (a b c : Option (List ℕ)) (f g h : Bool) (x y : List 
 puts-then a b c f g h x y (Ok done) first second = then a b c f g h x y first second
 puts-then a b c f g h x y (Err e) first second = second
 
+-- three names with their numbers, bracketed as they are put, and as the definition has them
 regroup : (n1 d1 n2 d2 n3 d3 : List ℕ) → ((n1 ++ d1) ++ (n2 ++ d2)) ++ (n3 ++ d3) ≡ n1 ++ d1 ++ n2 ++ d2 ++ n3 ++ d3
 regroup n1 d1 n2 d2 n3 d3 = simp append_assoc
 
@@ -33,6 +34,7 @@ timers-put w0 w1 w2 w3 f0 f1 f2 f3 p r t1 t2 t4 =
     subst (λ t. Puts w0 w3 f0 f3 t r) (regroup (codes "t1 ") (decimal p.t1) (codes " t2 ") (decimal p.t2) (codes " t4 ") (decimal p.t4))
     (puts-then w0 w2 w3 f0 f2 f3 _ _ r (then w0 w1 w2 f0 f1 f2 _ _ t1 t2) t4)
 
+-- the pieces of a header of format 1, bracketed as they are put, and as the definition has them
 one-group : (t p w d e r : List ℕ) → (((t ++ p) ++ (w ++ d)) ++ e) ++ r ≡ (t ++ p ++ w ++ d ++ e) ++ r
 one-group t p w d e r = simp append_assoc
 
@@ -44,6 +46,7 @@ one-put w0 w1 w2 w3 w4 w5 f0 f1 f2 f3 f4 f5 p r title timers tolerance end rules
     subst (λ t. Puts w0 w5 f0 f5 t r) (one-group (codes "sip-trace 1\n") (timers_text p) (codes " tolerance ") (decimal p.late) (line_feed ∷ []) (written_rules p.rules))
     (puts-then w0 w4 w5 f0 f4 f5 _ _ r (then w0 w3 w4 f0 f3 f4 _ _ (then w0 w2 w3 f0 f2 f3 _ _ (then w0 w1 w2 f0 f1 f2 _ _ title timers) tolerance) end) rules)
 
+-- the pieces of a header of format 2, bracketed as they are put, and as the definition has them
 two-group : (t p v d w l e r : List ℕ) → ((((t ++ p) ++ (v ++ d)) ++ (w ++ l)) ++ e) ++ r ≡ (t ++ p ++ v ++ d ++ w ++ l ++ e) ++ r
 two-group t p v d w l e r = simp append_assoc
 

@@ -97,10 +97,12 @@ second-read format p within one = record {
   rules = refl;
 }
 
+-- the pieces of both lines of format 1, bracketed as they are read, and as the definition has them
 one-line : (t w1 d1 w2 d2 w4 d4 w d end rest : List ℕ)
     → t ++ ((w1 ++ (d1 ++ (w2 ++ (d2 ++ (w4 ++ (d4 ++ (w ++ (d ++ [])))))))) ++ (end ++ rest)) ≡ (t ++ (w1 ++ d1 ++ w2 ++ d2 ++ w4 ++ d4) ++ w ++ d ++ end) ++ rest
 one-line t w1 d1 w2 d2 w4 d4 w d end rest = simp (append_assoc, append-nil)
 
+-- the pieces of both lines of format 2, bracketed as they are read, and as the definition has them
 two-line : (t w1 d1 w2 d2 w4 d4 v e w d end rest : List ℕ)
     → t ++ ((w1 ++ (d1 ++ (w2 ++ (d2 ++ (w4 ++ (d4 ++ (v ++ (e ++ (w ++ (d ++ [])))))))))) ++ (end ++ rest)) ≡ (t ++ (w1 ++ d1 ++ w2 ++ d2 ++ w4 ++ d4) ++ v ++ e ++ w ++ d ++ end) ++ rest
 two-line t w1 d1 w2 d2 w4 d4 v e w d end rest = simp (append_assoc, append-nil)

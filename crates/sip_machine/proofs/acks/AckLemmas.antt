@@ -24,6 +24,7 @@ AckOf-read ack invite response a i reads_a reads_i of =
     let read = says-reads response of.2 of.5 in
     (read.0, read.1, (ack-of_says ack invite response (said_of a) (said_of i) (said_of read.0) reads_a.says reads_i.says read.1.says).0 of)
 
+-- What follows is of an ACK and an INVITE, as they are read, and the test of whether the ACK is one for it.
 module _ (ack invite response : List ℕ) (a i : Reading) (is : Bool) (reads_a : Reads ack a) (reads_i : Reads invite i)
     (tells : (r : Said) → SameSolid (said_of a).to r.to → IsTrue is ↔ IsAckOf (said_of a) (said_of i) r) where
   -- where an ACK is one for the INVITE whatever the response is, it belongs to each response that has the To of the ACK

@@ -10,7 +10,7 @@ use Rattle.sip_machine.specs.Texts.{Texts, Keeps, text_of}
 use Rattle.sip_machine.specs.inner.Acks.{HasTo}
 use Rattle.sip_machine.specs.inner.DebtLaws.{All-back, All-front, IsWithoutFirst-alike}
 use Rattle.sip_machine.specs.inner.OwesLaws.{All-names}
-use Rattle.sip_machine.specs.inner.Order.{hash_of}
+use Rattle.sip_machine.specs.inner.Order.{full_hash}
 use Rattle.sip_machine.specs.inner.Paying.{FindsFirst}
 use Rattle.sip_machine.specs.inner.Dues.{AreBetween}
 use Rattle.sip_machine.specs.inner.Tos.{IsToOf, StandUnder}
@@ -20,6 +20,7 @@ pub FindsFirst-same : (P Q : Debt → Type 0) (t : ℕ) (debts : List Debt) (mes
 FindsFirst-same P Q t debts None same none = λ k d low holds. none k d low ((same k d low).1 holds)
 FindsFirst-same P Q t debts (Some message) same first = IsWithoutFirst-alike P Q debts (paid_by message t debts) same first
 
+-- What follows is of one row, and the pairs that the index of Tos has for the kept messages with numbers from `low` up to `high`.
 module _ (texts : Texts) (to : List ℕ) (low high t : ℕ) (rows : List (List Debt)) (row : ℕ) (inside : row < length rows)
     (spans : All (AreBetween low high) rows) (kept : All (Keeps texts) (owes_names (owed_in rows row))) (pairs : List (ℕ × ℕ)) (stand : StandUnder texts low high pairs) where
   -- what the row owes
@@ -28,8 +29,9 @@ module _ (texts : Texts) (to : List ℕ) (low high t : ℕ) (rows : List (List D
 
   -- the message of the debt stands under the hash of the To, and its deadline is not before t
   abbrev Under : Debt → Type 0
-  Under = PaysSome (holds pairs (hash_of to)) t
+  Under = PaysSome (holds pairs (full_hash to)) t
 
+  -- the book has each message that the row owes
   known : All (λ d. Keeps texts d.message) debts
   known = All-names (Keeps texts) debts kept
 

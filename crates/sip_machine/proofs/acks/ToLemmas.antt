@@ -18,7 +18,7 @@ use Rattle.sip_standard.specs.Solid.{solid}
 use Rattle.sip_machine.specs.Texts.{Texts, IsBook, Keeps, text_of}
 use Rattle.sip_machine.specs.Retained.{only}
 use Rattle.sip_machine.specs.declared.tos.To.{To}
-use Rattle.sip_machine.specs.inner.Order.{hash_of}
+use Rattle.sip_machine.specs.inner.Order.{full_hash}
 use Rattle.sip_machine.specs.inner.Tos.{IsToOf, IsTo, AreTos, AreUnder, StandUnder, IsChanged, IsUnder, count_between}
 use Rattle.sip_machine.proofs.texts.BesideLemmas.{among-all, count_between-is, many}
 use Rattle.sip_machine.proofs.texts.TextLaws.{Keeps-grow, text_of-grow}
@@ -74,31 +74,6 @@ to_of texts tos number text all has = grind (arith, nat_tests, All-contains)
 -- what is read past the end of the list
 abbrev pub nobody : To
 nobody = record { number = 0; text = [] }
-
--- the To at a place of the list, whose number is this one, is in the list under this number
-pub has_to : (tos : List To) (i : ℕ) (to : To) (number : ℕ) → i < length tos → to ≡ get_or tos i to → to.number ≡ number → Contains tos (record { number = number; text = to.text })
-has_to tos i to number low at same =
-    let has : Contains tos to = (i, low, sym at) in
-    subst (λ n. Contains tos (record { number = n; text = to.text })) same has
-
--- two Tos of the list with one number are the same text
-pub one_number : (tos : List To) (a b : To) → AllPairs (λ a b. a.number < b.number) tos → Contains tos a → Contains tos b → a.number ≡ b.number → a.text ≡ b.text
-one_number tos a b up (i, i_low, at_a) (j, j_low, at_b) same =
-    let first : get_or tos i b ≡ a = get_or_default tos i b a i_low ∙ at_a in
-    elim (cases_lt i j) [
-      | inl below ↦
-          let lt = up i j b below j_low in
-          absurd (omega (arith, lt, ap (λ t. t.number) first, ap (λ t. t.number) at_b, same))
-      | inr from ↦
-          elim (cases_lt j i) [
-            | inl below ↦
-                let lt = up j i b below i_low in
-                absurd (omega (arith, lt, ap (λ t. t.number) first, ap (λ t. t.number) at_b, same))
-            | inr back ↦
-                let here : i ≡ j = omega (arith, from, back) in
-                ap (λ t. t.text) (sym first ∙ ap (λ k. get_or tos k b) here ∙ at_b)
-          ]
-    ]
 
 -- where the last To of the list has a number below this one, all have
 pub all_below : (tos : List To) (number : ℕ) (last : To) → AllPairs (λ a b. a.number < b.number) tos → 0 < length tos → last ≡ get_or tos (length tos - 1) last → last.number < number →
@@ -213,6 +188,7 @@ numbers_kept texts tos are n (i, within, at) =
     let its = All-get_or (IsTo texts) tos i nobody low are.each in
     subst (Keeps texts) (sym (get_or-map (λ to. to.number) tos i nobody n low) ∙ at) its.kept
 
+-- What follows is of the kept messages with numbers from `low` up to `high`, where as many Tos with such numbers are in the list.
 module _ (texts : Texts) (tos : List To) (low high : ℕ) (book : IsBook texts) (are : AreTos texts tos) (up : AllPairs (λ a b. a.number < b.number) tos)
     (as_many : count_between low high (map (λ k. k.0) texts) ≡ count_between low high (map (λ to. to.number) tos)) where
   -- each kept message with a number from low up to high has its To in the list
@@ -238,8 +214,8 @@ module _ (texts : Texts) (tos : List To) (low high : ℕ) (book : IsBook texts) 
   stand_under : (pairs : List (ℕ × ℕ)) → AreUnder (Some pairs) tos → StandUnder texts low high pairs
   stand_under pairs under = λ number text kept from to is.
       let (i, within, at, same) = owner number text kept from to is in
-      let stands = All-get_or (λ to. IsUnder (Some pairs) (hash_of to.text) to.number) tos i nobody within under in
-      subst (λ words. holds pairs (hash_of words) number ≡ true) same (subst (λ n. holds pairs (hash_of (get_or tos i nobody).text) n ≡ true) at stands)
+      let stands = All-get_or (λ to. IsUnder (Some pairs) (full_hash to.text) to.number) tos i nobody within under in
+      subst (λ words. holds pairs (full_hash words) number ≡ true) same (subst (λ n. holds pairs (full_hash (get_or tos i nobody).text) n ≡ true) at stands)
 
   -- what is told of the messages of the list is told of the kept messages
   pub stand_told : {V : Type 0} (pairs : V → List (ℕ × ℕ)) (r : Option V) → IfSome r (λ hashes. AreUnder (Some (pairs hashes)) tos) →

@@ -1,6 +1,6 @@
 -- What many states owe: what a send takes out of the debts of one state, and states that owe nothing.
 use Prim.Native.Nat.{suc, zero}
-use Rattle.std.specs.Prelude.{◌≡◌, ◌<◌, ◌≤◌, ◌-◌, ◌||◌, ℕ, Bool, true, false, IsTrue, None, List, [], ◌∷◌, ◌++◌, All, drop, filter, length, min, set, take}
+use Rattle.std.specs.Prelude.{◌≡◌, ◌<◌, ◌≤◌, ◌-◌, ◌||◌, ℕ, Bool, true, false, IsTrue, List, [], ◌∷◌, ◌++◌, All, drop, filter, length, min, set, take}
 use Rattle.std.specs.List.{list_any}
 use Rattle.std.proofs.Common.{refl, sym, ◌∙◌, ap, ap₂, subst, arith, cond, true≢false}
 use Rattle.std.proofs.lemmas.List.Elements.{All-nil, All-cons, filter-append}
@@ -10,7 +10,7 @@ use Rattle.sip_ledger.specs.declared.debt.Debt.{Debt}
 use Rattle.sip_ledger.specs.Debts.{counts_at, is_payable, paid_by}
 use Rattle.sip_standard.specs.Debts.{IsWithoutFirst}
 use Rattle.sip_machine.specs.Owes.{owed_in}
-use Rattle.sip_machine.specs.inner.Dues.{rows_in}
+use Rattle.sip_machine.specs.inner.Dues.{blank_rows}
 
 -- what is not true is false
 is_false : (b : Bool) → ¬ (b ≡ true) → b ≡ false
@@ -69,33 +69,33 @@ module _ (message t : ℕ) where
 -- What follows is of what each of many states owes, by rows.
 
 -- rows without accounts owe nothing
-pub owed-none : (count row : ℕ) → owed_in (rows_in count None) row ≡ []
+pub owed-none : (count row : ℕ) → owed_in (blank_rows count) row ≡ []
 owed-none zero row = refl
 owed-none (suc count) zero = refl
 owed-none (suc count) (suc row) = owed-none count row
 
 -- rows that each owe nothing are the rows that there are without accounts
-pub blank-rows : (rows : List (List Debt)) → ((k : ℕ) → k < length rows → owed_in rows k ≡ []) → rows ≡ rows_in (length rows) None
-blank-rows [] none = refl
-blank-rows (row ∷ rows) none = ap₂ (λ r rs. r ∷ rs) (none 0 (omega arith)) (blank-rows rows (λ k low. none (suc k) (omega (arith, low))))
+pub all-blank : (rows : List (List Debt)) → ((k : ℕ) → k < length rows → owed_in rows k ≡ []) → rows ≡ blank_rows (length rows)
+all-blank [] none = refl
+all-blank (row ∷ rows) none = ap₂ (λ r rs. r ∷ rs) (none 0 (omega arith)) (all-blank rows (λ k low. none (suc k) (omega (arith, low))))
 
 -- where a row that owes nothing is put in the place of one, rows without accounts stay as they are
-pub set_none : (count row : ℕ) (debts : List Debt) → debts ≡ [] → rows_in count None ≡ set (rows_in count None) row debts
-set_none count row debts is = sym (set-get_or (rows_in count None) row []) ∙ ap (set (rows_in count None) row) (owed-none count row ∙ sym is)
+pub set_none : (count row : ℕ) (debts : List Debt) → debts ≡ [] → blank_rows count ≡ set (blank_rows count) row debts
+set_none count row debts is = sym (set-get_or (blank_rows count) row []) ∙ ap (set (blank_rows count) row) (owed-none count row ∙ sym is)
 
 -- without accounts, the first n rows owe nothing
-pub take_none : (count n : ℕ) → rows_in (min count n) None ≡ take n (rows_in count None)
-take_none zero zero = let e : min 0 0 ≡ 0 = omega arith in ap (λ k. rows_in k None) e
-take_none zero (suc n) = let e : min 0 (suc n) ≡ 0 = omega arith in ap (λ k. rows_in k None) e
-take_none (suc count) zero = let e : min (suc count) 0 ≡ 0 = omega arith in ap (λ k. rows_in k None) e
+pub take_none : (count n : ℕ) → blank_rows (min count n) ≡ take n (blank_rows count)
+take_none zero zero = let e : min 0 0 ≡ 0 = omega arith in ap blank_rows e
+take_none zero (suc n) = let e : min 0 (suc n) ≡ 0 = omega arith in ap blank_rows e
+take_none (suc count) zero = let e : min (suc count) 0 ≡ 0 = omega arith in ap blank_rows e
 take_none (suc count) (suc n) =
-    let e : min (suc count) (suc n) ≡ suc (min count n) = omega arith in ap (λ k. rows_in k None) e ∙ ap (λ rows. [] ∷ rows) (take_none count n)
+    let e : min (suc count) (suc n) ≡ suc (min count n) = omega arith in ap blank_rows e ∙ ap (λ rows. [] ∷ rows) (take_none count n)
 
 -- without accounts, the rows after the first n owe nothing
-pub drop_none : (count n : ℕ) → n ≤ count → rows_in (count - n) None ≡ drop n (rows_in count None)
-drop_none count zero le = let e : count - 0 ≡ count = omega arith in ap (λ k. rows_in k None) e
+pub drop_none : (count n : ℕ) → n ≤ count → blank_rows (count - n) ≡ drop n (blank_rows count)
+drop_none count zero le = let e : count - 0 ≡ count = omega arith in ap blank_rows e
 drop_none zero (suc n) le = absurd (omega (arith, le))
-drop_none (suc count) (suc n) le = let e : suc count - suc n ≡ count - n = omega arith in ap (λ k. rows_in k None) e ∙ drop_none count n (omega (arith, le))
+drop_none (suc count) (suc n) le = let e : suc count - suc n ≡ count - n = omega arith in ap blank_rows e ∙ drop_none count n (omega (arith, le))
 
 -- a row that is changed and then changed again is as if it was changed once, to what the second change makes of the first
 pub set_again : (rows : List (List Debt)) (row : ℕ) (debts : List Debt) (f : List Debt → List Debt) → row < length rows →

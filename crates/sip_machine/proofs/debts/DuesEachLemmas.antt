@@ -1,6 +1,6 @@
 -- What many states owe, changed at once.
 use Prim.Native.Nat.{suc, zero}
-use Rattle.std.specs.Prelude.{◌≡◌, ◌<◌, ◌≤◌, ◌+◌, ◌-◌, ◌&&◌, ℕ, Bool, true, false, None, List, [], ◌∷◌, ◌++◌, drop, filter, length, map, take}
+use Rattle.std.specs.Prelude.{◌≡◌, ◌<◌, ◌≤◌, ◌+◌, ◌-◌, ◌&&◌, ℕ, Bool, true, false, List, [], ◌∷◌, ◌++◌, drop, filter, length, map, take}
 use Rattle.std.specs.List.{list_any}
 use Rattle.std.proofs.Common.{refl, sym, ◌∙◌, ap, ap₂, arith, cond, append-nil}
 use Rattle.std.proofs.lemmas.Bool.Decides.{nat_tests}
@@ -9,7 +9,7 @@ use Rattle.sip_ledger.specs.declared.debt.Debt.{Debt}
 use Rattle.sip_ledger.specs.Accounts.{paid_rows}
 use Rattle.sip_ledger.specs.Debts.{counts_at, is_payable, is_timely, paid_by}
 use Rattle.sip_ledger.specs.Lists.{from_to}
-use Rattle.sip_machine.specs.inner.Dues.{rows_in}
+use Rattle.sip_machine.specs.inner.Dues.{blank_rows}
 use Rattle.sip_machine.specs.Owes.{owed_in}
 use Rattle.sip_machine.proofs.debts.DueLemmas.{owed-none}
 
@@ -24,44 +24,44 @@ mapped-twice f g h is (suc from) (owes ∷ rows) = ap (λ more. owes ∷ more) (
 -- What follows is of rows that owe nothing.
 
 -- where a change leaves no debts of none, rows that owe nothing stay as they are
-pub mapped-none : (f : List Debt → List Debt) (count from : ℕ) → f [] ≡ [] → rows_in count None ≡ take from (rows_in count None) ++ map f (drop from (rows_in count None))
+pub mapped-none : (f : List Debt → List Debt) (count from : ℕ) → f [] ≡ [] → blank_rows count ≡ take from (blank_rows count) ++ map f (drop from (blank_rows count))
 mapped-none f zero zero is = refl
 mapped-none f (suc count) zero is = ap₂ (λ row rows. row ∷ rows) (sym is) (mapped-none f count zero is)
 mapped-none f zero (suc from) is = refl
 mapped-none f (suc count) (suc from) is = ap (λ rows. [] ∷ rows) (mapped-none f count from is)
 
 -- of rows that owe nothing, those from one index up to another owe nothing
-some-none : (count from to : ℕ) → to ≤ count → from_to from to (rows_in count None) ≡ rows_in (to - from) None
-some-none count zero zero le = let e : 0 ≡ 0 - 0 = omega arith in ap (λ n. rows_in n None) e
+some-none : (count from to : ℕ) → to ≤ count → from_to from to (blank_rows count) ≡ blank_rows (to - from)
+some-none count zero zero le = let e : 0 ≡ 0 - 0 = omega arith in ap blank_rows e
 some-none zero zero (suc to) le = absurd (omega (arith, le))
 some-none (suc count) zero (suc to) le =
     let e : suc (to - 0) ≡ suc to - 0 = omega arith in
-    ap (λ rows. [] ∷ rows) (some-none count zero to (omega (arith, le))) ∙ ap (λ n. rows_in n None) e
-some-none count (suc from) zero le = let e : 0 ≡ 0 - suc from = omega arith in ap (λ n. rows_in n None) e
+    ap (λ rows. [] ∷ rows) (some-none count zero to (omega (arith, le))) ∙ ap blank_rows e
+some-none count (suc from) zero le = let e : 0 ≡ 0 - suc from = omega arith in ap blank_rows e
 some-none zero (suc from) (suc to) le = absurd (omega (arith, le))
 some-none (suc count) (suc from) (suc to) le =
-    let e : to - from ≡ suc to - suc from = omega arith in some-none count from to (omega (arith, le)) ∙ ap (λ n. rows_in n None) e
+    let e : to - from ≡ suc to - suc from = omega arith in some-none count from to (omega (arith, le)) ∙ ap blank_rows e
 
 -- where a row that owes nothing passes the test, all rows of nobody pass it
-passing-all : (p : List Debt → Bool) (n : ℕ) → p [] ≡ true → filter p (rows_in n None) ≡ rows_in n None
+passing-all : (p : List Debt → Bool) (n : ℕ) → p [] ≡ true → filter p (blank_rows n) ≡ blank_rows n
 passing-all p zero is = refl
-passing-all p (suc n) is = ap (λ b. cond b ([] ∷ filter p (rows_in n None)) (filter p (rows_in n None))) is ∙ ap (λ rows. [] ∷ rows) (passing-all p n is)
+passing-all p (suc n) is = ap (λ b. cond b ([] ∷ filter p (blank_rows n)) (filter p (blank_rows n))) is ∙ ap (λ rows. [] ∷ rows) (passing-all p n is)
 
 -- where a row that owes nothing does not pass the test, no row of nobody does
-passing-no : (p : List Debt → Bool) (n : ℕ) → p [] ≡ false → filter p (rows_in n None) ≡ []
+passing-no : (p : List Debt → Bool) (n : ℕ) → p [] ≡ false → filter p (blank_rows n) ≡ []
 passing-no p zero is = refl
-passing-no p (suc n) is = ap (λ b. cond b ([] ∷ filter p (rows_in n None)) (filter p (rows_in n None))) is ∙ passing-no p n is
+passing-no p (suc n) is = ap (λ b. cond b ([] ∷ filter p (blank_rows n)) (filter p (blank_rows n))) is ∙ passing-no p n is
 
 -- of rows that owe nothing, copies of all from one index up to another come after the others: all are timely
 pub timely-none : (t count from to : ℕ) → to ≤ count →
-    rows_in (count + (to - from)) None ≡ rows_in count None ++ filter (is_timely t) (from_to from to (rows_in count None))
+    blank_rows (count + (to - from)) ≡ blank_rows count ++ filter (is_timely t) (from_to from to (blank_rows count))
 timely-none t count from to le = grind (arith, replicate-append-replicate, passing-all, some-none)
 
 -- of rows that owe nothing, none pays
-pub paid-none : (message t count from to : ℕ) → to ≤ count → rows_in count None ≡ rows_in count None ++ paid_rows message t (from_to from to (rows_in count None))
+pub paid-none : (message t count from to : ℕ) → to ≤ count → blank_rows count ≡ blank_rows count ++ paid_rows message t (from_to from to (blank_rows count))
 paid-none message t count from to le = grind (arith, nat_tests, some-none, passing-no, append-nil)
 
 -- of rows that owe nothing, those at some indices owe nothing
-pub kept-none : (count : ℕ) (kept : List ℕ) → rows_in (length kept) None ≡ map (owed_in (rows_in count None)) kept
+pub kept-none : (count : ℕ) (kept : List ℕ) → blank_rows (length kept) ≡ map (owed_in (blank_rows count)) kept
 kept-none count [] = refl
 kept-none count (row ∷ kept) = ap₂ (λ owes rows. owes ∷ rows) (sym (owed-none count row)) (kept-none count kept)

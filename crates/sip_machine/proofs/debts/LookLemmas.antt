@@ -26,6 +26,7 @@ payable-parts message t debt pays = (grind (arith, nat_tests), grind (arith, nat
 pub payable-now : (message t : ℕ) (debt : Debt) → debt.message ≡ message → t ≤ debt.deadline → is_payable message t debt ≡ true
 payable-now message t debt same now = grind (arith, nat_tests)
 
+-- What follows is of a send of one message at the moment t, which pays only debts of which P holds.
 module _ (P : Debt → Type 0) (message t : ℕ) (only : (debt : Debt) → IsTrue (is_payable message t debt) → P debt) where
   -- where P holds of a debt and of none before it, and a send of its message pays nothing else, the send pays the first of which P holds
   pub first-at : (debts : List Debt) (at : ℕ) (d : Debt) → at < length debts → All (λ debt. ¬ (P debt)) (take at debts) →

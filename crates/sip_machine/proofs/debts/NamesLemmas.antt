@@ -1,6 +1,6 @@
 -- Which messages states name: what their phases name, and what they owe.
 use Prim.Native.Nat.{suc, zero}
-use Rattle.std.specs.Prelude.{◌≡◌, ◌||◌, ◌<◌, ◌≤◌, ◌==◌, ℕ, Bool, true, false, None, List, [], ◌∷◌, ◌++◌, All, Contains, flat_map, length, take}
+use Rattle.std.specs.Prelude.{◌≡◌, ◌||◌, ◌<◌, ◌≤◌, ◌==◌, ℕ, Bool, true, false, List, [], ◌∷◌, ◌++◌, All, Contains, flat_map, length, take}
 use Rattle.std.proofs.Common.{refl, sym, ◌∙◌, ap, subst, inl, inr, arith, append-nil, append_assoc, take-append-drop, true≢false}
 use Rattle.std.proofs.lemmas.Bool.{cases_eq, eq-eqb, ne_eqb, or_left, or_right}
 use Rattle.std.proofs.lemmas.List.{length-drop, length-take-le, take-take}
@@ -12,7 +12,7 @@ use Rattle.sip_ledger.specs.Lists.{from_to}
 use Rattle.sip_machine.specs.Naming.{AppendsAll}
 use Rattle.sip_machine.specs.Owes.{owes_names}
 use Rattle.sip_machine.specs.Owing.{CodeOwing, owing_names}
-use Rattle.sip_machine.specs.inner.Dues.{rows_in}
+use Rattle.sip_machine.specs.inner.Dues.{blank_rows}
 use Rattle.sip_machine.specs.inner.Pools.{beside}
 use Rattle.sip_machine.proofs.texts.TextLaws.{Contains-nil, Contains-cons_cases}
 
@@ -40,6 +40,7 @@ named-some m (owes ∷ rows) there = elim (Contains-append_cases (owes_names owe
   | inr later ↦ or_right (owes_message m owes) (some_owes m rows) (named-some m rows later)
 ]
 
+-- where this row or a later one owes the message, the message is named by some row
 some-step : (m : ℕ) (owes : List Debt) (rows : List (List Debt)) (b : Bool) → owes_message m owes ≡ b → (b || some_owes m rows) ≡ true →
     (some_owes m rows ≡ true → Contains (flat_map owes_names rows) m) → Contains (flat_map owes_names (owes ∷ rows)) m
 some-step m owes rows true here is later = Contains-append_left (owes_names owes) (flat_map owes_names rows) m (owed-named m owes here)
@@ -55,20 +56,22 @@ pub owed-appends : (rows : List (List Debt)) (old new : List ℕ) → AppendsOwe
 owed-appends rows old new a = (a.names, a.whole, λ m. (λ there. some-named m rows ((a.each m).0 there), λ there. (a.each m).1 (named-some m rows there)))
 
 -- rows that owe nothing name nothing
-none-named : (count : ℕ) → flat_map owes_names (rows_in count None) ≡ []
+none-named : (count : ℕ) → flat_map owes_names (blank_rows count) ≡ []
 none-named zero = refl
 none-named (suc count) = none-named count
 
 -- rows that owe nothing append no name
-pub none-appends : (count : ℕ) (old : List ℕ) → AppendsAll (flat_map owes_names (rows_in count None)) old old
+pub none-appends : (count : ℕ) (old : List ℕ) → AppendsAll (flat_map owes_names (blank_rows count)) old old
 none-appends count old =
     ([], sym (append-nil old), λ m. (λ there. absurd (Contains-nil m there), λ there. absurd (Contains-nil m (subst (λ ns. Contains ns m) (none-named count) there))))
 
+-- What follows is of the states of one machine, and what its phases name.
 module _ {S : Type 0} (names : S → List ℕ) where
   -- what a state's phase names
   abbrev phase_names : CodeOwing S → List ℕ
   phase_names x = names x.phase
 
+  -- what a state's debts name
   abbrev debt_names : CodeOwing S → List ℕ
   debt_names x = owes_names x.owes
 
@@ -89,6 +92,7 @@ module _ {S : Type 0} (names : S → List ℕ) where
         ]
       ]
 
+  -- what states name is named by the phase or by a debt of one of them
   named-parts : (xs : List (CodeOwing S)) (n : ℕ) → Contains (flat_map (owing_names names) xs) n → Contains (flat_map phase_names xs ++ flat_map debt_names xs) n
   named-parts [] n there = there
   named-parts (x ∷ xs) n there =
@@ -105,6 +109,7 @@ module _ {S : Type 0} (names : S → List ℕ) where
         ]
       ]
 
+  -- what the debts of a pool's states name is what its rows name
   debts-beside : (phases : List S) (rows : List (List Debt)) → length rows ≡ length phases → flat_map debt_names (beside phases rows) ≡ flat_map owes_names rows
   debts-beside [] [] even = refl
   debts-beside [] (row ∷ rows) even = absurd (omega (arith, even))
@@ -139,6 +144,7 @@ module _ {S : Type 0} (names : S → List ℕ) where
     | inr later ↦ same-named xs phase n (All-tail (λ (y : CodeOwing S). y.phase ≡ phase) x xs same) later
   ]
 
+  -- what a phase names is named by states that all have that phase, if there are any
   named-same : (xs : List (CodeOwing S)) (phase : S) (n : ℕ) → All (λ x. x.phase ≡ phase) xs → 0 < length xs → Contains (names phase) n → Contains (flat_map phase_names xs) n
   named-same [] phase n same some there = absurd (omega (arith, some))
   named-same (x ∷ xs) phase n same some there =

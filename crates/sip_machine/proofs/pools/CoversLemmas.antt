@@ -65,7 +65,9 @@ module _ {X S : Type 0} where
         | inr rest ↦ FromSome-none P xs y (All-tail (λ x. ¬ (P x y)) x xs none) rest
       ]
 
+-- What follows is of states of the code and what they stand for beside one book.
 module _ {X S : Type 0} (names : S → List ℕ) (InRange : S → Type 0) (seen : Texts → S → X) (texts : Texts) where
+  -- the states stand for exactly that of which P holds
   abbrev pub Cover : (X → Type 0) → List S → Type 0
   Cover P xs = Covers names InRange seen texts P xs
 
@@ -105,6 +107,7 @@ module _ {X S : Type 0} (names : S → List ℕ) (InRange : S → Type 0) (seen 
   answers-front true s ys = refl
   answers-front false s ys = refl
 
+  -- g of a list that begins with x if b is so is g of x, if b is so, and g of the others
   map-passing : (b : Bool) (g : S → S) (x : S) (xs : List S) → map g (cond b (x ∷ xs) xs) ≡ cond b (g x ∷ map g xs) (map g xs)
   map-passing true g x xs = refl
   map-passing false g x xs = refl
@@ -125,6 +128,7 @@ module _ {X S : Type 0} (names : S → List ℕ) (InRange : S → Type 0) (seen 
 abbrev pub HasFound : {X S : Type 0} → (S → List ℕ) → (S → Type 0) → (Texts → S → X) → Texts → (S → X → Type 0) → List S → List S → List S → Type 0
 HasFound {X} {S} names InRange seen texts P some old new = (added : List S) × (new ≡ old ++ added) × Covers names InRange seen texts (FromSome P some) added
 
+-- What follows is of what was found of states that were asked one after another: P says what each state gives.
 module _ {X S : Type 0} (names : S → List ℕ) (InRange : S → Type 0) (seen : Texts → S → X) (texts : Texts) (P : S → X → Type 0) where
   -- where no states are asked, none were found
   pub found-none : (old : List S) → HasFound names InRange seen texts P [] old old
@@ -146,6 +150,7 @@ module _ {X S : Type 0} (names : S → List ℕ) (InRange : S → Type 0) (seen 
   Covers-alone x xs c =
       Covers-same names InRange seen texts (P x) (FromSome P (x ∷ [])) (λ y. (λ here. inl here, λ h. elim h [ inl here ↦ here | inr none ↦ absurd none ])) xs c
 
+-- What follows is of parts of a list of states, from one index up to another.
 module _ {S : Type 0} where
   -- the first n of the first m elements are the first n, where n is not above m
   take-shorter : (n m : ℕ) (xs : List S) → n ≤ m → take n (take m xs) ≡ take n xs
@@ -194,6 +199,7 @@ module _ {S : Type 0} where
   before-either (Ok t) old added new ok err = ap (take (length old)) ok ∙ take-append_seam old added
   before-either (Err e) old added new ok err = ap (take (length old)) err ∙ take_all (length old) old (omega arith)
 
+-- What follows is of what was found of states that were asked run by run: P says what each state gives.
 module _ {X S : Type 0} (names : S → List ℕ) (InRange : S → Type 0) (seen : Texts → S → X) (texts : Texts) (P : S → X → Type 0) where
   -- where what leads from the states between two indexes is found after the others, what leads from all up to the later index was found
   pub found-run : (at end : ℕ) (old mid new : List S) → at < end → end ≤ length old → HasFound names InRange seen texts P (take at old) old mid →

@@ -16,6 +16,7 @@ use Rattle.sip_machine.specs.Prints.{ArePrints}
 use Rattle.sip_machine.specs.inner.Pools.{AreMixedWith, IsRun, beside, hash_by}
 use Rattle.sip_machine.proofs.pools.PoolLemmas.{beside-length, state-at}
 
+-- What follows is of rows of a list: those of its elements that have no equal before them.
 module _ {X : Type 0} (xs : List X) where
   -- one of the rows has the element that row k has
   abbrev pub IsAmong : List ℕ → ℕ → Type 0
@@ -25,6 +26,7 @@ module _ {X : Type 0} (xs : List X) where
   abbrev pub IsNew : List ℕ → ℕ → Type 0
   IsNew rows k = (x : X) → All (λ row. get_or xs row x ≢ get_or xs k x) rows
 
+  -- the row that stands at i in the list of rows is one of them
   pub Any-here : (rows : List ℕ) (i d k : ℕ) (x : X) → i < length rows → get_or xs (get_or rows i d) x ≡ get_or xs k x → Any (λ row. get_or xs row x ≡ get_or xs k x) rows
   Any-here rows i d k x low same = (i, get_or rows i d, low, get_or_default rows i (get_or rows i d) d low, same)
 
@@ -98,9 +100,9 @@ run-of rows rising some near =
     }
 
 -- what is picked by a run of indices is a part of the list
-pub run-picked : {X : Type 0} (xs : List X) (rows : List ℕ) (first : ℕ) (x : X) → IsRun first rows → All (λ row. row < length xs) rows →
+pub run_picked : {X : Type 0} (xs : List X) (rows : List ℕ) (first : ℕ) (x : X) → IsRun first rows → All (λ row. row < length xs) rows →
     take (length rows) (drop first xs) ≡ picked xs x rows
-run-picked xs rows first x run within =
+run_picked xs rows first x run within =
     let last = within (length rows - 1) 0 (omega (arith, run.some)) in
     let end = run.each (length rows - 1) (omega (arith, run.some)) in
     let behind = length-drop first xs in
@@ -123,6 +125,7 @@ pub record IsPicking {X : Type 0} (xs ys : List X) (rows : List ℕ) (to : ℕ) 
   pub front : (x : X) → take to ys ≡ picked xs x (take to rows)
   pub rest : (k : ℕ) (x : X) → to ≤ k → get_or ys k x ≡ get_or xs k x
 
+-- What follows is of a list and the rows of it that are put to its front.
 module _ {X : Type 0} (xs : List X) (rows : List ℕ) where
   -- where the element at the next row is put after those in front, one more stands there
   pub picking-more : (ys zs : List X) (to row : ℕ) → IsPicking xs ys rows to → to < length rows → to < length xs → row ≡ get_or rows to 0 → to ≤ row →
@@ -145,6 +148,7 @@ pub record AreMixed {S : Type 0} (input : S → List (List ℕ)) (phases : List 
   pub mixed : (k : ℕ) (p : S) → k < at → from + k < length phases → get_or new k 0 ≡ bit_xor (get_or old k 0) (hash_by (input (get_or phases (from + k) p)))
   pub rest : (k : ℕ) → at ≤ k → get_or new k 0 ≡ get_or old k 0
 
+-- What follows is of the prints of states: `old` are those of what they owe, and `input` says which bytes of a phase are mixed into them.
 module _ {S : Type 0} (input : S → List (List ℕ)) (phases : List S) (from : ℕ) (old : List ℕ) where
   -- where the prints of neighbours of one phase are mixed with its hash as well, those before `to` are mixed
   pub mixed-run : (new after : List ℕ) (at to hash : ℕ) (p : S) → AreMixed input phases from old new at → AreMixedWith hash at to new after → hash ≡ hash_by (input p) → at ≤ to →

@@ -1,4 +1,5 @@
 -- The states of a pool, many of which take the same step.
+use Rattle.std.proofs.lemmas.Bool.Decides.{nat_tests}
 use Prim.Native.Nat.{suc, zero}
 use Rattle.std.specs.Prelude.{◌≡◌, ◌<◌, ◌≤◌, ◌+◌, ◌-◌, ℕ, Bool, List, [], ◌∷◌, ◌++◌, All, drop, filter, get_or, length, map, replicate, take}
 use Rattle.std.proofs.Common.{refl, sym, ◌∙◌, ap, ap₂, subst, arith, length-append}
@@ -14,6 +15,7 @@ use Rattle.sip_machine.specs.Pools.{picked}
 use Rattle.sip_machine.specs.inner.Pools.{beside}
 use Rattle.sip_machine.proofs.pools.PoolLemmas.{beside-at}
 
+-- What follows is of parts of a list, from one index up to another.
 module _ {X : Type 0} where
   -- the elements from `from` up to the next index are those up to k and the element at k
   from_to-next : (from k : ℕ) (xs : List X) (d : X) → from ≤ k → k < length xs → from_to from (suc k) xs ≡ from_to from k xs ++ get_or xs k d ∷ []
@@ -57,6 +59,7 @@ pub map-same : {X Y : Type 0} (f g : X → Y) (xs : List X) → All (λ x. f x �
 map-same f g [] same = refl
 map-same f g (x ∷ xs) same = ap₂ (λ y ys. y ∷ ys) (All-head (λ x. f x ≡ g x) x xs same) (map-same f g xs (All-tail (λ x. f x ≡ g x) x xs same))
 
+-- What follows is of phases beside the rows of what is owed, as the states of a pool.
 module _ {S : Type 0} where
   -- phases and further ones beside their rows are the states of the phases and then those of the further ones
   beside-append : (phases more : List S) (rows again : List (List Debt)) → length rows ≡ length phases →
@@ -64,8 +67,7 @@ module _ {S : Type 0} where
   beside-append [] more [] again long = refl
   beside-append [] more (row ∷ rows) again long = absurd (omega (arith, long))
   beside-append (phase ∷ phases) more [] again long = absurd (omega (arith, long))
-  beside-append (phase ∷ phases) more (row ∷ rows) again long =
-      ap (λ xs. record { phase = phase; owes = row } ∷ xs) (beside-append phases more rows again (omega (arith, long)))
+  beside-append (phase ∷ phases) more (row ∷ rows) again long = grind (arith, nat_tests, beside-append phases more rows again)
 
   -- one phase for each row, beside the rows, is the states of that phase that owe what the rows have
   beside-each : (phase : S) (rows : List (List Debt)) → beside (replicate (length rows) phase) rows ≡ map (λ (owes : List Debt). record { phase = phase; owes = owes }) rows
@@ -111,5 +113,4 @@ mapped-behind g rows more new after n is at changed = grind (arith, take-append_
 
 -- how many rows stand after the old ones is how many were put there
 pub behind-size : (rows more new : List (List Debt)) (n : ℕ) → new ≡ rows ++ more → n ≡ length new → n - length rows ≡ length more
-behind-size rows more new n is size =
-    let long : n ≡ length rows + length more = size ∙ ap length is ∙ length-append rows more in omega (arith, long)
+behind-size rows more new n is size = grind (arith, nat_tests, length-append)

@@ -13,6 +13,7 @@ use Rattle.sip_machine.specs.declared.effects.Rest.TheVariants.{Stays, Pays}
 use Rattle.sip_machine.specs.inner.Effects.{rested_debts, rests_at}
 use Rattle.sip_machine.specs.inner.Pools.{beside}
 
+-- What follows is of phases beside the rows of what is owed, as the states of a pool.
 module _ {S : Type 0} where
   -- phases beside rows are as many states as there are phases
   pub beside-length : (phases : List S) (rows : List (List Debt)) → length (beside phases rows) ≡ length phases
@@ -24,11 +25,7 @@ module _ {S : Type 0} where
   pub beside-at : (phases : List S) (rows : List (List Debt)) (k : ℕ) (p : S) (x : CodeOwing S) → k < length phases → get_or (beside phases rows) k x ≡ state_in (get_or phases k p) rows k
   beside-at [] rows k p x low = absurd (omega (arith, low))
   beside-at (phase ∷ phases) [] zero p x low = refl
-  beside-at (phase ∷ phases) [] (suc k) p x low = beside-at phases [] k p x (omega (arith, low)) ∙ ap (λ owes. record { phase = get_or phases k p; owes = owes }) (past k)
-    where
-      past : (k : ℕ) → owed_in [] k ≡ owed_in [] (suc k)
-      past zero = refl
-      past (suc k) = refl
+  beside-at (phase ∷ phases) [] (suc k) p x low = grind (arith, nat_tests, beside-at phases [] k p x)
   beside-at (phase ∷ phases) (row ∷ rows) zero p x low = refl
   beside-at (phase ∷ phases) (row ∷ rows) (suc k) p x low = beside-at phases rows k p x (omega (arith, low))
 
@@ -72,13 +69,13 @@ module _ {S : Type 0} where
   beside-owes [] rows k p row long low = absurd (omega (arith, low))
   beside-owes (phase ∷ phases) [] k p row long low = absurd (omega (arith, long))
   beside-owes (phase ∷ phases) (r ∷ rows) zero p row long low = refl
-  beside-owes (phase ∷ phases) (r ∷ rows) (suc k) p row long low =
-      ap (λ xs. record { phase = phase; owes = r } ∷ xs) (beside-owes phases rows k p row (omega (arith, long)) (omega (arith, low)))
+  beside-owes (phase ∷ phases) (r ∷ rows) (suc k) p row long low = grind (arith, nat_tests, beside-owes phases rows k p row)
 
   -- an index of a state is one of a phase, and of a row
   pub in-phases : (phases : List S) (rows : List (List Debt)) (xs : List (CodeOwing S)) (k : ℕ) → beside phases rows ≡ xs → k < length xs → k < length phases
   in-phases phases rows xs k is low = subst (λ n. k < n) (ap length (sym is) ∙ beside-length phases rows) low
 
+  -- an index of a state is one of a row
   pub in-rows : (phases : List S) (rows : List (List Debt)) (xs : List (CodeOwing S)) (k : ℕ) → beside phases rows ≡ xs → length rows ≡ length phases → k < length xs → k < length rows
   in-rows phases rows xs k is long low = subst (λ n. k < n) (sym long) (in-phases phases rows xs k is low)
 
@@ -87,6 +84,7 @@ module _ {S : Type 0} where
       get_or xs k x ≡ state_in (get_or phases k p) rows k
   state-at phases rows xs k p x is low = ap (λ ys. get_or ys k x) (sym is) ∙ beside-at phases rows k p x (in-phases phases rows xs k is low)
 
+  -- the phase at k with what row k has is the state at k
   pub state-here : (phases : List S) (rows : List (List Debt)) (xs : List (CodeOwing S)) (k : ℕ) (p : S) (x : CodeOwing S) → beside phases rows ≡ xs → k < length xs →
       p ≡ get_or phases k p → state_in p rows k ≡ get_or xs k x
   state-here phases rows xs k p x is low is_p = ap (λ q. state_in q rows k) is_p ∙ sym (state-at phases rows xs k p x is low)
@@ -126,8 +124,7 @@ module _ {X : Type 0} where
 
   -- a place of a list is a place of the list with more after it
   pub in-longer : (old added new : List X) (k : ℕ) → new ≡ old ++ added → k < length old → k < length new
-  in-longer old added new k is low =
-      let long : length new ≡ length old + length added = ap length is ∙ length-append old added in omega (arith, long, low)
+  in-longer old added new k is low = grind (arith, nat_tests, length-append)
 
   -- the place of the element that was put last is in the list
   pub last-in : (old new : List X) (x : X) (last : ℕ) → new ≡ old ++ x ∷ [] → last ≡ length old → last < length new
@@ -151,3 +148,6 @@ module _ {X : Type 0} where
   -- where elements were put after the old ones, the first as many as there were are the old ones
   pub take-old : (old added new : List X) (n : ℕ) → new ≡ old ++ added → n ≡ length old → take n new ≡ old
   take-old old added new n is at = ap₂ take at is ∙ take-append_seam old added
+
+-- what stands beside what in a pool
+pub ruleset of_pool = (beside-length, beside_push, beside-set, beside-take, empty-length, in-phases, in-rows, state-at, same-state)

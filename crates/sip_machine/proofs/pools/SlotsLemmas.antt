@@ -15,6 +15,7 @@ pub pair-print : (newest : List ℕ) (kept : List SlotPrint) (s : Slotted) (at :
 pair-print newest kept s at x is low here =
     ap (λ (s : Slotted). get_or s.prints at 0) (sym is) ∙ get_or-map (λ x. x.print) kept at x 0 (subst (λ n. at < n) (pairs-count newest kept s is) low) ∙ ap (λ (x : SlotPrint). x.print) (sym here)
 
+-- what a print leads to is what the pair at its place says
 pub pair-older : (newest : List ℕ) (kept : List SlotPrint) (s : Slotted) (at : ℕ) (x : SlotPrint) → slotted newest kept ≡ s → at < length s.prints → x ≡ get_or kept at x → get_or s.olders at 0 ≡ x.older
 pair-older newest kept s at x is low here =
     ap (λ (s : Slotted). get_or s.olders at 0) (sym is) ∙ get_or-map (λ x. x.older) kept at x 0 (subst (λ n. at < n) (pairs-count newest kept s is) low) ∙ ap (λ (x : SlotPrint). x.older) (sym here)

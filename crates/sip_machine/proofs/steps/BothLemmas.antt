@@ -11,6 +11,7 @@ use Rattle.sip_machine.specs.inner.Both.{AnswersBoth}
 use Rattle.sip_machine.proofs.texts.TextLaws.{Contains-nil}
 use Rattle.sip_machine.proofs.steps.SingleLemmas.{StandFor-none, StandFor-one}
 
+-- What follows is of states of the code and what they stand for beside one book.
 module _ {X S : Type 0} (names : S → List ℕ) (InRange : S → Type 0) (seen : Texts → S → X) (texts : Texts) where
   -- where P and Q hold of the same, states that stand for P stand for Q
   pub StandFor-same : (P Q : X → Type 0) → ((x : X) → P x ↔ Q x) → (xs : List S) → StandFor names InRange seen texts P xs →
@@ -25,8 +26,10 @@ module _ {X S : Type 0} (names : S → List ℕ) (InRange : S → Type 0) (seen 
   -- where P and Q exclude each other, an answer for P and one for Q stand for P or Q
   pub AnswersBoth-two : (P Q : X → Type 0) → ((x : X) → P x → Q x → ⊥) → (a b : Option S) → AnswersOne names InRange seen texts P a →
       AnswersOne names InRange seen texts Q b → AnswersBoth names InRange seen texts (λ x. P x ⊎ Q x) (a, b)
+  -- neither has a state
   AnswersBoth-two P Q apart None None none none' =
       StandFor-none names InRange seen texts (λ x. P x ⊎ Q x) (λ x h. elim h [ inl p ↦ none x p | inr q ↦ none' x q ])
+  -- only Q has a state
   AnswersBoth-two P Q apart None (Some t) none one =
       StandFor-one names InRange seen texts (λ x. P x ⊎ Q x) t
       (record {
@@ -34,6 +37,7 @@ module _ {X S : Type 0} (names : S → List ℕ) (InRange : S → Type 0) (seen 
         known = one.known;
         in_range = one.in_range;
       })
+  -- only P has a state
   AnswersBoth-two P Q apart (Some s) None one none =
       StandFor-one names InRange seen texts (λ x. P x ⊎ Q x) s
       (record {
@@ -41,6 +45,7 @@ module _ {X S : Type 0} (names : S → List ℕ) (InRange : S → Type 0) (seen 
         known = one.known;
         in_range = one.in_range;
       })
+  -- both have a state, and the two states are not the same
   AnswersBoth-two P Q apart (Some s) (Some t) one other =
       record {
         members = λ x. (

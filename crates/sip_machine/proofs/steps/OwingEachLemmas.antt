@@ -47,6 +47,7 @@ within-told : (t : ℕ) (last : Option ℕ) → is_within t last ≡ false → �
 within-told t None is = λ _. true≢false is
 within-told t (Some last) is = λ within. grind (arith, nat_tests)
 
+-- What follows is of the states of one phase, which are asked together: the figure f with the times p.
 module _ {S X : Type 0} (f : Figure X) (p : Times) (seen : Texts → S → X) (names : S → List ℕ) (InRange : S → Type 0) (texts : Texts) where
   -- a state lasts until t where its timers and the deadlines of what it must send do
   timely-lasts : (t : ℕ) (x : CodeOwing S) → IsWithin t (earliest (closes_at f p (seen texts x.phase))) → is_timely t x.owes ≡ true →
@@ -92,6 +93,7 @@ module _ {S X : Type 0} (f : Figure X) (p : Times) (seen : Texts → S → X) (n
   abbrev Owings : (Owing X → Type 0) → Option (CodeOwing S) → Type 0
   Owings P answer = AnswersOne (owing_names names) (OwingInRange InRange) (owing_seen seen) texts P answer
 
+  -- the state lasts until t, and P holds
   abbrev pub Lasting : ℕ → CodeOwing S → (Owing X → Type 0) → Owing X → Type 0
   Lasting t x P y = IsWithin t (until_of f p (owing_seen seen texts x)) × P y
 
@@ -111,6 +113,7 @@ module _ {S X : Type 0} (f : Figure X) (p : Times) (seen : Texts → S → X) (n
   -- What follows is of states of one phase, and of one event.
   module _ (e : MachineEvent) (phase : S) (xs : List (CodeOwing S)) (same : All (λ x. x.phase ≡ phase) xs) (known : All (Knows (owing_names names) texts) xs)
       (fits : All (OwingInRange InRange) xs) where
+    -- the state of this phase that owes these debts
     abbrev pub InPhase : List Debt → CodeOwing S
     InPhase owes = record { phase = phase; owes = owes }
 
@@ -179,6 +182,7 @@ module _ {S X : Type 0} (f : Figure X) (p : Times) (seen : Texts → S → X) (n
         (λ x. list_any (is_payable message e.moment) x.owes && is_timely e.moment x.owes) (repaid_at e.moment message) xs
         (each-state (λ x. Owings (RestsFrom f p seen texts e x)
         (cond (list_any (is_payable message e.moment) x.owes && is_timely e.moment x.owes) (Some (repaid_at e.moment message x)) None))
+        -- one state: whether it can pay, and then whether it is timely
         (λ owes knows fit.
         let x = InPhase owes in
         let P = Rests f e (owing_seen seen texts (unexpired_at e.moment x)) in
@@ -190,6 +194,7 @@ module _ {S X : Type 0} (f : Figure X) (p : Times) (seen : Texts → S → X) (n
         subst (Owings (Lasting e.moment x P)) (timely-paid can (is_timely e.moment owes) (repaid_at e.moment message x))
         (timely-answers e.moment x P (cond can (Some (repaid_at e.moment message x)) None) (is_timely e.moment owes) refl timers one)))
 
+-- What follows is of one state of the code, without what has expired at the event: the figure f with the times p.
 module _ {S X : Type 0} (f : Figure X) (p : Times) (seen : Texts → S → X) (texts : Texts) where
   -- the step of a state of the code that has lasted until the event, without what has expired, is the take of its state of the rules
   steps-same : (a : Action) (e : MachineEvent) (x : CodeOwing S) (y : Owing X) → e.action ≡ a →

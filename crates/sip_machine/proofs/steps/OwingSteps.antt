@@ -135,6 +135,7 @@ IsWithoutFirst-filter p P xs ys passes a =
       rest = ap (filter p) a.rest ∙ filter-append p a.before a.after;
     }
 
+-- What follows is of one state of the code: the figure f with the times p.
 module _ {S X : Type 0} (f : Figure X) (p : Times) (seen : Texts → S → X) (names : S → List ℕ) (InRange : S → Type 0) (texts : Texts) where
   -- where a row of the code leads to a turn alone, the state that the turn gives is the only one to which the row leads
   led-one : (Row : After X → Type 0) (e : MachineEvent) (x : CodeOwing S) (turn : Turn S) →
@@ -233,6 +234,7 @@ module _ {S X : Type 0} (f : Figure X) (p : Times) (seen : Texts → S → X) (n
       (names-kept texts (filter (counts_at t) x.owes) (All-filter (counts_at t) (λ d. Keeps texts d.message) x.owes
       (All-names (Keeps texts) x.owes (All-back (Keeps texts) (names x.phase) (owes_names x.owes) known))))
 
+  -- a state in range is in range without what has expired
   in_range-at : (t : ℕ) (x : CodeOwing S) → OwingInRange InRange x → OwingInRange InRange (unexpired_at t x)
   in_range-at t x fits = (fits.0, All-filter (counts_at t) (λ d. d.deadline < 2 ^ 50) x.owes fits.1)
 

@@ -67,9 +67,11 @@ between low high n = nat_le low n && nat_le n high
 abbrev one_of : Bool → ℕ
 one_of b = cond b 1 0
 
+-- how many of the numbers are from low up to high
 abbrev pub many : ℕ → ℕ → List ℕ → ℕ
 many low high ns = count_by (between low high) ns
 
+-- one number counts among those up to high where it is from low up to high, or below low
 one-is : (low high n : ℕ) → low ≤ high → cond (between low high n) 1 0 + cond (nat_lt n low) 1 0 ≡ cond (nat_le n high) 1 0
 one-is low high n le = grind (arith, nat_tests)
 

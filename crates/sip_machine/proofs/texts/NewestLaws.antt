@@ -22,6 +22,7 @@ use Rattle.sip_machine.proofs.texts.TextLaws.{Contains-nil, Keeps-grow, Keeps-gr
 use Rattle.sip_machine.proofs.texts.OrderLaws.{none_in_gap, IsOrder-grow}
 use Rattle.sip_machine.proofs.texts.RetainLemmas.{kept_place, IsOrder-only}
 
+-- What follows is of a book with one message more, which is its newest.
 module _ (texts : Texts) (number : ℕ) (bytes : List ℕ) (book : IsBook (texts ++ (number, bytes) ∷ [])) where
   -- the texts with one message more
   abbrev grown : Texts
@@ -85,6 +86,7 @@ module _ (texts : Texts) (number : ℕ) (bytes : List ℕ) (book : IsBook (texts
         go to under is (Keeps-grow_cases texts number bytes to.number is.kept);
   }
     where
+      -- the To is of an earlier message, since its number is below the newest
       go : (to : To) → to.number < number → IsTo grown to → Keeps texts to.number ⊎ (number ≡ to.number) → IsTo texts to
       go to under is (inl keeps) = record { kept = keeps; text = subst (λ b. IsToOf b to.text) (text_of-grow texts number bytes to.number keeps) is.text }
       go to under is (inr same) = absurd (omega (arith, under, same))
@@ -101,6 +103,7 @@ placed_front front x =
 pub texts_split : (kept others : List KeptMessage) (newest : KeptMessage) → kept ≡ others ++ newest ∷ [] → texts_of kept ≡ texts_of others ++ (newest.number, newest.bytes.items) ∷ []
 texts_split kept others newest is = ap texts_of is ∙ map-append (λ k. (k.number, k.bytes.items)) others (newest ∷ [])
 
+-- What follows is of a book that is its other messages and its newest one.
 module _ (kept others : List KeptMessage) (newest : KeptMessage) (is : kept ≡ others ++ newest ∷ []) where
   -- no message that has a place has the bytes of the newest
   pub never_found : IsBook (texts_of kept) → (position : ℕ) → position < length others → bytes_at (texts_of others) position ≡ newest.bytes.items → ⊥
@@ -189,6 +192,7 @@ module _ (texts : Texts) (number : ℕ) (bytes : List ℕ) (book : IsBook (texts
       let rest = only_grown ns (All-tail (Keeps texts) n ns all) in
       (λ i. (n, first i) ∷ rest i)
 
+  -- the messages with the earlier numbers are those with all these numbers, without the last one
   only_earlier : only earlier texts ≡ placed true (only numbers (texts ++ (number, bytes) ∷ []))
   only_earlier =
       let f : ℕ → ℕ × List ℕ = λ n. (n, text_of (texts ++ (number, bytes) ∷ []) n) in

@@ -185,13 +185,17 @@ still old now i d rest =
 still_rest : {X : Type 0} (old now : List X) (i : ℕ) → drop i now ≡ drop i old → drop (i + 1) now ≡ drop (i + 1) old
 still_rest old now i rest = sym (drop-drop 1 i now) ∙ ap (drop 1) rest ∙ drop-drop 1 i old
 
+-- What follows is of one step of `retain`: the element x at i is read, and f says what becomes of it.
 module _ {X : Type 0} (f : X → Option X) (old now : List X) (left i : ℕ) (moves : MovesInPlace f old now left i) (x : X) (low : i < length now) (read : x ≡ get_or now i x) where
+  -- the element at i is still the one that stood there in the old list
   here : get_or old i x ≡ x
   here = sym (still old now i x moves.rest) ∙ sym read
 
+  -- the place i is one of the old list
   inside : i < length old
   inside = (let long = moves.long in omega arith)
 
+  -- what becomes of the elements up to i is what becomes of those before it and of the one at i
   one_more : filter_map f (take (i + 1) old) ≡ filter_map f (take i old) ++ cons_option (f x) []
   one_more = ap (filter_map f) (take_more old i x inside) ∙ filter_map-append f (take i old) (get_or old i x ∷ []) ∙ ap (λ y. filter_map f (take i old) ++ cons_option (f y) []) here
 
@@ -223,13 +227,17 @@ pub keeps_end : {K : Type 0} (text : K → ℕ × List ℕ) (numbers : List ℕ)
     → KeepsInPlace text numbers old now left (i + 1)
 keeps_end text numbers old now left i keeps low end = grind (arith, nat_tests, drop_all, merged_none, still_rest)
 
+-- What follows is of one step of `keep_only`: the message x at i is read, and goes or is kept.
 module _ {K : Type 0} (text : K → ℕ × List ℕ) (numbers : List ℕ) (old now : List K) (left i : ℕ) (keeps : KeepsInPlace text numbers old now left i) (x : K) (low : i < length now) (read : x ≡ get_or now i x) where
+  -- the message at i is still the one that stood there in the old list
   there : get_or old i x ≡ x
   there = sym (still old now i x keeps.rest) ∙ sym read
 
+  -- the place i is one of the old list
   behind_it : i < length old
   behind_it = (let long = keeps.long in omega arith)
 
+  -- the old messages from i on are the one at i and those after it
   rest_is : map text (drop i old) ≡ text x ∷ map text (drop (i + 1) old)
   rest_is = ap (map text) (drop_more old i x behind_it) ∙ ap (λ y. text y ∷ map text (drop (i + 1) old)) there
 
@@ -340,6 +348,7 @@ kept_place texts n (k, low, is) =
     let first : ℕ × List ℕ → ℕ = λ t. t.0 in
     (k, within, sym (get_or-map first texts k (0, []) n within) ∙ is)
 
+-- What follows is of a book of which the messages with these numbers alone are kept.
 module _ (texts : Texts) (numbers : List ℕ) (book : IsBook texts) (up : AllPairs (λ a b. a < b) numbers) (kept : All (Keeps texts) numbers) where
   -- the message at place i of those that are kept has the number at place i of the numbers, and its bytes
   at_number : (i d : ℕ) → i < length numbers → get_or (only numbers texts) i (0, []) ≡ (get_or numbers i d, text_of texts (get_or numbers i d))
@@ -365,6 +374,7 @@ module _ (texts : Texts) (numbers : List ℕ) (book : IsBook texts) (up : AllPai
       let (hash, within, number) = moved_is p q gives in
       ap (λ t. t.1) (at_number q.position 0 within) ∙ ap (text_of texts) number ∙ text_of-at texts p.position (get_or texts p.position (0, [])) book.rising low (get_or_default texts p.position (0, []) (get_or texts p.position (0, [])) low)
 
+  -- a place that was moved has the hash and the bytes that it had
   moved_key : (p q : Place) → moved texts numbers p ≡ Some q → IsPlace texts p → key_of (only numbers texts) q ≡ key_of texts p
   moved_key p q gives is = (λ i. ((moved_is p q gives).0 i, moved_bytes p q gives is.0 i))
 

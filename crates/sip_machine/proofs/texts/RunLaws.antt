@@ -91,9 +91,11 @@ run_size runs r d low =
     ∙ ap length (flat_map-append items (take r runs) (get_or runs r d ∷ []) ∙ ap (λ run. places_of (take r runs) ++ run) (append-nil (items (get_or runs r d))))
     ∙ length-append (places_of (take r runs)) (items (get_or runs r d))
 
+-- any place, for indexes past the end of a list
 abbrev first : Place
 first = record { hash = 0; position = 0 }
 
+-- 0, 1 or 2 where the message at a place is less than the key, the same or greater
 abbrev rank : Texts → ℕ × List ℕ → Place → ℕ
 rank texts key place = ordering_index (compare (key_of texts place) key)
 
@@ -156,7 +158,9 @@ place_at : (runs : List PlaceRun) (r j : ℕ) (d : PlaceRun) (e : Place) → r <
     get_or (places_of runs) (length (places_of (take r runs)) + j) e ≡ get_or (items (get_or runs r d)) j e
 place_at runs r j d e low within = get_or-flat_map items runs r j d e low within
 
+-- What follows is of a book whose places stand in runs, and the hash and bytes that are searched in it.
 module _ (texts : Texts) (runs : List PlaceRun) (key : ℕ × List ℕ) (held : IsInRuns texts runs) where
+  -- each run tells its first place
   led_at : (r : ℕ) (d : PlaceRun) → r < length runs → IsLed (get_or runs r d)
   led_at r d low = All-get_or IsLed runs r d low held.led
 
@@ -215,7 +219,9 @@ module _ (texts : Texts) (runs : List PlaceRun) (key : ℕ × List ℕ) (held : 
       let front = compare (key_of texts (get_or (items run) 0 first)) key in
       record {
         within = omega arith;
+        -- a place before the gap is less than the key
         before = λ k e zero under. elim (cases_lt k off) [
+          -- it stands in an earlier run, and is not after the first place of this one
           | inl earlier ↦ elim chosen [
             | inl none ↦ let empty : off ≡ 0 = rw none refl in absurd (omega arith)
             | inr past ↦
@@ -228,18 +234,22 @@ module _ (texts : Texts) (runs : List PlaceRun) (key : ℕ × List ℕ) (held : 
                 let less = less_of_rank (compare (key_of texts (get_or all k first)) key) (omega (arith, step, lowest)) in
                 subst (λ p. compare (key_of texts p) key ≡ Less) (get_or_default all k first e (omega arith)) less
           ]
+          -- it stands in this run
           | inr from ↦
               let j = k - off in
               let is : off + j ≡ k = omega arith in
               subst (λ n. compare (key_of texts (get_or all n e)) key ≡ Less) is
               (ap (λ p. compare (key_of texts p) key) (place_at runs r j d e low (omega arith)) ∙ parted.0 j e (omega arith) (omega arith))
         ];
+        -- a place from the gap on is greater than the key
         after = λ k e over end. elim (cases_lt k (off + length (items run))) [
+          -- it stands in this run
           | inl inside ↦
               let j = k - off in
               let is : off + j ≡ k = omega arith in
               subst (λ n. compare (key_of texts (get_or all n e)) key ≡ Greater) is
               (ap (λ p. compare (key_of texts p) key) (place_at runs r j d e low (omega arith)) ∙ parted.1 j e (omega arith) (omega arith))
+          -- it stands in a later run, and is not before the first place of the next one
           | inr later ↦
               let size = run_size runs r d low in
               elim (cases_lt (r + 1) (length runs)) [
@@ -251,6 +261,7 @@ module _ (texts : Texts) (runs : List PlaceRun) (key : ℕ × List ℕ) (held : 
                     let step = rw begin' at (up (length (places_of (take (r + 1) runs)) + 0) k first (omega (arith, size)) end) in
                     let greater = greater_of_rank (compare (key_of texts (get_or all k first)) key) (omega (arith, step, high)) in
                     subst (λ p. compare (key_of texts p) key ≡ Greater) (get_or_default all k first e end) greater
+                -- there is no later run
                 | inr last ↦
                     let whole : length all ≡ length (places_of (take (r + 1) runs)) = ap (λ l. length (places_of l)) (sym (take_all (r + 1) runs last)) in
                     absurd (omega (arith, whole, size))

@@ -42,6 +42,7 @@ LeadOn {X} f Rows =
 abbrev pub LeadAway : {X : Type 0} → Figure X → Type 0
 LeadAway {X} f = (p : Times) (x : X) (k : Kind) (e : MachineEvent) (y : After X) → f.Sends p x k e y → (y.1 ≡ drops) ⊎ f.Stays x k → y.0 ≢ x
 
+-- What follows is of the phases of the code, what each stands for beside a book, and the numbers that it names.
 module _ {X S : Type 0} (seen : Texts → S → X) (names : S → List ℕ) where
   -- phases of the code that stand for the same beside one book are the same one
   abbrev pub AreApart : Type 0
@@ -55,11 +56,13 @@ module _ {X S : Type 0} (seen : Texts → S → X) (names : S → List ℕ) wher
   abbrev pub TellNames : (X → Told (List ℕ)) → Type 0
   TellNames told = (texts : Texts) (x : S) → messages_told (told (seen texts x)) ≡ map (text_of texts) (names x)
 
+-- What follows is of the phases of the code and the figure of whose phases they are.
 module _ {X S : Type 0} (f : Figure X) (seen : Texts → S → X) where
   -- the timers of a phase of the code are the same beside each book
   abbrev pub SameWindow : Type 0
   SameWindow = (a b : Texts) (p : Times) (x : S) → f.window p (seen a x) ≡ f.window p (seen b x)
 
+  -- the last moment of a phase is the same beside each book
   abbrev pub SameCloses : Type 0
   SameCloses = (a b : Texts) (p : Times) (x : S) → closes_at f p (seen a x) ≡ closes_at f p (seen b x)
 

@@ -138,6 +138,7 @@ earliest-some m (x ∷ xs) ys e =
     let same : m ≡ fold min x xs = cc in
     earliest-option m ys ∙ ap (λ n. Some (fold min n ys)) same ∙ ap Some (sym (fold-append x xs ys))
 
+-- where a list has no least element, that of both lists is that of the other one
 pub earliest-none : (xs ys : List ℕ) → None ≡ earliest xs → earliest ys ≡ earliest (xs ++ ys)
 earliest-none [] ys e = refl
 earliest-none (x ∷ xs) ys e = cc

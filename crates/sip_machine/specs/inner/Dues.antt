@@ -1,12 +1,18 @@
-use Rattle.std.specs.Prelude.{◌≤◌, ℕ, Option, None, Some, List, [], All, replicate}
+use Rattle.std.specs.Prelude.{◌≤◌, ℕ, List, [], All, replicate}
 use Rattle.sip_ledger.specs.declared.debt.Debt.{Debt}
+use Rattle.sip_machine.specs.declared.dues.Rows.{Rows}
+use Rattle.sip_machine.specs.declared.dues.Rows.TheVariants.{Blank, WithAccounts}
 
 -- What many states owe, with accounts or without.
 
--- what each of `count` rows owes: what the accounts say, or nothing where there are no accounts
-abbrev pub rows_in : ℕ → Option (List (List Debt)) → List (List Debt)
-rows_in count None = replicate count []
-rows_in count (Some rows) = rows
+-- so many rows that owe nothing
+abbrev pub blank_rows : ℕ → List (List Debt)
+blank_rows count = replicate count []
+
+-- what each of the rows owes
+abbrev pub rows_of : Rows → List (List Debt)
+rows_of (Blank count) = blank_rows count
+rows_of (WithAccounts boxed) = boxed.value
 
 -- the numbers of the messages of these debts are from low up to high
 abbrev pub AreBetween : ℕ → ℕ → List Debt → Type 0

@@ -23,9 +23,13 @@ abbrev pub placed : {X : Type 0} → Bool → List X → List X
 placed false all = all
 placed true all = take (length all - 1) all
 
+-- the hash of all of these bytes
+abbrev pub full_hash : List ℕ → ℕ
+full_hash bytes = finish (write initial bytes)
+
 -- the hash of these bytes, by the first 256 of them
 abbrev pub hash_of : List ℕ → ℕ
-hash_of bytes = finish (write initial (take 256 bytes))
+hash_of bytes = full_hash (take 256 bytes)
 
 -- the bytes of the message at a position, and no bytes past the last message
 abbrev pub bytes_at : Texts → ℕ → List ℕ
@@ -35,6 +39,7 @@ bytes_at texts position = (slice_index_or texts position (0, [])).1
 abbrev pub key_of : Texts → Place → ℕ × List ℕ
 key_of texts place = (place.hash, bytes_at texts place.position)
 
+-- keys by their hashes, and those with one hash by their bytes
 abbrev pub compare : ℕ × List ℕ → ℕ × List ℕ → Ordering
 compare a b = ordering_then (nat_cmp a.0 b.0) (slice_cmp nat_cmp a.1 b.1)
 

@@ -77,6 +77,7 @@ is_some-deadlines texts (d ∷ ds) =
 pub unexpired-seen : (t : ℕ) (texts : Texts) (ds : List Debt) → unexpired t (owes_seen texts ds) ≡ owes_seen texts (filter (counts_at t) ds)
 unexpired-seen t texts ds = filter-map (owed_seen texts) (λ owed. owed.must || nat_le t owed.deadline) ds
 
+-- what softened debts of the code mean is what they mean, softened
 pub softened-seen : (texts : Texts) (ds : List Debt) → softened (owes_seen texts ds) ≡ owes_seen texts (map softened_debt ds)
 softened-seen texts [] = refl
 softened-seen texts (d ∷ ds) = ap (λ os. record { message = text_of texts d.message; deadline = d.deadline; must = false } ∷ os) (softened-seen texts ds)

@@ -6,7 +6,7 @@ use Rattle.sip_message.specs.Reads.{Reads}
 use Rattle.sip_standard.specs.Solid.{solid}
 use Rattle.sip_machine.specs.Texts.{Texts, Keeps, text_of}
 use Rattle.sip_machine.specs.declared.tos.To.{To}
-use Rattle.sip_machine.specs.inner.Order.{hash_of}
+use Rattle.sip_machine.specs.inner.Order.{full_hash}
 
 -- The To that stands beside a message for which an ACK may come.
 
@@ -38,7 +38,7 @@ IsUnder (Some pairs) hash number = holds pairs hash number ≡ true
 
 -- the number of the message of each To of the list stands under the hash of the To, where hashes are kept
 abbrev pub AreUnder : Option (List (ℕ × ℕ)) → List To → Type 0
-AreUnder hashes tos = All (λ to. IsUnder hashes (hash_of to.text) to.number) tos
+AreUnder hashes tos = All (λ to. IsUnder hashes (full_hash to.text) to.number) tos
 
 -- hashes are kept before and after, or neither; the number stands under the hash now just if `stands`, and other pairs are as they were
 abbrev pub IsChanged : ℕ → ℕ → Bool → Option (List (ℕ × ℕ)) → Option (List (ℕ × ℕ)) → Type 0
@@ -50,4 +50,4 @@ IsChanged hash number stands (Some old) None = ⊥
 -- of the kept messages with numbers from low up to high, those that have a To stand under its hash
 abbrev pub StandUnder : Texts → ℕ → ℕ → List (ℕ × ℕ) → Type 0
 StandUnder texts low high pairs =
-    (number : ℕ) (text : List ℕ) → Keeps texts number → low ≤ number → number ≤ high → IsToOf (text_of texts number) text → holds pairs (hash_of text) number ≡ true
+    (number : ℕ) (text : List ℕ) → Keeps texts number → low ≤ number → number ≤ high → IsToOf (text_of texts number) text → holds pairs (full_hash text) number ≡ true

@@ -1,13 +1,13 @@
 //! What many states owe, when many of them change at once.
-ghost use Rattle.std.specs.Prelude.{◌≡◌, ◌<◌, ◌≤◌, ◌++◌, ◌∷◌, [], List, None, All, IfOk, OnOk, OnErr, drop, filter, length, map, take};
+ghost use Rattle.std.specs.Prelude.{◌≡◌, ◌<◌, ◌≤◌, ◌++◌, ◌∷◌, [], List, All, IfOk, OnOk, OnErr, drop, filter, length, map, take};
 ghost use Rattle.sip_ledger.specs.declared.debt.Debt.{Debt};
 ghost use Rattle.sip_ledger.specs.Accounts.{paid_rows};
 ghost use Rattle.sip_ledger.specs.Debts.{counts_at, is_timely};
 ghost use Rattle.sip_ledger.specs.Lists.{Rise, from_to};
 ghost use Rattle.sip_machine.specs.Owes.{owed_in};
-ghost use Rattle.sip_machine.specs.inner.Dues.{rows_in};
+ghost use Rattle.sip_machine.specs.inner.Dues.{blank_rows};
 
-use crate::dues::{Dues, blank};
+use crate::dues::{Dues, Rows, blank};
 use sip_ledger::{Accounts, Debt};
 use std::alloc::{AllocError, Global};
 
@@ -16,7 +16,10 @@ impl Dues {
     pub(crate) fn len(&self) -> usize
         ensures { result ≡ length self.now }
     {
-        self.rows
+        match &self.rows {
+            Rows::WithAccounts(accounts) => accounts.len(),
+            Rows::Blank(count) => *count,
+        }
     }
 
     /// Keeps the rows at the indices, which rise, and drops the others.
@@ -25,10 +28,10 @@ impl Dues {
         requires rising { Rise rows.now }
         ensures { self.new ≡ map (owed_in self.old) rows.now }
     {
-        if let Some(accounts) = &mut self.accounts {
-            accounts.keep(rows);
+        match &mut self.rows {
+            Rows::WithAccounts(accounts) => accounts.keep(rows),
+            Rows::Blank(count) => *count = rows.len(),
         }
-        self.rows = rows.len();
     }
 
     /// Puts a copy of each row from `from` up to `to` after the others, except for rows that must send something that is past at
@@ -43,14 +46,11 @@ impl Dues {
         ensures ok { OnOk result (self.new ≡ self.old ++ filter (is_timely moment) (from_to from to self.old)) }
         ensures err { OnErr result (self.new ≡ self.old) }
     {
-        match &mut self.accounts {
-            Some(accounts) => {
-                accounts.push_timely(from, to, moment)?;
-                self.rows = accounts.len();
-            }
-            None => {
+        match &mut self.rows {
+            Rows::WithAccounts(accounts) => accounts.push_timely(from, to, moment)?,
+            Rows::Blank(count) => {
                 let more = to.saturating_sub(from);
-                self.rows = self.rows.checked_add(more).ok_or(AllocError)?;
+                *count = count.checked_add(more).ok_or(AllocError)?;
             }
         }
         Ok(())
@@ -69,11 +69,10 @@ impl Dues {
         ensures ok { OnOk result (self.new ≡ self.old ++ paid_rows message moment (from_to from to self.old)) }
         ensures err { OnErr result (self.new ≡ self.old) }
     {
-        if let Some(accounts) = &mut self.accounts {
-            accounts.push_paid(from, to, message, moment)?;
-            self.rows = accounts.len();
-        }
-        Ok(())
+        let Rows::WithAccounts(accounts) = &mut self.rows else {
+            return Ok(());
+        };
+        accounts.push_paid(from, to, message, moment)
     }
 
     /// Lets each row from `from` on owe one more debt, after its others. On an error the rows before them are as they were.
@@ -86,14 +85,11 @@ impl Dues {
         ensures ok { OnOk result (self.new ≡ take from self.old ++ map (λ owes. owes ++ debt ∷ []) (drop from self.old)) }
         ensures err { OnErr result (take from self.new ≡ take from self.old) }
     {
-        match &mut self.accounts {
-            Some(accounts) => {
-                if accounts.gain_each(from, debt).is_err() {
-                    self.rows = self.rows.min(from);
-                    return Err(AllocError);
-                }
+        match &mut self.rows {
+            Rows::WithAccounts(accounts) => accounts.gain_each(from, debt)?,
+            Rows::Blank(count) => {
+                self.rows = Rows::WithAccounts(opened_from(alloc, *count, from, debt)?);
             }
-            None => self.accounts = Some(opened_from(alloc, self.rows, from, debt)?),
         }
         Ok(())
     }
@@ -104,14 +100,10 @@ impl Dues {
         ensures ok { OnOk result (self.new ≡ take from self.old ++ map (filter (counts_at moment)) (drop from self.old)) }
         ensures err { OnErr result (take from self.new ≡ take from self.old) }
     {
-        let Some(accounts) = &mut self.accounts else {
+        let Rows::WithAccounts(accounts) = &mut self.rows else {
             return Ok(());
         };
-        if accounts.expire_each(from, moment).is_err() {
-            self.rows = self.rows.min(from);
-            return Err(AllocError);
-        }
-        Ok(())
+        accounts.expire_each(from, moment)
     }
 }
 
@@ -122,7 +114,7 @@ fn opened_from(
     from: usize,
     debt: Debt,
 ) -> Result<Box<Accounts>, AllocError>
-    ensures { IfOk result (λ boxed. boxed.value ≡ take from (rows_in rows None) ++ map (λ owes. owes ++ debt ∷ []) (drop from (rows_in rows None))) }
+    ensures { IfOk result (λ boxed. boxed.value ≡ take from (blank_rows rows) ++ map (λ owes. owes ++ debt ∷ []) (drop from (blank_rows rows))) }
 {
     let mut accounts = blank(alloc, rows)?;
     accounts.gain_each(from, debt)?;

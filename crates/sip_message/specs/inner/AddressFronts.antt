@@ -72,8 +72,10 @@ AddressSteps text =
     Seq (TailText c.rest) (λ params a.
     a ≡ (text, record { display = c.display; uri_text = c.uri; uri = uri; params = params }))))
 
+-- an optional display name and the text after it, as the code's borrows mean them
 abbrev pub display_parts : Option (Bor (List ℕ)) × Bor (List ℕ) → Option (List ℕ) × List ℕ
 display_parts (display, inner) = (option_copied display, inner.now)
 
+-- the parts of an address that the code's cuts mean
 abbrev pub cut_parts : Cuts → CutParts
 cut_parts c = record { display = option_copied c.display; uri = c.uri.now; rest = c.rest.now }

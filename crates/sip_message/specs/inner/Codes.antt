@@ -27,9 +27,11 @@ host-data (name text) = refl
 host-data (v4 text) = refl
 host-data (v6 text) = refl
 
+-- a host as a number, for its kind, and a text
 abbrev pub host_code : Coded HostParts
 host_code = code_by (ℕ × List ℕ) (coded× coded_ℕ (coded_list coded_ℕ)) host_data data_host host-data
 
+-- a text as a list of numbers
 abbrev text_code : Coded (List ℕ)
 text_code = coded_list coded_ℕ
 
@@ -44,6 +46,7 @@ element_code = coded× text_code via_code
         (λ p. record { protocol = p.0; version = p.1.0; transport = p.1.1.0; host = p.1.1.1.0; port = p.1.1.1.1.0; params = p.1.1.1.1.1.0; branch = p.1.1.1.1.1.1 })
         (λ _. refl)
 
+-- elements of Via as lists and numbers
 abbrev pub elements_code : Coded (List Element)
 elements_code = coded_list element_code
 
@@ -52,10 +55,12 @@ abbrev uri_data : UriParts → SipParts ⊎ (List ℕ × List ℕ)
 uri_data (sip p) = inl p
 uri_data (other scheme rest) = inr (scheme, rest)
 
+-- the URI that these parts, or this scheme and rest, are of
 abbrev data_uri : SipParts ⊎ (List ℕ × List ℕ) → UriParts
 data_uri (inl p) = sip p
 data_uri (inr (scheme, rest)) = other scheme rest
 
+-- the URI of the parts of a URI is that URI
 pub uri-data : (u : UriParts) → data_uri (uri_data u) ≡ u
 uri-data (sip p) = refl
 uri-data (other scheme rest) = refl
@@ -68,6 +73,7 @@ sip_code = code_by (Bool × (Option (List ℕ) × (Option (List ℕ) × (HostPar
     (λ d. record { secure = d.0; user = d.1.0; password = d.1.1.0; host = d.1.1.1.0; port = d.1.1.1.1.0; params = d.1.1.1.1.1.0; headers = d.1.1.1.1.1.1 })
     (λ _. refl)
 
+-- a URI as lists and numbers
 abbrev pub uri_code : Coded UriParts
 uri_code = code_by (SipParts ⊎ (List ℕ × List ℕ)) (coded⊎ sip_code (coded× text_code text_code)) uri_data data_uri uri-data
 

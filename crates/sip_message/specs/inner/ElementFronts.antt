@@ -44,5 +44,6 @@ abbrev pub FirstVia : List ℕ → Element → Type 0
 FirstVia text e =
     ((v : ViaParts) × (vias : List ViaParts) × ViasText text v vias) × ((rest : List ℕ) × ViaFront text (e, rest))
 
+-- the element and the rest that the code's Via and its borrow mean
 abbrev pub front_parts : Via × Bor (List ℕ) → Element × List ℕ
 front_parts (v, rest) = (element v, rest.now)

@@ -61,12 +61,15 @@ ProtocolFront text =
     Seq (BlanksFront (transport.1)) (λ rest p.
     p ≡ record { protocol = protocol.0; version = version.0; transport = transport.0; rest = rest }))))))
 
+-- the text that the code's borrow means
 abbrev pub text_parts : Bor (List ℕ) → List ℕ
 text_parts text = text.now
 
+-- the two texts that the code's borrows mean
 abbrev pub pair_parts : Bor (List ℕ) × Bor (List ℕ) → List ℕ × List ℕ
 pair_parts (a, b) = (a.now, b.now)
 
+-- the protocol, the version, the transport and the rest that the code's borrows mean
 abbrev pub protocol_parts : Bor (List ℕ) × Bor (List ℕ) × Bor (List ℕ) × Bor (List ℕ) → ProtocolParts
 protocol_parts (a, b, c, d) = record { protocol = a.now; version = b.now; transport = c.now; rest = d.now }
 

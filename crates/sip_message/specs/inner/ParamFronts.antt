@@ -65,8 +65,10 @@ abbrev pub AllParamsFront : List ℕ → List Param × List ℕ → Type 0
 AllParamsFront text (params, rest) =
     ParamsFront text params rest × ((next : Param × List ℕ) → ¬ (ParamFront rest next))
 
+-- an optional part and the rest, as the code's borrows mean them
 abbrev pub led_parts : Option (Bor (List ℕ)) × Bor (List ℕ) → Option (List ℕ) × List ℕ
 led_parts (part, rest) = (option_copied part, rest.now)
 
+-- a parameter and the rest, as the code's borrows mean them
 abbrev pub param_parts : Bor (List ℕ) × Option (Bor (List ℕ)) × Bor (List ℕ) → Param × List ℕ
 param_parts (name, value, rest) = ((name.now, option_copied value), rest.now)

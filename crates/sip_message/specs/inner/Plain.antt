@@ -27,6 +27,7 @@ HostPort text =
     (host : HostParts) × (port : Option (List ℕ)) × HostText (host_text host) host × IfSome port Port
     × (text ≡ hostport_text host port)
 
+-- the text is a URI
 abbrev pub SomeUri : List ℕ → Type 0
 SomeUri text = (parts : UriParts) × UriText text parts
 
@@ -38,8 +39,10 @@ Opening text = (display : Option (List ℕ)) × IfSome display DisplayName × Be
 abbrev pub PlainParam : List ℕ × Option (List ℕ) → List ℕ → Type 0
 PlainParam param = Byte semicolon then (λ t. ParamText t param)
 
+-- the text is parameters, each after its ";"
 abbrev pub SomeParams : List ℕ → Type 0
 SomeParams text = (params : List (List ℕ × Option (List ℕ))) × ParamsPart text params
 
+-- the text is an address
 abbrev pub SomeAddress : List ℕ → Type 0
 SomeAddress text = (a : AddressParts) × AddressText text a

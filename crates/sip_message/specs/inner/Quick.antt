@@ -11,6 +11,7 @@ use Rattle.sip_message.specs.inner.FieldText.{FieldText, FieldsText}
 use Rattle.sip_message.specs.declared.asked.Asked.{Asked}
 use Rattle.sip_message.specs.inner.Asked.{AsksMore}
 
+-- the byte is no control
 abbrev pub is_open : ℕ → Bool
 is_open byte = not (is_control byte)
 

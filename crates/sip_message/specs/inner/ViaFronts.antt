@@ -48,8 +48,10 @@ ViaSteps text =
     EndsElement (tail.1)
     × (v ≡ (record { protocol = sent.protocol; version = sent.version; transport = sent.transport; host = host.0; port = port.0; params = tail.0.0; branch = tail.0.1 }, tail.1))))))
 
+-- a host and the rest, as the code's borrow means them
 abbrev pub host_front_parts : Host × Bor (List ℕ) → HostParts × List ℕ
 host_front_parts (host, rest) = (host_parts host, rest.now)
 
+-- the parameters with their branch, and the rest, as the code's borrows mean them
 abbrev pub tail_parts : Bor (List ℕ) × Option (Bor (List ℕ)) × Bor (List ℕ) → (List ℕ × Option (List ℕ)) × List ℕ
 tail_parts (params, branch, rest) = ((params.now, option_copied branch), rest.now)

@@ -189,6 +189,7 @@ within_push marks moved long within index mark =
       | inr new ↦ absurd (true≢false (sym new.1))
     ]
   where
+    -- an element of a list stands at the same index with one element more
     slice_get-push : (xs : List Bool) (a : Bool) (n : ℕ) (x : Bool) → slice_get xs n ≡ Some x → slice_get (xs ++ a ∷ []) n ≡ Some x
     slice_get-push [] a n x at = absurd cc
     slice_get-push (u ∷ xs) a zero x at = at
@@ -217,17 +218,20 @@ start_quiet p key = start_is_quiet p (machine_of_key p.rules key)
 pub restart_numbers : (t : Tabled) (moved : List Bool) (marked numbers : List ℕ) → numbers ≡ map (λ i. i + 1) marked → length moved ≡ length t.keys → length t.sets ≡ length t.keys → ElseHolds IsQuietSet moved t.sets
     → ((n : ℕ) → Contains marked n ↔ IsMarked moved n) → AllPairs (λ a b. a ≢ b) marked → AreToRestart t numbers
 restart_numbers t moved marked numbers is long as_long quiet members once = subst (AreToRestart t) (sym is) (record {
+  -- each number is one more than a marked place, and so the number of a set
   given = λ k d low.
       (let size = length-map marked (λ i. i + 1) in
       let within : k < length marked = omega (arith, low, size) in
       let mark = (members (get_or marked k 0)).0 (place_among marked k 0 within) in
       let high = slice_get_within moved (get_or marked k 0) true mark in
       subst (IsGiven t) (sym (get_or-map (λ i. i + 1) marked k 0 d within)) (record { low = omega arith; high = omega (arith, high, long) }));
+  -- two equal numbers would be of one marked place, which stands once among the marked
   apart = λ i j d less low same.
       (let size = length-map marked (λ n. n + 1) in
       let last : j < length marked = omega (arith, low, size) in
       let first : i < length marked = omega (arith, less, last) in
       once i j 0 less last (omega (arith, sym (get_or-map (λ n. n + 1) marked i 0 d first) ∙ same ∙ get_or-map (λ n. n + 1) marked j 0 d last)));
+  -- a set whose number is not given is not marked, and so it is quiet
   others = λ place set at none.
       let low = slice_get_within t.sets place set at in
       quiet place set at (not_marked moved place (omega (arith, low, as_long, long)) (λ mark. none (Contains-map (λ i. i + 1) marked place ((members place).1 mark))));
@@ -270,6 +274,7 @@ marked_names marked marks sets long are members n = (
       ],
 )
   where
+    -- an index is marked or it is not
     mark_cases : (marks : List Bool) (n : ℕ) → n < length marks → IsMarked marks n ⊎ (slice_get marks n ≡ Some false)
     mark_cases [] n low = absurd (omega arith)
     mark_cases (true ∷ marks) zero low = inl refl

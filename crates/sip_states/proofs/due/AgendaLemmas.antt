@@ -71,6 +71,7 @@ nothing_due records order moment ordered late = by (position (is_overdue moment)
     overdue i (Some None) at e = true≢false (sym e)
     overdue i (Some (Some last)) at e = let h = late (last, i) ((ordered (last, i)).1 at) in grind (arith, nat_tests)
 
+    -- the search finds no record, since none is overdue
     by : (r : Option ℕ) → position (is_overdue moment) records ≡ r → r ≡ None
     by None at = refl
     by (Some i) at =

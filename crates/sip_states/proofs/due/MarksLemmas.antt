@@ -1,10 +1,10 @@
 -- Lemmas of the order of indices: the marked ones stand first, and to mark one or to take a mark off exchanges two places.
-use Rattle.std.specs.Prelude.{◌≡◌, ◌≢◌, ◌<◌, ◌≤◌, ◌+◌, ◌-◌, ◌↔◌, ℕ, Bool, true, false, Some, List, [], ◌∷◌, ◌++◌, AllPairs, Contains, length, nat_lt, get_or, set, take}
+use Rattle.std.specs.Prelude.{◌≡◌, ◌≢◌, ◌<◌, ◌≤◌, ◌+◌, ◌-◌, ◌↔◌, ℕ, Bool, true, false, Some, List, AllPairs, Contains, length, nat_lt, get_or, set, slice_get, take}
 use Rattle.std.proofs.Common.{inl, inr, sym, ◌∙◌, ap, subst, arith, true≢false}
 use Rattle.std.proofs.lemmas.Bool.{cases_lt, lt-ltb, le-ltb, ltb-true}
 use Rattle.std.proofs.lemmas.Option.{slice_get-get_or, slice_get_within, get_or_from_slice_get}
 use Rattle.std.proofs.lemmas.Bool.Decides.{eqb_tells, nat_tests}
-use Rattle.std.proofs.lemmas.List.{length-set, length-map, length-append, get_or-set_same, get_or-set_other, get_or-map, same_lists, get_or_default, get_or_append_left, get_or_push, get_or-take, length-take-le}
+use Rattle.std.proofs.lemmas.List.{length-set, length-map, get_or-set_same, get_or-set_other, get_or-map, same_lists, get_or_default, get_or-take, length-take-le}
 use Rattle.sip_states.specs.inner.Marks.{marks, IsPlaced, IsMarked, exchanged_order, exchanged_places}
 
 -- after two writes the second place has what was written second
@@ -183,6 +183,7 @@ marked_more order places count is index p low at high =
       ],
     ))
   where
+    -- another number than `count` is below count + 1 exactly if it is below count
     next_test : (x count : ℕ) → x ≢ count → nat_lt x (count + 1) ≡ nat_lt x count
     next_test x count differ = grind (arith, nat_tests)
 
@@ -218,106 +219,66 @@ marked_less order places count is index p low at under =
       ],
     ))
   where
+    -- another number than count - 1 is below it exactly if it is below count
     last_test : (x count : ℕ) → 0 < count → x ≢ count - 1 → nat_lt x (count - 1) ≡ nat_lt x count
     last_test x count some differ = grind (arith, nat_tests)
 
--- What follows is of the last index.
+-- where each index has its place, it has it beside a smaller number of marked ones too
+pub narrower : (order places : List ℕ) (count less : ℕ) → IsPlaced order places count → less ≤ count → IsPlaced order places less
+narrower order places count less is few = record { long = is.long; few = (let most = is.few in omega (arith, most, few)); placed = is.placed; ordered = is.ordered }
 
--- the place of the last index is not below the number of marked ones where its mark is `false`
-pub last_unmarked : (places : List ℕ) (count last : ℕ) (rest : List Bool) → length places ≡ last + 1 → marks places count ≡ rest ++ false ∷ [] → count ≤ get_or places last 0
-last_unmarked places count last rest whole is =
-    let long : length rest + 1 ≡ length places = sym (length-append rest (false ∷ [])) ∙ ap length (sym is) ∙ length-map places (λ place. nat_lt place count) in
-    let test : nat_lt (get_or places last 0) count ≡ false
-    = sym (mark_at places count last true (omega arith)) ∙ ap (λ ms. get_or ms last true) is ∙ get_or_push rest false true last (omega arith) in
-    elim (cases_lt (get_or places last 0) count) [
-      | inl less ↦ absurd (true≢false (sym (lt-ltb (get_or places last 0) count less) ∙ test))
-      | inr from ↦ from
-    ]
+-- the place of an index is within the order
+pub place_low : (order places : List ℕ) (count : ℕ) → IsPlaced order places count → (index p : ℕ) → index < length places → p ≡ get_or places index 0 → p < length order
+place_low order places count is index p low at = (let long = is.long in let there = is.placed index (omega arith) in omega (arith, at, there.0))
 
--- where the last index is not marked, each index has its place once it was exchanged with the last in order and both lists were cut
-pub popped : (order places : List ℕ) (count : ℕ) (is : IsPlaced order places count) (last p : ℕ) → length order ≡ last + 1 → p ≡ get_or places last 0 → count ≤ p
-    → IsPlaced (take last (exchanged_order order p last)) (take last (exchanged_places order places p last)) count
-popped order places count is last p whole at high =
-    let there = is.placed last (omega arith) in
-    let p_low : p < length order = omega (arith, at, there.0) in
-    let q_low : last < length order = omega arith in
-    let mine : get_or order p 0 ≡ last = ap (λ n. get_or order n 0) at ∙ there.1 in
-    let O = exchanged_order order p last in
-    let P = exchanged_places order places p last in
-    let new = exchanged order places count is p last p_low q_low count is.few in
-    let O_long : length O ≡ last + 1 = length-set (set order p (get_or order last 0)) last (get_or order p 0) ∙ length-set order p (get_or order last 0) ∙ whole in
-    let P_long : length P ≡ last + 1 = new.long ∙ O_long in
-    let O_last : get_or O last 0 ≡ last = at_q order places count is p last p_low q_low ∙ mine in
-    let P_last : get_or P last 0 ≡ last = ap (λ n. get_or P n 0) (sym mine) ∙ place_of_a order places count is p last p_low q_low in
-    let O_short : length (take last O) ≡ last = length-take-le last O (omega arith) in
-    let P_short : length (take last P) ≡ last = length-take-le last P (omega arith) in
-    record {
-      long = P_short ∙ sym O_short;
-      few = (omega arith);
-      placed = λ i low. (
-          let low_i : i < last = omega arith in
-          let was = new.placed i (omega arith) in
-          let other : get_or P i 0 ≢ last = λ e. omega (arith, low_i, sym was.1 ∙ ap (λ n. get_or O n 0) e ∙ O_last) in
-          let here : get_or (take last P) i 0 ≡ get_or P i 0 = get_or-take last P i 0 low_i in
-          let under : get_or P i 0 < last = omega (arith, was.0, other) in
-          (omega (arith, here, under), ap (λ n. get_or (take last O) n 0) here ∙ get_or-take last O (get_or P i 0) 0 under ∙ was.1)
-          );
-      ordered = λ k low. (
-          let low_k : k < last = omega arith in
-          let was = new.ordered k (omega arith) in
-          let other : get_or O k 0 ≢ last = λ e. omega (arith, low_k, sym was.1 ∙ ap (λ n. get_or P n 0) e ∙ P_last) in
-          let here : get_or (take last O) k 0 ≡ get_or O k 0 = get_or-take last O k 0 low_k in
-          let under : get_or O k 0 < last = omega (arith, was.0, other) in
-          (omega (arith, here, under), ap (λ n. get_or (take last P) n 0) here ∙ get_or-take last P (get_or O k 0) 0 under ∙ was.1)
-          );
-    }
-
--- once the last index, which is not marked, was taken out, the marks of the others are as before
-pub popped_marks : (order places : List ℕ) (count : ℕ) (is : IsPlaced order places count) (last p : ℕ) → length order ≡ last + 1 → p ≡ get_or places last 0 → count ≤ p
-    → marks places count ≡ marks (take last (exchanged_places order places p last)) count ++ false ∷ []
-popped_marks order places count is last p whole at high =
-    let there = is.placed last (omega arith) in
-    let p_low : p < length order = omega (arith, at, there.0) in
-    let q_low : last < length order = omega arith in
-    let mine : get_or order p 0 ≡ last = ap (λ n. get_or order n 0) at ∙ there.1 in
-    let P = exchanged_places order places p last in
-    let b = get_or order last 0 in
-    let b_at : get_or places b 0 ≡ last = (is.ordered last q_low).1 in
-    let long : length places ≡ last + 1 = is.long ∙ whole in
-    let P_long : length P ≡ last + 1 = new_long order places count is p last p_low q_low ∙ long in
-    let P_short : length (take last P) ≡ last = length-take-le last P (omega arith) in
-    let ms = marks (take last P) count in
-    let ms_long : length ms ≡ last = length-map (take last P) (λ place. nat_lt place count) ∙ P_short in
-    let all : length (marks places count) ≡ last + 1 = length-map places (λ place. nat_lt place count) ∙ long in
-    same_lists (marks places count) (ms ++ false ∷ []) (all ∙ sym (length-append ms (false ∷ []) ∙ ap (λ n. n + 1) ms_long)) (λ k d low.
-    let within : k < length places = omega arith in
-    elim (eqb_tells k last) [
-      | inl same ↦
-          mark_at places count k d within ∙ ap (λ n. nat_lt (get_or places n 0) count) same.1 ∙ le-ltb (get_or places last 0) count (omega (arith, at, high))
-          ∙ sym (get_or_push ms false d k (ms_long ∙ sym same.1))
-      | inr differ ↦
-          let under : k < last = omega (arith, differ.1) in
-          let here : get_or (ms ++ false ∷ []) k d ≡ nat_lt (get_or P k 0) count
-          = get_or_append_left ms (false ∷ []) d k (omega arith) ∙ mark_at (take last P) count k d (omega arith) ∙ ap (λ n. nat_lt n count) (get_or-take last P k 0 under) in
-          mark_at places count k d within ∙ alike k under ∙ sym here
-    ])
+-- exchanging two indices that are both marked, or both not, changes no mark
+pub marked_beside : (order places : List ℕ) (count c p q : ℕ) → IsPlaced order places count → p < length order → q < length order → nat_lt p c ≡ nat_lt q c
+    → marks (exchanged_places order places p q) c ≡ marks places c
+marked_beside order places count c p q is p_low q_low side =
+    let new = exchanged_places order places p q in
+    let long = new_long order places count is p q p_low q_low in
+    let size = length-map new (λ place. nat_lt place c) in
+    same_lists (marks new c) (marks places c) (size ∙ long ∙ sym (length-map places (λ place. nat_lt place c))) (λ k d low.
+    mark_at new c k d (omega (arith, low, size)) ∙ alike k ∙ sym (mark_at places c k d (omega (arith, low, size, long))))
   where
-    alike : (k : ℕ) → k < last → nat_lt (get_or places k 0) count ≡ nat_lt (get_or (exchanged_places order places p last) k 0) count
-    alike k under =
-        let there = is.placed last (omega arith) in
-        let p_low : p < length order = omega (arith, at, there.0) in
-        let q_low : last < length order = omega arith in
-        let mine : get_or order p 0 ≡ last = ap (λ n. get_or order n 0) at ∙ there.1 in
-        let b = get_or order last 0 in
-        let b_at : get_or places b 0 ≡ last = (is.ordered last q_low).1 in
-        let few = is.few in
-        elim (eqb_tells k b) [
-          | inl is_b ↦
-              ap (λ n. nat_lt (get_or places n 0) count) is_b.1 ∙ ap (λ n. nat_lt n count) b_at ∙ le-ltb last count (omega (arith, p_low, high))
-              ∙ sym (ap (λ n. nat_lt (get_or (exchanged_places order places p last) n 0) count) is_b.1 ∙ ap (λ n. nat_lt n count) (place_of_b order places count is p last p_low q_low) ∙ le-ltb p count high)
-          | inr not_b ↦
-              ap (λ n. nat_lt n count) (sym (place_of_other order places count is p last p_low q_low k (λ e. omega (arith, under, e ∙ mine)) not_b.1))
+    -- each of the other indices has its mark as before
+    alike : (k : ℕ) → nat_lt (get_or (exchanged_places order places p q) k 0) c ≡ nat_lt (get_or places k 0) c
+    alike k =
+        let new = exchanged_places order places p q in
+        elim (eqb_tells k (get_or order p 0)) [
+          | inl is_a ↦
+              ap (λ i. nat_lt (get_or new i 0) c) is_a.1 ∙ ap (λ n. nat_lt n c) (place_of_a order places count is p q p_low q_low) ∙ sym side
+              ∙ sym (ap (λ i. nat_lt (get_or places i 0) c) is_a.1 ∙ ap (λ n. nat_lt n c) (is.ordered p p_low).1)
+          | inr not_a ↦ elim (eqb_tells k (get_or order q 0)) [
+            | inl is_b ↦
+                ap (λ i. nat_lt (get_or new i 0) c) is_b.1 ∙ ap (λ n. nat_lt n c) (place_of_b order places count is p q p_low q_low) ∙ side
+                ∙ sym (ap (λ i. nat_lt (get_or places i 0) c) is_b.1 ∙ ap (λ n. nat_lt n c) (is.ordered q q_low).1)
+            | inr not_b ↦ ap (λ n. nat_lt n c) (place_of_other order places count is p q p_low q_low k not_a.1 not_b.1)
+          ]
         ]
+
+-- an index that is marked has its place below the number of marked ones
+pub marked_under : (places : List ℕ) (count index : ℕ) → IsMarked (marks places count) index → (index < length places) × (get_or places index 0 < count)
+marked_under places count index is_marked =
+    let size = length-map places (λ place. nat_lt place count) in
+    let inside = slice_get_within (marks places count) index true is_marked in
+    let low : index < length places = omega (arith, inside, size) in
+    let test : nat_lt (get_or places index 0) count ≡ true = sym (mark_at places count index true low) ∙ get_or_from_slice_get (marks places count) index true true is_marked in
+    (low, ltb-true (get_or places index 0) count test)
+
+-- an index that is not marked has its place from the number of marked ones on
+pub unmarked_from : (places : List ℕ) (count index : ℕ) → slice_get (marks places count) index ≡ Some false → (index < length places) × (count ≤ get_or places index 0)
+unmarked_from places count index is_not =
+    let size = length-map places (λ place. nat_lt place count) in
+    let inside = slice_get_within (marks places count) index false is_not in
+    let low : index < length places = omega (arith, inside, size) in
+    let test : nat_lt (get_or places index 0) count ≡ false = sym (mark_at places count index false low) ∙ get_or_from_slice_get (marks places count) index false false is_not in (
+      low,
+      elim (cases_lt (get_or places index 0) count) [
+        | inl less ↦ absurd (true≢false (sym (lt-ltb (get_or places index 0) count less) ∙ test))
+        | inr from ↦ from
+      ],
+    )
 
 -- What follows is of the indices that stand first in order.
 
@@ -336,10 +297,9 @@ front_marked order places count is index =
           slice_get-get_or (marks places count) index true (omega (arith, length-map places (λ place. nat_lt place count)))
           ∙ ap Some (mark_at places count index true within ∙ ap (λ n. nat_lt n count) place ∙ lt-ltb has.0 count low),
       λ is_marked.
-          let low = slice_get_within (marks places count) index true is_marked in
-          let within : index < length places = omega (arith, length-map places (λ place. nat_lt place count)) in
-          let test : nat_lt (get_or places index 0) count ≡ true = sym (mark_at places count index true within) ∙ get_or_from_slice_get (marks places count) index true true is_marked in
-          let under : get_or places index 0 < count = ltb-true (get_or places index 0) count test in
+          let there = marked_under places count index is_marked in
+          let within = there.0 in
+          let under = there.1 in
           let was = is.placed index (omega arith) in
           (get_or places index 0, omega arith, get_or-take count order (get_or places index 0) index under ∙ get_or_default order (get_or places index 0) index 0 was.0 ∙ was.1),
     )

@@ -24,6 +24,7 @@ restarts_once f x y z (inl (idle, y_is)) (inr (other, z_is)) = absurd (other (ap
 restarts_once f x y z (inr (busy, y_is)) (inl (same, z_is)) = z_is ∙ ap quiet (sym same ∙ ap (λ s. s.phase) y_is) ∙ sym y_is
 restarts_once f x y z (inr (busy, y_is)) (inr (other, z_is)) = z_is ∙ sym y_is
 
+-- What follows is of a state q without an end and without a last moment, by the rules r of a machine.
 module _ {X : Type 0} (r : MachineRules X) (lawful : IsLawful r) (q : X) (endless : r.window q ≡ None) (stays : r.until q ≡ None) where
   -- where one stands in a state without an end and without a last moment alone, one stands in it alone at any later moment
   pub wait_still : (C : X → Type 0) → ((x : X) → C x ↔ (x ≡ q)) → (h n : ℕ) → h ≤ n → (y : X) → Wait r C h n y ↔ (y ≡ q)
@@ -117,6 +118,7 @@ pub quiet_still : (p : Times) (machine : MachineKind) (texts : Texts) (s : Held 
 quiet_still p machine texts s (inl is) = (first_of machine, is, first_still p machine texts)
 quiet_still p machine texts s (inr is) = (last_of machine, is, last_still p machine texts)
 
+-- What follows is of a state of a machine in which it can rest for ever.
 module _ (p : Times) (machine : MachineKind) (texts : Texts) (x : StateOf machine) (still : IsStill p machine texts x) where
   -- the rules of the machine, for states as texts have them
   abbrev r : MachineRules (PhaseOf machine)

@@ -8,6 +8,7 @@ use Rattle.std.proofs.lemmas.List.{take_more, drop_more, drop_all, same_lists, l
 use Rattle.std.proofs.lemmas.List.Edits.{length-swap, swapped_from_swap}
 use Rattle.sip_states.specs.Kept.{kept_of}
 
+-- What follows is of the elements of a list whose flag is set.
 module _ {X : Type 0} where
   -- what is kept from the place i on is what is kept of the element there, and of those after it
   kept_more : (flags : List Bool) (xs : List X) (i : ℕ) (b : Bool) (x : X) → i < length flags → i < length xs → b ≡ get_or flags i b → x ≡ get_or xs i x
@@ -50,16 +51,21 @@ module _ {X : Type 0} where
   pub keeps_done : (flags : List Bool) (xs ys : List X) (k i : ℕ) → KeepsInPlace flags xs ys k i → min (length flags) (length xs) ≤ i → take k ys ≡ kept_of flags xs
   keeps_done flags xs ys k i h past = sym (append-nil (take k ys)) ∙ ap (λ l. take k ys ++ l) (sym (kept_end flags xs i past)) ∙ h.whole
 
+  -- What follows is of one step at i, after which those elements up to it whose flag is set stand at the front: xs was the list, and ys is it now.
   module _ (flags : List Bool) (xs ys : List X) (k i : ℕ) (h : KeepsInPlace flags xs ys k i) (low : i < length flags) (within : i < length ys) (x : X) (is : x ≡ get_or ys i x) where
+    -- the place i is one of the old list
     within_xs : i < length xs
     within_xs = let long = h.long in omega (arith, within, long)
 
+    -- from i on both lists are the same
     both : get_or ys i x ∷ drop (i + 1) ys ≡ get_or xs i x ∷ drop (i + 1) xs
     both = sym (drop_more ys i x within) ∙ h.rest ∙ drop_more xs i x within_xs
 
+    -- x stood at i in the old list
     at : x ≡ get_or xs i x
     at = is ∙ ap (λ l. get_or l 0 x) both
 
+    -- after i both lists are the same
     after : drop (i + 1) ys ≡ drop (i + 1) xs
     after = ap (drop 1) both
 
@@ -72,12 +78,15 @@ module _ {X : Type 0} where
       long = h.long;
     }
 
+    -- the place k is one of the list
     k_low : k < length ys
     k_low = let b = h.behind in omega (arith, within, b)
 
+    -- the swap puts the element at i to k, and leaves those at other places
     moved : ((d : X) → get_or (swap ys i k) k d ≡ get_or ys i d) × ((n : ℕ) (d : X) → n ≢ i → n ≢ k → get_or (swap ys i k) n d ≡ get_or ys n d)
     moved = (λ d. (swapped_from_swap ys (swap ys i k) i k d within k_low refl).1, λ n d apart other. (swapped_from_swap ys (swap ys i k) i k d within k_low refl).2 n apart other)
 
+    -- the swap leaves as many elements
     swap_long : length (swap ys i k) ≡ length ys
     swap_long = length-swap ys i k
 

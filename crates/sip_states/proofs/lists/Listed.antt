@@ -25,6 +25,7 @@ pub Contains-single : {X : Type 0} (x y : X) → Contains (x ∷ []) y ↔ (y �
 Contains-single x y =
     (λ h. elim (Contains-cons x [] y h) [ inl e ↦ sym e | inr none ↦ absurd (Contains-none y none) ], λ e. rw e (Contains-here x []))
 
+-- What follows is of a list and its image by f.
 module _ {X Y : Type 0} (f : X → Y) where
   -- the image of an element is in the image of the list
   pub Contains-map : (xs : List X) (x : X) → Contains xs x → Contains (map f xs) (f x)
@@ -39,6 +40,7 @@ module _ {X Y : Type 0} (f : X → Y) where
       go (inl e) rest = (x, Contains-here x xs, e)
       go (inr h') rest = let (z, there, e) = rest h' in (z, Contains-there x xs z there, e)
 
+-- What follows is of one element x, and a filter of lists.
 module _ {X : Type 0} (test : X → Bool) (x : X) where
   -- what a filter keeps is in the list and passes the test
   kept : (xs : List X) → Contains (filter test xs) x → Contains xs x × (test x ≡ true)

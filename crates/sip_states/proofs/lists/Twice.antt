@@ -5,6 +5,7 @@ use Rattle.sip_machine.specs.Rules.{MachineRules, IsLawful, Waits}
 use Rattle.sip_states.specs.Runs.{Wait}
 use Rattle.sip_states.proofs.sets.Waiting.{StaysFrom, EndsFrom, IsWithin-earlier, IsWithin-none, Wait-stay, Wait-end, Wait-cases, ends_once}
 
+-- What follows is of two waits, one until m and one from there until n, by the rules r of a machine.
 module _ {X : Type 0} (r : MachineRules X) (lawful : IsLawful r) (P : X → Type 0) (h m n : ℕ) (low : h ≤ m) (high : m ≤ n) where
   -- a wait until m and then staying until n is one wait until n
   stay_after : (y : X) → Wait r P h m y → Waits r y n → Wait r P h n y
@@ -34,6 +35,7 @@ module _ {X : Type 0} (r : MachineRules X) (lawful : IsLawful r) (P : X → Type
 
   -- an end between h and n is one by m, after which the ended state stays, or one after m
   end_twice : (y : X) → (e : EndsFrom r P h n y) → Dec (e.at ≤ m) → Wait r (Wait r P h m) m n y
+  -- an end by m is one of the first wait, and the state after it has no end of its own, so that it waits until n
   end_twice y e (yes by) =
       Wait-stay r (Wait r P h m) m n y
       (record {
@@ -41,6 +43,7 @@ module _ {X : Type 0} (r : MachineRules X) (lawful : IsLawful r) (P : X → Type
         reached = high;
         waits = IsWithin-none n (r.until y) (rw e.hides.gives lawful.ended_stays);
       })
+  -- an end after m is one of the second wait, and its state waits until m before
   end_twice y e (no later) =
       let past : m ≤ e.at = omega arith in
       Wait-end r lawful (Wait r P h m) m n y

@@ -34,6 +34,7 @@ record IsKept {X : Type 0} (f : Figure X) (p : Times) (P : X → Type 0) : Type 
   pub received : (x : X) (k : Kind) (e : MachineEvent) (y : Row X) → f.Receives p x k e y → P x → P y.0
   pub sent : (x : X) (k : Kind) (e : MachineEvent) (y : Row X) → f.Sends p x k e y → P x → P y.0
 
+-- What follows is of a property P that each row keeps: the figure f with the times p.
 module _ {X : Type 0} (f : Figure X) (p : Times) (P : X → Type 0) (kept : IsKept f p P) where
   -- an event that is sent keeps P of the phase
   emits_keeps : (e : MachineEvent) (x y : Owing X) → Emits f p e x y → P x.phase → P y.phase
@@ -62,6 +63,7 @@ module _ {X : Type 0} (f : Figure X) (p : Times) (P : X → Type 0) (kept : IsKe
   goes_keep x h (Hides t ∷ steps) y m (z, low, hides, goes) holds = goes_keep z t steps y m goes (rw hides.gives kept.ended)
   goes_keep x h (Takes e ∷ steps) y m (z, low, does, goes) holds = goes_keep z e.moment steps y m goes (steps_keep e.action e _ z does.1.1 holds)
 
+-- What follows is of a machine by its figure f with the times p.
 module _ {X : Type 0} (f : Figure X) (p : Times) where
   -- the state without the debts whose deadline is past when the event comes
   abbrev when : MachineEvent → Owing X → Owing X
@@ -79,6 +81,7 @@ record IsRanked {X : Type 0} (f : Figure X) (p : Times) (rank : X → ℕ) : Typ
   pub received : (x : X) (k : Kind) (e : MachineEvent) (y : Row X) → f.Receives p x k e y → rank x ≤ rank y.0
   pub sent : (x : X) (k : Kind) (e : MachineEvent) (y : Row X) → f.Sends p x k e y → rank x ≤ rank y.0
 
+-- What follows is of a rank of phases from which no row leads back: the figure f with the times p.
 module _ {X : Type 0} (f : Figure X) (p : Times) (rank : X → ℕ) (ranked : IsRanked f p rank) where
   -- a rank, once reached, is kept
   rank_kept : (n : ℕ) → n ≤ 2 → IsKept f p (λ x. n ≤ rank x)
@@ -108,6 +111,7 @@ module _ {X : Type 0} (f : Figure X) (p : Times) (rank : X → ℕ) (ranked : Is
         let still = goes_keep f p (λ x. 2 ≤ rank x) (rank_kept 2 (omega arith)) two.reached final.moment two.steps last.before last.at two.goes finished in
         sends e (when f p e last.before) y (step_of f p Sent e last.before y e_sent last.does) still
 
+-- What follows is of one event e that leads from the state x to the state y.
 module _ {X : Type 0} (f : Figure X) (p : Times) (rank : X → ℕ) (x y : Owing X) (e : MachineEvent) (row : Row X) where
   -- a received message for which there is a row leads to rank 2 where each row for it does
   leads_on : (k : Kind) → e.kind ≡ k → f.Receives p x.phase k e row → ((other : Row X) → f.Receives p x.phase k e other → 2 ≤ rank other.0) → Steps f p Received e x y → 2 ≤ rank y.phase
@@ -189,15 +193,18 @@ module _ (p : Times) (code : ℕ) (e : MachineEvent) (y : Owing invite.InviteCli
       all other (inr (inl h)) = rw h.1 (omega arith)
       all other (inr (inr h)) = rw h.1 (omega arith)
 
+      -- the final response is a 2xx or one of 300 to 699
       by_code : Dec (code ≤ 299) → 2 ≤ invite_rank y.phase
       by_code (yes low) = leads_on invite.invite_client p invite_rank _ y e _ (Response code) is (inr (inl ((final.0, low), refl))) all h
       by_code (no high) = leads_on invite.invite_client p invite_rank _ y e _ (Response code) is (inr (inr ((omega arith, final.1), refl))) all h
   invite_finishes (invite.Proceeding reliable request cancel) owes low h = by_code (dec_le code 299)
     where
+      -- each row of proceeding for a final response leads to rank 2
       all : (other : Row invite.InviteClientPhase) → invite.Receives p (invite.Proceeding reliable request cancel) (Response code) e other → 2 ≤ invite_rank other.0
       all other (inl h) = rw h.1 (omega arith)
       all other (inr h) = rw h.1 (omega arith)
 
+      -- the final response is a 2xx or one of 300 to 699
       by_code : Dec (code ≤ 299) → 2 ≤ invite_rank y.phase
       by_code (yes low) = leads_on invite.invite_client p invite_rank _ y e _ (Response code) is (inl ((final.0, low), refl)) all h
       by_code (no high) = leads_on invite.invite_client p invite_rank _ y e _ (Response code) is (inr ((omega arith, final.1), refl)) all h

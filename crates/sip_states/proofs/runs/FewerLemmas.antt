@@ -16,6 +16,7 @@ NotBefore m e = m ≤ e.moment
 abbrev NotAfter : ℕ → MachineEvent → Type 0
 NotAfter m e = e.moment ≤ m
 
+-- What follows is of the runs by the rules r of a machine.
 module _ {X : Type 0} (r : MachineRules X) where
   -- steps that start at a moment take no event before it
   Goes-low : (x : X) (h : ℕ) (steps : List Step) (y : X) (m : ℕ) → Goes r x h steps y m → All (NotBefore h) (taken steps)
@@ -62,6 +63,7 @@ module _ {X : Type 0} (r : MachineRules X) where
   Goes-fewer x h (Hides t ∷ steps) y last events more m n (z, after, does, goes) waits is low high from to =
       by_end (dec_le t m) (λ early. Goes-fewer z t steps y last events more m n goes waits is low high early to)
     where
+      -- where the end comes after m, no event up to m was taken, and the state stays until m
       of_events : m < t → (es : List MachineEvent) → taken steps ≡ es ++ more → All (NotAfter m) es → Stands x h es m
       of_events late [] is low = stays x h m from (IsWithin-earlier m t (r.until x) (omega (arith, late)) does.waited)
       of_events late (e ∷ es) is low =
@@ -69,6 +71,7 @@ module _ {X : Type 0} (r : MachineRules X) where
           let there : e.moment ≤ m = All-head (NotAfter m) e es low in
           absurd (omega (arith, late))
 
+      -- the end is by m, or after it
       by_end : Dec (t ≤ m) → (t ≤ m → Stands z t events m) → Stands x h events m
       by_end (yes early) later = hides x h t z events m after does (later early)
       by_end (no late) later = of_events (omega (arith, late)) events is low

@@ -26,6 +26,7 @@ any_push P xs x = (
   ],
 )
 
+-- What follows is of states of the code at the moment h, with the window in which each may end and the moment up to which it can stay.
 module _ {S : Type 0} (window : S → Option (ℕ × Option ℕ)) (until : S → Option ℕ) (h : ℕ) where
   -- one can wait until `last` from some state before the index, and no longer; h counts as a moment until which one can
   abbrev pub IsLastSoFar : List S → ℕ → Type 0
@@ -45,6 +46,7 @@ module _ {S : Type 0} (window : S → Option (ℕ × Option ℕ)) (until : S →
     λ high. go high (dec_le m last),
   )
     where
+      -- m is by the last moment so far, or only by that of the new state
       go : m ≤ new → Dec (m ≤ last) → (m ≤ h) ⊎ SomeCanReach window until h m (xs ++ x ∷ [])
       go high (yes old) = elim ((so_far m low).1 old) [ inl first ↦ inl first | inr some ↦ inr ((any_push (λ y. CanReach (window y) (until y) h m) xs x).1 (inl some)) ]
       go high (no past) = inr ((any_push (λ y. CanReach (window y) (until y) h m) xs x).1 (inr ((reach m low).1 (omega arith))))

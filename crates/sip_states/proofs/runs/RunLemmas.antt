@@ -46,6 +46,7 @@ split_last (Hides t ∷ steps) fs f e =
 split_last (Takes g ∷ steps) [] f e = let none = none_taken steps (cc) in here steps g f (cc) none.0 none.1
 split_last (Takes g ∷ steps) (k ∷ fs) f e = later steps g k fs f (cc) (split_last steps fs f (cc))
 
+-- What follows is of the runs by the rules r of a machine.
 module _ {X : Type 0} (r : MachineRules X) where
   -- a state between two lists of steps: the first leads to it, and the step and the others lead on from it
   pub record Passes (x : X) (h : ℕ) (front : List Step) (step : Step) (rest : List Step) (y : X) (m : ℕ) : Type 0 where

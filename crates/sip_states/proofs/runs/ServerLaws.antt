@@ -33,6 +33,7 @@ record IsAsleep {X : Type 0} (f : Figure X) (p : Times) : Type 0 where
   pub woken : (k : Kind) (e : MachineEvent) (y : Row X) → f.Receives p f.idle k e y → (method : Method) × (k ≡ Request method)
   pub unmoved : (k : Kind) → f.Stays f.idle k → ⊥
 
+-- What follows is of a server that sends nothing from idle: its figure f with the times p.
 module _ {X : Type 0} (f : Figure X) (p : Times) (asleep : IsAsleep f p) where
   -- nothing can be sent from the idle state
   emits_nothing : (e : MachineEvent) (y : Owing X) → Emits f p e (quiet f.idle) y → ⊥
@@ -70,6 +71,7 @@ module _ {X : Type 0} (f : Figure X) (p : Times) (asleep : IsAsleep f p) where
       later (inl same) = inl same
       later (inr (k, asked, within, is, holds)) = inr (suc k, asked, omega (arith, within), is, holds)
 
+      -- the step leaves idle as it is, or takes a request
       by_step : (z ≡ quiet f.idle) ⊎ IsAsked e → (z ≡ quiet f.idle → (y ≡ quiet f.idle) ⊎ Any IsAsked (taken steps)) → (y ≡ quiet f.idle) ⊎ Any IsAsked (e ∷ taken steps)
       by_step (inl same) rest = later (rest same)
       by_step (inr asked) rest = inr (0, e, omega arith, refl, asked)

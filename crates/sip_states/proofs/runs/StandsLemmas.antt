@@ -43,6 +43,7 @@ open-owed : (h : ℕ) (owed : Bool) (window : Option (ℕ × Option ℕ)) → Is
 open-owed h true window opening = absurd opening
 open-owed h false window opening = (refl, opening)
 
+-- What follows is of one machine, as the standard tells it (its figure f with the times p) and by the rules that sets follow.
 module _ {X : Type 0} (f : Figure X) (is : IsFigure f) (p : Times) where
   -- a state lasts until h in the words of the standard exactly where it waits until h by the rules
   pub lasts-waits : (x : Owing X) (h : ℕ) → Lasts f p x h ↔ Waits (rules_of f p) x h
@@ -92,12 +93,14 @@ module _ {X : Type 0} (f : Figure X) (is : IsFigure f) (p : Times) where
 
   -- where a run in the words of the standard stands, one by the rules stands
   stands-run : (events : List MachineEvent) (m : ℕ) (y : Owing X) → Stands f p events m y → RuledRun (rules_of f p) events m y
+  -- the run begins: no step was made
   stands-run _ _ _ begins =
       record {
         steps = [];
         stands = record { last = 0; goes = (refl, refl); reached = omega arith; waits = IsWithin-none 0 _ (rules_lawful f is p).first_stays };
         takes = refl;
       }
+  -- the run waits: the steps are those before
   stands-run _ _ _ (waits events h m x stands low lasts) =
       let run = stands-run events h x stands in
       let before = run.stands.reached in
@@ -106,6 +109,7 @@ module _ {X : Type 0} (f : Figure X) (is : IsFigure f) (p : Times) where
         stands = record { last = run.stands.last; goes = run.stands.goes; reached = omega arith; waits = (lasts-waits x m).0 lasts };
         takes = run.takes;
       }
+  -- the state ends: one hidden step more
   stands-run _ _ _ (ends events h x stands may) =
       let run = stands-run events h x stands in
       record {
@@ -119,6 +123,7 @@ module _ {X : Type 0} (f : Figure X) (is : IsFigure f) (p : Times) where
         };
         takes = taken-append run.steps (Hides h ∷ []) ∙ append-nil (taken run.steps) ∙ run.takes;
       }
+  -- the run takes an event: one step more that is seen
   stands-run _ _ _ (takes events e x y stands led) =
       let run = stands-run events e.moment x stands in
       let r = rules_of f p in

@@ -14,6 +14,7 @@ pub within_test : (m : ℕ) (limit : Option ℕ) → (is_within m limit ≡ true
 within_test m None = (λ e. tt, λ h. refl)
 within_test m (Some last) = (leb-true m last, le-leb m last)
 
+-- What follows is of the states xs of a set, which wait from the moment h until m and become ys.
 module _ {S : Type 0} (InRange : S → Type 0) (window : S → Option (ℕ × Option ℕ)) (until : S → Option ℕ) (ended : S) (ended_stays : until ended ≡ None) (h m : ℕ)
     (xs ys : List S) (apart : AllPairs (λ x y. x ≢ y) xs) (in_range : All InRange xs) where
   -- the ended state passes the test, at every moment

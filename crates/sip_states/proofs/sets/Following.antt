@@ -20,12 +20,14 @@ pub record Follows {X S : Type 0} (names : S → List ℕ) (seen : Texts → S �
   pub until_is : (texts : Texts) (x : S) → r.until (seen texts x) ≡ until x
   pub apart : (texts : Texts) (x y : S) → IsBook texts → Knows names texts x → Knows names texts y → seen texts x ≡ seen texts y → x ≡ y
 
+-- What follows is of a machine of the code and the rules r that it follows.
 module _ {X S : Type 0} (names : S → List ℕ) (InRange : S → Type 0) (seen : Texts → S → X) (r : MachineRules X) (ended : S) (window : S → Option (ℕ × Option ℕ)) (until : S → Option ℕ)
     (follows : Follows names seen r ended window until) where
   -- the ended state of the code has no last moment
   pub ended_stays : until ended ≡ None
   ended_stays = sym (follows.until_is [] ended) ∙ ap r.until (follows.ended_is []) ∙ follows.lawful.ended_stays
 
+-- What follows is of a machine of the code and the rules r that it follows, beside one book.
 module _ {X S : Type 0} (names : S → List ℕ) (InRange : S → Type 0) (seen : Texts → S → X) (r : MachineRules X) (ended : S) (window : S → Option (ℕ × Option ℕ)) (until : S → Option ℕ)
     (follows : Follows names seen r ended window until) (texts : Texts) where
   -- a state of the code can wait until the same moments as the state for which it stands
@@ -77,6 +79,7 @@ module _ {X S : Type 0} (names : S → List ℕ) (InRange : S → Type 0) (seen 
       (follows.apart texts (get_or (x ∷ xs) i x) (get_or (x ∷ xs) j x) book (known i x first) (known j x last)
       (sym (get_or-map (seen texts) (x ∷ xs) i x d first) ∙ same ∙ get_or-map (seen texts) (x ∷ xs) j x d last))
 
+  -- What follows is of the states xs of a set, which wait from the moment h until m.
   module _ (h m : ℕ) (low : h ≤ m) (xs : List S) where
     -- one can wait until m from one of the states of the code exactly where one can from a state for which they stand
     pub reach_seen : SomeCanReach window until h m xs ↔ ((y : X) × Wait r (Contains (map (seen texts) xs)) h m y)

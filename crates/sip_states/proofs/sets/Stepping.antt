@@ -11,6 +11,7 @@ use Rattle.sip_states.proofs.lists.Listed.{Contains-none, Contains-here, Contain
 use Rattle.sip_states.proofs.sets.Waiting.{Wait-stay, Wait-end, Wait-cases}
 use Rattle.sip_states.proofs.sets.Following.{Follows, seen_ends, ends_seen, distinct_seen}
 
+-- What follows is of states of the code and what they stand for beside one book.
 module _ {X S : Type 0} (names : S → List ℕ) (InRange : S → Type 0) (seen : Texts → S → X) (texts : Texts) where
   -- states that cover a set cover a set with the same members
   pub Covers-iff : (P Q : X → Type 0) → ((x : X) → P x ↔ Q x) → (xs : List S) → Covers names InRange seen texts P xs → Covers names InRange seen texts Q xs
@@ -49,6 +50,7 @@ gives_some seen texts r e lawful (s ∷ xs) y =
       ],
     )
 
+-- What follows is of the states xs of a set at the moment h, and an event e that comes then or later.
 module _ {X S : Type 0} (names : S → List ℕ) (InRange : S → Type 0) (seen : Texts → S → X) (r : MachineRules X) (ended : S) (window : S → Option (ℕ × Option ℕ)) (until : S → Option ℕ)
     (follows : Follows names seen r ended window until) (texts : Texts) (xs : List S) (h : ℕ) (e : MachineEvent) (low : h ≤ e.moment) where
   -- what the event gives from the states that can wait is part of what it gives after waiting

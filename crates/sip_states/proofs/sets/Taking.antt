@@ -45,6 +45,7 @@ few_narrow names InRange seen texts P new stands few w =
     let wide = w.wide in
     omega (arith, fits, length-map new (seen texts))
 
+-- What follows is of the states of a set, which follow the rules r of a machine.
 module _ {X S : Type 0} (names : S → List ℕ) (InRange : S → Type 0) (seen : Texts → S → X) (texts : Texts) (r : MachineRules X) where
   -- each state that an event gave can wait at the moment of the event
   pub took_waits : IsLawful r → (P : X → Type 0) (e : MachineEvent) (new : List S) → StandFor names InRange seen texts (RunGives r P e) new → All (λ s. Waits r (seen texts s) e.moment) new

@@ -33,6 +33,7 @@ IsWithin-none m limit e = rw e tt
 pub IsOpenAt-none : (m : ℕ) (window : Option (ℕ × Option ℕ)) → window ≡ None → IsOpenAt m window → ⊥
 IsOpenAt-none m window e h = rw e at h
 
+-- What follows is of states S by the rules r of a machine.
 module _ {X : Type 0} (r : MachineRules X) where
   -- staying in a state of S is a wait
   pub Wait-stay : (S : X → Type 0) (h m : ℕ) (y : X) → StaysFrom r S h m y → Wait r S h m y
@@ -53,6 +54,7 @@ module _ {X : Type 0} (r : MachineRules X) where
     λ g. record { before = g.before; among = (same g.before).1 g.among; takes = g.takes },
   )
 
+-- What follows is of states S by the lawful rules r of a machine.
 module _ {X : Type 0} (r : MachineRules X) (lawful : IsLawful r) where
   -- the end of a state of S, and the ended state after it, is a wait
   pub Wait-end : (S : X → Type 0) (h m : ℕ) (y : X) → EndsFrom r S h m y → Wait r S h m y

@@ -3,7 +3,7 @@ use Rattle.sip_states.specs.declared.any_set.AnySet.{AnySet}
 use Rattle.sip_states.specs.AnySet.{IsQuietSet}
 use Rattle.sip_states.specs.Sweep.{numbers_of}
 
--- Which indices are marked: they stand first in a list of all of them, and each knows its place there.
+-- Which indices are marked: they stand first in a list of all of them, and each has its place there.
 
 -- whether each index is marked
 abbrev pub marks : List ℕ → ℕ → List Bool
@@ -23,6 +23,11 @@ exchanged_order order p q = set (set order p (get_or order q 0)) q (get_or order
 -- the place of each index, with the places of the two indices exchanged
 abbrev pub exchanged_places : List ℕ → List ℕ → ℕ → ℕ → List ℕ
 exchanged_places order places p q = set (set places (get_or order p 0) q) (get_or order q 0) p
+
+-- the marks of each index: whether its set may name a message, and whether a restart may change it
+pub record Marked : Type 0 where
+  pub named : List Bool
+  pub moved : List Bool
 
 -- the index is marked
 abbrev pub IsMarked : List Bool → ℕ → Type 0

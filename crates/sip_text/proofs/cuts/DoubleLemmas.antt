@@ -53,6 +53,7 @@ double-whole (b ∷ text) rest is = at (is_double_at (b ∷ text) 0) refl is (do
     starts [] first second later = absurd (omega (arith, second))
     starts (a ∷ t) first second later = ap (λ x. x ∷ a ∷ t) first ∙ ap (λ x. colon ∷ x ∷ t) second ∙ ap (λ t'. colon ∷ colon ∷ t') later
 
+    -- whether "::" begins at the first byte
     at : (double : Bool) → is_double_at (b ∷ text) 0 ≡ double → rest_onto text double ≡ Some rest → (behind_double text ≡ Some rest → text ≡ before_double text ++ (double_colon ++ rest)) → b ∷ text ≡ front_onto b text double ++ (double_colon ++ rest)
     at true double found whole =
         let both = and_parts (nat_eq b colon) (nat_eq (slice_index text 0) colon) double in

@@ -66,6 +66,7 @@ up_to-lacks mark u v lacks long = elim (last_byte v) [
       ∙ ap (λ same. cond same (Some (u ++ more.0)) None) (other more.0 more.1 (subst (Lacks mark) more.2 lacks))
 ]
   where
+    -- the last byte of a text without the mark is not the mark
     other : (w : List ℕ) (b : ℕ) → Lacks mark (w ++ (b ∷ [])) → nat_eq b mark ≡ false
     other [] b each = each.0
     other (a ∷ w) b each = other w b each.1

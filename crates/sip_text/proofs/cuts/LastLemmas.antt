@@ -47,6 +47,7 @@ behind_last-mark mark u v lacks =
     past_front : (w : List ℕ) → drop (length w + 1) (w ++ (mark ∷ v)) ≡ v
     past_front w = let next : length w + 1 ≡ suc (length w) = omega arith in ap (λ n. drop n (w ++ (mark ∷ v))) next ∙ go w
       where
+        -- what follows x and the mark is v
         go : (x : List ℕ) → drop (suc (length x)) (x ++ (mark ∷ v)) ≡ v
         go [] = refl
         go (b ∷ x) = go x
@@ -62,6 +63,7 @@ last-split mark (b ∷ text) u is = later (before_last mark text) (last-split ma
         ap (λ x. x ∷ text) (eqb-true b mark same) ∙ ap (λ t. t ++ (mark ∷ drop (suc (length t)) (b ∷ text))) empty
     here false same at = cc
 
+    -- the last mark stands in the rest of the text, or is the first byte
     later : (o : Option (List ℕ)) → ((v : List ℕ) → o ≡ Some v → text ≡ v ++ (mark ∷ drop (suc (length v)) text)) → onto mark b o ≡ Some u → b ∷ text ≡ u ++ (mark ∷ drop (suc (length u)) (b ∷ text))
     later None split at = here (nat_eq b mark) refl at
     later (Some v) split at =

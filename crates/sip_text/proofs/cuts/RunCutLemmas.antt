@@ -51,6 +51,7 @@ run-mark test mark n text rest fails run found =
       sym (run-list_all test front.0 front.2) ∙ ap (list_all test) first,
     )
   where
+    -- the first bytes of u and v, as many as u has, are u
     take-front : (u v : List ℕ) → take (length u) (u ++ v) ≡ u
     take-front [] v = refl
     take-front (b ∷ u) v = ap (λ t. b ∷ t) (take-front u v)

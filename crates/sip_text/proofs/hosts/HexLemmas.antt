@@ -111,6 +111,7 @@ single-double (b ∷ u) v single =
       ap (rest_onto (u ++ (double_colon ++ v))) here ∙ rest.1,
     )
   where
+    -- a byte that is no colon is none with "::" after it either
     next : (t : List ℕ) → nat_eq (slice_index_or t 0 colon) colon ≡ false → nat_eq (slice_index (t ++ (double_colon ++ v)) 0) colon ≡ false
     next [] other = cc
     next (a ∷ t) other = other
@@ -147,6 +148,7 @@ hexpart-yes text pass = at (behind_double text) refl pass
     split v (inl none) right whole = inr (inr (double_colon, v, refl, right, whole ∙ ap (λ x. x ++ (double_colon ++ v)) none))
     split v (inr seq) right whole = inr (inl (before_double text, double_colon ++ v, seq, (double_colon, v, refl, right, refl), whole))
 
+    -- whether the text has "::"
     at : (o : Option (List ℕ)) → behind_double text ≡ o → option_map_or (λ r. is_optional_hexseq (before_double text) && is_optional_hexseq r) o (is_hexseq text) ≡ true → Hexpart text
     at None is passes = inl (hexseq-yes text passes)
     at (Some v) is passes =
@@ -162,6 +164,7 @@ open-yes text pass = at (up_to colon text) refl pass
     ends u (inr seq) whole =
         inl (u, double_colon, seq, refl, ap (λ t. t ++ (colon ∷ [])) whole ∙ append_assoc u (colon ∷ []) (colon ∷ []))
 
+    -- whether the text ends with a colon
     at : (o : Option (List ℕ)) → up_to colon text ≡ o → option_map_or is_optional_hexseq o false ≡ true → OpenHexpart (text ++ (colon ∷ []))
     at None is passes = cc
     at (Some u) is passes = ends u (optional-yes u passes) (up_to-some colon text u is)

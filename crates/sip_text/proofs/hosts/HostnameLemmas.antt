@@ -77,6 +77,7 @@ name-is text (u, top, many, is_top, whole) =
         ∙ labels-cons all.0.0 (concat us ++ top)
         ∙ and_from _ _ (domain-is all.0.0 all.0.2) (go us all.1)
       where
+        -- the first label and its dot stand at the front
         spelled : (x : List ℕ) (label : (Label is_ascii_alphanumeric then Byte dot) x) → (x ++ concat us) ++ top ≡ label.0 ++ (dot ∷ (concat us ++ top))
         spelled x label =
             append_assoc x (concat us) top
@@ -124,6 +125,7 @@ hostname-yes text pass = at (up_to dot text) refl pass
     named name end (u, top, many, is_top, whole) optional =
         (u, top ++ end, many, (top, end, is_top, optional, refl), ap (λ x. x ++ end) whole ∙ append_assoc u top end)
 
+    -- whether the text ends with a dot
     at : (o : Option (List ℕ)) → up_to dot text ≡ o → are_labels (parts dot (unwrap_or o text)) ≡ true → Hostname text
     at None is passes = subst Hostname (append-nil text) (named text [] (name-yes text passes) (inl refl))
     at (Some name) is passes =

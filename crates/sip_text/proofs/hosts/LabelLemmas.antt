@@ -166,6 +166,7 @@ label-yes first (b ∷ text) pass starts = elim (last_byte text) [
     passes : LabelPasses (b ∷ text)
     passes = passes_parts (b ∷ text) pass
 
+    -- where more bytes follow the first, of which e is the last, the text is a label
     longer : (m : List ℕ) (e : ℕ) → text ≡ m ++ (e ∷ []) → Label first (b ∷ text)
     longer m e is =
         let bytes = list_all-end is_label_byte (b ∷ m) e (ap (λ t. list_all is_label_byte (b ∷ t)) (sym is) ∙ passes.bytes) in

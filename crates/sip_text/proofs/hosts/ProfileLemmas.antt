@@ -102,6 +102,7 @@ uri-parts text (inr (s, v, (scheme, none), (c, w, c_is, some, v_is), whole)) =
 
 -- a text with the parts of a URI is a URI of the profile
 pub parts-uri : (text : List ℕ) (p : UriParts) → UriText text p → Uri text
+-- a SIP URI
 parts-uri text (sip p) (scheme, same, fits, whole) =
     let behind : List ℕ = p.params ++ led question p.headers in
     inl (
@@ -113,6 +114,7 @@ parts-uri text (sip p) (scheme, same, fits, whole) =
         sip_text p,
         refl,
         (
+          -- the user, the host, the port, the parameters and the headers stand in the order of the text
           userinfo_text p.user p.password,
           hostport_text p.host p.port ++ p.params ++ led question p.headers,
           userinfo-optional p.user p.password fits.user fits.password,
@@ -135,5 +137,6 @@ parts-uri text (sip p) (scheme, same, fits, whole) =
       ),
       whole,
     )
+-- another URI
 parts-uri text (other scheme rest) (is, none, some, whole) =
     inr (scheme, colon ∷ rest, (is, λ same. let named = named-scheme scheme same in none named.0 named.1), (colon ∷ [], rest, refl, some, refl), whole)

@@ -78,6 +78,7 @@ reference-yes text pass = begins (past left_bracket text) refl pass
     ends rest whole (Some inner) is passes =
         (left_bracket ∷ [], rest, refl, (inner, right_bracket ∷ [], v6-yes inner passes, refl, up_to-some right_bracket rest inner is), whole)
 
+    -- the text begins with "["
     begins : (o : Option (List ℕ)) → past left_bracket text ≡ o → option_map_or (λ rest. option_map_or is_v6 (up_to right_bracket rest) false) o false ≡ true → Bracketed text
     begins None is passes = cc
     begins (Some rest) is passes = ends rest (past-some left_bracket text rest is) (up_to right_bracket rest) refl passes

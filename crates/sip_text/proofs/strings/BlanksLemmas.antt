@@ -78,6 +78,7 @@ blank-piece (a ∷ text) = at (is_wsp a) refl
     fold (l ∷ []) cr lf wsp = cc
     fold (l ∷ b ∷ t) cr lf wsp = (crlf ++ (b ∷ []), t, blank-fold b wsp, ap (λ x. x ∷ l ∷ b ∷ t) cr ∙ ap (λ x. carriage_return ∷ x ∷ b ∷ t) lf, refl)
 
+    -- whether a fold stands there
     folds : (is : Bool) → begins_with_fold (a ∷ text) ≡ is → (fold_len is ≡ 0) ⊎ HasFront Blank (a ∷ text) (fold_len is)
     folds false is = inl refl
     folds true is =
@@ -85,6 +86,7 @@ blank-piece (a ∷ text) = at (is_wsp a) refl
         let ends = and_parts _ _ both.0 in
         inr (fold text (eqb-true _ _ ends.0) (eqb-true _ _ ends.1) both.1)
 
+    -- whether the first byte is SP or HTAB
     at : (wsp : Bool) → is_wsp a ≡ wsp → (cond wsp 1 (fold_len (begins_with_fold (a ∷ text))) ≡ 0) ⊎ HasFront Blank (a ∷ text) (cond wsp 1 (fold_len (begins_with_fold (a ∷ text))))
     at true is = inr (a ∷ [], text, blank-wsp (a ∷ []) (a, is, refl), refl, refl)
     at false is = folds (begins_with_fold (a ∷ text)) refl
@@ -115,12 +117,14 @@ blanks-longest text n run = (units, stops (blank_len (drop n text)) refl)
       | inr front ↦ (front.0, front.1, units-blanks front.0 front.2, front.3, front.4)
     ]
 
+    -- no longer blank run stands at the front
     longer : (k : ℕ) → HasFront (Many Blank) text (n + suc k) → ⊥
     longer k front = elim (blanks-units front.0 front.2) [
       | inl none ↦ absurd (omega (arith, front.4, ap length none))
       | inr blanks ↦ absurd (omega (arith, run.longest (n + suc k) (front.0, front.1, blanks, front.3, front.4)))
     ]
 
+    -- a blank after the run would make it longer
     stops : (k : ℕ) → k ≡ blank_len (drop n text) → k ≡ 0
     stops zero is = refl
     stops (suc k) is =

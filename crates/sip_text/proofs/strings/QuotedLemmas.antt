@@ -67,6 +67,7 @@ item-piece (a ∷ text) = at (is_quoted_byte a) refl
     other_len : Bool → ℕ
     other_len pair = cond pair 2 (blank_len (a ∷ text))
 
+    -- a backslash and a byte that may be escaped are a piece of two bytes
     pair_at : (t : List ℕ) → 1 < length (a ∷ t) → a ≡ backslash → is_escaped_byte (slice_index t 0) ≡ true → HasFront QuotedItem (a ∷ t) 2
     pair_at [] long is escaped = absurd (omega (arith, long))
     pair_at (b ∷ t) long is escaped =
@@ -78,6 +79,7 @@ item-piece (a ∷ text) = at (is_quoted_byte a) refl
       | inr front ↦ inr (front.0, front.1, inr (inr front.2), front.3, front.4)
     ]
 
+    -- whether an escaped byte stands there
     pairs : (pair : Bool) → begins_with_pair (a ∷ text) ≡ pair → (other_len pair ≡ 0) ⊎ HasFront QuotedItem (a ∷ text) (other_len pair)
     pairs true is =
         let both = and_parts _ _ is in
@@ -85,6 +87,7 @@ item-piece (a ∷ text) = at (is_quoted_byte a) refl
         inr (pair_at text (ltb-true _ _ first.1) (eqb-true _ _ first.0) both.1)
     pairs false is = blank_at
 
+    -- whether the first byte may stand in quotes
     at : (quoted : Bool) → is_quoted_byte a ≡ quoted → (cond quoted 1 (other_len (begins_with_pair (a ∷ text))) ≡ 0) ⊎ HasFront QuotedItem (a ∷ text) (cond quoted 1 (other_len (begins_with_pair (a ∷ text))))
     at true is = inr (a ∷ [], text, inl (a, is, refl), refl, refl)
     at false is = pairs (begins_with_pair (a ∷ text)) refl
@@ -223,6 +226,7 @@ only-quoted text inner rest n k front contents stops first ends last =
     len : length front.0 + length contents.0 + 2 ≡ n + k + 2
     len = omega (arith, front.4, contents.4)
 
+    -- a quoted string at the front has this length
     only : (m : ℕ) → HasFront (Sws then Quoted) text m → m ≡ n + k + 2
     only m quoted =
         let parse = quotes-front text m quoted in

@@ -14,6 +14,7 @@ use Rattle.sip_text.specs.declared.token.TheConstants.{LOW, HIGH}
 abbrev pub IsBlock : List ℕ → Type 0
 IsBlock v = (length v ≡ 16) × Each1 (Fits w8) v
 
+-- a shifted down by b bits
 abbrev pub down : ℕ → ℕ → ℕ
 down a b = a / 2 ^ b
 
@@ -49,9 +50,11 @@ looked_up t g v js fits e small =
     get_or-swz_l_below w8 16 t 0 js i (omega arith) below
     ∙ ap (λ n. get_or t n 0) (omega arith ∙ is) ∙ sym (get_or-map (λ x. get_or t (g x) 0) v i 0 0 within))
 
+-- the shuffle by the lower halves gives the entry of LOW for each byte
 pub by_low-is : (v : List ℕ) → IsBlock v → swz_l w8 16 LOW 0 (zip2 bit_and v (replicate 16 15)) ≡ map (λ x. get_or LOW (bit_and x 15) 0) v
 by_low-is v fits = looked_up LOW (λ x. bit_and x 15) v _ fits (zip2_splat bit_and v 16 15 fits.0) (λ x h. omega (arith, and_le_r x 15))
 
+-- the shuffle by the upper halves gives the entry of HIGH for each byte
 pub by_high-is : (v : List ℕ) → IsBlock v → swz_l w8 16 HIGH 0 (zip2 down v (replicate 16 4)) ≡ map (λ x. get_or HIGH (x / 16) 0) v
 by_high-is v fits = looked_up HIGH (λ x. x / 16) v _ fits (zip2_splat down v 16 4 fits.0) (λ x h. omega arith)
 
@@ -59,6 +62,7 @@ by_high-is v fits = looked_up HIGH (λ x. x / 16) v _ fits (zip2_splat down v 16
 abbrev pub shares : ℕ → ℕ
 shares x = bit_and (get_or LOW (bit_and x 15) 0) (get_or HIGH (x / 16) 0)
 
+-- the two entries of a byte share a bit exactly if it is a token byte
 pub shares-token : (x : ℕ) → x < 256 → not (eqb (shares x) 0) ≡ is_token_byte x
 shares-token x below = agree_below_at (λ y. not (eqb (shares y) 0)) is_token_byte 256 x refl below
 

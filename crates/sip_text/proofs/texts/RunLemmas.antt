@@ -68,6 +68,7 @@ longest-run test text = record {
         rest : HasFront (Many (One test)) xs (prefix_len test xs)
         rest = run-front test xs
 
+        -- whether the first byte passes the test
         at : (passes : Bool) → test b ≡ passes → (cond passes (1 + prefix_len test xs) 0 ≡ 0) ⊎ HasFront (OneOrMore (One test)) (b ∷ xs) (cond passes (1 + prefix_len test xs) 0)
         at true is = inr (
           b ∷ rest.0,
@@ -94,6 +95,7 @@ run-whole test text n is = agree (nat_eq n (length text)) (list_all test text)
     let front : HasFront (Many (One test)) text (length text) = (text, [], list_all-run test text all, sym (append-nil text), refl) in
     eq-eqb n (length text) (omega (arith, is, run-longest test text (length text) front, prefix_len-le-length test text)))
   where
+    -- two tests of which each passes where the other does are the same
     agree : (r s : Bool) → (r ≡ true → s ≡ true) → (s ≡ true → r ≡ true) → r ≡ s
     agree true s there back = sym (there refl)
     agree false false there back = refl

@@ -150,6 +150,7 @@ pub record Agrees (cut : CutParts) (p : SipParts) : Type 0 where
 pub cuts-agree : (text : List ℕ) (cut : CutParts) (p : SipParts) → IsSipCut text cut → SipFits p → text ≡ sip_text p → Agrees cut p
 cuts-agree text cut p is fits whole =
     let hostport = hostport_text p.host p.port in
+    -- no @ stands after the one of the user, so the user is cut off there
     let no_at : Lacks at_sign (hostport ++ p.params) =
     lacks-append at_sign hostport p.params (hostport-lacks at_sign p.host p.port at_sign-foreign fits.host fits.port)
     (params-lack at_sign refl refl refl p.params fits.params) in
@@ -159,6 +160,7 @@ cuts-agree text cut p is fits whole =
     (weaker Password (Lacks at_sign) p.password password-at_sign fits.password) fits.owner
     (lacks-append at_sign (hostport ++ p.params) (led question p.headers) no_at
     (lacks-led at_sign question p.headers refl (weaker Headers (Lacks at_sign) p.headers headers-at_sign fits.headers))) in
+    -- no ? stands before the headers, so the headers are cut off there
     let no_question : Lacks question (hostport ++ p.params) =
     lacks-append question hostport p.params (hostport-lacks question p.host p.port question-foreign fits.host fits.port)
     (params-lack question refl refl refl p.params fits.params) in
@@ -166,6 +168,7 @@ cuts-agree text cut p is fits whole =
     let front : before question is.rest ≡ hostport ++ led semicolon listed =
     ap (before question) info.2 ∙ before-led question (hostport ++ p.params) p.headers no_question
     ∙ ap (λ t. hostport ++ t) listed_is in
+    -- no ; stands in the host and the port, so the parameters are cut off there
     let no_semicolon = hostport-lacks semicolon p.host p.port semicolon-foreign fits.host fits.port in
     let port = port-agrees (before semicolon (before question is.rest)) cut.host cut.port (host_text p.host) p.host p.port
     is.port fits.host fits.port (ap (before semicolon) front ∙ before-led semicolon hostport listed no_semicolon) in
@@ -301,6 +304,7 @@ same-parts p secure cut host secure_is same host_is =
     ∙ ap (λ (u : List ℕ). read_parts secure (record (cut_of p) { user = cut.user; password = cut.password; port = cut.port; params = u }) host) (sym same.params)
     ∙ ap (λ (u : Option (List ℕ)). read_parts secure (record cut { headers = u }) host) (sym same.headers)
   where
+    -- where the text of a SIP URI is cut into its parts
     cut_of : SipParts → CutParts
     cut_of q = record { user = q.user; password = q.password; host = cut.host; port = q.port; params = q.params; headers = q.headers }
 

@@ -22,6 +22,7 @@ use Rattle.sip_verdict.proofs.tables.Halfway.{All-position_None, not_passing}
 use Rattle.sip_verdict.proofs.keys.Overdue.{overdue_none, in_time_some}
 use Rattle.sip_verdict.proofs.tables.TablesPassing.{at_place, All-place, All-places, zip-place, keys_are}
 
+-- What follows is of tables that track the entries es, and a moment at which no transaction need have done anything more.
 module _ (texts : Texts) (t : Tabled) (es : List (Observation KeyParts)) (from : ℕ) (may : MayPass texts t from) (recorded : AllAreOnRecord t) (tracks : TablesTrack texts es t) (moment : ℕ)
     (newest : newest_moment es ≤ moment) (later : from ≤ moment) where
   -- the key has a run over the entries that stands at the moment

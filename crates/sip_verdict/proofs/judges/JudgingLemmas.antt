@@ -43,6 +43,7 @@ judges_front p end v before (item ∷ items) rest (e ∷ es) seen good left =
       ),
     )
 
+-- What follows is of items that were judged without a verdict, and what is observed of them.
 module _ (p : Times) (start : Option (List ℕ)) (items : List Item) (es : List (Observation KeyParts)) (observed : AreSeen [] items es) (good : IsGood p es) where
   -- a verdict after the entries that were judged is the verdict of each input whose log has them first
   goes_on : (rest : List Item) (end : LogEnd) (v : Verdict) → IsVerdictAfter p es rest end v → (input : List ℕ) → LogSays input p (items ++ rest) end → IsVerdictOf input v

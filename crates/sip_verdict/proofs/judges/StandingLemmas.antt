@@ -46,6 +46,7 @@ use Rattle.sip_verdict.proofs.tables.TablesPassing.{at_place, keys_are}
 abbrev pub IsGrown : Texts → ℕ → List ℕ → Texts → Type 0
 IsGrown old number bytes new = (new ≡ old) ⊎ (new ≡ old ++ (number, bytes) ∷ [])
 
+-- What follows is of a book, and the same book with one message more.
 module _ (old new : Texts) (number : ℕ) (bytes : List ℕ) where
   -- a book that has grown keeps the messages that it kept
   grown_keeps : IsGrown old number bytes new → (n : ℕ) → Keeps old n → Keeps new n
@@ -80,6 +81,7 @@ module _ (old new : Texts) (number : ℕ) (bytes : List ℕ) where
       go (inl k) = let low = below n k in omega arith
       go (inr e) = omega arith
 
+  -- What follows is of transactions after the entries es.
   module _ (p : Times) (es : List (Observation KeyParts)) where
     -- a transaction that leads to its runs beside a book leads to them beside the book with one message more
     ready_more : (t : KeyParts × AnySet) → IsReady (key_keeping old p) es t → IsReady (key_keeping (old ++ (number, bytes) ∷ []) p) es t
@@ -191,6 +193,7 @@ are_given t (n ∷ ns) [] h = absurd h
 are_given t (n ∷ ns) (k ∷ ks) (low, at, rest) =
     All-cons (IsGiven t) n ns (let within = slice_get_within t.keys (n - 1) k at in record { low = low; high = omega arith }) (are_given t ns ks rest)
 
+-- What follows is of one entry i that is judged: old, mid and last are the book before it, with its message, and after it.
 module _ (verdict : Option Verdict) (old mid last : Texts) (number : ℕ) (bytes : List ℕ) (grown : IsGrown old number bytes mid) (i : Item) (moment count : ℕ) where
   -- this is told of the entry, and observed of it after any entries
   abbrev Tells : Observed → Type 0

@@ -38,11 +38,13 @@ none_of machine t new is none = of_set (λ X M S m s. s.states ≡ []) machine t
 some_of : (machine : MachineKind) (t : Held Times (StateOf machine)) (new : AnySet) → new ≡ set_of machine t → ¬ IsEmpty new → t.states ≢ []
 some_of machine t new is some none = some (subst IsEmpty (sym is) (to_set (λ X M S m s. s.states ≡ []) machine t none))
 
+-- What follows is of one transaction, whose set leads to its runs over the events.
 module _ (texts : Texts) (p : Times) (machine : MachineKind) (events : List MachineEvent) (from : ℕ) (old new : AnySet) (leads : LeadsOf texts p machine events from old) where
   -- the moment of the states of the old set is not after the event
   low_of : (moment : ℕ) → moment_of old ≤ moment → leads.0.moment ≤ moment
   low_of moment low = subst (λ m. m ≤ moment) (ap moment_of leads.1 ∙ moment_is machine leads.0) low
 
+  -- What follows is of one event e that the transaction hears.
   module _ (e : NumberedEvent) (late : from ≤ e.moment) (low : moment_of old ≤ e.moment) where
     -- where no state is left, no run takes the event
     pub hears_none : SetTakes texts e old new → IsEmpty new → ¬ RunsUntil (key_rules p machine) (events ++ event_in texts e ∷ []) e.moment

@@ -64,6 +64,7 @@ newest-more last [] (e ∷ more) from order =
 newest-more last (e ∷ front) more from order =
     newest-more e.event.moment front more (AllPairs-head IsNotAfter e (front ++ more) order) (AllPairs-tail IsNotAfter e (front ++ more) order)
 
+-- What follows is of the events of one key.
 module _ (key : KeyParts) where
   -- what holds of entries holds of their events
   pub events-all : (P : MachineEvent → Type 0) (es : List (Observation KeyParts)) → All (λ e. P e.event) es → All P (events_for key es)

@@ -13,6 +13,7 @@ use Rattle.sip_verdict.proofs.keys.Leading.{Leads-take}
 use Rattle.sip_verdict.proofs.keys.OneMachine.{none_runs, some_runs, took_after, took_narrow, wide_runs}
 use Rattle.sip_states.proofs.sets.Taking.{took_waits}
 
+-- What follows is of the set of one transaction, which leads to its runs over the events; `new` is the set after one event more.
 module _ {M X S : Type 0} (names : S → List ℕ) (InRange : S → Type 0) (seen : Texts → S → X) (rules : M → MachineRules X) (lawful : (machine : M) → IsLawful (rules machine))
     (texts : Texts) (machine : M) (events : List MachineEvent) (from : ℕ) (set new : Held M S) (leads : LeadsTo names seen rules texts machine set events from) where
   -- P holds of where a run can stand at a moment after it waited from the states of the set, by the rules of this machine
@@ -30,6 +31,7 @@ module _ {M X S : Type 0} (names : S → List ℕ) (InRange : S → Type 0) (see
   abbrev pub Stands : MachineEvent → Type 0
   Stands e = StandFor names InRange seen texts (AfterRun (rules machine) events e) new.states
 
+  -- What follows is of one event e, where the new states are those that it gives.
   module _ (e : MachineEvent) (late : from ≤ e.moment) (low : set.moment ≤ e.moment) (gives : StandFor names InRange seen texts (RunGives (rules set.machine) (WaitFrom set.machine e.moment) e) new.states) where
     -- the new states are just those that the event gives, by the rules of the machine
     given : StandFor names InRange seen texts (RunGives (rules machine) (WaitFrom machine e.moment) e) new.states

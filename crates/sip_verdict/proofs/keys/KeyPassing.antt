@@ -24,6 +24,7 @@ use Rattle.sip_verdict.proofs.keys.Overdue.{overdue_none, in_time_some}
 use Rattle.sip_verdict.proofs.keys.QuietSets.{leads_later, quiet_stepped}
 use Rattle.sip_verdict.proofs.keys.Stepped.{own_passed, other_passed, run_still}
 
+-- What follows is of one transaction, whose set s is ready for the entry e.
 module _ (texts : Texts) (p : Times) (es : List (Observation KeyParts)) (e : Observation KeyParts) (key : KeyParts) (s : AnySet)
     (ready : IsReady (key_keeping texts p) es (key, s)) (late : newest_moment es ≤ e.event.moment) where
   -- what is kept of each key: its set, beside these texts
@@ -51,6 +52,7 @@ module _ (texts : Texts) (p : Times) (es : List (Observation KeyParts)) (e : Obs
       own_passed p k es e (key, after) concerned outcome
       (subst (λ f. Steps f after outcome) (sym is) (stepped p machine events (newest_moment es) (subst (λ f. newest_moment es ≤ f.moment) is late) ready))
 
+  -- What follows is of an entry that is not before the moment of the set.
   module _ (low : moment_of s ≤ e.event.moment) where
     -- where the last moment of the set is past at the entry, the key has no run over it
     pub overdue_breaks : (limit : Option ℕ) → IsAgendaOf limit s → is_overdue e.event.moment (Some limit) ≡ true → ¬ RunsOver p (es ++ e ∷ []) key

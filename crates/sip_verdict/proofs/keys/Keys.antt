@@ -93,6 +93,7 @@ among-with_key key keys k h = go (list_any (same_key k) keys) refl h
     old false e known none = refl
     old true e known none = absurd (false≢true (sym none ∙ ap (λ x. list_any (same_key x) keys) ((same_key-decides key k).0 e) ∙ known))
 
+    -- whether k is among the keys already
     go : (b : Bool) → list_any (same_key k) keys ≡ b → list_any (same_key key) (cond b keys (keys ++ k ∷ [])) ≡ false → (list_any (same_key key) keys ≡ false) × (same_key key k ≡ false)
     go true e none = (none, old (same_key key k) refl e none)
     go false e none = let (a, b) = or_false _ _ (sym (list_any-append (same_key key) keys (k ∷ [])) ∙ none) in (a, (or_false _ _ b).0)

@@ -20,6 +20,7 @@ iff_trans e f = (λ a. f.0 (e.0 a), λ c. e.1 (f.1 c))
 pub iff_sym : {A B : Type 0} → A ↔ B → B ↔ A
 iff_sym e = (e.1, e.0)
 
+-- What follows is of states of the code and what they stand for.
 module _ {X S : Type 0} (names : S → List ℕ) (seen : Texts → S → X) where
   -- the first state of a machine, alone in a set, leads to the runs over no event
   pub Leads-start : (texts : Texts) (r : MachineRules X) (first : S) → seen texts first ≡ r.first → Knows names texts first → (from : ℕ) → Leads names seen texts r [] from 0 (first ∷ [])
@@ -74,6 +75,7 @@ module _ {X S : Type 0} (names : S → List ℕ) (seen : Texts → S → X) wher
       Leads-book by_names texts (texts ++ (number, bytes) ∷ []) r events from moment states
       (All-weaker (Knows names texts) (AgreeOn names texts (texts ++ (number, bytes) ∷ [])) (AgreeOn-grow names texts number bytes) states leads.known) leads
 
+-- What follows is of states of the code beside one book, by the rules r of a machine.
 module _ {X S : Type 0} (names : S → List ℕ) (InRange : S → Type 0) (seen : Texts → S → X) (texts : Texts) (r : MachineRules X) where
   -- the states that the event e gives from a set that leads to the runs over the events lead to the runs over the events and e
   pub Leads-take : (events : List MachineEvent) (from moment : ℕ) (states : List S) → Leads names seen texts r events from moment states →

@@ -25,6 +25,7 @@ run_before r events e n (y, run) =
     let given = (After-run r events e wait.start).0 wait.begins in
     (given.before, given.among)
 
+-- What follows is of the set of one transaction, the last moment on record to which it can wait, and a moment that comes.
 module _ (texts : Texts) (p : Times) (machine : MachineKind) (events : List MachineEvent) (from : ℕ) (set : AnySet) (leads : LeadsOf texts p machine events from set) (limit : Option ℕ) (agenda : IsAgendaOf limit set)
     (moment : ℕ) (late : from ≤ moment) (low : moment_of set ≤ moment) where
   -- from the states of the set a run can wait until a moment exactly if the moment is within the limit

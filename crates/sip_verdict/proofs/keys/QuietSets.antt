@@ -26,6 +26,7 @@ leads_later texts p machine events from later set low (s, is, leads) =
     let m = meaning_of machine in
     (s, is, record { machine_is = leads.machine_is; leads = Leads-later m.names m.seen texts (m.rules p) events from later s.moment s.states low leads.leads })
 
+-- What follows is of the quiet set of one transaction, and a restart e.
 module _ (texts : Texts) (p : Times) (machine : MachineKind) (events : List MachineEvent) (from : ℕ) (set : AnySet) (leads : LeadsOf texts p machine events from set) (quiet : IsQuietSet set)
     (e : NumberedEvent) (is : e.action ≡ Restart) (late : from ≤ e.moment) (low : moment_of set ≤ e.moment) where
   -- the states of the set that lead to the runs

@@ -18,6 +18,7 @@ use Rattle.sip_verdict.proofs.keys.Keys.{events_for-concerned, events_for-other,
 use Rattle.sip_verdict.proofs.keys.Overdue.{run_before}
 use Rattle.sip_verdict.proofs.keys.RunsStand.{StandsUntil, run-stands, stands-run, wide-stands, stands-wide}
 
+-- What follows is of one transaction t, of which k says what is kept, and the entry e after the entries es.
 module _ {T : Type 0} (p : Times) (k : Keeping T) (es : List (Observation KeyParts)) (e : Observation KeyParts) (t : T) where
   -- the machine of the transaction's key
   abbrev machine : MachineKind

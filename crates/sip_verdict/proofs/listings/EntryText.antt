@@ -92,6 +92,7 @@ first_place keys apart n key at =
     first_at (λ k. same_key key k ≡ true) keys n key at ((same_key-decides key key).1 refl)
     (λ m k low there same. (let place : m ≡ n = same_place keys apart m n key (there ∙ ap Some (sym ((same_key-decides key k).0 same))) at in omega (arith, low, place)))
 
+-- What follows is of the listing of the entry e, after which no transaction is in trouble.
 module _ (number : List ℕ → ℕ) (texts : Texts) (tells : TellsBook number texts) (p : Times) (es : List (Observation KeyParts)) (e : Observation KeyParts) (t : Tabled)
     (known : All (IsKnownSet texts) t.sets) (long : length t.sets ≡ length t.keys) (apart : AllPairs (λ a b. a ≢ b) t.keys)
     (judged : IsJudged p (key_keeping texts p) es e (transactions_of t) None) where

@@ -24,6 +24,7 @@ use Rattle.sip_states.proofs.keyed.ByMachine.{some_machine, of_set, to_set}
 abbrev pub TellsBook : (List ℕ → ℕ) → Texts → Type 0
 TellsBook number texts = (n : ℕ) → Keeps texts n → number (text_of texts n) ≡ n
 
+-- What follows is of messages that are told by their numbers in the book.
 module _ (number : List ℕ → ℕ) (texts : Texts) (tells : TellsBook number texts) where
   -- where the states of a set name messages of the book, they are told by the book's numbers
   told_states : {S : Type 0} (names : S → List ℕ) (xs : List S) → All (Knows names texts) xs → All (λ x. Tells number texts (names x)) xs

@@ -43,6 +43,7 @@ stay_numbered items more texts a n keeps =
     entry_from-kept 1 items more (text_of texts n) (λ none. let zero_is : n ≡ 0 = sym (a.numbered n keeps) ∙ none in absurd (let low = a.some n keeps in omega (arith, zero_is, low)))
     ∙ a.numbered n keeps
 
+-- What follows is of a book that numbers the entries of the items, and one item i more.
 module _ (items : List Item) (i : Item) (old : Texts) (a : AreNumbered items old) where
   -- where the item concerns no key, or the book has its message already, the book numbers the entries with the item too
   same_book : (¬ ConcernsNone i → (n : ℕ) × Keeps old n × (text_of old n ≡ i.text)) → AreNumbered (items ++ i ∷ []) old
@@ -68,6 +69,7 @@ module _ (items : List Item) (i : Item) (old : Texts) (a : AreNumbered items old
             let low = below k.0 k.1 in
             omega (arith, one, low)
 
+        -- whether the earlier item has a message
         by : (b : Bool) → has_message j.action ≡ b → (b && bytes_eq j.text i.text) ≡ false
         by false is = refl
         by true is = false_from_ne_true (bytes_eq j.text i.text) (differ is)

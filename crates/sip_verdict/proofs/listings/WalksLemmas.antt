@@ -149,6 +149,7 @@ legal_until p items es count observed good counts =
     let v : Verdict = Legal count (length (keys_in es)) in
     subst (λ all. IsVerdictAfter p [] all Clean v) (append-nil items) (judges_front p Clean v [] items [] es observed good (ap (λ n. Legal n (length (keys_in es))) counts))
 
+-- What follows is of a walk that has read `count` entries on its way to its aim.
 module _ (way : Aim) (start : Option (List ℕ)) (now : log.ReaderState) (count left : ℕ) (texts : Texts) (t : Tabled) (walks : Walks way start now count left texts t) where
   -- the tables track the entries that were read on the walk
   tracks : TablesTrack texts walks.es t
@@ -169,6 +170,7 @@ module _ (way : Aim) (start : Option (List ℕ)) (now : log.ReaderState) (count 
       (judged_ends t.times start walks.items walks.es walks.observed tracks.good (Stops fault) (FaultOfLog (count + 1) reason)
       (ap (λ c. FaultOfLog (c + 1) reason) walks.counts ∙ ap (FaultOfLog (length walks.es + 1)) is) logs)
 
+  -- What follows is of one entry e more on the walk.
   module _ (e : Entry) (next : e.number ≡ count + 1) (order : now.last ≤ e.moment) (new : log.ReaderState) (read : HasRead start t.times (walks.items ++ item e ∷ []) new) where
     -- the next entry has the number after those that were walked
     number_is : e.number ≡ length walks.es + 1
@@ -206,11 +208,13 @@ module _ (way : Aim) (start : Option (List ℕ)) (now : log.ReaderState) (count 
         → ((more : List Item) → (seen : Observation KeyParts) × Sees walks.es (item e) seen × IsListedEntry t.times (first_entry ((walks.items ++ item e ∷ []) ++ more)) walks.es seen listing)
         → IfSome start (λ input. IsListingOf input e.number listing)
     listed_at NoEntry says = absurd (says []).2
+    -- an entry in trouble: the verdict on the log is what is listed
     listed_at (Stopped v) says =
         let h = says [] in
         IfSome-map start (λ input. IsVerdictOf input v) (λ input. IsListingOf input e.number (Stopped v))
         (λ input verdict. stops_at input v (length walks.es + 1) e.number (trouble_at t.times walks.es h.0 v h.2) (omega (arith, number_is)) verdict)
         (judged_trouble t.times start walks.items walks.es walks.observed tracks.good (item e) new read h.0 h.1 v h.2)
+    -- an entry without trouble: its listing stands in each log that goes on from what was read
     listed_at (Text text) says =
         IfSome-map start (λ input. (more : List Item) × (end : LogEnd) × LogSays input t.times ((walks.items ++ item e ∷ []) ++ more) end) (λ input. IsListingOf input e.number (Text text)) (λ input l.
         let h = says l.0 in

@@ -72,6 +72,7 @@ showed_start start now p w on times stands = record {
   stands = stands;
 }
 
+-- What follows is of a log of which the items that were read were shown, and the reader after one call more.
 module _ (start : Option (List ℕ)) (now : log.ReaderState) (old w : Option (List ℕ)) (s : Showed start now old w) (new : log.ReaderState) where
   -- the reader has counted the entries that were shown
   count_is : now.count ≡ length s.items
@@ -116,6 +117,7 @@ module _ (start : Option (List ℕ)) (now : log.ReaderState) (old w : Option (Li
         (λ input is. subst (λ t. StopsAt start s.items now new input t fault) times is) stop) last)
         (Stands-stops start s.items now new e (inr s.on) s.stands nexts)
 
+  -- What follows is of one entry e more, which the reader gave.
   module _ (e : Entry) (nexts : Nexts now new (Ok (Some e))) where
     -- the next entry has the number after those that were shown
     number_is : e.number ≡ length s.items + 1

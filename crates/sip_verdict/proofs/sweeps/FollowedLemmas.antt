@@ -110,6 +110,7 @@ followed_none p texts t none empty =
 pub followed_keys : (texts : Texts) (t : Tabled) (es : List (Observation KeyParts)) → length t.sets ≡ length t.keys → TablesTrack texts es t → length t.keys ≡ length (keys_in es)
 followed_keys texts t es long tracks = ap length (sym (firsts-zip t.keys t.sets long) ∙ tracks.keys)
 
+-- What follows is of one entry i: the book and the tables before it, and after it before the sweep.
 module _ (old mid : Texts) (t u : Tabled) (times : u.times ≡ t.times) (number : ℕ) (i : Item) where
   -- what was judged of the entry after those that the old messages and sets follow, as the new ones follow it
   abbrev Says : Option Verdict → Type 0

@@ -50,6 +50,7 @@ known_unnamed texts number below set known has =
     let low = below number (All-contains (Keeps texts) (names x) number (All-contains (Knows names texts) s.states x knows among) named) in
     omega (arith, low)
 
+-- What follows is of the newest message of a book, which is dropped: `new` are the texts without it.
 module _ (number : ℕ) (bytes : List ℕ) (new : Texts) where
   -- the texts with the newest message, which is dropped
   abbrev old : Texts
@@ -64,6 +65,7 @@ module _ (number : ℕ) (bytes : List ℕ) (new : Texts) where
       let kept = All-contains (Keeps old) (names x) n (knows k d low) has in
       go (Keeps-grow_cases new number bytes n kept)
     where
+      -- the message is an old one, or the dropped one, which is not named
       go : Keeps new n ⊎ (number ≡ n) → Keeps new n × (text_of old n ≡ text_of new n)
       go (inl keeps) = (keeps, text_of-grow new number bytes n keeps)
       go (inr same) = absurd (unnamed n (Contains-flat_map (meaning_of machine).names s.states (get_or s.states k d) n (Contains-get_or s.states k d low) has) (sym same))

@@ -32,6 +32,7 @@ named_is t start out none (added, is, rising, same) numbers are =
     let all : numbers ≡ added = are ∙ is ∙ ap (λ xs. xs ++ added) none in
     (subst (AllPairs (λ a b. a < b)) (sym all) rising, λ n. subst (λ xs. Contains xs n ↔ Contains (flat_map numbers_of t.sets) n) (sym all) (same n))
 
+-- What follows is of a sweep: t are the tables before, u after all sets have waited, and `numbers` what the sets name.
 module _ (texts : Texts) (book : IsBook texts) (t u : Tabled) (moment : ℕ) (advances : AdvancesAll moment t u) (may : MayPass texts t moment)
     (numbers : List ℕ) (up : AllPairs (λ a b. a < b) numbers) (same : (n : ℕ) → Contains numbers n ↔ Contains (flat_map numbers_of u.sets) n) where
   -- the set that stood at the place before the sweep
@@ -64,9 +65,11 @@ module _ (texts : Texts) (book : IsBook texts) (t u : Tabled) (moment : ℕ) (ad
       let (old, was) = before n new at in
       go k old new (All-place (IsKnownSet texts) t.sets n old was may.known) (advances.each n old new was at) in_set))
     where
+      -- what holds of each number of a list holds of all
       All-of : (xs : List ℕ) → ((k : ℕ) → Contains xs k → Keeps texts k) → All (Keeps texts) xs
       All-of xs each k d low = each (get_or xs k d) (Contains-get_or xs k d low)
 
+      -- of one set: each message that it names was kept before
       go : (k : ℕ) (old new : AnySet) → IsKnownSet texts old → IsAdvanced moment old new → Contains (numbers_of new) k → Keeps texts k
       go k old new known (inr (stays, silent)) has = absurd (Contains-none k (subst (λ ns. Contains ns k) (ap numbers_of stays ∙ silent) has))
       go k old new known (inl waits) has =
@@ -77,6 +80,7 @@ module _ (texts : Texts) (book : IsBook texts) (t u : Tabled) (moment : ℕ) (ad
           let (x, among, named) = Contains-from_flat_map names v.states k (subst (λ ns. Contains ns k) (ap numbers_of new_is ∙ numbers_are machine v) has) in
           All-contains (Keeps texts) (names x) k (All-contains (Knows names texts) v.states x stand.known among) named
 
+  -- What follows is of a book that has all messages that the sets name.
   module _ (kept : All (Keeps texts) numbers) where
     -- the swept book keeps each message that the sets name
     pub swept_known : All (IsKnownSet (only numbers texts)) u.sets
@@ -123,6 +127,7 @@ module _ (texts : Texts) (book : IsBook texts) (t u : Tabled) (moment : ℕ) (ad
         (recorded.each n old r was there);
   }
     where
+      -- of one set: its last moment on record is still right
       go : (r : Option (Option ℕ)) (old new : AnySet) → moment_of old ≤ moment → IsKnownSet texts old → IsAdvanced moment old new → IsOnRecord [] 0 old r → IsOnRecord [] 0 new r
       go None old new low known advanced h = h
       go (Some limit) old new low known advanced h = swept_agenda texts book moment old new low advanced known limit h

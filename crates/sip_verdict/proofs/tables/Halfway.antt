@@ -51,6 +51,7 @@ pub not_passing : (b : Bool) → ¬ (b ≡ true) → b ≡ false
 not_passing true h = absurd (h refl)
 not_passing false h = refl
 
+-- What follows is of one entry e after the entries es, where some transactions have passed it and others have not.
 module _ (texts : Texts) (p : Times) (es : List (Observation KeyParts)) (e : Observation KeyParts) (keys : List KeyParts) where
   -- what is kept of a key is a set of its machine
   abbrev k : Keeping (KeyParts × AnySet)
@@ -116,7 +117,7 @@ module _ (texts : Texts) (p : Times) (es : List (Observation KeyParts)) (e : Obs
     before : (concerns mine.0 e ≡ true) × IsReady k es (mine.0, own.before)
     before = h.waiting place mine.0 own.before mine.1 own.was (among_first (place + 1) number ns next)
 
-    -- the event leaves `one` of the runs of the key
+    -- the outcome `one` says what the event leaves of the runs of the key
     left : IsPassed p k es e (mine.0, own.after) one
     left =
         own_passed p k es e (mine.0, own.after) before.0 one
@@ -238,6 +239,7 @@ module _ (texts : Texts) (p : Times) (es : List (Observation KeyParts)) (e : Obs
 
   -- What follows is of tables in which no last moment is past.
   module _ (nothing : (n : ℕ) (r : Option (Option ℕ)) → slice_get t.records n ≡ Some r → is_overdue moment r ≡ false) where
+    -- a transaction that is not to hear the event goes on, since its last moment is not past
     goes : (n : ℕ) (key : KeyParts) (s : AnySet) → slice_get t.keys n ≡ Some key → slice_get t.sets n ≡ Some s → is_among numbers (n + 1) ≡ false → GoesOn p (key_keeping texts p) es e (key, s)
     goes n key s at here other = let (r, on) = record_of_key n key at in in_time n key s at here r on (nothing n r on) other
 
@@ -310,6 +312,7 @@ quiet_others texts p es e moment h t may told ready newest hear numbers hearers 
     not_named : is_among (each h.concerned) (n + 1) ≡ false
     not_named = not_passing (is_among (each h.concerned) (n + 1)) (λ among. false≢true (sym none ∙ hearers.named (n + 1) among))
 
+    -- at a restart a quiet set goes on
     goes : is_all h.concerned ≡ true → GoesOn p k es e (key, s)
     goes every =
         let leads = All-place (IsReady k es) (transactions_of t) n (key, s) (zip-place t.keys t.sets n key s at here) ready in
@@ -320,6 +323,7 @@ quiet_others texts p es e moment h t may told ready newest hear numbers hearers 
         own_passed p k es e (key, s) ((told n key at).concerned ∙ ap (λ b. b || is_among (each h.concerned) (n + 1)) every) all.Fine
         (subst (λ f. IsStepped (key_rules p machine) events f (λ fs. LeadsOf texts p machine fs f.moment s) (λ g. StandsOf texts p machine events g s) all.Fine) (sym (told n key at).event) stepped)
 
+    -- whether the event is a restart, which concerns all
     by_all : (b : Bool) → is_all h.concerned ≡ b → (concerns_number (Some h) (n + 1) ≡ false) ⊎ GoesOn p k es e (key, s)
     by_all true all = inr (goes all)
     by_all false some = inl (ap (λ b. b || is_among (each h.concerned) (n + 1)) some ∙ not_named)

@@ -86,6 +86,7 @@ many_texts texts book P all named numbers up same kept = record {
   counts = length-only numbers texts ∙ sym (length-map numbers (text_of texts));
 }
 
+-- What follows is of tables after all sets have waited until the moment.
 module _ (texts : Texts) (book : IsBook texts) (p : Times) (moment : ℕ) where
   -- What follows is of one key: its runs name just what its set names.
   module _ (machine : MachineKind) (events : List MachineEvent) (from : ℕ) (old new : AnySet) (leads : LeadsOf texts p machine events from old) (late : from ≤ moment) (low : moment_of old ≤ moment) (text : List ℕ) where

@@ -138,6 +138,7 @@ module _ (t : Tabled) (number : ℕ) (ns : List ℕ) (low : 0 < number) (after :
       go (inr a) (inl b) = absurd (a.0 b.0)
       go (inr a) (inr b) = only r (old.each n s r a.1 b.1)
         where
+          -- a record that was right but for the set itself is right
           only : (x : Option (Option ℕ)) → IsOnRecord (number ∷ ns) (n + 1) s x → IsOnRecord ns (n + 1) s x
           only None h = among_one (n + 1) number ns h (λ same. a.0 (omega (arith, same)))
           only (Some l) h = h

@@ -110,6 +110,7 @@ module _ (waits : List ℕ) where
   touches_recorded (k ∷ ks) (n ∷ ns) old new wait long h (between, one, rest) =
       touches_recorded ks ns between new (λ i more. wait i (among_rest i n ns more)) (touched_elim (λ t. length t.sets ≡ length t.keys) long_more k n old between long one) (recorded one) rest
     where
+      -- after one more key was looked up, what is on record is still right
       recorded : Touches k n old between → AreOnRecord waits between
       recorded (inl same) = subst (AreOnRecord waits) (sym same.1) h
       recorded (inr new_one) = subst (AreOnRecord waits) (sym new_one.2) (with_key_recorded k n old long new_one.1 (wait n (among_first n n ns refl)) h)
@@ -121,6 +122,7 @@ zip-push [] (v ∷ ys) x y long = absurd (omega arith)
 zip-push (u ∷ xs) [] x y long = absurd (omega arith)
 zip-push (u ∷ xs) (v ∷ ys) x y long = ap (λ z. (u, v) ∷ z) (zip-push xs ys x y (omega arith))
 
+-- What follows is of keys that come into tables for the first time.
 module _ (texts : Texts) (p : Times) where
   -- a new key's set leads to the runs over no event
   pub starts : (key : KeyParts) (from : ℕ) → LeadsOf texts p (machine_of_key p.rules key) [] from (start_of p key)
@@ -178,6 +180,7 @@ have_numbers (k ∷ ks) (n ∷ ns) old new (between, one, rest) =
     let here = has_number one in
     (here.0, touches_elim (λ t. slice_get t.keys (n - 1) ≡ Some k) (λ t key at. slice_get-more t.keys (key ∷ []) (n - 1) k at) ks ns between new here.1 rest, have_numbers ks ns between new rest)
   where
+    -- a key that was looked up has its number
     has_number : Touches k n old between → (0 < n) × (slice_get between.keys (n - 1) ≡ Some k)
     has_number (inl h) = (h.0.0, subst (λ t. slice_get t.keys (n - 1) ≡ Some k) (sym h.1) h.0.1)
     has_number (inr h) =

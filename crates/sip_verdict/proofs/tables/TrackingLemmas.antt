@@ -23,6 +23,7 @@ pub record AreKept {T : Type 0} (k : Keeping T) (es : List (Observation KeyParts
   pub among : (key : KeyParts) → list_any (same_key key) ks ≡ false → list_any (same_key key) (keys_in es) ≡ false
   pub ready : All (IsReady k es) ts
 
+-- What follows is of transactions, of each of which k says what is kept, after the entries es.
 module _ {T : Type 0} (k : Keeping T) (es : List (Observation KeyParts)) where
   -- transactions that follow the entries are kept with the keys of the entries
   pub kept_tracked : (p : Times) (ts : List T) → Tracks p k es ts → AreKept k es (keys_in es) ts
@@ -54,11 +55,13 @@ module _ {T : Type 0} (k : Keeping T) (es : List (Observation KeyParts)) where
         unknown : with_key keys (k.key fresh) ≡ keys ++ k.key fresh ∷ []
         unknown = cond-false (list_any (same_key (k.key fresh)) keys) keys (keys ++ k.key fresh ∷ []) none
 
+-- What follows is of transactions, of each of which k says what is kept.
 module _ {T : Type 0} (p : Times) (k : Keeping T) where
   -- no transactions follow no entries
   pub tracks_none : Tracks p k [] []
   tracks_none = record { keys = refl; ready = All-nil (IsReady k []); good = good-nil p }
 
+  -- What follows is of one entry e after the entries es.
   module _ (es : List (Observation KeyParts)) (e : Observation KeyParts) where
     -- where the entry e concerns no key, transactions that follow the entries have all keys that e needs, and have not passed e yet
     pub before_none : (ts : List T) → e.keys ≡ [] → Tracks p k es ts → TracksBefore p k es e ts
@@ -72,6 +75,7 @@ module _ {T : Type 0} (p : Times) (k : Keeping T) where
     pub before_touched : (ts : List T) → AreKept k es (fold with_key (keys_in es) e.keys) ts → IsGood p es → TracksBefore p k es e ts
     before_touched ts kept good = record { keys = kept.keys ∙ sym (keys_in-push es e); ready = kept.ready; good = good }
 
+    -- What follows is of the transactions before the entry and after it, with the same keys.
     module _ (k2 : Keeping T) (old new : List T) (before : TracksBefore p k2 es e old) (same : map k.key new ≡ map k2.key old) where
       -- where the message of the entry has no fault and every transaction goes on, the transactions follow the entry too
       pub judged_fine : e.fault ≡ None → All (GoesOn p k es e) new → Tracks p k (es ++ e ∷ []) new × All (IsStanding k es e) new

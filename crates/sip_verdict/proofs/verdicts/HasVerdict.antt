@@ -38,6 +38,7 @@ first_or_none P (key ∷ keys) never = first_or_none P keys at
     here : P key → ⊥
     here holds = never (inr (1, ([], key, keys, refl, holds, All-nil (λ k. ¬ (P k)), refl)))
 
+    -- P holds of no later key, or of a first one
     at : (All (λ k. ¬ (P k)) keys ⊎ ((n : ℕ) × IsFirstKey P keys n)) → ⊥
     at (inl none) = never (inl (All-cons (λ k. ¬ (P k)) key keys here none))
     at (inr (n, (before, first, rest, is, holds, earlier, counts))) =
@@ -49,6 +50,7 @@ all_of P [] all never = never (All-nil P)
 all_of P (key ∷ keys) all never =
     All-head (λ k. ¬ (¬ (P k))) key keys all (λ holds. all_of P keys (All-tail (λ k. ¬ (¬ (P k))) key keys all) (λ later. never (All-cons P key keys holds later)))
 
+-- What follows is of one entry e after the entries es.
 module _ (p : Times) (es : List (Observation KeyParts)) (e : Observation KeyParts) where
   -- the keys of the entries and e
   abbrev keys : List KeyParts
@@ -70,10 +72,12 @@ module _ (p : Times) (es : List (Observation KeyParts)) (e : Observation KeyPart
       by_width none runs (inl narrow) = not_fine (record { formed = none; runs = runs; narrow = narrow })
       by_width none runs (inr (n, first)) = no_trouble (Undecided (length es + 1) n) (refl, none, runs, first)
 
+      -- each key has a run, or some key is the first without one
       by_run : e.fault ≡ None → (All (λ key. ¬ (¬ (Runs key))) keys ⊎ ((n : ℕ) × IsFirstKey (λ key. ¬ (Runs key)) keys n)) → ⊥
       by_run none (inl all) = all_of Runs keys all (λ runs. first_or_none Wide keys (by_width none runs))
       by_run none (inr (n, first)) = no_trouble (Breach (length es + 1) n) (refl, none, first)
 
+      -- whether the entry's message has a fault
       by_fault : (fault : Option Fault) → e.fault ≡ fault → ⊥
       by_fault None none = first_or_none (λ key. ¬ (Runs key)) keys (by_run none)
       by_fault (Some fault) some = no_trouble (Malformed (length es + 1) fault) (refl, some)
@@ -88,6 +92,7 @@ observes_message direction item never = reading-or-fault item.text no_reading no
     no_reading : (r : message.Reading) → ¬ (Reads item.text r)
     no_reading r reads = by_cookie (lacks_cookie (said_of r) direction) refl
       where
+        -- whether the cookie is lacking
         by_cookie : (b : Bool) → lacks_cookie (said_of r) direction ≡ b → ⊥
         by_cookie true lacks = never (_, has_no_cookie (said_of r) reads.says lacks refl)
         by_cookie false has = never (_, is_heard (said_of r) _ reads.says has refl refl)

@@ -45,6 +45,7 @@ good_runs p es good = go (empty_or_last es)
 good_formed : (p : Times) (es : List (Observation KeyParts)) → IsGood p es → All (λ e. e.fault ≡ None) es
 good_formed p es good = All-from_splits (λ e. e.fault ≡ None) es (λ front e rest is. (good front e rest is).formed)
 
+-- What follows is of one input with the verdict that it is legal.
 module _ (input : List ℕ) (entries transactions : ℕ) (p : Times) where
   -- where the verdict after these entries is that the log is legal, the log ends cleanly, with no entry in trouble
   legal_end : (done : List Item) (es : List (Observation KeyParts)) (rest : List Item) (end : LogEnd) → LogSays input p (done ++ rest) end → AreSeen [] done es → IsGood p es →

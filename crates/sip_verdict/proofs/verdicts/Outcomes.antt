@@ -27,6 +27,7 @@ pub record IsFirstAmong (P : KeyParts → Type 0) (keys : List KeyParts) (Among 
   pub holds : P key
   pub earlier : (n : ℕ) (k : KeyParts) → n < place → slice_get keys n ≡ Some k → Among n → ¬ P k
 
+-- What follows is of keys, of which Runs says which have a run and Wide which are too wide.
 module _ (Runs Wide : KeyParts → Type 0) (keys : List KeyParts) where
   -- P holds of the keys at the places of `Among`
   abbrev pub OfSome : (KeyParts → Type 0) → (ℕ → Type 0) → Type 0
@@ -38,6 +39,7 @@ module _ (Runs Wide : KeyParts → Type 0) (keys : List KeyParts) where
   Says Among (all.NoRun number) = IsFirstAmong (λ k. ¬ Runs k) keys Among number
   Says Among (all.TooWide number) = OfSome Runs Among × IsFirstAmong Wide keys Among number
 
+  -- What follows is of two choices of places, A and B, of which each place of B is one of A.
   module _ (A B : ℕ → Type 0) (less : (n : ℕ) → B n → A n) where
     -- what holds of the keys at some places holds of those at fewer places
     fewer : (P : KeyParts → Type 0) → OfSome P A → OfSome P B
@@ -60,6 +62,7 @@ module _ (Runs Wide : KeyParts → Type 0) (keys : List KeyParts) where
     says_fewer (all.NoRun number) h = first_fewer (λ k. ¬ Runs k) number h
     says_fewer (all.TooWide number) h = (fewer Runs h.0, first_fewer Wide number h.1)
 
+  -- What follows is of two choices of places, A and B, and of both together.
   module _ (A B : ℕ → Type 0) where
     -- the place is among those of A or of B
     abbrev Either : ℕ → Type 0

@@ -36,6 +36,7 @@ first_not_all P keys n (before, key, rest, is, holds, earlier, counts) h = All-m
 pub first_not_run : (P : KeyParts → Type 0) (keys : List KeyParts) (n : ℕ) → IsFirstKey (λ k. ¬ (P k)) keys n → All P keys → ⊥
 first_not_run P keys n (before, key, rest, is, none, earlier, counts) h = none (All-middle P before rest key (subst (All P) is h))
 
+-- What follows is of one entry e after the entries of `front`.
 module _ (p : Times) (front : List (Observation KeyParts)) (e : Observation KeyParts) where
   -- the keys of the entries and e
   abbrev keys : List KeyParts
@@ -73,6 +74,7 @@ module _ (p : Times) (front : List (Observation KeyParts)) (e : Observation KeyP
   trouble_is_one v (Legal n t) a b = absurd b
   trouble_is_one v (LogFault n r) a b = absurd b
 
+-- What follows is of whole logs by the times p.
 module _ (p : Times) where
   -- the empty log has no entry in trouble
   pub good-nil : IsGood p []

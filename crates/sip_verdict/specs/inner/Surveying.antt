@@ -67,6 +67,7 @@ pub record TablesSurvey (texts : Texts) (es : List (Observation KeyParts)) (t : 
   pub each : (n : ℕ) (key : KeyParts) (set : AnySet) (is_deaf : Bool) → slice_get t.keys n ≡ Some key → slice_get t.sets n ≡ Some set → slice_get deaf n ≡ Some is_deaf
       → IsFollowed texts t.times es key set is_deaf
 
+-- What follows is of one entry e after the entries es.
 module _ (texts : Texts) (p : Times) (es : List (Observation KeyParts)) (e : Observation KeyParts) where
   -- while the entry e passes, a key that was in no trouble and has come into none goes on over e, or is still to hear it; a key in trouble was in trouble
   -- before, or its number is among those that came into trouble at e

@@ -16,6 +16,7 @@ use Rattle.consequences.proofs.lemmas.client.InviteClients.{receives_6026, recei
 use Rattle.consequences.proofs.lemmas.client.Unanswered.{cancel-waits}
 use Rattle.consequences.proofs.invite_client.a_cancel_waits_for_a_response.Goals as goal
 
+-- by each of the rules, a client cancels only after a response, a refusal, a restart, or timer B
 by : (p : Times) (rules : Rules) (before after : List MachineEvent) (invite e : MachineEvent) (y : StateOf rules Client true) →
     All (λ f. ¬ (SendsRequest Invite f)) before → SendsRequest Invite invite → SendsRequest Cancel e → StandsAfter (figure_of rules Client true) p (before ++ invite ∷ after) e y →
     Any (GetsResponse IsAnyCode) after ⊎ Any (λ f. IsRefused f ⊎ IsRestart f) after ⊎ (open_at p invite.moment (64 * p.t1) ≤ e.moment)

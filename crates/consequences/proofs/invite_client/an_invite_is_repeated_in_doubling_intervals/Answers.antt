@@ -13,6 +13,7 @@ use Rattle.consequences.proofs.lemmas.client.InviteClients.{receives_6026, recei
 use Rattle.consequences.proofs.lemmas.client.Repeating.{invites-are-spaced}
 use Rattle.consequences.proofs.invite_client.an_invite_is_repeated_in_doubling_intervals.Goals as goal
 
+-- by each of the rules, the INVITEs of a run come in intervals that double
 by : (p : Times) (rules : Rules) (events : List MachineEvent) (m : ℕ) (y : StateOf rules Client true) → Stands (figure_of rules Client true) p events m y →
     IsSpaced p (λ interval. 2 * interval) (invites_of events)
 by p R6026 events m y stands = invites-are-spaced corrected.Receives receives_6026 p events m y stands

@@ -20,6 +20,7 @@ use Rattle.sip_states.proofs.runs.StandsLemmas.{what_stands_lasts}
 use Rattle.consequences.proofs.lemmas.client.Unanswered.{over-by-timer-b, silent-after-timer-b}
 use Rattle.consequences.proofs.invite_client.an_unanswered_invite_ends_by_timer_b.Goals as goal
 
+-- by each of the rules, a client without a response has ended once timer B has fired
 over : (p : Times) (rules : Rules) (before after : List MachineEvent) (invite : MachineEvent) (m : ℕ) (y : StateOf rules Client true) →
     SendsRequest Invite invite → All (λ f. ¬ (GetsResponse IsAnyCode f)) after → Stands (figure_of rules Client true) p (before ++ invite ∷ after) m y →
     close_at p invite.moment (64 * p.t1) < m → y ≡ quiet (figure_of rules Client true).ended
@@ -28,6 +29,7 @@ over p R6026 before after invite m y sent unanswered stands late =
 over p R3261 before after invite m y sent unanswered stands late =
     over-by-timer-b without.Receives receives_3261 p (what_stands_lasts OfInviteClient3261 p) before after invite m y sent unanswered stands late
 
+-- by each of the rules, a client without a response sends nothing but a CANCEL once timer B has fired
 silent : (p : Times) (rules : Rules) (before after : List MachineEvent) (invite e : MachineEvent) (y : StateOf rules Client true) →
     SendsRequest Invite invite → All (λ f. ¬ (GetsResponse IsAnyCode f)) after → e.action ≡ Sent → StandsAfter (figure_of rules Client true) p (before ++ invite ∷ after) e y →
     close_at p invite.moment (64 * p.t1) < e.moment → e.kind ≡ Request Cancel

@@ -22,8 +22,10 @@ use Rattle.sip_states.proofs.runs.StandsLemmas.{what_stands_lasts}
 use Rattle.consequences.proofs.lemmas.run.Lists.{any-none}
 use Rattle.consequences.proofs.invite_client.an_unsuccessful_response_is_acknowledged.Goals as goal
 
+-- What follows is of a run in which an INVITE was sent and a response of 300 to 699 came before timer B, and m is after its ACK was due.
 module _ (p : Times) (before between after : List MachineEvent) (invite response : MachineEvent) (m : ℕ) (none : All (λ f. ¬ (SendsRequest Invite f)) before) (sent : SendsRequest Invite invite)
     (gets : GetsResponse IsUnsuccessful response) (early : response.moment < open_at p invite.moment (64 * p.t1)) (late : close_at p response.moment 0 < m) where
+  -- the event ends the transaction, or takes it where no ACK is owed: a 2xx, a refusal or a restart
   abbrev IsBroken : MachineEvent → Type 0
   IsBroken g = GetsResponse IsSuccess g ⊎ IsRefused g ⊎ IsRestart g
 
@@ -39,11 +41,13 @@ module _ (p : Times) (before between after : List MachineEvent) (invite response
       waiting (inr (inl over)) = absurd (omega (arith, over, early))
       waiting (inr (inr again)) = not_again again
 
+      -- by which of the rules the element keeps
       by_rules : (rules : Rules) (y : StateOf rules Client true) → Stands (figure_of rules Client true) p (before ++ invite ∷ (between ++ response ∷ after)) m y
           → Any (Acknowledges p invite response) after ⊎ Any (λ f. IsRefused f ⊎ IsRestart f) after
       by_rules R6026 y stands = acknowledged corrected.Receives receives_6026 p invite response (what_stands_lasts OfInviteClient p) before between after m y none sent waiting gets stands late
       by_rules R3261 y stands = acknowledged without.Receives receives_3261 p invite response (what_stands_lasts OfInviteClient3261 p) before between after m y none sent waiting gets stands late
 
+  -- the first final response is acknowledged
   first : (rules : Rules) (y : StateOf rules Client true) → All (λ f. ¬ (GetsResponse IsFinal f) × ¬ (IsRefused f) × ¬ (IsRestart f)) between
       → Stands (figure_of rules Client true) p (before ++ invite ∷ (between ++ response ∷ after)) m y → Any (Acknowledges p invite response) after ⊎ Any (λ f. IsRefused f ⊎ IsRestart f) after
   first rules y quiet stands =
@@ -59,6 +63,7 @@ module _ (p : Times) (before between after : List MachineEvent) (invite response
           any-none (GetsResponse IsUnsuccessful) between (All-weaker (λ f. ¬ (GetsResponse IsFinal f) × ¬ (IsRefused f) × ¬ (IsRestart f)) (λ g. ¬ (GetsResponse IsUnsuccessful g))
           (λ g calm bad. calm.0 (bad.0, (bad.1.0, bad.1.1, (omega (arith, bad.1.2.0), bad.1.2.1)))) between quiet) came
 
+  -- over UDP a response of 300 to 699 that comes again is acknowledged, as long as timer D may run
   again : (rules : Rules) (y : StateOf rules Client true) → invite.reliable ≡ false → All (λ f. ¬ (GetsResponse IsSuccess f) × ¬ (IsRefused f) × ¬ (IsRestart f)) between → response.moment < open_at p invite.moment 32000
       → Stands (figure_of rules Client true) p (before ++ invite ∷ (between ++ response ∷ after)) m y → Any (Acknowledges p invite response) after ⊎ Any (λ f. IsRefused f ⊎ IsRestart f) after
   again rules y unreliable quiet in_time stands =
@@ -76,6 +81,7 @@ module _ (p : Times) (before between after : List MachineEvent) (invite response
       not_again (came, inl reliable) = false-true (sym unreliable ∙ reliable)
       not_again (came, inr over) = absurd (omega (arith, over, in_time))
 
+-- the law is what was shown above of the first final response
 pub returns-clause-first : goal.returns-clause-first
 returns-clause-first c = λ p rules before between after invite response m y none sent quiet gets early stands late.
     first p before between after invite response m none sent gets early late rules y quiet stands

@@ -11,9 +11,11 @@ use Rattle.consequences.proofs.lemmas.server.InviteServers.{is-server-6026}
 use Rattle.consequences.proofs.lemmas.server.Passed.{successes-alone}
 use Rattle.consequences.proofs.invite_server.after_a_success_successes_alone_are_sent.Goals as goal
 
+-- a 2xx is a final response
 final-too : (final : MachineEvent) → SendsResponse IsSuccess final → SendsResponse IsFinal final
 final-too final sends = (sends.0, (sends.1.0, sends.1.1, (sends.1.2.0, omega (arith, sends.1.2.1))))
 
+-- after a 2xx, of what may follow a final response only a 2xx or an earlier provisional response may be sent
 only : (p : Times) (before : List MachineEvent) (final e : MachineEvent) → SendsResponse IsSuccess final →
     (IsResponse IsSuccess final × IsResponse IsSuccess e) ⊎ (IsResponse IsUnsuccessful final × (e.text ≡ final.text))
     ⊎ ((e.moment ≤ close_at p final.moment 0) × Any (λ f. SendsResponse IsProvisional f × (f.text ≡ e.text)) before) →

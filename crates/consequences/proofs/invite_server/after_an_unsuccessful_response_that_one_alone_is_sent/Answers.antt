@@ -22,13 +22,17 @@ use Rattle.consequences.proofs.lemmas.server.FinalResponse.{one-code, sent-after
 use Rattle.consequences.proofs.lemmas.server.InviteServers.{Row, is-server-6026, is-server-3261, first_in}
 use Rattle.consequences.proofs.invite_server.after_an_unsuccessful_response_that_one_alone_is_sent.Goals as goal
 
+-- What follows is of a run in which a final response of 300 to 699 was sent.
 module _ (p : Times) (before after : List MachineEvent) (final e : MachineEvent) (sends : SendsResponse IsUnsuccessful final) where
+  -- a response of 300 to 699 is a final one
   is_final : SendsResponse IsFinal final
   is_final = (sends.0, (sends.1.0, sends.1.1, (omega (arith, sends.1.2.0), sends.1.2.1)))
 
+  -- e is the final response again, or a provisional one that was owed before it
   abbrev IsAllowed : Type 0
   IsAllowed = (e.text ≡ final.text) ⊎ ((e.moment ≤ close_at p final.moment 0) × Any (λ f. SendsResponse IsProvisional f × (f.text ≡ e.text)) before)
 
+  -- of what may follow a final response, this is all that may follow one of 300 to 699
   only : (IsResponse IsSuccess final × IsResponse IsSuccess e) ⊎ (IsResponse IsUnsuccessful final × (e.text ≡ final.text))
       ⊎ ((e.moment ≤ close_at p final.moment 0) × Any (λ f. SendsResponse IsProvisional f × (f.text ≡ e.text)) before) → IsAllowed
   only (inl good) = absurd (one-code final sends.1 good.0)
@@ -45,6 +49,7 @@ module _ (p : Times) (before after : List MachineEvent) (final e : MachineEvent)
       by (inl row) = row
       by (inr (reliable, set, last, here, success)) = absurd (one-code final sends.1 success)
 
+  -- by each of the rules, what is sent after the final response is allowed
   by : (rules : Rules) (y : StateOf rules Server true) → All (λ f. ¬ (SendsResponse IsFinal f)) before → All (λ f. f.text ≡ final.text → f.kind ≡ final.kind) before → BeginNoneAnew p final after → e.action ≡ Sent →
       StandsAfter (figure_of rules Server true) p (before ++ final ∷ after) e y → IsAllowed
   by R6026 y first one_kind anew sent stands =

@@ -17,6 +17,7 @@ use Rattle.consequences.proofs.lemmas.server.FirstResponse.{answered-in-time}
 use Rattle.consequences.proofs.lemmas.server.InviteServers.{is-server-6026, is-server-3261, first_in}
 use Rattle.consequences.proofs.invite_server.an_invite_is_answered_within_200_ms.Goals as goal
 
+-- by each of the rules, a server has sent a response within 200 ms of the INVITE, or was started anew
 by : (p : Times) (rules : Rules) (before after : List MachineEvent) (invite : MachineEvent) (m : ℕ) (y : StateOf rules Server true) →
     All (λ f. ¬ (GetsRequest Invite f)) before → GetsRequest Invite invite → Stands (figure_of rules Server true) p (before ++ invite ∷ after) m y → close_at p invite.moment 200 < m →
     Any (λ f. SendsResponse IsAnyCode f × (f.moment ≤ close_at p invite.moment 200)) after ⊎ Any (λ f. IsRestart f × (f.moment ≤ close_at p invite.moment 200)) after

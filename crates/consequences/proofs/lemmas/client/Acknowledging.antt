@@ -71,6 +71,7 @@ module _ (R : Receiving) (is : IsReceiving R) (p : Times) (invite : MachineEvent
   abbrev Awaits : List MachineEvent → ℕ → Owing InviteClientPhase → Type 0
   Awaits es m y = (invite.moment ≤ m) × (Waits es y.phase ⊎ Over es m)
 
+  -- What follows is of one event e that comes after the events es.
   module _ (es : List MachineEvent) (e : MachineEvent) where
     -- the events with the event that comes
     abbrev Now : List MachineEvent
@@ -101,6 +102,7 @@ module _ (R : Receiving) (is : IsReceiving R) (p : Times) (invite : MachineEvent
         by (inr leads) = rw leads waits
     waits-sent (Proceeding reliable request (Some first)) row low waits h = by (sends-proceeding p reliable request (Some first) e.kind e row h).1
       where
+        -- a CANCEL after the first one changes its moment or not
         by : (row ≡ (Proceeding reliable request (Some e.moment), keeps)) ⊎ (row ≡ (Proceeding reliable request (Some first), keeps)) → Waits Now row.0
         by (inl leads) = rw leads (waits.0, waits.1, low)
         by (inr leads) = rw leads waits
@@ -140,10 +142,12 @@ module _ (R : Receiving) (is : IsReceiving R) (p : Times) (invite : MachineEvent
       as_it_waits es h m x (from, inl waits) low lasts = (omega (arith, from, low), inl waits)
       as_it_waits es h m x (from, inr over) low lasts = (omega (arith, from, low), inr (subst (λ fs. Over fs m) (append-nil es) (over-later es [] h m low over)))
 
+      -- an end keeps Awaits
       as_it_ends : (es : List MachineEvent) (h : ℕ) (x : Owing InviteClientPhase) → Awaits es h x → MayEnd f p x h → Awaits es h (quiet Ended)
       as_it_ends es h x (from, inl waits) may = (from, inr (waits-ends es h x.phase x.owes waits may))
       as_it_ends es h x (from, inr over) may = (from, inr over)
 
+      -- an event keeps Awaits
       as_it_takes : (es : List MachineEvent) (e : MachineEvent) (x y : Owing InviteClientPhase) → Awaits es e.moment x → Takes f p x e y → Awaits (es ++ e ∷ []) e.moment y
       as_it_takes es e x y (from, inl waits) take = (from, waits-steps es e e.action x.phase (left_at e x) y refl from waits take)
       as_it_takes es e x y (from, inr over) take = (from, inr (over-later es (e ∷ []) e.moment e.moment (omega arith) over))
@@ -256,6 +260,7 @@ module _ (R : Receiving) (is : IsReceiving R) (p : Times) (invite : MachineEvent
         as_it_ends es h x (inl owes) may = absurd (no-end debt refl f p x h owes.1 may)
         as_it_ends es h x (inr over) may = inr over
 
+        -- an event keeps that the ACK is owed or was sent
         as_it_takes : (es : List MachineEvent) (e : MachineEvent) (x y : Owing InviteClientPhase) → Owing-on es e.moment x → Takes f p x e y → Owing-on (es ++ e ∷ []) e.moment y
         as_it_takes es e x y (inl owes) take = owes-steps e.action es x.phase (left_at e x) e y refl owes.0 (still-owed debt refl e x owes.1) take
         as_it_takes es e x y (inr (inl acked)) take = inr (inl (any-earlier (Acknowledges p invite response) es (e ∷ []) acked))
@@ -272,18 +277,22 @@ module _ (R : Receiving) (is : IsReceiving R) (p : Times) (invite : MachineEvent
         by-end (inl owes) = let low = in-time debt refl f p y m owes.1 (lasts (before ++ invite ∷ (between ++ response ∷ after)) m y stands) in absurd (omega (arith, low, late))
         by-end (inr over) = over
 
+        -- a client that calls waits
         calling-waits : (x : InviteClientPhase) → CallsFrom invite x → Waits [] x
         calling-waits (Calling w) calls = calls
         calling-waits x calls = absurd calls
 
+        -- from the INVITE on, the run is cut at the response
         by-response : (x : Owing InviteClientPhase) → CallsFrom invite x.phase → Cut f p x invite.moment between response after m y → Any (Acknowledges p invite response) after ⊎ Any (λ g. IsRefused g ⊎ IsRestart g) after
         by-response x calls found = by (run-keeps f p Awaits awaits-kept between x invite.moment response.moment found.from (omega arith, inl (calling-waits x.phase calls)) found.leads).1
           where
+            -- the client waited for the response, or the time for its ACK was over before it
             by : Waits between found.from.phase ⊎ Over between response.moment → Any (Acknowledges p invite response) after ⊎ Any (λ g. IsRefused g ⊎ IsRestart g) after
             by (inl waits) =
                 let owes = response-owes between found.from.phase (left_at response found.from) found.to gets.1.0 gets.1.1 gets.1.2 waits (step-of f p Received response found.from found.to gets.0 found.step) in
                 by-end (run-keeps f p Owing-on owes-kept after found.to response.moment m y (inl owes) found.goes)
             by (inr over) = absurd (waiting over)
 
+        -- the run is cut at the INVITE
         by-invite : Cut f p (quiet Idle) 0 before invite (between ++ response ∷ after) m y → Any (Acknowledges p invite response) after ⊎ Any (λ g. IsRefused g ⊎ IsRestart g) after
         by-invite found = by-response found.to (begins-calling R is p before invite found.from found.to none sent found.leads found.step) (cut f p found.to invite.moment between response after m y found.goes)

@@ -29,6 +29,7 @@ pub record IsOnce {X : Type 0} (f : Figure X) (p : Times) (HasAsked : X → Type
   pub over : (k : Kind) (e : MachineEvent) (y : X × Change) → f.Sends p f.ended k e y → MaySend k × (y ≡ (f.ended, keeps))
   pub unmoved : (x : X) (k : Kind) → ¬ (f.Stays x k)
 
+-- What follows is of a client that sends its request once: its figure f with the times p.
 module _ {X : Type 0} (f : Figure X) (p : Times) (HasAsked : X → Type 0) (IsRequest MaySend : Kind → Type 0) (once : IsOnce f p HasAsked IsRequest MaySend) where
   -- a message that is sent leads from a phase after the request to a phase after the request
   emits : (e : MachineEvent) (x y : Owing X) → HasAsked x.phase → Emits f p e x y → HasAsked y.phase
@@ -99,10 +100,12 @@ module _ {X : Type 0} (f : Figure X) (p : Times) (HasAsked : X → Type 0) (IsRe
           let still = run-keeps f p (λ es h z. HasAsked z.phase) asked-kept between x request.moment restart.moment found.from asked found.leads in
           run-keeps f p (λ es h z. z ≡ quiet f.ended) over-kept after found.to restart.moment m y (by-step still (step-of f p Restart restart found.from found.to restarts found.step)) found.goes
         where
+          -- the restart leaves idle as it is, and ends any other phase; the phase is not idle, since the request was sent
           by-step : HasAsked found.from.phase → ((found.from.phase ≡ f.idle) × (found.to ≡ quiet f.idle)) ⊎ (¬ (found.from.phase ≡ f.idle) × (found.to ≡ quiet f.ended)) → found.to ≡ quiet f.ended
           by-step still (inl (idle, to)) = absurd (once.idle (subst HasAsked idle still))
           by-step still (inr (other, to)) = to
 
+      -- the run is cut at the request
       by-request : Cut f p (quiet f.idle) 0 before request (between ++ restart ∷ after) m y → y ≡ quiet f.ended
       by-request found =
           by-restart found.to (once.asks request (record { phase = found.from.phase; owes = left_at request found.from }) found.to asks (step-of f p Sent request found.from found.to sent found.step))

@@ -141,20 +141,24 @@ module _ (R : Receiving) (is : IsReceiving R) (p : Times) where
   -- the row of a sent message keeps what is known of the moments, with one more where it is an INVITE
   invited-sent : (ms now : List ℕ) (x : invite.InviteClientPhase) (e : MachineEvent) (row : Row) → (e.kind ≡ Request Invite → now ≡ ms ++ e.moment ∷ []) → (¬ (e.kind ≡ Request Invite) → now ≡ ms) → Invited ms x
       → invite.Sends p x e.kind e row → Invited now row.0
+  -- the first INVITE begins the moments, and what else is sent in idle leaves them
   invited-sent ms now invite.Idle e row one other invited h = by (sends-idle p e.kind e row h)
     where
       by : ((e.kind ≡ Request Invite) × (row ≡ (invite.Calling (record { reliable = e.reliable; request = e.text; start = e.moment; set = e.moment; interval = p.t1 }), keeps)))
           ⊎ (¬ (e.kind ≡ Request Invite) × (row ≡ (invite.Idle, keeps))) → Invited now row.0
       by (inl leads) = rw leads.1 (e.moment, [], one leads.0 ∙ ap (λ ks. ks ++ e.moment ∷ []) invited, (refl, refl))
       by (inr leads) = rw leads.1 (other leads.0 ∙ invited)
+  -- what is sent in calling is the INVITE once more, so that its moment is the next one
   invited-sent ms now (invite.Calling w) e row one other invited h =
       let sends = sends-calling p w e.kind e row h in
       rw sends.2 (subst (λ ks. Begins p next ks e.moment (2 * w.interval)) (sym (one sends.0)) (begins-more p next ms w.set w.interval e.moment invited sends.1.fires))
+  -- what is sent in proceeding is a CANCEL, which leaves the moments
   invited-sent ms now (invite.Proceeding reliable request cancel) e row one other invited h = by (sends-proceeding p reliable request cancel e.kind e row h).1
     where
       same : now ≡ ms
       same = other (λ is_invite. no-invite (sym (sends-proceeding p reliable request cancel e.kind e row h).0 ∙ is_invite))
 
+      -- a CANCEL is the first one or not
       by : (row ≡ (invite.Proceeding reliable request (Some e.moment), keeps)) ⊎ (row ≡ (invite.Proceeding reliable request cancel, keeps)) → Invited now row.0
       by (inl leads) = rw (leads, same) invited
       by (inr leads) = rw (leads, same) invited

@@ -83,6 +83,7 @@ module _ (p : Times) where
     as_it_takes = λ es e x y began take. began-steps e.action e (record { phase = x.phase; owes = left_at e x }) y began take;
   }
 
+  -- What follows is of a moment by which the client had begun to wait.
   module _ (moment : ℕ) where
     -- the phase is completed or ended, and sends nothing any more
     abbrev IsSilent : PlainClientPhase → Type 0

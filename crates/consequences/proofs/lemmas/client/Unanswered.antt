@@ -108,6 +108,7 @@ module _ (R : Receiving) (is : IsReceiving R) (p : Times) where
       by_row row owes (inl (is_invite, leads)) = rw leads (refl, refl, refl)
       by_row row owes (inr (other, leads)) = absurd (other sent.1)
 
+      -- an INVITE is sent by a row, since nothing is owed before it
       by : (phase : InviteClientPhase) (owes : List Owed) → IsUnasked phase → Emits f p invite (record { phase = phase; owes = owes }) y → CallsFrom invite y.phase
       by Idle owes from (inl (row, is_row, to)) = rw to (by_row row owes (sends-idle p invite.kind invite row is_row))
       by Ended owes from (inl (row, is_row, to)) = absurd (no-cancel (sym sent.1 ∙ (sends-ended p invite.kind invite row is_row).0))
@@ -128,9 +129,11 @@ module _ (R : Receiving) (is : IsReceiving R) (p : Times) where
       any code (inr (inl h)) = (omega (arith, h.0.0), omega (arith, h.0.1))
       any code (inr (inr h)) = (omega (arith, h.0.0), h.0.1)
 
+      -- the row is that of a provisional response, a 2xx, or one of 300 to 699
       by : Answers w.reliable w.request e.kind e row → Any (GetsResponse IsAnyCode) (es ++ e ∷ [])
       by (code, kind, leads) = any-last (GetsResponse IsAnyCode) es e (was, (code, kind, any code leads))
 
+  -- What follows is of one INVITE that was sent.
   module _ (invite : MachineEvent) where
     -- the client need not wait: a response came, a message was refused, the element started again, or timer B may have fired
     abbrev Over : List MachineEvent → ℕ → Type 0
@@ -179,10 +182,12 @@ module _ (R : Receiving) (is : IsReceiving R) (p : Times) where
         as_it_waits es h m x (inl calls) low lasts = inl calls
         as_it_waits es h m x (inr over) low lasts = inr (subst (λ fs. Over fs m) (append-nil es) (over-later es [] h m low over))
 
+        -- an end keeps Calls
         as_it_ends : (es : List MachineEvent) (h : ℕ) (x : Owing InviteClientPhase) → Calls es h x → MayEnd f p x h → Calls es h (quiet Ended)
         as_it_ends es h x (inl calls) may = inr (calls-ends es h x.phase x.owes calls may)
         as_it_ends es h x (inr over) may = inr over
 
+        -- an event keeps Calls
         as_it_takes : (es : List MachineEvent) (e : MachineEvent) (x y : Owing InviteClientPhase) → Calls es e.moment x → Takes f p x e y → Calls (es ++ e ∷ []) e.moment y
         as_it_takes es e x y (inl calls) take = calls-steps e.action es e x.phase (left_at e x) y refl calls take
         as_it_takes es e x y (inr over) take = inr (over-later es (e ∷ []) e.moment e.moment (omega arith) over)
@@ -195,10 +200,12 @@ module _ (R : Receiving) (is : IsReceiving R) (p : Times) where
         no-invite : ¬ (Request Cancel ≡ Request Invite)
         no-invite is = cc
 
+        -- a client that calls sends no CANCEL, so it need not wait any more
         by : CallsFrom invite x.phase ⊎ Over after e.moment → Over after e.moment
         by (inl calls) = absurd (no-invite (sym cancels.1 ∙ (calls-emits after e x.phase (left_at e x) y calls (step-of f p Sent e x y cancels.0 take)).0))
         by (inr over) = over
 
+        -- the run is cut at the INVITE
         by-cut : Cut f p (quiet Idle) 0 before invite after e.moment x → Over after e.moment
         by-cut found = by (run-keeps f p Calls calls-kept after found.to invite.moment e.moment x (inl (begins-calling before invite found.from found.to none sent found.leads found.step)) found.goes)
 
@@ -250,6 +257,7 @@ module _ (R : Receiving) (is : IsReceiving R) (p : Times) where
   sent-began (Calling w) k e row began h = rw (sends-calling p w k e row h).2 began
   sent-began (Proceeding reliable request cancel) k e row began h = by (sends-proceeding p reliable request cancel k e row h).1
     where
+      -- a CANCEL is the first one or not
       by : (row ≡ (Proceeding reliable request (Some e.moment), keeps)) ⊎ (row ≡ (Proceeding reliable request cancel, keeps)) → BeganBy e.moment row.0
       by (inl leads) = rw leads tt
       by (inr leads) = rw leads tt
@@ -311,6 +319,7 @@ module _ (R : Receiving) (is : IsReceiving R) (p : Times) where
   invite-calls e (Completed reliable request set) owes y invite began (inl (row, is_row, to)) = absurd (no-cancel (sym invite ∙ (sends-completed p reliable request set e.kind e row is_row).0))
   invite-calls e Ended owes y invite began (inl (row, is_row, to)) = absurd (no-cancel (sym invite ∙ (sends-ended p e.kind e row is_row).0))
 
+  -- What follows is of a moment by which the client had sent its INVITE.
   module _ (moment : ℕ) where
     -- the client calls, since the moment or longer, or has ended, or a response came
     abbrev Waits : List MachineEvent → ℕ → Owing InviteClientPhase → Type 0
@@ -366,11 +375,13 @@ module _ (R : Receiving) (is : IsReceiving R) (p : Times) where
         too-late (Calling w) owes calls lasting = absurd (omega (arith, calls, lasting.0, late))
         too-late x owes calls lasting = absurd calls
 
+        -- the client would call too late, or has ended, or has a response
         by : Waits invite.moment after m y → y ≡ quiet Ended
         by (inl calls) = absurd (too-late y.phase y.owes calls (lasts (before ++ invite ∷ after) m y stands))
         by (inr (inl ended)) = ended
         by (inr (inr came)) = absurd (any-none (GetsResponse IsAnyCode) after unanswered came)
 
+        -- the run is cut at the INVITE
         by-cut : Cut f p (quiet Idle) 0 before invite after m y → y ≡ quiet Ended
         by-cut found =
             let began = run-keeps f p (λ es h x. BeganBy h x.phase) began-kept before (quiet Idle) 0 invite.moment found.from tt found.leads in

@@ -39,6 +39,7 @@ contains-cases xs ys y x c = by (Contains-append_cases xs (y ∷ ys) x c)
     by_rest (inl (suc k, low, at)) = absurd (omega (arith, low))
     by_rest (inr later) = inl (Contains-append_right xs ys x later)
 
+    -- the element is in the first part, or from y on
     by : Contains xs x ⊎ Contains (y ∷ ys) x → Contains (xs ++ ys) x ⊎ (y ≡ x)
     by (inl front) = inl (Contains-append_left xs ys x front)
     by (inr rest) = by_rest (Contains-append_cases (y ∷ []) ys x rest)

@@ -34,6 +34,7 @@ left_at e x = filter (λ owed. owed.must || nat_le e.moment owed.deadline) x.owe
 pub step-of : {X : Type 0} (f : Figure X) (p : Times) (a : Action) (e : MachineEvent) (x y : Owing X) → e.action ≡ a → Takes f p x e y → Steps f p a e (record { phase = x.phase; owes = left_at e x }) y
 step-of f p a e x y is take = subst (λ b. Steps f p b e (record { phase = x.phase; owes = left_at e x }) y) is take
 
+-- What follows is of the runs of a machine: its figure f with the times p.
 module _ {X : Type 0} (f : Figure X) (p : Times) where
   -- a run that can wait on leads to the same state at the later moment
   run-waits : (x : Owing X) (h : ℕ) (es : List MachineEvent) (k m : ℕ) (y : Owing X) → Runs f p x h es k y → k ≤ m → Lasts f p y m → Runs f p x h es m y

@@ -34,6 +34,7 @@ nothing-to-pay P left pays = by pays.before pays.whole
     by [] is = cc
     by (o ∷ os) is = cc
 
+-- What follows is of a server that sleeps until a kind of message of Wakes comes: its figure f with the times p.
 module _ {X : Type 0} (f : Figure X) (p : Times) (Wakes : Kind → Type 0) (asleep : IsAsleep f p Wakes) where
   -- a server that sleeps sends nothing
   pub asleep-emits : (e : MachineEvent) (y : Owing X) → ¬ (Emits f p e (quiet f.idle) y)
@@ -75,6 +76,7 @@ module _ {X : Type 0} (f : Figure X) (p : Times) (Wakes : Kind → Type 0) (asle
       as_it_takes es e x y holds take all =
           by (asleep-steps e.action e y refl (subst (λ z. Takes f p z e y) (holds (All-front (λ g. ¬ ((g.action ≡ Received) × Wakes g.kind)) es (e ∷ []) all)) take))
         where
+          -- the server sleeps on, or a request that wakes it has come, and none has
           by : (y ≡ quiet f.idle) ⊎ ((e.action ≡ Received) × Wakes e.kind) → y ≡ quiet f.idle
           by (inl same) = same
           by (inr wakes) = absurd (All-last (λ g. ¬ ((g.action ≡ Received) × Wakes g.kind)) es e all wakes)

@@ -30,6 +30,7 @@ use Rattle.consequences.proofs.lemmas.server.InviteServers.{Row, IsServer, Recei
 pub one-code : (e : MachineEvent) → IsResponse IsUnsuccessful e → ¬ (IsResponse IsSuccess e)
 one-code e (code, told, refused) (other, told_too, accepted) = absurd (omega (arith, codes-are-one code other (sym told ∙ told_too), refused.0, accepted.1))
 
+-- What follows is of a server whose figure f holds the phases of the corrected INVITE server, with the times p.
 module _ {X : Type 0} (f : Figure X) (p : Times) (held : InviteServerPhase → X) (is : IsServer f p held) where
   -- the state has a phase of the corrected machine, as this server holds it, and K holds of that phase and the debts
   abbrev pub HoldsIn : (InviteServerPhase → List Owed → Type 0) → Owing X → Type 0
@@ -70,6 +71,7 @@ module _ {X : Type 0} (f : Figure X) (p : Times) (held : InviteServerPhase → X
   opens-left es e m (Proceeding reliable set last) y opens = (opens.0, All-filter _ (λ o. (o.deadline ≤ close_at p m 0) × IsSaid es o.message) y.owes opens.1)
   opens-left es e m x y opens = absurd opens
 
+  -- What follows is of one event e that comes after the events es.
   module _ (es : List MachineEvent) (e : MachineEvent) where
     -- the events with the event that comes
     abbrev Now : List MachineEvent
@@ -148,9 +150,11 @@ module _ {X : Type 0} (f : Figure X) (p : Times) (held : InviteServerPhase → X
       as_it_waits es h m x holds low lasts all =
           let (phase, owes, same, opens) = holds all in (phase, owes, same, subst (λ fs. Opens fs m phase owes) (append-nil es) (opens-later es [] h m phase owes low opens))
 
+      -- an end keeps BeforeFinal
       as_it_ends : (es : List MachineEvent) (h : ℕ) (x : Owing X) → BeforeFinal es h x → MayEnd f p x h → BeforeFinal es h (quiet f.ended)
       as_it_ends es h x holds may all = (Idle, [], ap quiet is.ended, refl)
 
+      -- an event keeps BeforeFinal
       as_it_takes : (es : List MachineEvent) (e : MachineEvent) (x y : Owing X) → BeforeFinal es e.moment x → Takes f p x e y → BeforeFinal (es ++ e ∷ []) e.moment y
       as_it_takes es e x y holds take all =
           let (phase, owes, same, opens) = holds (All-front (λ g. ¬ (SendsResponse IsFinal g)) es (e ∷ []) all) in
@@ -227,6 +231,7 @@ module _ {X : Type 0} (f : Figure X) (p : Times) (held : InviteServerPhase → X
     abbrev IsAllowed : MachineEvent → Type 0
     IsAllowed e = (IsGood × IsResponse IsSuccess e) ⊎ (IsBad × (e.text ≡ final.text)) ⊎ ((e.moment ≤ close_at p final.moment 0) × IsSaid before e.text)
 
+    -- What follows is of one event e that comes after the events es.
     module _ (es : List MachineEvent) (e : MachineEvent) where
       -- the row of a sent message sends what may be sent after the final response, and keeps Closes
       closes-sent : (x : InviteServerPhase) (k : Kind) (row : Row) (owes : List Owed) → e.kind ≡ k → Closes es e.moment x owes → SentRow p x k e row
@@ -263,6 +268,7 @@ module _ {X : Type 0} (f : Figure X) (p : Times) (held : InviteServerPhase → X
           bytes : pays.first.message ≡ e.text
           bytes = is.paid x e.kind e pays.first.message pays.holds.0
 
+          -- the debt that is paid is the final response, or a provisional one that was owed before it
           allowed : (IsBad × (pays.first.message ≡ final.text)) ⊎ ((pays.first.deadline ≤ close_at p final.moment 0) × IsSaid before pays.first.message) → IsAllowed e
           allowed (inl own) = inr (inl (own.0, sym bytes ∙ own.1))
           allowed (inr old) = let in_time = pays.holds.1 in inr (inr (omega (arith, old.0, in_time), subst (IsSaid before) bytes old.1))
@@ -341,12 +347,14 @@ module _ {X : Type 0} (f : Figure X) (p : Times) (held : InviteServerPhase → X
         as_it_waits es h m x holds low lasts anew =
             let (phase, owes, same, closes) = holds anew in (phase, owes, same, subst (λ fs. Closes fs m phase owes) (append-nil es) (closes-later es [] h m phase owes low closes))
 
+        -- an end keeps Closes
         as_it_ends : (es : List MachineEvent) (h : ℕ) (x : Owing X) → (BeginNoneAnew p final es → HoldsIn (Closes es h) x) → MayEnd f p x h → BeginNoneAnew p final es → HoldsIn (Closes es h) (quiet f.ended)
         as_it_ends es h x holds may anew =
             let (phase, owes, same, closes) = holds anew in
             let opening = subst (λ window. IsSomeAnd window (λ w. w.0 ≤ h)) (is.window phase) (subst (λ z. MayEnd f p z h) same may).0 in
             (Idle, [], ap quiet is.ended, (refl, closes-ends es h phase owes closes opening))
 
+        -- an event keeps Closes
         as_it_takes : (es : List MachineEvent) (e : MachineEvent) (x y : Owing X) → (BeginNoneAnew p final es → HoldsIn (Closes es e.moment) x) → Takes f p x e y → BeginNoneAnew p final (es ++ e ∷ [])
             → HoldsIn (Closes (es ++ e ∷ []) e.moment) y
         as_it_takes es e x y holds take anew =
@@ -354,6 +362,7 @@ module _ {X : Type 0} (f : Figure X) (p : Times) (held : InviteServerPhase → X
             let z : Owing X = record { phase = held phase; owes = owes } in
             closes-steps es e e.action phase (left_at e z) y refl (no-new es e anew) (closes-left es e.moment e phase owes closes) (subst (λ w. Takes f p w e y) same take)
           where
+            -- Closes stays true without the debts that are past
             closes-left : (es : List MachineEvent) (m : ℕ) (e : MachineEvent) (x : InviteServerPhase) (owes : List Owed) → Closes es m x owes → Closes es m x (left_at e (record { phase = held x; owes = owes }))
             closes-left es m e x owes closes =
                 closes-fewer es m x owes (left_at e (record { phase = held x; owes = owes })) (λ none. rw none refl)
@@ -423,6 +432,7 @@ module _ {X : Type 0} (f : Figure X) (p : Times) (held : InviteServerPhase → X
                 (λ old. All-filter _ (λ o. (IsBad × (o.message ≡ final.text)) ⊎ ((o.deadline ≤ close_at p final.moment 0) × IsSaid before o.message)) owes old) closes)
                 (step-of f p Sent e z y sent (subst (λ w. Takes f p w e y) same take))).0
 
+            -- the run is cut at the final response
             by-cut : Cut f p (quiet f.idle) 0 before final after e.moment x → IsAllowed e
             by-cut found =
                 let opens = run-keeps f p BeforeFinal before-final-kept before (quiet f.idle) 0 final.moment found.from (λ none. (Idle, [], ap quiet is.idle, refl)) found.leads first in

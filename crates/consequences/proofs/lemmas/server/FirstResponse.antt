@@ -21,6 +21,7 @@ use Rattle.consequences.proofs.lemmas.run.Lists.{any-last, any-earlier}
 use Rattle.consequences.proofs.lemmas.run.Running.{IsKept, step-of, stands-run, Cut, cut, run-keeps}
 use Rattle.consequences.proofs.lemmas.server.InviteServers.{Row, IsServer, ReceivedRow, comes, again, again_after, acknowledged, received-row, SentRow, provisional, success, unsuccessful, success_again, repeats, sent-row}
 
+-- What follows is of an INVITE server, whose figure f holds the corrected phases, and the INVITE with which its transaction begins.
 module _ {X : Type 0} (f : Figure X) (p : Times) (held : InviteServerPhase → X) (is : IsServer f p held) (invite : MachineEvent) where
   -- the event has the property P, and comes within 200 ms of the INVITE and as much as an element may be late
   abbrev InTime : (MachineEvent → Type 0) → MachineEvent → Type 0
@@ -100,16 +101,19 @@ module _ {X : Type 0} (f : Figure X) (p : Times) (held : InviteServerPhase → X
       as_it_waits es h m x (inl (reliable, same, low)) later lasts = inl (reliable, same, in-time reliable x m same lasts)
       as_it_waits es h m x (inr found) later lasts = inr found
 
+      -- an end keeps Waits
       as_it_ends : (es : List MachineEvent) (h : ℕ) (x : Owing X) → Waits es h x → MayEnd f p x h → Waits es h (quiet f.ended)
       as_it_ends es h x (inl (reliable, same, low)) may =
           absurd (subst (λ window. IsSomeAnd window (λ w. w.0 ≤ h)) (is.window (Proceeding reliable invite.moment None)) (subst (λ z. MayEnd f p z h) same may).0)
       as_it_ends es h x (inr later) may = inr later
 
+      -- an event keeps Waits
       as_it_takes : (es : List MachineEvent) (e : MachineEvent) (x y : Owing X) → Waits es e.moment x → Takes f p x e y → Waits (es ++ e ∷ []) e.moment y
       as_it_takes es e x y (inl (reliable, same, low)) take = steps e.action reliable es e y low refl (subst (λ z. Takes f p z e y) same take)
       as_it_takes es e x y (inr (inl sent)) take = inr (inl (any-earlier (InTime (SendsResponse IsAnyCode)) es (e ∷ []) sent))
       as_it_takes es e x y (inr (inr restarted)) take = inr (inr (any-earlier (InTime IsRestart) es (e ∷ []) restarted))
 
+  -- What follows is of a server that sleeps until an INVITE comes.
   module _ (asleep : IsAsleep f p IsInvite) where
     -- the first INVITE leads to proceeding, where nothing was sent yet
     opens : (x y : Owing X) → x ≡ quiet f.idle → GetsRequest Invite invite → Takes f p x invite y → y ≡ quiet (held (Proceeding invite.reliable invite.moment None))
@@ -121,6 +125,7 @@ module _ {X : Type 0} (f : Figure X) (p : Times) (held : InviteServerPhase → X
         opening : f.Receives p (held Idle) invite.kind invite (held (Proceeding invite.reliable invite.moment None), keeps)
         opening = subst (λ k. f.Receives p (held Idle) k invite (held (Proceeding invite.reliable invite.moment None), keeps)) (sym gets.1) (is.opened invite)
 
+        -- the INVITE has a row in idle, so the state does not stay as it is
         by : Follows (f.Receives p (held Idle) invite.kind invite) p invite (quiet (held Idle)) y ⊎ (((z : Owing X) → ¬ (Follows (f.Receives p (held Idle) invite.kind invite) p invite (quiet (held Idle)) z)) × (y ≡ quiet (held Idle)))
             → y ≡ quiet (held (Proceeding invite.reliable invite.moment None))
         by (inl (row, is_row, to)) =
@@ -138,6 +143,7 @@ module _ {X : Type 0} (f : Figure X) (p : Times) (held : InviteServerPhase → X
         by (inl (reliable, same, low)) = absurd (omega (arith, low, late))
         by (inr found) = found
 
+        -- the run is cut at the INVITE
         by-cut : Cut f p (quiet f.idle) 0 before invite after m y → Any (InTime (SendsResponse IsAnyCode)) after ⊎ Any (InTime IsRestart) after
         by-cut found =
             let slept = sleeps-on f p IsInvite asleep before (quiet f.idle) 0 invite.moment found.from refl none found.leads in

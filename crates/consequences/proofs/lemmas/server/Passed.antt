@@ -76,10 +76,12 @@ module _ (p : Times) where
           never : ¬ (GetsRequest Invite e)
           never = All-last (λ g. ¬ (GetsRequest Invite g)) es e all
 
+          -- the server sleeps on, or an INVITE has come, and none has
           by-sleep : (y ≡ quiet (In Idle false)) ⊎ ((e.action ≡ Received) × IsInvite e.kind) → Sits y
           by-sleep (inl same) = inr same
           by-sleep (inr wakes) = absurd (never wakes)
 
+          -- the server was after its 2xx, or idle
           by : Sits x → Sits y
           by (inl passed) = passed-steps e.action e y refl never (subst (λ z. Takes f p z e y) passed take)
           by (inr idle) = by-sleep (asleep-steps f p IsInvite (without-asleep p) e.action e y refl (subst (λ z. Takes f p z e y) idle take))
@@ -129,6 +131,7 @@ module _ (p : Times) where
         by (inl passed) = (passed-emits e y (step-of f p Sent e (quiet Passed) y sent (subst (λ z. Takes f p z e y) passed take))).0
         by (inr idle) = absurd (asleep-emits f p IsInvite (without-asleep p) e y (step-of f p Sent e (quiet (In Idle false)) y sent (subst (λ z. Takes f p z e y) idle take)))
 
+        -- the run is cut at the final response
         by-cut : Cut f p (quiet f.idle) 0 before final after e.moment x → IsResponse IsSuccess e
         by-cut found =
             let opens = run-keeps f p (BeforeFinal f p first_in (is-server-3261 p)) (before-final-kept f p first_in (is-server-3261 p)) before (quiet f.idle) 0 final.moment found.from

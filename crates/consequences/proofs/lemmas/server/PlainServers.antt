@@ -78,6 +78,7 @@ module _ (p : Times) where
   abbrev Is : (PlainServerPhase → List Owed → Type 0) → Owing PlainServerPhase → Type 0
   Is K y = K y.phase y.owes
 
+  -- What follows is of one event e that comes after the events es.
   module _ (es : List MachineEvent) (e : MachineEvent) where
     -- the events with the event that comes
     abbrev Now : List MachineEvent
@@ -91,9 +92,11 @@ module _ (p : Times) where
         later : Opens Now (Proceeding reliable last) owes
         later = opens-later es (e ∷ []) (Proceeding reliable last) owes opens
 
+        -- with the last response owed once more, each debt was sent before
         push : (must : Bool) → AreSaid Now (owes ++ record { message = last; deadline = close_at p e.moment 0; must = must } ∷ [])
         push must = All-push (λ o. IsSaid Now o.message) owes (record { message = last; deadline = close_at p e.moment 0; must = must }) later.2 later.1
 
+        -- whether the last response is a 100 or not
         by : Replies (Proceeding reliable last) last row → Opens Now row.0 (changed p e.moment row.1 owes)
         by (inl h) = rw h.1 (later.0, later.1, push true)
         by (inr h) = rw h.1 (later.0, later.1, push false)
@@ -235,10 +238,12 @@ module _ (p : Times) where
         as_it_waits es h m x (inl done) low lasts = inl done
         as_it_waits es h m x (inr past) low lasts = inr (subst (λ fs. Past fs m) (append-nil es) (past-later es [] h m low past))
 
+        -- an end keeps it
         as_it_ends : (es : List MachineEvent) (h : ℕ) (x : Owing PlainServerPhase) → IsCompleted x.phase ⊎ Past es h → MayEnd f p x h → IsCompleted Idle ⊎ Past es h
         as_it_ends es h x (inl done) may = inr (inl (completed-ends x.phase x.owes h done may))
         as_it_ends es h x (inr past) may = inr past
 
+        -- an event keeps it
         as_it_takes : (es : List MachineEvent) (e : MachineEvent) (x y : Owing PlainServerPhase) → IsCompleted x.phase ⊎ Past es e.moment → Takes f p x e y → IsCompleted y.phase ⊎ Past (es ++ e ∷ []) e.moment
         as_it_takes es e x y (inl done) take = completed-steps e.action es x.phase (left_at e x) e y refl done take
         as_it_takes es e x y (inr past) take = inr (past-later es (e ∷ []) e.moment e.moment (omega arith) past)
@@ -322,6 +327,7 @@ module _ (p : Times) where
           as_it_ends es h x (inl owed) may = absurd (no-end debt refl f p x h owed.1 may)
           as_it_ends es h x (inr paid) may = inr paid
 
+          -- an event keeps Owes
           as_it_takes : (es : List MachineEvent) (e : MachineEvent) (x y : Owing PlainServerPhase) → Owes es e.moment x → Takes f p x e y → Owes (es ++ e ∷ []) e.moment y
           as_it_takes es e x y (inl owed) take = owes-steps e.action es x.phase (left_at e x) e y refl owed.0 (still-owed debt refl e x owed.1) take
           as_it_takes es e x y (inr (inl paid)) take = inr (inl (any-earlier IsPaid es (e ∷ []) paid))
@@ -338,13 +344,16 @@ module _ (p : Times) where
           both : (es : List MachineEvent) → All (λ g. g.reliable ≡ false) es → All (λ g. ¬ (SendsResponse IsFinal g)) es → All IsBefore es
           both es one other k g low = (one k g low, other k g low)
 
+          -- the response cannot be owed any more, since its deadline is past
           by-end : Owes after m y → Any IsPaid after ⊎ Any IsRestart after
           by-end (inl owed) = let low = in-time debt refl f p y m owed.1 (lasts (before ++ final ∷ (between ++ again ∷ after)) m y stands) in absurd (omega (arith, low, late))
           by-end (inr paid) = paid
 
+          -- from the final response on, the run is cut at the request that comes again
           by-again : (x : Owing PlainServerPhase) → IsCompleted x.phase → Cut f p x final.moment between again after m y → Any IsPaid after ⊎ Any IsRestart after
           by-again x done found = by (run-keeps f p (λ es h z. IsCompleted z.phase ⊎ Past es h) completed-kept between x final.moment again.moment found.from (inl done) found.leads)
             where
+              -- the server is completed when the request comes again, since timer J may not have fired
               by : IsCompleted found.from.phase ⊎ Past between again.moment → Any IsPaid after ⊎ Any IsRestart after
               by (inl still) =
                   let owed = again-steps found.from.phase (left_at again found.from) found.to (asks.0, asks.1.1) still (step-of f p Received again found.from found.to asks.1.0 found.step) in
@@ -352,6 +361,7 @@ module _ (p : Times) where
               by (inr (inl past)) = absurd (omega (arith, past, early))
               by (inr (inr restarted)) = absurd (any-none IsRestart between unbroken restarted)
 
+          -- the run is cut at the final response
           by-final : Cut f p (quiet Idle) 0 before final (between ++ again ∷ after) m y → Any IsPaid after ⊎ Any IsRestart after
           by-final found =
               let opens = run-keeps f p BeforeFinal before-final-kept before (quiet Idle) 0 final.moment found.from (λ all. refl) found.leads (both before unreliable first) in

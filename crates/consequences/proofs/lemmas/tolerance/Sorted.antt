@@ -50,6 +50,7 @@ pub record AreFirm {X : Type 0} (f : Figure X) (p : Times) : Type 0 where
   pub received : (x : X) (k : Kind) (e : MachineEvent) (row : X × Change) → f.Receives p x k e row → IsFirm row.1
   pub sent : (x : X) (k : Kind) (e : MachineEvent) (row : X × Change) → f.Sends p x k e row → IsFirm row.1
 
+-- What follows is of a machine that makes no debt that only may be sent: its figure f with the times p.
 module _ {X : Type 0} (f : Figure X) (p : Times) (firm : AreFirm f p) where
   -- each debt must be sent
   abbrev AllMust : List Owed → Type 0

@@ -90,6 +90,7 @@ soft es final (o ∷ os) all =
 
 -- What follows is of the non-INVITE server.
 module _ (p : Times) where
+  -- What follows is of one event e that comes after the events es.
   module _ (es : List MachineEvent) (e : MachineEvent) where
     -- the events with the event that comes
     abbrev Now : List MachineEvent
@@ -159,6 +160,7 @@ module _ (p : Times) where
       same : g.kind ≡ h.kind
       same = one g h (i, i-low, i-at) (j, j-low, j-at) (g-text ∙ sym h-text)
 
+      -- one event has one code, which is not both final and provisional
       by : (a b : ℕ) → g.kind ≡ Response a → h.kind ≡ Response b → IsFinal a → ¬ (IsProvisional b)
       by a b g-kind h-kind final_code provisional_code =
           let codes : a ≡ b = codes-are-one a b (sym g-kind ∙ same ∙ h-kind) in absurd (omega (arith, codes, final_code.0, provisional_code.1))

@@ -54,15 +54,18 @@ later-left t _ _ (both o n os ns message must deadline rest) = by (keep_at t o) 
     kept : keep_at t o ≡ true → keep_at t n ≡ true
     kept is = by-must o.must n.must must is
       where
+        -- a debt that must be sent, or whose deadline is not past, is kept by the wider tolerance too
         by-must : (a b : Bool) → b ≡ a → (a || nat_le t o.deadline) ≡ true → (b || nat_le t n.deadline) ≡ true
         by-must true true same is = refl
         by-must true false same is = absurd cc
         by-must false true same is = refl
         by-must false false same is = nat-le-weaker t o.deadline n.deadline deadline is
 
+    -- where the first debt is left out, the second need not be sent
     may : keep_at t o ≡ false → n.must ≡ false
     may is = must ∙ by-must o.must is
       where
+        -- what is left out need not be sent
         by-must : (a : Bool) → (a || nat_le t o.deadline) ≡ false → a ≡ false
         by-must true is = is
         by-must false is = refl
@@ -70,6 +73,7 @@ later-left t _ _ (both o n os ns message must deadline rest) = by (keep_at t o) 
     true-false : ¬ (true ≡ false)
     true-false same = cc
 
+    -- whether each of the first debts is kept
     by : (a : Bool) → keep_at t o ≡ a → (b : Bool) → keep_at t n ≡ b → Later (filter (keep_at t) os) (filter (keep_at t) ns)
         → Later (if a then o ∷ filter (keep_at t) os else filter (keep_at t) os) (if b then n ∷ filter (keep_at t) ns else filter (keep_at t) ns)
     by true is true same later = both o n (filter (keep_at t) os) (filter (keep_at t) ns) message must deadline later
@@ -78,6 +82,7 @@ later-left t _ _ (both o n os ns message must deadline rest) = by (keep_at t o) 
     by false is false same later = later
 later-left t _ _ (extra n os ns may rest) = by (keep_at t n) (later-left t os ns rest)
   where
+    -- whether the debt that the second list has more is kept
     by : (b : Bool) → Later (filter (keep_at t) os) (filter (keep_at t) ns) → Later (filter (keep_at t) os) (if b then n ∷ filter (keep_at t) ns else filter (keep_at t) ns)
     by true later = extra n (filter (keep_at t) os) (filter (keep_at t) ns) may later
     by false later = later
@@ -161,6 +166,7 @@ module _ (S : List ℕ → Type 0) (t : ℕ) where
       (All-tail (λ n. t ≤ n.deadline) n ns opens) (All-tail (λ n. n.must ≡ false → Dec (S n.message)) n ns tell)
       (λ k among may pays. All-tail (λ j. S j.message → j.must ≡ false) n ns (apart k (Contains-there n ns k among) may pays)))
     where
+      -- whether the send satisfies the debt that the second list has more
       by : Dec (S n.message) → (others : List Owed) × Without Pays ns others × Later left others → (others : List Owed) × Without Pays (n ∷ ns) others × Later left others
       by (yes pays) more = (
         ns,
@@ -201,6 +207,7 @@ fresh-at e x due =
     by o true is is_due kept = is_due is
     by o false is is_due kept = leb-true e.moment o.deadline (subst (λ a. (a || nat_le e.moment o.deadline) ≡ true) is kept)
 
+-- What follows is of a machine by two tolerances: its figure f with the times p, and with the wider ones.
 module _ {X : Type 0} (f : Figure X) (p : Times) (early late : ℕ) (wider : p.late ≤ late) (steady : IsSteady f p (tolerant early late p)) where
   -- the times with the wider tolerance
   abbrev q : Times
@@ -231,6 +238,7 @@ module _ {X : Type 0} (f : Figure X) (p : Times) (early late : ℕ) (wider : p.l
   near-ends : (h : ℕ) (phase : X) (os ns : List Owed) → Later os ns → MayEnd f p (record { phase = phase; owes = os }) h → MayEnd f q (record { phase = phase; owes = ns }) h
   near-ends h phase os ns later may = (steady.opens phase h may.0, later-must os ns later ∙ may.1)
 
+  -- What follows is of one event e that pays a debt: os are the debts by the narrower tolerance, ns by the wider one.
   module _ (e : MachineEvent) (phase : X) (os ns : List Owed) (later : Later os ns)
       (pays : (left : List Owed) → IsWithoutFirst (λ o. f.Satisfies phase e.kind e o.message × (e.moment ≤ o.deadline)) os left →
       (others : List Owed) × IsWithoutFirst (λ o. f.Satisfies phase e.kind e o.message × (e.moment ≤ o.deadline)) ns others × Later left others) where
@@ -295,6 +303,7 @@ module _ {X : Type 0} (f : Figure X) (p : Times) (early late : ℕ) (wider : p.l
     sorted-left es e y one beside =
         All-filter (keep_at e.moment) (λ o. (o.must ≡ true → ¬ (May es y.phase o.message)) × (o.must ≡ false → May es y.phase o.message)) y.owes (is_sorted.sorted es e.moment y one beside)
 
+    -- What follows is of one event e after the events es, which leads from the state x to y.
     module _ (es : List MachineEvent) (e : MachineEvent) (x y : Owing X) where
       -- the event satisfies a debt of this message
       abbrev S : List ℕ → Type 0

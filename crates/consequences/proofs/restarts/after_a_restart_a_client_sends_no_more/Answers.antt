@@ -17,6 +17,7 @@ use Rattle.consequences.proofs.lemmas.client.InviteClients.{client, receives_602
 use Rattle.consequences.proofs.lemmas.client.Once.{IsInvited, IsAsked, IsAnyRequest, invites-once, asks-once, restart-silences}
 use Rattle.consequences.proofs.restarts.after_a_restart_a_client_sends_no_more.Goals as goal
 
+-- by each of the rules, a client that sent its INVITE sends nothing but a CANCEL after a restart
 invited : (p : Times) (rules : Rules) (before between after : List MachineEvent) (invite restart e : MachineEvent) (y : StateOf rules Client true) →
     SendsRequest Invite invite → IsRestart restart → e.action ≡ Sent →
     StandsAfter (figure_of rules Client true) p (before ++ invite ∷ (between ++ restart ∷ after)) e y → e.kind ≡ Request Cancel

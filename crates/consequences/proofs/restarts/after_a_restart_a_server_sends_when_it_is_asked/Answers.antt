@@ -21,7 +21,9 @@ use Rattle.consequences.proofs.lemmas.server.Asleep.{IsAsleep, IsInvite, IsAnyRe
 use Rattle.consequences.proofs.lemmas.run.Running.{step-of, stands-run, cut}
 use Rattle.consequences.proofs.restarts.after_a_restart_a_server_sends_when_it_is_asked.Goals as goal
 
+-- What follows is of a server that sleeps until a request of Wakes comes: its figure f with the times p.
 module _ {X : Type 0} (f : Figure X) (p : Times) (Wakes : Kind → Type 0) (asleep : IsAsleep f p Wakes) (is_request : (k : Kind) → Wakes k → (method : Method) × (k ≡ Request method)) where
+  -- after a restart the server sends nothing until a request comes
   silent : (before after : List MachineEvent) (restart e : MachineEvent) (y : Owing X) → IsRestart restart → All (λ g. ¬ (GetsAnyRequest g)) after → e.action ≡ Sent →
       ¬ (StandsAfter f p (before ++ restart ∷ after) e y)
   silent before after restart e y restarts none sent (x, stands, take) =
@@ -32,6 +34,7 @@ module _ {X : Type 0} (f : Figure X) (p : Times) (Wakes : Kind → Type 0) (asle
       (All-weaker (λ g. ¬ (GetsAnyRequest g)) (λ g. ¬ ((g.action ≡ Received) × Wakes g.kind)) asked after none) found.goes in
       asleep-emits f p Wakes asleep e y (step-of f p Sent e (quiet f.idle) y sent (subst (λ z. Takes f p z e y) slept take))
 
+-- each of the servers, by each of the rules, sends nothing after a restart until a request comes
 by : (p : Times) (rules : Rules) (invite : Bool) (before after : List MachineEvent) (restart e : MachineEvent) (y : StateOf rules Server invite) →
     IsRestart restart → All (λ f. ¬ (GetsAnyRequest f)) after → e.action ≡ Sent → ¬ (StandsAfter (figure_of rules Server invite) p (before ++ restart ∷ after) e y)
 by p R6026 true before after restart e y restarts none sent stands = silent invite_server p IsInvite (corrected-asleep p) (λ k is. (Invite, is)) before after restart e y restarts none sent stands

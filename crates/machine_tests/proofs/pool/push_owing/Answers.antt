@@ -3,15 +3,17 @@ use Rattle.sip_machine.specs.Texts.{Keeps}
 use Rattle.sip_machine.specs.Rules.{Knows}
 use Rattle.machine_tests.proofs.pool.push_owing.Goals as goal
 
-pub take-requires-clause-known : goal.take-requires-clause-known
-take-requires-clause-known g c =
+-- the first state names nothing, so the book has what the states name
+pub take_entry-requires-clause-known : goal.take_entry-requires-clause-known
+take_entry-requires-clause-known g c =
     let first = g.M.Machine.first c.args.machine.now in
     let fits = g.met.M.Machine.first_fits c.args.machine.now in
     rw (c.in_ok-push.ensures.ok, c.first.ensures)
     (All-push (Knows g.M.Machine.names c.args.book.now) c.args.pool.now first c.requires.known (rw fits.0 (All-nil (Keeps c.args.book.now))))
 
-pub take-requires-clause-in_range : goal.take-requires-clause-in_range
-take-requires-clause-in_range g c =
+-- the first state of a machine is in range
+pub take_entry-requires-clause-in_range : goal.take_entry-requires-clause-in_range
+take_entry-requires-clause-in_range g c =
     let first = g.M.Machine.first c.args.machine.now in
     let fits = g.met.M.Machine.first_fits c.args.machine.now in
     rw (c.in_ok-push.ensures.ok, c.first.ensures) (All-push g.M.Machine.in_range c.args.pool.now first c.requires.in_range fits.1)

@@ -5,6 +5,7 @@ use Rattle.sip_machine.specs.Texts.{Keeps}
 use Rattle.sip_machine.specs.Rules.{Knows}
 use Rattle.machine_tests.proofs.runs.first_pool.Goals as goal
 
+-- the first state names nothing, so every book has what it names
 pub returns-clause-known : goal.returns-clause-known
 returns-clause-known g c = λ texts.
     let first = at_rest c.first.result in
@@ -12,6 +13,7 @@ returns-clause-known g c = λ texts.
     rw (c.in_ok-push.ensures.ok, c.new-pool.ensures)
     (All-push (Knows g.M.Machine.names texts) [] first (All-nil (Knows g.M.Machine.names texts)) (rw (c.first.ensures, fits.0) (All-nil (Keeps texts))))
 
+-- the first state of a machine is in range
 pub returns-clause-in_range : goal.returns-clause-in_range
 returns-clause-in_range g c =
     let first = at_rest c.first.result in

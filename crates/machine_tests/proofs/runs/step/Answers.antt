@@ -4,6 +4,7 @@ use Rattle.sip_machine.specs.Rules.{Knows}
 use Rattle.machine_tests.proofs.Picked.{all_picked}
 use Rattle.machine_tests.proofs.runs.step.Goals as goal
 
+-- after one state more was asked, the book has all that the states name, and all are in range
 pub loop-at-preserved : goal.loop-at-preserved
 loop-at-preserved g c =
     let ok = c.in_ok-successors.ensures.ok (g.M.Machine.first c.args.machine.now) in
@@ -16,12 +17,14 @@ loop-at-preserved g c =
       in_range = All-append g.M.Machine.in_range before ok.0 is.in_range ok.2.in_range;
     })
 
+-- the states that are kept are some of those that were found, so the book has all that they name
 pub returns-clause-known : goal.returns-clause-known
 returns-clause-known g c =
     let first = g.M.Machine.first c.args.machine.now in
     rw (c.keep.ensures first, c.deref.ensures.value)
     (all_picked (Knows g.M.Machine.names c.args.book.now) c.loop-at.pool first c.in_ok-given.given.items c.loop-at.invariant.known (rw (← c.len.ensures) c.in_ok-given.ensures.within))
 
+-- the states that are kept are among those whose moments are in range
 pub returns-clause-in_range : goal.returns-clause-in_range
 returns-clause-in_range g c =
     let first = g.M.Machine.first c.args.machine.now in

@@ -5,12 +5,15 @@ use Rattle.sip_machine.specs.Rules.{Knows}
 use Rattle.machine_tests.proofs.Picked.{behind_picked}
 use Rattle.machine_tests.proofs.runs.step_together.Goals as goal
 
+-- the book has what the first states name
 pub successors_each-requires-clause-known : goal.successors_each-requires-clause-known
 successors_each-requires-clause-known g c = All-take (Knows g.M.Machine.names c.args.book.now) c.len-count.result c.args.pool.now c.requires.known
 
+-- the moments of the first states are in range
 pub successors_each-requires-clause-in_range : goal.successors_each-requires-clause-in_range
 successors_each-requires-clause-in_range g c = All-take g.M.Machine.in_range c.len-count.result c.args.pool.now c.requires.in_range
 
+-- the states that are kept are some of those that were found, so the book has all that they name
 pub returns-clause-known : goal.returns-clause-known
 returns-clause-known g c =
     let first = g.M.Machine.first c.args.machine.now in
@@ -19,6 +22,7 @@ returns-clause-known g c =
     (behind_picked (Knows g.M.Machine.names c.args.book.now) c.args.pool.now added c.successors_each.new.pool first c.in_ok-given.given.items is
     (rw c.len-count.ensures at c.in_ok-given.ensures.within) covers.known)
 
+-- the states that are kept are some of those that were found, so they are in range
 pub returns-clause-in_range : goal.returns-clause-in_range
 returns-clause-in_range g c =
     let first = g.M.Machine.first c.args.machine.now in

@@ -2,9 +2,11 @@ use Rattle.std.proofs.Common.{◌+◌, inl, inr, arith}
 use Rattle.sip_machine.proofs.texts.TextLaws.{Keeps-grow_cases}
 use Rattle.machine_tests.proofs.tests.are_numbered.Goals as goal
 
+-- the messages of the book have numbers below the first one
 pub loop-place-init : goal.loop-place-init
 loop-place-init c n keeps = let low = c.requires.above n keeps in omega (arith, low)
 
+-- each number of the book is one that was given so far
 pub loop-place-preserved : goal.loop-place-preserved
 loop-place-preserved c n keeps = elim c.in_ok-right.ensures.grows [
   | inl same ↦ let low = c.loop-place.invariant n (rw same.0 at keeps) in omega (arith, low)
@@ -14,5 +16,6 @@ loop-place-preserved c n keeps = elim c.in_ok-right.ensures.grows [
   ]
 ]
 
+-- all messages were added
 pub returns : goal.returns
 returns c n keeps = let low = c.loop-place.invariant n keeps in omega (arith, c.loop-place-test.false)

@@ -4,6 +4,7 @@ use Rattle.sip_message.specs.ValueParts.{start_parts}
 use Rattle.sip_key.proofs.AckOfLemmas.{ack-line}
 use Rattle.sip_key.proofs.ack_of.is_ack_line.Goals as goal
 
+-- the first line is of an ACK, so the two Request-URIs decide
 pub returns-then-eq : goal.returns-then-eq
 returns-then-eq c =
     ack-line _ _ _ _ _ _ c.eq-then-eq.result (ap start_parts c.in-Request-Request.is-0) (ap start_parts c.in-Request-Request.is-1)

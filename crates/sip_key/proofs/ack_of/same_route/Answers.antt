@@ -5,6 +5,7 @@ use Rattle.sip_standard.specs.Solid.{solid}
 use Rattle.sip_key.proofs.SolidLemmas.{same-items}
 use Rattle.sip_key.proofs.ack_of.same_route.Goals as goal
 
+-- the two runs of bytes are the values joined by commas without their blanks
 pub returns : goal.returns
 returns c =
     let one = c.new.ensures ∙ ap (λ vs. solid (join_with_byte comma vs)) c.routes.ensures in

@@ -8,11 +8,13 @@ use Rattle.sip_standard.specs.Concerns.{role_of, sent_by_of}
 use Rattle.sip_key.proofs.ConcernLemmas.{top-port, own-is}
 use Rattle.sip_key.proofs.concern.key_of.Goals as goal
 
+-- the port of the top Via is a port by the grammar
 pub key_with-requires : goal.key_with-requires
 key_with-requires c =
     let P : Element → Type 0 = λ e. IfSome e.1.port Port in
     subst P (sym c.top_via-via.ensures) (top-port _ _ c.known.ensures.1.parts.is)
 
+-- the role, the branch, the sent-by and the method are those of the message, so the key is that of its own transaction
 pub returns : goal.returns
 returns c =
     let d = c.args.direction in

@@ -3,6 +3,7 @@ use Rattle.std.proofs.lemmas.Grind.{common_steps}
 use Rattle.sip_key.specs.inner.KeyText.{length_bytes, role_byte, key_head}
 use Rattle.sip_key.proofs.key.begun.Goals as goal
 
+-- the text begins with the role, the two lengths and the branch
 pub returns : goal.returns
 returns c =
     let branch = c.args.branch.now in

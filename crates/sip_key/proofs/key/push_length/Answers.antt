@@ -2,6 +2,7 @@ use Rattle.std.proofs.Common.{◌≡◌, ◌++◌, ◌∷◌, [], ◌/◌, ◌%�
 use Rattle.sip_key.specs.inner.KeyText.{length_bytes}
 use Rattle.sip_key.proofs.key.push_length.Goals as goal
 
+-- a length is written as its 64s, each as one byte of 64, and one byte for what is left
 pub returns : goal.returns
 unfolding length_bytes
 returns c =

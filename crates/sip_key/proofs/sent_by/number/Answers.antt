@@ -3,20 +3,24 @@ use Rattle.sip_text.proofs.uris.UriPortLemmas.{ReadsDigits}
 use Rattle.sip_key.proofs.SentByLemmas.{reads-more}
 use Rattle.sip_key.proofs.sent_by.number.Goals as goal
 
+-- the digits so far are few, so the number fits
 pub overflow_mul-number : goal.overflow_mul-number
 overflow_mul-number c =
     let more = reads-more c.args.digits.now c.loop-digit.digit-index c.loop-digit.number c.requires c.loop-digit-test.true c.loop-digit.invariant in
     omega (arith, more.value)
 
+-- a digit is not below `0`
 pub overflow_sub-digit : goal.overflow_sub-digit
 overflow_sub-digit c =
     (reads-more c.args.digits.now c.loop-digit.digit-index c.loop-digit.number c.requires c.loop-digit-test.true c.loop-digit.invariant).low
 
+-- a port of at most five digits is a number of 16 bits
 pub overflow_add-number : goal.overflow_add-number
 overflow_add-number c =
     let more = reads-more c.args.digits.now c.loop-digit.digit-index c.loop-digit.number c.requires c.loop-digit-test.true c.loop-digit.invariant in
     omega (arith, more.value, c.from.ensures)
 
+-- one digit more makes the number ten times as much and the digit
 pub loop-digit-preserved : goal.loop-digit-preserved
 loop-digit-preserved c =
     let more = reads-more c.args.digits.now c.loop-digit.digit-index c.loop-digit.number c.requires c.loop-digit-test.true c.loop-digit.invariant in

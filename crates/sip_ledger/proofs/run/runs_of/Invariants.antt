@@ -1,5 +1,4 @@
-use Rattle.std.proofs.Common.{take}
-use Rattle.sip_ledger.specs.Runs.{AreRuns}
+use Rattle.sip_ledger.proofs.Words.{take, AreRuns}
 use Rattle.sip_ledger.proofs.run.runs_of.Given as goal
 
 abbrev pub invariant-loop-debt : goal.invariant-loop-debt

@@ -7,6 +7,7 @@ use Rattle.sip_listing.specs.inner.StateLine.{state_line}
 use Rattle.sip_listing.proofs.LinesLemmas.{IsSortedBy-map}
 use Rattle.sip_listing.proofs.lines.lines_of.Goals as goal
 
+-- the lines are those of the states, sorted by their bytes
 pub returns : goal.returns
 returns c =
     let states = c.args.states.now in

@@ -1,6 +1,7 @@
 use Rattle.sip_listing.proofs.LinesLemmas.{five_appended}
 use Rattle.sip_listing.proofs.transaction.push_line.Goals as goal
 
+-- the line is its five pieces, one after another
 pub returns : goal.returns
 returns c = λ ascii.
     let h1 = rw c.into.ensures at c.in_ok-push_with_number.ensures in

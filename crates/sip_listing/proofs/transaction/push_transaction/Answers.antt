@@ -3,6 +3,7 @@ use Rattle.std.proofs.lemmas.List.{length-map}
 use Rattle.sip_listing.proofs.StateLemmas.{listed}
 use Rattle.sip_listing.proofs.transaction.push_transaction.Goals as goal
 
+-- the text is the transaction's line and then the line of each of its states
 pub returns : goal.returns
 returns c = (
   map string_bytes c.in_ok-lines.lines.items,

@@ -7,6 +7,7 @@ use Rattle.sip_log.proofs.answers.SaysLemmas.{Says-step}
 use Rattle.sip_log.proofs.lines.FrontLemmas.{ComesNext-entry}
 use Rattle.sip_log.proofs.entry.next_entry.Goals as goal
 
+-- where a byte is there, and the log is not too long, an entry comes, and it is read
 pub returns-in-Ok-clause-says : goal.returns-in-Ok-clause-says
 returns-in-Ok-clause-says g c =
     let hold = c.in_ok-hold.ensures in
@@ -17,6 +18,7 @@ returns-in-Ok-clause-says g c =
     (λ ys next left at. ComesNext-entry c.args.format c.args.count c.args.last held ys next some few at)
     c.in-Ok.ensures.says
 
+-- where a byte is there, and the log is not too long, an entry comes, and its fault is told
 pub returns-in-Err-clause-says : goal.returns-in-Err-clause-says
 returns-in-Err-clause-says g c =
     let hold = c.in_ok-hold.ensures in

@@ -8,6 +8,7 @@ use Rattle.sip_log.proofs.lines.FrontLemmas.{AtLine-truncated, AtLine-long, AtLi
 use Rattle.sip_log.proofs.answers.ToldLemmas.{none_left}
 use Rattle.sip_log.proofs.entry.read_entry.Goals as goal
 
+-- where no line feed came up to the end, the log is cut off within the line
 pub returns-then-as_slice-lt-LONGEST_LINE-clause-says : goal.returns-then-as_slice-lt-LONGEST_LINE-clause-says
 returns-then-as_slice-lt-LONGEST_LINE-clause-says g c =
     let line = c.in_ok-len.ensures in
@@ -18,6 +19,7 @@ returns-then-as_slice-lt-LONGEST_LINE-clause-says g c =
     (λ ys left. AtLine-truncated c.args.format c.args.last held ys none few
     (elim (line.none c.in_default.is) as (λ _. ys ≡ []) [ inl many ↦ absurd (omega arith) | inr end ↦ none_left _ ys left end ]))
 
+-- where the longest line is held without a line feed, the fault is that of an entry's line
 pub returns-in_default-clause-says : goal.returns-in_default-clause-says
 returns-in_default-clause-says g c =
     let line = c.in_ok-len.ensures in
@@ -26,6 +28,7 @@ returns-in_default-clause-says g c =
     Says-fault line.reads (LineComes c.args.format c.args.last) faults.EntryLine
     (λ ys left. AtLine-long c.args.format c.args.last held ys (rw c.in_default.is at line.first) many)
 
+-- where the line is of no form, the fault is that of an entry's line
 pub returns-in_default-read_head-clause-says : goal.returns-in_default-read_head-clause-says
 returns-in_default-read_head-clause-says g c =
     let line = c.in_ok-len.ensures in
@@ -35,6 +38,7 @@ returns-in_default-read_head-clause-says g c =
     (λ ys left. AtLine-other c.args.format c.args.last held ys c.in-Some.len within.1 (rw c.in-Some.is at line.first)
     (rw c.as_slice-2.ensures.value at c.in_default-read_head.ensures))
 
+-- where the line is read, what comes is what comes after this line
 pub returns-clause-says : goal.returns-clause-says
 returns-clause-says g c =
     let line = c.in_ok-len.ensures in

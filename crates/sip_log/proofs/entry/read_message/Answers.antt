@@ -7,6 +7,7 @@ use Rattle.sip_log.proofs.answers.SaysLemmas.{Says-value, Says-fault}
 use Rattle.sip_log.proofs.lines.MessageLemmas.{AtMessage-open, AtMessage-gives}
 use Rattle.sip_log.proofs.entry.read_message.Goals as goal
 
+-- no line feed stands after the message
 pub returns-then-held-len-ne10-clause-says : goal.returns-then-held-len-ne10-clause-says
 returns-then-held-len-ne10-clause-says g c =
     let hold = c.in_ok-hold.ensures in
@@ -17,6 +18,7 @@ returns-then-held-len-ne10-clause-says g c =
     Says-fault hold.reads (MessageComes c.args.action c.args.moment len) faults.EntryLine
     (λ ys left. AtMessage-open c.args.action c.args.moment len held ys inside (λ same. c.if-held-len-ne10.true (byte ∙ same)))
 
+-- where a line feed stands after the bytes of the message, the entry with these bytes comes
 pub returns-clause-says : goal.returns-clause-says
 returns-clause-says g c =
     let hold = c.in_ok-hold.ensures in

@@ -5,15 +5,18 @@ use Rattle.sip_log.specs.inner.Header.{NumberAfter}
 use Rattle.sip_log.proofs.headers.HeaderLemmas.{NumberAfter-one}
 use Rattle.sip_log.proofs.header.last_number.Goals as goal
 
+-- no number stands after the word
 pub returns-in_err-value : goal.returns-in_err-value
 returns-in_err-value c = rw c.from_residual.ensures (λ n is. c.in_err-value.ensures n [] is)
 
+-- something is left after the number, so the text is not a number alone
 pub returns-then-not-is_empty : goal.returns-then-not-is_empty
 returns-then-not-is_empty c = λ n is.
     let value = c.in_ok-value.ensures in
     let none : [] ≡ c.in_ok-value.rest.now = (NumberAfter-one c.args.word.now c.args.text.now n value.0 [] c.in_ok-value.rest.now is value.1).1 in
     eqb-false _ 0 (sym c.if-not-is_empty.ensures) (ap length (sym none))
 
+-- where nothing follows the number, the text ends with it
 pub returns : goal.returns
 returns c =
     let value = c.in_ok-value.ensures in

@@ -7,11 +7,13 @@ use Rattle.sip_log.proofs.lines.SplitLemmas.{part-found}
 use Rattle.sip_log.proofs.headers.HeaderLemmas.{NumberAfter-part, NumberAfter-of}
 use Rattle.sip_log.proofs.header.number_after.Goals as goal
 
+-- the text does not begin with the word
 pub returns-in_err-text : goal.returns-in_err-text
 returns-in_err-text c =
     let none = strip_prefix_is Decides-eqb c.args.text.now c.args.word.now None c.in_err-text.ensures.cases in
     rw c.from_residual.ensures (λ n behind is. none _ is.whole)
 
+-- where what stands between the word and the next blank is no number, no number follows the word
 pub returns-in_err-value : goal.returns-in_err-value
 returns-in_err-value c =
     let word = c.args.word.now in
@@ -24,6 +26,7 @@ returns-in_err-value c =
     rw c.from_residual-in_err-value.ensures
     (λ n behind is. c.in_err-value.ensures n (NumberAfter-part word text (take len rest) (drop len rest) after found.0 found.1 n behind is))
 
+-- what stands between the word and the next blank is the number, and the rest begins with that blank
 pub returns : goal.returns
 returns c =
     let word = c.args.word.now in

@@ -7,6 +7,7 @@ use Rattle.sip_log.proofs.answers.SaysLemmas.{Says-step, Says-fault}
 use Rattle.sip_log.proofs.headers.HeaderLemmas.{ComesFirst-other, ComesFirst-second}
 use Rattle.sip_log.proofs.header.read_header.Goals as goal
 
+-- the first line is the title of no format
 pub returns-in_default : goal.returns-in_default
 returns-in_default g c =
     let hold = c.in_ok-hold.ensures in
@@ -14,6 +15,7 @@ returns-in_default g c =
     Says-fault hold.reads HeaderComes faults.Header
     (λ ys left. ComesFirst-other held ys (hold.some c.if-not-branch.false) (rw c.as_slice.ensures.value at c.in_default.ensures))
 
+-- where the first line is that of a format, what comes is what comes after it
 pub returns : goal.returns
 returns g c =
     let hold = c.in_ok-hold.ensures in

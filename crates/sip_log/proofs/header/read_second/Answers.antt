@@ -8,6 +8,7 @@ use Rattle.sip_log.proofs.answers.ToldLemmas.{none_left}
 use Rattle.sip_log.proofs.headers.HeaderLemmas.{ComesSecond-none, ComesSecond-other, ComesSecond-times}
 use Rattle.sip_log.proofs.header.read_second.Goals as goal
 
+-- the second line does not end within the longest there may be
 pub returns-in_default : goal.returns-in_default
 returns-in_default g c =
     let line = c.in_ok-len.ensures in
@@ -16,6 +17,7 @@ returns-in_default g c =
     (λ ys left. ComesSecond-none c.args.format held ys (rw c.in_default.is at line.first)
     (elim (line.none c.in_default.is) [ inl many ↦ inl many | inr end ↦ inr (none_left _ ys left end) ]))
 
+-- where the line tells no times, the fault is that of the header
 pub returns-in_default-read_times : goal.returns-in_default-read_times
 returns-in_default-read_times g c =
     let line = c.in_ok-len.ensures in
@@ -24,6 +26,7 @@ returns-in_default-read_times g c =
     (λ ys left. ComesSecond-other c.args.format held ys c.in-Some.len (rw c.in-Some.is at line.first)
     (rw c.as_slice.ensures.value at c.in_default-read_times.ensures))
 
+-- where the second line tells times, what comes is what comes after it
 pub returns : goal.returns
 returns g c =
     let line = c.in_ok-len.ensures in

@@ -9,6 +9,7 @@ use Rattle.sip_log.proofs.answers.ToldLemmas.{none_left, Reads-then}
 use Rattle.sip_log.proofs.headers.HeaderLemmas.{ComesThird-end, ComesThird-other, ComesThird-unruled, ComesThird-rules}
 use Rattle.sip_log.proofs.header.read_third.Goals as goal
 
+-- where the log ends after its second line, the header ends there
 pub returns-then-not-branch : goal.returns-then-not-branch
 returns-then-not-branch g c =
     let p = c.args.times in
@@ -20,6 +21,7 @@ returns-then-not-branch g c =
     let none = none_left _ ys left end.1 in
     ComesThird-end c.args.format p c.requires _ (omega (arith, length-append held ys, ap length none, end.0)))
 
+-- where the next line does not begin with `r`, it is no line of rules, and the header ends before it
 pub returns-then-as_slice-ne114 : goal.returns-then-as_slice-ne114
 returns-then-as_slice-ne114 g c =
     let p = c.args.times in
@@ -30,6 +32,7 @@ returns-then-as_slice-ne114 g c =
     ComesThird-other c.args.format p c.requires held ys (hold.some c.if-not-branch.false)
     (λ is. c.if-as_slice-ne114.true (ap (λ (t : _). get_or t 0 0) c.as_slice.ensures.value ∙ is)))
 
+-- where the log ends before a line of rules would, the header ends after its second line
 pub returns-then-not-branch-2 : goal.returns-then-not-branch-2
 returns-then-not-branch-2 g c =
     let p = c.args.times in
@@ -41,6 +44,7 @@ returns-then-not-branch-2 g c =
     let none = none_left _ ys left end.1 in
     ComesThird-end c.args.format p c.requires _ (omega (arith, length-append held ys, ap length none, end.0)))
 
+-- where the next line is no line of rules, the header ends before it
 pub returns-in_default : goal.returns-in_default
 returns-in_default g c =
     let p = c.args.times in
@@ -50,6 +54,7 @@ returns-in_default g c =
     (λ ys left.
     ComesThird-unruled c.args.format p c.requires held ys (hold.some c.if-not-branch-2.false) (rw c.as_slice-2.ensures.value at c.in_default.ensures))
 
+-- where the next line is one of rules, the header ends after it and has these rules
 pub returns : goal.returns
 returns g c =
     let p = c.args.times in

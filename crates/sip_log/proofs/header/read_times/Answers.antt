@@ -5,14 +5,17 @@ use Rattle.sip_log.specs.inner.Header.{TimesLine}
 use Rattle.sip_log.proofs.headers.HeaderLemmas.{t2-after, t4-after, tolerances-after, times-after, times-read}
 use Rattle.sip_log.proofs.header.read_times.Goals as goal
 
+-- the line does not begin with T1
 pub returns-in_err-t1 : goal.returns-in_err-t1
 returns-in_err-t1 c = rw c.from_residual.ensures (λ p is within. c.in_err-t1.ensures _ _ is.t1_is)
 
+-- no T2 stands after T1
 pub returns-in_err-t2 : goal.returns-in_err-t2
 returns-in_err-t2 c =
     let t1 = c.in_ok-t1.ensures in
     rw c.from_residual-in_err-t2.ensures (λ p is within. c.in_err-t2.ensures _ _ (t2-after c.args.format c.args.line.now p is t1.0 _ t1.1))
 
+-- where no number follows ` t4 `, the line tells no times
 pub returns-in_err-t4 : goal.returns-in_err-t4
 returns-in_err-t4 c =
     let t1 = c.in_ok-t1.ensures in
@@ -20,6 +23,7 @@ returns-in_err-t4 c =
     rw c.from_residual-in_err-t4.ensures
     (λ p is within. c.in_err-t4.ensures _ _ (t4-after c.args.format c.args.line.now p is t1.0 _ t1.1 t2.0 _ t2.1))
 
+-- where no tolerances follow, the line tells no times
 pub returns-in_err-early : goal.returns-in_err-early
 returns-in_err-early c =
     let t1 = c.in_ok-t1.ensures in
@@ -29,6 +33,7 @@ returns-in_err-early c =
     (λ p is within.
     c.in_err-early.ensures _ _ (tolerances-after c.args.format c.args.line.now p is t1.0 _ t1.1 t2.0 _ t2.1 t4.0 _ t4.1))
 
+-- where t1, t2, t4 and the tolerances were read, the line tells the times that have these
 pub returns : goal.returns
 returns c =
     let format = c.args.format in

@@ -4,6 +4,7 @@ use Rattle.sip_log.specs.inner.Header.{NumberAfter, Tolerances}
 use Rattle.sip_log.proofs.headers.HeaderLemmas.{NumberAfter-one}
 use Rattle.sip_log.proofs.header.read_tolerances.Goals as goal
 
+-- in format 1 no tolerance stands there
 pub returns-in_err-tolerance-in-One : goal.returns-in_err-tolerance-in-One
 returns-in_err-tolerance-in-One c =
     let text = c.args.text.now in
@@ -12,6 +13,7 @@ returns-in_err-tolerance-in-One c =
     let at = subst (λ f. Tolerances f text early late) c.in-One.is is in
     c.in_err-tolerance-in-One.ensures late at.0)
 
+-- where no number follows ` early `, the line tells no two tolerances
 pub returns-in_err-early-in-Two : goal.returns-in_err-early-in-Two
 returns-in_err-early-in-Two c =
     let text = c.args.text.now in
@@ -20,6 +22,7 @@ returns-in_err-early-in-Two c =
     let at = subst (λ f. Tolerances f text early late) c.in-Two.is is in
     c.in_err-early-in-Two.ensures early at.0 at.1)
 
+-- where no number follows ` late `, the line tells no two tolerances
 pub returns-in_err-late-in-Two : goal.returns-in_err-late-in-Two
 returns-in_err-late-in-Two c =
     let text = c.args.text.now in

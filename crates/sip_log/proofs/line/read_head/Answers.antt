@@ -6,15 +6,18 @@ use Rattle.sip_log.specs.inner.Line.{message, plain}
 use Rattle.sip_log.proofs.lines.LineLemmas.{HeadLine-plain, HeadLine-message, HeadLine-unlettered, HeadLine-no_numbers, HeadLine-no_number}
 use Rattle.sip_log.proofs.line.read_head.Goals as goal
 
+-- the line does not begin with the letter of an entry
 pub returns-in_err-action : goal.returns-in_err-action
 returns-in_err-action c = rw c.from_residual.ensures (HeadLine-unlettered c.args.format c.args.line.now c.in_err-action.ensures)
 
+-- the line of an entry with a message lacks a moment and a length
 pub returns-in_err-moment : goal.returns-in_err-moment
 returns-in_err-moment c =
     let line = c.args.line.now in
     rw c.from_residual-in_err-moment.ensures
     (HeadLine-no_numbers c.args.format line c.in_ok-action.action (c.if-has_message.ensures.0 refl) c.in_ok-action.ensures.1 (rw (take_rest line 2) at c.in_err-moment.ensures))
 
+-- where the action has a message, the line tells a moment and a length
 pub returns-then-has_message : goal.returns-then-has_message
 returns-then-has_message c =
     let line = c.args.line.now in
@@ -26,12 +29,14 @@ returns-then-has_message c =
       cc,
     )
 
+-- where what follows the action is no number, the line tells nothing
 pub returns-in_err-moment-2 : goal.returns-in_err-moment-2
 returns-in_err-moment-2 c =
     let line = c.args.line.now in
     rw c.from_residual-in_err-moment-2.ensures
     (HeadLine-no_number c.args.format line c.in_ok-action.action (λ has. true≢false (sym (c.if-has_message.ensures.1 has))) c.in_ok-action.ensures.1 (rw (take_rest line 2) at c.in_err-moment-2.ensures))
 
+-- where the action has no message, the line tells a moment alone
 pub returns : goal.returns
 returns c =
     let line = c.args.line.now in

@@ -7,12 +7,14 @@ use Rattle.sip_log.specs.inner.Spelling.{space}
 use Rattle.sip_log.proofs.numbers.DigitLemmas.{digits-front}
 use Rattle.sip_log.proofs.line.read_numbers.Goals as goal
 
+-- the moment is not written as a number is
 pub returns-then-not-is_plain : goal.returns-then-not-is_plain
 returns-then-not-is_plain c = λ moment len is.
     let read = c.digits-moment.ensures in
     let parts = digits-front c.args.text.now is.moment_text is.len_text c.digits-moment.result.1 is.whole is.moment_is.digits.1 read.within read.run read.end in
     true≢false (sym (c.if-not-is_plain.ensures.1 (subst IsPlain (sym parts.0) (is.moment_is.digits.0, is.moment_is.plain))))
 
+-- where no blank follows the moment, the line tells no two numbers
 pub returns-in_err-rest : goal.returns-in_err-rest
 returns-in_err-rest c =
     rw c.from_residual.ensures
@@ -21,6 +23,7 @@ returns-in_err-rest c =
     let parts = digits-front c.args.text.now is.moment_text is.len_text c.digits-moment.result.1 is.whole is.moment_is.digits.1 read.within read.run read.end in
     (rw (take_rest c.args.text.now c.digits-moment.result.1) at c.in_err-rest.ensures) is.len_text parts.1)
 
+-- where what follows the blank is no number, the line tells no two numbers
 pub returns-in_err-len : goal.returns-in_err-len
 returns-in_err-len c =
     let text = c.args.text.now in
@@ -33,6 +36,7 @@ returns-in_err-len c =
     let same : is.len_text ≡ c.in_ok-rest.rest.now = cc in
     c.in_err-len.ensures len (subst (λ t. IsNumber t len) same is.len_is))
 
+-- the moment, a blank and the length are the whole line
 pub returns : goal.returns
 returns c =
     let text = c.args.text.now in

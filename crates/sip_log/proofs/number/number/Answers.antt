@@ -6,14 +6,17 @@ use Rattle.std.proofs.lemmas.Str.Parse.{digit_at}
 use Rattle.sip_log.specs.inner.Number.{cut}
 use Rattle.sip_log.proofs.number.number.Goals as goal
 
+-- the digits are not as a number is written: none, or a needless zero
 pub returns-then-not-is_plain : goal.returns-then-not-is_plain
 returns-then-not-is_plain c = λ n is. true≢false (sym (c.if-not-is_plain.ensures.1 (is.digits.0, is.plain)))
 
+-- a byte that is no digit stands in the text
 pub returns-then-len-text : goal.returns-then-len-text
 returns-then-len-text c = λ n is.
     let digit = digit_at c.args.text.now c.digits-value.result.1 is.digits.1 (omega arith) in
     omega (arith, digit, c.digits-value.ensures.end (omega arith))
 
+-- where all bytes are digits and the number is plain, the text is that number
 pub returns : goal.returns
 returns c =
     let text = c.args.text.now in

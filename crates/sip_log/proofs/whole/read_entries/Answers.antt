@@ -6,6 +6,7 @@ use Rattle.sip_log.specs.Reading.{ReaderState, beside_source}
 use Rattle.sip_log.proofs.answers.CallerLemmas.{Stands, Stands-gives, Stands-fault, Nexts-counted, Nexts-fine}
 use Rattle.sip_log.proofs.whole.read_entries.Goals as goal
 
+-- after one entry more, the list has all entries that were read, in their order
 pub loop-entry-preserved : goal.loop-entry-preserved
 loop-entry-preserved g c =
     let l = c.loop-entry in
@@ -25,6 +26,7 @@ loop-entry-preserved g c =
       few = omega (arith, counted.up, counted.few);
     }
 
+-- where the next entry cannot be read, this fault is that of the log after the entries before it
 pub returns-in-Err-clause-err : goal.returns-in-Err-clause-err
 returns-in-Err-clause-err g c =
     let l = c.loop-entry in

@@ -1,6 +1,7 @@
 use Rattle.sip_log.proofs.spelling.PutsLemmas.{one-put}
 use Rattle.sip_log.proofs.writing.put_header.Goals as goal
 
+-- the parts that were put one after another are a header of format 1
 pub returns : goal.returns
 returns g c =
     one-put _ _ _ _ _ _ _ _ _ _ _ _ c.args.params.now c.put_rules.result (c.in_ok-put.ensures.appends, c.in_ok-put.ensures.ok) c.in_ok-put_timers.ensures

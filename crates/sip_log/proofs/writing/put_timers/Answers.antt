@@ -1,6 +1,7 @@
 use Rattle.sip_log.proofs.spelling.PutsLemmas.{timers-put}
 use Rattle.sip_log.proofs.writing.put_timers.Goals as goal
 
+-- the three parts that were put are the timers of a header
 pub returns : goal.returns
 returns g c =
     timers-put _ _ _ _ _ _ _ _ c.args.params.now c.put_named-3.result (rw c.t1.ensures.value at c.in_ok-put_named.ensures)

@@ -1,6 +1,7 @@
 use Rattle.sip_log.proofs.spelling.PutsLemmas.{two-put}
 use Rattle.sip_log.proofs.writing.write_header_2.Goals as goal
 
+-- the parts that were put one after another are a header of format 2
 pub returns : goal.returns
 returns g c =
     two-put _ _ _ _ _ _ _ _ _ _ _ _ _ _ c.args.params.now (c.in_ok-put.ensures.appends, c.in_ok-put.ensures.ok) c.in_ok-put_timers.ensures

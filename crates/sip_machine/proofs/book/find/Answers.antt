@@ -6,6 +6,7 @@ use Rattle.sip_machine.specs.inner.Order.{texts_of, begins_by}
 use Rattle.sip_machine.proofs.texts.RunLaws.{partitioned, found_in_run, gap_in_runs, run_rises}
 use Rattle.sip_machine.proofs.book.find.Goals as goal
 
+-- the search within the run finds the message
 pub returns-in-Ok-clause-found : goal.returns-in-Ok-clause-found
 returns-in-Ok-clause-found c =
     let r = c.saturating_sub-run.result in
@@ -15,6 +16,7 @@ returns-in-Ok-clause-found c =
     let here = found_in_run (texts_of c.args.kept.now) c.args.runs.now (c.args.hash, c.args.bytes.now) c.requires r c.in-Ok.at c.index-runs-run.result c.index.result.now low within equal in
     rw (← c.index.ensures, length-map) at here
 
+-- where the book lacks the message, its gap lies after all lesser messages and before all greater ones
 pub returns-in-Err-clause-gap : goal.returns-in-Err-clause-gap
 returns-in-Err-clause-gap c =
     let texts = texts_of c.args.kept.now in

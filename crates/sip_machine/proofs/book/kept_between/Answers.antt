@@ -5,6 +5,7 @@ use Rattle.sip_machine.specs.inner.Tos.{count_between}
 use Rattle.sip_machine.proofs.texts.BesideLemmas.{AllPairs-of_map, map-map, rises_weakly, count_between-parted}
 use Rattle.sip_machine.proofs.book.kept_between.Goals as goal
 
+-- the two searches bound the messages with numbers from `low` to `high`, so their distance is the count
 pub returns : goal.returns
 returns c =
     let kept = c.args.kept.now in

@@ -2,6 +2,7 @@ use Rattle.std.proofs.Common.{◌∙◌}
 use Rattle.sip_machine.proofs.texts.NewestLaws.{never_found}
 use Rattle.sip_machine.proofs.book.loosened.Goals as goal
 
+-- no other message has the same bytes, so the search finds none
 pub returns-in-Ok : goal.returns-in-Ok
 returns-in-Ok c =
     let found = c.in-Ok.ensures.found in

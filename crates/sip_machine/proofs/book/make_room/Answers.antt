@@ -4,6 +4,7 @@ use Rattle.sip_machine.specs.declared.book.PlaceRun.{PlaceRun}
 use Rattle.sip_machine.proofs.texts.RunLaws.{places-halved, led_halved}
 use Rattle.sip_machine.proofs.book.make_room.Goals as goal
 
+-- the full run is halved, and the places are the same
 pub returns-then-gap-clause-places : goal.returns-then-gap-clause-places
 returns-then-gap-clause-places c =
     let runs = c.args.runs.now.items in
@@ -15,6 +16,7 @@ returns-then-gap-clause-places c =
     (places-halved runs c.args.gap.run 64 run head tail c.requires.inside.run
     (c.in_ok-places.ensures.items ∙ ap (λ (r : PlaceRun). take 64 r.places.items) is) (c.in_ok-places.ensures.tail ∙ ap (λ (r : PlaceRun). drop 64 r.places.items) is))
 
+-- after a full run was cut in two, each run tells its first message
 pub returns-then-gap-clause-led : goal.returns-then-gap-clause-led
 returns-then-gap-clause-led c =
     let runs = c.args.runs.now.items in
@@ -28,6 +30,7 @@ returns-then-gap-clause-led c =
     (c.in_ok-places.ensures.items ∙ ap (λ (r : PlaceRun). take 64 r.places.items) is) (c.in_ok-places.ensures.tail ∙ ap (λ (r : PlaceRun). drop 64 r.places.items) is)
     c.index-first.ensures)
 
+-- a run that was cut in two has the same places as before
 pub returns-clause-places : goal.returns-clause-places
 returns-clause-places c =
     let runs = c.args.runs.now.items in
@@ -39,6 +42,7 @@ returns-clause-places c =
     (places-halved runs c.args.gap.run 64 run head tail c.requires.inside.run
     (c.in_ok-places.ensures.items ∙ ap (λ (r : PlaceRun). take 64 r.places.items) is) (c.in_ok-places.ensures.tail ∙ ap (λ (r : PlaceRun). drop 64 r.places.items) is))
 
+-- after a full run was cut in two, each run tells its first message
 pub returns-clause-led : goal.returns-clause-led
 returns-clause-led c =
     let runs = c.args.runs.now.items in

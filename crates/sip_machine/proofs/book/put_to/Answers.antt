@@ -6,6 +6,7 @@ use Rattle.sip_machine.proofs.texts.OrderLaws.{by_result}
 use Rattle.sip_machine.proofs.acks.ToLemmas.{AreTos-push}
 use Rattle.sip_machine.proofs.book.put_to.Goals as goal
 
+-- the To of the message stands after the others, or all are as they were where memory is refused
 pub returns : goal.returns
 returns c texts kept reads are =
     let to : To = record { number = c.args.number; text = c.of.result } in

@@ -3,6 +3,7 @@ use Rattle.sip_machine.specs.inner.Order.{texts_of}
 use Rattle.sip_machine.proofs.texts.TextLaws.{text_of-kept}
 use Rattle.sip_machine.proofs.book.tos_of.Goals as goal
 
+-- the To of one message more is put there
 pub loop-at-preserved : goal.loop-at-preserved
 loop-at-preserved c =
     let kept = c.args.kept.now in

@@ -6,6 +6,7 @@ use Rattle.sip_ledger.proofs.lists.EachLemmas.{changing-more}
 use Rattle.sip_machine.specs.Owing.{changed_debts}
 use Rattle.sip_machine.proofs.effects.lead_rows.Goals as goal
 
+-- one row more is led
 pub loop-row-preserved : goal.loop-row-preserved
 loop-row-preserved c =
     let leads : List Debt → List Debt = λ owes. changed_debts c.args.params.now c.args.moment c.args.change (filter (counts_at c.args.moment) owes) in

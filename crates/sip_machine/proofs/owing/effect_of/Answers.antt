@@ -11,9 +11,11 @@ use Rattle.sip_machine.specs.inner.DebtLaws.{All-front}
 use Rattle.sip_machine.proofs.steps.OwingSteps.{taken}
 use Rattle.sip_machine.proofs.owing.effect_of.Goals as goal
 
+-- the book keeps what the phase names, since it keeps what the state names
 pub restarts-requires : goal.restarts-requires
 restarts-requires g c = All-front (Keeps c.args.book.now) (g.M.Phases.names c.args.phase.now) (owes_names (owed_in c.args.dues.now c.args.row)) c.requires.known
 
+-- a state that can wait until the moment takes what it receives then
 pub returns-in-Received-clause-gives : goal.returns-in-Received-clause-gives
 returns-in-Received-clause-gives g c =
     let m = g.M.Phases in
@@ -26,6 +28,7 @@ returns-in-Received-clause-gives g c =
     (λ effect gives. taken m.figure p m.seen m.names m.in_range texts Received e x effect (sym c.in-Received.ensures) within gives)
     c.receives.ensures
 
+-- a state that can wait until the moment takes what it sends then
 pub returns-in-Sent-clause-gives : goal.returns-in-Sent-clause-gives
 returns-in-Sent-clause-gives g c =
     let m = g.M.Phases in
@@ -38,6 +41,7 @@ returns-in-Sent-clause-gives g c =
     (λ effect gives. taken m.figure p m.seen m.names m.in_range texts Sent e x effect (sym c.in-Sent.ensures) within gives)
     c.emits.ensures.gives
 
+-- a state that can wait until the moment takes what its transport refuses then
 pub returns-in-Failed-clause-gives : goal.returns-in-Failed-clause-gives
 returns-in-Failed-clause-gives g c =
     let m = g.M.Phases in
@@ -50,6 +54,7 @@ returns-in-Failed-clause-gives g c =
     (λ effect gives. taken m.figure p m.seen m.names m.in_range texts Failed e x effect (sym c.in-Failed.ensures) within gives)
     c.fails.ensures.gives
 
+-- a state that can wait until the moment takes the restart then
 pub returns-in-Restart-clause-gives : goal.returns-in-Restart-clause-gives
 returns-in-Restart-clause-gives g c =
     let m = g.M.Phases in

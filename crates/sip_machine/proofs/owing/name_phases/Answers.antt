@@ -6,6 +6,7 @@ use Rattle.sip_machine.proofs.debts.NamesLemmas.{run-appends}
 use Rattle.sip_machine.proofs.pools.PoolLemmas.{some-at}
 use Rattle.sip_machine.proofs.owing.name_phases.Goals as goal
 
+-- after one more run of states of one phase, what the phases up to its end name is appended
 pub loop-at-preserved : goal.loop-at-preserved
 loop-at-preserved g c =
     let xs = c.args.pool.now in
@@ -22,6 +23,7 @@ loop-at-preserved g c =
           (c.in_ok-push_some.ensures.ok ∙ ap (λ ns. c.loop-at.out.items ++ ns) named),
     )
 
+-- at the end of the loop what all phases name is appended
 pub returns-clause-ok : goal.returns-clause-ok
 returns-clause-ok g c =
     let all = take_all c.loop-at.at c.args.pool.now (omega arith) in

@@ -5,6 +5,7 @@ use Rattle.sip_machine.specs.Owing.{owing_names}
 use Rattle.sip_machine.proofs.debts.NamesLemmas.{pool-appends}
 use Rattle.sip_machine.proofs.owing.name_pool.Goals as goal
 
+-- the names of all phases and then those of all debts are the names of all states, in another order
 pub returns-clause-ok : goal.returns-clause-ok
 returns-clause-ok g c =
     let names = g.M.Phases.names in

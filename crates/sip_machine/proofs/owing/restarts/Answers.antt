@@ -6,6 +6,7 @@ use Rattle.sip_machine.specs.Owing.{state_in}
 use Rattle.sip_machine.proofs.steps.OwingSteps.{restarted-ended}
 use Rattle.sip_machine.proofs.owing.restarts.Goals as goal
 
+-- a restart ends a state that is not idle
 pub returns : goal.returns
 returns g c =
     λ t owes.

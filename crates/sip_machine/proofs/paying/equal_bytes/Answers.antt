@@ -2,6 +2,7 @@ use Rattle.sip_machine.specs.Owes.{owed_in}
 use Rattle.sip_machine.proofs.steps.RepliesLemmas.{FindsFirst-equal}
 use Rattle.sip_machine.proofs.paying.equal_bytes.Goals as goal
 
+-- equal bytes have one number, so a debt of these bytes is a debt of this number
 pub returns-clause-finds : goal.returns-clause-finds
 returns-clause-finds c =
     let e = c.args.event.now in

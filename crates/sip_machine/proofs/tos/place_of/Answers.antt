@@ -4,6 +4,7 @@ use Rattle.std.proofs.lemmas.Cmp.{ranked}
 use Rattle.std.proofs.lemmas.List.Sorted.{answers_always}
 use Rattle.sip_machine.proofs.tos.place_of.Goals as goal
 
+-- what the search finds has the number
 pub returns-in-Ok-clause-number : goal.returns-in-Ok-clause-number
 returns-in-Ok-clause-number c =
     let at = c.in-Ok.ensures.position (λ to. to.number) (answers_always _ _ _ (λ f a r g called. search rules)) in

@@ -42,12 +42,14 @@ invite_server_3261_exact (code.In phase again) (code.In phase' again') e =
     let each = both_true (phase_eq.ghosts.eq phase phase') (beq again again') e in
     same_within phase phase' again again' (invite_server_exact phase phase' each.0) (same_flag again again' each.1)
   where
+    -- equal flags are the same
     same_flag : (a b : Bool) → beq a b ≡ true → a ≡ b
     same_flag true true e = refl
     same_flag false false e = refl
     same_flag true false e = sym e
     same_flag false true e = e
 
+    -- the same phase with the same flag is the same
     same_within : (a b : CodeCorrected) (again again' : Bool) → a ≡ b → again ≡ again' → code.In a again ≡ code.In b again'
     same_within a b again again' phase flag = rw (phase, flag) refl
 

@@ -5,9 +5,11 @@ use Rattle.sip_masks.specs.inner.Strange.{is_beyond}
 use Rattle.sip_masks.proofs.LaneLemmas.{splatted, from_byte, classified}
 use Rattle.sip_masks.proofs.block.beyond.Goals as goal
 
+-- a without b, as a byte: below 0 it goes on from 255
 abbrev less : ℕ → ℕ → ℕ
 less a b = (a + (256 - b)) % 256
 
+-- each bit tells whether its byte lies outside of the range of names
 pub returns : goal.returns
 returns c =
     let v = c.args.v in

@@ -5,12 +5,15 @@ use Rattle.sip_masks.proofs.TableLemmas.{low_ok, high_ok}
 use Rattle.sip_masks.proofs.KindLemmas.{raised}
 use Rattle.sip_masks.proofs.block.controls.Goals as goal
 
+-- each low half is an index of the table
 pub swizzle-low : goal.swizzle-low
 swizzle-low c = low_ok c.args.v c.fits-v
 
+-- each high half is an index of the table
 pub swizzle-high : goal.swizzle-high
 swizzle-high c = high_ok c.args.v c.fits-v
 
+-- each bit tells whether its byte is a control
 pub returns : goal.returns
 returns c =
     let v = c.args.v in

@@ -5,6 +5,7 @@ use Rattle.sip_masks.specs.Bits.{test}
 use Rattle.sip_masks.proofs.BitLemmas.{test-mask}
 use Rattle.sip_masks.proofs.block.equal_to.Goals as goal
 
+-- each bit tells whether its byte is equal to this one
 pub returns : goal.returns
 returns c i h =
     let p = λ (x : ℕ). eqb x c.args.byte in

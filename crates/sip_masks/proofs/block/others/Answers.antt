@@ -8,9 +8,11 @@ use Rattle.sip_masks.proofs.TableLemmas.{low_ok, high_ok}
 use Rattle.sip_masks.proofs.KindLemmas.{kind, kinds, raised}
 use Rattle.sip_masks.proofs.block.others.Goals as goal
 
+-- each low half is an index of the table
 pub swizzle-low : goal.swizzle-low
 swizzle-low c = low_ok c.args.v c.fits-v
 
+-- each high half is an index of the table
 pub swizzle-high : goal.swizzle-high
 swizzle-high c = high_ok c.args.v c.fits-v
 
@@ -18,6 +20,7 @@ swizzle-high c = high_ok c.args.v c.fits-v
 abbrev is_neither : ℕ → Bool
 is_neither byte = is_other byte && not (is_control byte)
 
+-- each bit says whether its byte is neither kind of plain byte, or a control
 pub returns : goal.returns
 returns c i h =
     let v = c.args.v in

@@ -12,6 +12,7 @@ use Rattle.sip_masks.proofs.HostWordLemmas.{begins-some, top-within, none-bad, n
 use Rattle.sip_masks.proofs.host.is_ordinary_name.Goals.{then-len-eq0-via-then-len-eq0, then-len-eq0-via-else-len-eq0+then-len-gt-LONGEST, then-len-eq0-via-else-len-eq0+else-len-gt-LONGEST+then-window-lt-LONGEST}
 use Rattle.sip_masks.proofs.host.is_ordinary_name.Goals as goal
 
+-- the name is not empty, so at least its first byte begins a label
 pub highest-requires : goal.highest-requires
 highest-requires c =
     let w = c.args.window.now in
@@ -20,6 +21,7 @@ highest-requires c =
     (λ i. (c.type_inv.window i).fits) (λ i h. prefix_len_passes is_plain w i 0 (omega (arith, h, c.requires)))
     (λ i h. c.beyond.ensures i h ∙ ap is_beyond (same i h)) (λ i h. c.equal_to.ensures i h ∙ ap (λ x. x == dot) (same i h)) (λ i h. c.equal_to-2.ensures i h ∙ ap (λ x. x == hyphen) (same i h))
 
+-- the highest bit lies within the window
 pub bounds-window-highest : goal.bounds-window-highest
 bounds-window-highest c =
     let w = c.args.window.now in
@@ -30,6 +32,7 @@ bounds-window-highest c =
     c.highest.result c.highest.ensures.set in
     omega (arith, within, c.if-len-gt-LONGEST.false, c.if-window-lt-LONGEST.false)
 
+-- where the bits show no fault, the name is ordinary exactly if its last label begins with a letter
 pub returns-then-bad-eq0 : goal.returns-then-bad-eq0
 returns-then-bad-eq0 c =
     let w = c.args.window.now in
@@ -45,6 +48,7 @@ returns-then-bad-eq0 c =
     let name = name-is (take len w) (omega (arith, length-take-le len w (omega (arith, room, small)), small)) in
     ((λ yes. (name.1 (letter ∙ yes), room)), λ is. sym letter ∙ name.0 is.0)
 
+-- where a bit shows a fault, the name is not ordinary
 pub returns-else-bad-eq0 : goal.returns-else-bad-eq0
 returns-else-bad-eq0 c =
     let w = c.args.window.now in
@@ -60,6 +64,7 @@ returns-else-bad-eq0 c =
     let name = name-is (take len w) (omega (arith, length-take-le len w (omega (arith, room, small)), small)) in
     ((λ yes. absurd (omega (arith, c.if-bad-eq0.false, eqb-true _ 0 yes))), λ is. eq-eqb _ 0 (none (and_parts _ _ (name.0 is.0)).0))
 
+-- a name that is empty, too long, or without a whole window from its start on is not called ordinary
 pub returns-then-len-eq0 : goal.returns-then-len-eq0
 returns-then-len-eq0 c = (
   (λ yes. absurd (false≢true yes)),

@@ -13,6 +13,7 @@ last-two p text words k w nul room past there before now i below =
     marks-more p text (set words k w) (k + 1) 18446744073709551615 (omega (arith, room, length-set words k w)) (marks-more p text words k w (omega (arith, room)) before now)
     (λ j h. ones-past p text (64 * (k + 1)) j nul (omega (arith, past)) h) i (omega (arith, below, past, there))
 
+-- after one word more, both masks are right for the text up to its end
 pub loop-word-preserved : goal.loop-word-preserved
 loop-word-preserved c =
     let text = c.args.text.now in
@@ -25,6 +26,7 @@ loop-word-preserved c =
       length-set l.control l.word c.controls-ends.result ∙ l.invariant.4,
     )
 
+-- the last word is right for the bytes of the text, and marks all places past its end
 pub returns-clause-other : goal.returns-clause-other
 returns-clause-other c =
     let text = c.args.text.now in
@@ -33,6 +35,7 @@ returns-clause-other c =
     (last-two is_other text l.other l.word c.others-2.result refl (omega (arith, l.invariant.3, c.requires.0, l.invariant.2)) (omega (arith, c.loop-word-test.false)) l.invariant.2 l.invariant.0
     (λ i h. c.others-2.ensures i h ∙ ap is_other (c.tail-v.ensures i h)))
 
+-- the last word is right for the bytes of the text, and marks all places past its end
 pub returns-clause-control : goal.returns-clause-control
 returns-clause-control c =
     let text = c.args.text.now in
@@ -41,6 +44,7 @@ returns-clause-control c =
     (last-two is_control text l.control l.word c.controls.result refl (omega (arith, l.invariant.4, c.requires.1, l.invariant.2)) (omega (arith, c.loop-word-test.false)) l.invariant.2 l.invariant.1
     (λ i h. c.controls.ensures i h ∙ ap is_control (c.tail-v.ensures i h)))
 
+-- the mask is right up to the block with the empty line, where the text is cut
 pub returns-then-holds_empty_line-clause-other : goal.returns-then-holds_empty_line-clause-other
 returns-then-holds_empty_line-clause-other c =
     let text = c.args.text.now in
@@ -49,6 +53,7 @@ returns-then-holds_empty_line-clause-other c =
     let more = marks-more is_other text l.other l.word c.others.result (omega (arith, l.invariant.3, c.requires.0, room)) l.invariant.0 (λ i h. c.others.ensures i h ∙ ap is_other (get_or-chunk (64 * l.word) 64 text i 0 h)) in
     front-ends is_other text (set l.other l.word c.others.result) (l.word + 1) refl room (omega (arith, length-set l.other l.word c.others.result, l.invariant.3, c.requires.0, room)) more
 
+-- the mask is right up to the block with the empty line, where the text is cut
 pub returns-then-holds_empty_line-clause-control : goal.returns-then-holds_empty_line-clause-control
 returns-then-holds_empty_line-clause-control c =
     let text = c.args.text.now in

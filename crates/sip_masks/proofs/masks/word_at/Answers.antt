@@ -2,6 +2,7 @@ use Rattle.std.proofs.Common.{◌/◌}
 use Rattle.sip_masks.proofs.WordLemmas.{from_place}
 use Rattle.sip_masks.proofs.masks.word_at.Goals as goal
 
+-- bit j of the answer is bit p + j of the words
 pub returns : goal.returns
 returns c j h =
     let words = c.args.words.now in

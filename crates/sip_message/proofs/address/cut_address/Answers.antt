@@ -6,21 +6,25 @@ use Rattle.sip_message.specs.inner.AddressFronts.{AddressCut, cut_parts}
 use Rattle.sip_message.proofs.lemmas.address.Reading.{cut-plain, cut-named, cut-no_display, cut-open}
 use Rattle.sip_message.proofs.address.cut_address.Goals as goal
 
+-- the text begins with a scheme, so a URI without angles stands there
 pub returns-then-has_scheme : goal.returns-then-has_scheme
 returns-then-has_scheme c =
     cut-plain c.args.text.now _ c.plain_len-len.result (c.has_scheme.ensures.0 c.if-has_scheme.true) c.plain_len-len.ensures.run (take_rest c.args.text.now c.plain_len-len.result)
 
+-- the text has neither a scheme nor a display name before a `<`
 pub returns-in_err-display : goal.returns-in_err-display
 returns-in_err-display c =
     subst (IsOnlyValue AddressCut cut_parts c.args.text.now) (sym c.from_residual.ensures)
     (cut-no_display c.args.text.now (λ has. both_ways c.has_scheme.result c.if-has_scheme.false (c.has_scheme.ensures.1 has)) c.in_err-display.ensures)
 
+-- without a ">" after the URI the text is no address
 pub returns-in_err-rest : goal.returns-in_err-rest
 returns-in_err-rest c =
     subst (IsOnlyValue AddressCut cut_parts c.args.text.now) (sym c.from_residual-in_err-rest.ensures)
     (cut-open c.args.text.now c.in_ok-display.inner.now _ (λ has. both_ways c.has_scheme.result c.if-has_scheme.false (c.has_scheme.ensures.1 has)) c.in_ok-display.ensures
     (sym (ap option_copied c.in_err-rest.was) ∙ c.cut.ensures.rest))
 
+-- a display name and a URI in angles are cut
 pub returns : goal.returns
 returns c =
     cut-named c.args.text.now c.in_ok-display.inner.now c.cut.result.0.now c.in_ok-rest.rest.now _ c.in_ok-display.ensures c.cut.ensures.front

@@ -4,12 +4,15 @@ use Rattle.sip_message.proofs.WordLemmas.{words-first, words-more, words-all, no
 use Rattle.sip_message.proofs.address.cut_words.Goals as goal
 use Rattle.sip_message.proofs.address.cut_words.Goals.{then-blanks-eq0-via-then-blanks-eq0, then-blanks-eq0-via-else-blanks-eq0+then-word-eq0}
 
+-- no word stands at the front
 pub returns-then-at-eq0 : goal.returns-then-at-eq0
 returns-then-at-eq0 c = no-words c.args.text.now c.token_len-at.result c.token_len-at.ensures.reads c.if-at-eq0.true
 
+-- the first token is one word
 pub words-init : goal.words-init
 words-init c = words-first c.args.text.now c.token_len-at.result c.token_len-at.ensures.within c.token_len-at.ensures.reads c.if-at-eq0.false
 
+-- where no blank or no word follows, the words end here
 pub returns-then-blanks-eq0 : goal.returns-then-blanks-eq0
 returns-then-blanks-eq0 c =
     let text = c.args.text.now in
@@ -20,6 +23,7 @@ returns-then-blanks-eq0 c =
       | then-blanks-eq0-via-else-blanks-eq0+then-word-eq0 w ↦ inr w.if-word-eq0.true
     ])
 
+-- after one word more, the words up to here stand at the front
 pub words-preserved : goal.words-preserved
 words-preserved c =
     let text = c.args.text.now in

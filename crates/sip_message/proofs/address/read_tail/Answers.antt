@@ -4,6 +4,7 @@ use Rattle.sip_message.proofs.lemmas.address.Reading.{tail-is, tail-empty, tail-
 use Rattle.sip_message.proofs.address.read_tail.Goals as goal
 use Rattle.sip_message.proofs.address.read_tail.Goals.{then-is_empty-2-via-then-is_empty-2, then-is_empty-2-via-else-is_empty-2+then-not-are_params}
 
+-- where blanks alone are there, or what follows them are no parameters, the text is no tail of an address
 pub returns-then-is_empty-2 : goal.returns-then-is_empty-2
 returns-then-is_empty-2 c = elim c.then-is_empty-2.branch [
   | then-is_empty-2-via-then-is_empty-2 w ↦

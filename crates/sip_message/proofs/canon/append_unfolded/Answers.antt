@@ -13,11 +13,13 @@ pub bytes-preserved-then-is_blank : goal.bytes-preserved-then-is_blank
 bytes-preserved-then-is_blank c =
     unfold-blank c.args.out.now.items c.args.text.now c.bytes.out.items c.bytes.from c.bytes.at c.bytes-test.true (sym c.is_blank.ensures ∙ c.if-is_blank.true) c.bytes.invariant
 
+-- where memory is refused, a part of the text was appended
 pub returns-in_err-append : goal.returns-in_err-append
 returns-in_err-append c =
     unfold-part c.args.out.now.items c.args.text.now c.bytes.out.items c.append-in-bytes.new.out.items (unfolded c.args.text.now) c.bytes.from c.bytes.at c.from_residual-in_err-append.result c.from_residual-in_err-append.ensures.0 c.bytes.invariant
     (part-more c.bytes.out.items c.append_run.new.out.items c.append-in-bytes.new.out.items _ c.in_ok-append_run.ensures c.in_err-append.ensures)
 
+-- the run of blanks before the byte is appended, and then the byte
 pub bytes-preserved : goal.bytes-preserved
 bytes-preserved c =
     unfold-solid c.args.out.now.items c.args.text.now c.bytes.out.items c.append_run.new.out.items c.append-in-bytes.new.out.items c.bytes.from c.bytes.at c.bytes-test.true (sym c.is_blank.ensures ∙ c.if-is_blank.false) c.bytes.invariant

@@ -4,8 +4,10 @@ use Rattle.sip_message.specs.inner.MessageText.{message_of}
 use Rattle.sip_message.proofs.lemmas.says.Canonical.{reads-code, reads-canonical}
 use Rattle.sip_message.proofs.canon.write.Goals as goal
 
+-- the code of a message that was read has three digits
 pub append_all-requires : goal.append_all-requires
 append_all-requires c = subst HasCode (sym c.start.ensures) (reads-code c.args.m.now c.known.ensures)
 
+-- what is appended is the canonical form
 pub returns-clause-ok : goal.returns-clause-ok
 returns-clause-ok c = (canon (message_of c.args.m.now.message), search rules, reads-canonical c.args.m.now)

@@ -10,12 +10,14 @@ use Rattle.sip_message.proofs.cursor.cut_line.Goals as goal
 pub ends-init : goal.ends-init
 ends-init c = record { within = omega arith; scanned = scan-nothing c.args.text.now }
 
+-- no line feed is left
 pub returns-in_err-rest : goal.returns-in_err-rest
 returns-in_err-rest c =
     subst (IsOnlyValue LineFront pair_parts c.args.text.now) (sym c.from_residual.ensures)
     (cut-none c.args.text.now c.ends.at c.ends.invariant.scanned
     (sym (ap option_copied c.in_err-rest.was) ∙ c.cut.ensures.rest ∙ ap (behind line_feed) (take_rest c.args.text.now c.ends.at)))
 
+-- the place of the line feed lies within the text
 pub slice_bounds-result-length : goal.slice_bounds-result-length
 slice_bounds-result-length c =
     let text = c.args.text.now in
@@ -24,6 +26,7 @@ slice_bounds-result-length c =
     (c.cut.ensures.front ∙ ap (before line_feed) same) (sym (ap option_copied c.in_ok-rest.was) ∙ c.cut.ensures.rest ∙ ap (behind line_feed) same) in
     sym (length-take-le (c.ends.at + length c.cut.result.0.now - 1) text (omega (arith, within)))
 
+-- the line feed that was found ends the line
 pub returns-then-is_line : goal.returns-then-is_line
 returns-then-is_line c =
     let text = c.args.text.now in
@@ -32,6 +35,7 @@ returns-then-is_line c =
     (c.cut.ensures.front ∙ ap (before line_feed) same) (sym (ap option_copied c.in_ok-rest.was) ∙ c.cut.ensures.rest ∙ ap (behind line_feed) same)
     (sym c.is_line.ensures ∙ c.if-is_line.true)
 
+-- the line feed that was found ends no line, so the search goes on after it
 pub ends-preserved : goal.ends-preserved
 ends-preserved c =
     let text = c.args.text.now in

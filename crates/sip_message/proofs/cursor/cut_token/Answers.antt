@@ -10,6 +10,7 @@ pub returns-then-len-eq0 : goal.returns-then-len-eq0
 returns-then-len-eq0 c (t, r) =
     no-token c.args.text.now (subst (IsLongestFront Token c.args.text.now) c.if-len-eq0.true c.token_len-len.ensures.reads) t r
 
+-- the longest run of token bytes is the one token at the front
 pub returns : goal.returns
 returns c =
     let text = c.args.text.now in

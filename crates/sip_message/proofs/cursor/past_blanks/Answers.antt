@@ -4,6 +4,7 @@ use Rattle.sip_message.specs.inner.Fronts.{IsOnlyBehind}
 use Rattle.sip_message.proofs.lemmas.front.Cuts.{longest-behind}
 use Rattle.sip_message.proofs.cursor.past_blanks.Goals as goal
 
+-- what is left begins with no blank
 pub returns : goal.returns
 returns c =
     subst (IsOnlyBehind c.args.text.now) (sym (take_rest c.args.text.now c.skip_lws.result))

@@ -6,35 +6,42 @@ use Rattle.sip_message.specs.inner.Fronts.{ProtocolFront, protocol_parts, Blanks
 use Rattle.sip_message.proofs.lemmas.front.Cuts.{ReadAs, stop, go-stop, go, last, no-blanks, longest-blanks_front}
 use Rattle.sip_message.proofs.cursor.read_protocol.Goals as goal
 
+-- without a name the text is no protocol
 pub returns-in_err-protocol : goal.returns-in_err-protocol
 returns-in_err-protocol c =
     subst (IsOnlyValue ProtocolFront protocol_parts c.args.text.now) (sym c.from_residual.ensures) (stop c.in_err-protocol.ensures)
 
+-- without a slash after the name the text is no protocol
 pub returns-in_err-past_mark : goal.returns-in_err-past_mark
 returns-in_err-past_mark c =
     subst (IsOnlyValue ProtocolFront protocol_parts c.args.text.now) (sym c.from_residual-in_err-past_mark.ensures)
     (go-stop c.in_ok-protocol.ensures (stop c.in_err-past_mark.ensures))
 
+-- without a version the text is no protocol
 pub returns-in_err-version : goal.returns-in_err-version
 returns-in_err-version c =
     subst (IsOnlyValue ProtocolFront protocol_parts c.args.text.now) (sym c.from_residual-in_err-version.ensures)
     (go-stop c.in_ok-protocol.ensures (go-stop c.in_ok-past_mark.ensures (stop c.in_err-version.ensures)))
 
+-- without a slash after the version the text is no protocol
 pub returns-in_err-past_mark-2 : goal.returns-in_err-past_mark-2
 returns-in_err-past_mark-2 c =
     subst (IsOnlyValue ProtocolFront protocol_parts c.args.text.now) (sym c.from_residual-in_err-past_mark-2.ensures)
     (go-stop c.in_ok-protocol.ensures (go-stop c.in_ok-past_mark.ensures (go-stop c.in_ok-version.ensures (stop c.in_err-past_mark-2.ensures))))
 
+-- without a transport the text is no protocol
 pub returns-in_err-transport : goal.returns-in_err-transport
 returns-in_err-transport c =
     subst (IsOnlyValue ProtocolFront protocol_parts c.args.text.now) (sym c.from_residual-in_err-transport.ensures)
     (go-stop c.in_ok-protocol.ensures (go-stop c.in_ok-past_mark.ensures (go-stop c.in_ok-version.ensures (go-stop c.in_ok-past_mark-2.ensures (stop c.in_err-transport.ensures)))))
 
+-- without a blank after the transport the text is no protocol
 pub returns-then-blanks-eq0 : goal.returns-then-blanks-eq0
 returns-then-blanks-eq0 c =
     go-stop c.in_ok-protocol.ensures (go-stop c.in_ok-past_mark.ensures (go-stop c.in_ok-version.ensures (go-stop c.in_ok-past_mark-2.ensures (go-stop c.in_ok-transport.ensures
     (stop (no-blanks c.in_ok-transport.rest.now (subst (IsLongestFront Blanks c.in_ok-transport.rest.now) c.if-blanks-eq0.true c.skip_lws-blanks.ensures.reads)))))))
 
+-- a name, a slash, a version, a slash, a transport and blanks are a protocol
 pub returns : goal.returns
 returns c =
     let rest = c.in_ok-transport.rest.now in

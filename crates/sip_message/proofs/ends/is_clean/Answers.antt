@@ -3,6 +3,7 @@ use Rattle.std.proofs.lemmas.Bool.{both_ways, not-true}
 use Rattle.sip_message.proofs.lemmas.lines.HeadEnd.{clean-each, clean-opens, each-clean, is_not}
 use Rattle.sip_message.proofs.ends.is_clean.Goals as goal
 
+-- a line end of one byte alone stands in the head
 pub returns-then-not-is_paired : goal.returns-then-not-is_paired
 returns-then-not-is_paired c = (
   (λ is. absurd (both_ways false refl is)),
@@ -10,6 +11,7 @@ returns-then-not-is_paired c = (
       (c.is_paired.ensures.1 (clean-each c.args.head.now clean c.loop-at.at c.loop-at-test.true)))),
 )
 
+-- a head is clean exactly if it does not begin with a line feed, and each CR has its LF and each LF its CR
 pub returns : goal.returns
 returns c =
     let head = c.args.head.now in

@@ -4,6 +4,7 @@ use lib.Lanes.{chunk}
 use Rattle.sip_message.proofs.LaneLemmas.{two_clear, lanes_agree}
 use Rattle.sip_message.proofs.ends.is_paired_block.Goals as goal
 
+-- where the two masks agree, each CR of the block has a LF after it, and each LF a CR before it
 pub returns : goal.returns
 returns c none = λ k from to.
     let d = c.args.text.now in

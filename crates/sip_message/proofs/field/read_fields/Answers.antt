@@ -11,6 +11,7 @@ use Rattle.sip_message.specs.inner.Kept.{KeptOf}
 use Rattle.sip_message.proofs.lemmas.lines.Reading.{SoFar, so_far-all, so_far-more, so_far-stops, settles-fault}
 use Rattle.sip_message.proofs.field.read_fields.Goals as goal
 
+-- where one line is no field, its fault is the fault of the fields
 pub returns-in_err-field-clause-fields : goal.returns-in_err-field-clause-fields
 returns-in_err-field-clause-fields c lines are =
     let fault = c.in_err-field.field-0.0 in
@@ -21,6 +22,7 @@ returns-in_err-field-clause-fields c lines are =
     (so_far-stops lines c.lines.rest.now line c.in-Some.more.now fields fault (c.lines.invariant.0 lines are) c.in-Some.ensures
     (subst (λ n. FieldOf n line (stops fault)) (omega (arith, c.len.ensures, length-map c.lines.fields.items field_parts)) field))
 
+-- after one line more, the fields are those of the lines up to it
 pub lines-preserved : goal.lines-preserved
 lines-preserved c =
     let field = field_parts c.in_ok-field.field in

@@ -75,6 +75,7 @@ no_scheme b t token apart (c ∷ s, rest, all, whole) =
 abbrev is_scheme_front : ℕ → Bool
 is_scheme_front b = is_token_byte b || nat_eq b colon
 
+-- a blank does not stand in front of a scheme's colon
 blank-front : (b : ℕ) → is_lws_byte b ≡ true → is_scheme_front b ≡ false
 blank-front = blank_is (λ b. is_scheme_front b ≡ false) refl refl refl refl
 
@@ -87,10 +88,12 @@ after-word more rest inner many (stops, (k, y, sws, y_is, r_is)) = elim (some-ma
       (fails-append is_scheme_front (some.0 ++ some.1) rest (fails-append is_scheme_front some.0 some.1 (fail-then is_scheme_front Blanks Token (fail-blanks is_scheme_front blank-front) some.0 some.2)))
 ]
   where
+    -- "<" follows the blanks, or there are none
     at : Sws k → Fails is_scheme_front (k ++ (left_angle ∷ inner))
     at (inl none) = subst (λ t. Fails is_scheme_front (t ++ (left_angle ∷ inner))) (sym none) refl
     at (inr blanks) = fails-append is_scheme_front k (left_angle ∷ inner) (fail-blanks is_scheme_front blank-front k blanks)
 
+-- where the front of a scheme ends, a token ends
 fails-token : (u : List ℕ) → Fails is_scheme_front u → Stops is_token_byte u
 fails-token [] fails = absurd fails
 fails-token (b ∷ u) fails = (or_parts (is_token_byte b) (nat_eq b colon) fails).0
@@ -166,6 +169,7 @@ display-no_angle text name rest stop missing is behind no_angle (Some m, inner) 
 abbrev make : Option (List ℕ) → List ℕ → List ℕ → CutParts
 make d u r = record { display = d; uri = u; rest = r }
 
+-- cuts with the same display name, URI and rest are the same
 cut_same : (c d : CutParts) → c.display ≡ d.display → c.uri ≡ d.uri → c.rest ≡ d.rest → c ≡ d
 cut_same c d displays uris rests =
     ap (λ x. make x c.uri c.rest) displays ∙ ap (λ x. make d.display x c.rest) uris ∙ ap (λ x. make d.display d.uri x) rests
@@ -259,6 +263,7 @@ before-display (Some name) d text inner fits (e, t, e_is, (s, l, sws, l_is, t_is
     behind_is : Behind (s ++ (left_angle ∷ inner)) (left_angle ∷ inner)
     behind_is = (stops-byte left_angle inner refl, (s, left_angle ∷ inner, sws, refl, refl))
 
+    -- the name is a quoted string, or words
     at : DisplayName name → NameFront text (name, s ++ (left_angle ∷ inner))
     at (inl quoted) = inl (quoted, flat)
     at (inr words) = inr (words, (left_angle ∷ inner, behind_is, refl), flat)
@@ -272,6 +277,7 @@ display-before (Some name) text inner (rest, is, (stops, (s, y, sws, y_is, rest_
   front is ∙ ap (λ t. name ++ t) (rest_is ∙ ap (λ t. s ++ t) y_is ∙ sym (append_assoc s (left_angle ∷ []) inner)) ∙ sym (append_assoc name (s ++ (left_angle ∷ [])) inner),
 )
   where
+    -- the name that was cut off stands at the front
     front : NameFront text (name, rest) → text ≡ name ++ rest
     front (inl quoted) = quoted.1
     front (inr words) = words.2
@@ -286,14 +292,17 @@ display-fits (Some name) text inner (rest, inr words, behind) = inr words.0
 not-plain : (b : ℕ) → is_lws_byte b ≡ true → is_unmarked_byte b ≡ false
 not-plain = blank_is (λ b. is_unmarked_byte b ≡ false) refl refl refl refl
 
+-- bytes that are no blanks and none of `,?;` may stand in a URI without angles
 plain-all : (u : List ℕ) → All (λ b. not (is_lws_byte b)) u → All (λ b. not (is_among ",?;" b)) u → All is_unmarked_byte u
 plain-all [] solid other = tt
 plain-all (b ∷ u) solid other = (and_from (not (is_lws_byte b)) (not (is_among ",?;" b)) solid.0 other.0, plain-all u solid.1 other.1)
 
+-- bytes that may stand in a URI without angles are none of `,?;`
 all-other : (u : List ℕ) → All is_unmarked_byte u → All (λ b. not (is_among ",?;" b)) u
 all-other [] all = tt
 all-other (b ∷ u) all = ((and_parts (not (is_lws_byte b)) (not (is_among ",?;" b)) all.0).1, all-other u all.1)
 
+-- where no byte of a URI without angles follows, that URI stops
 fails-plain : (u : List ℕ) → Fails is_unmarked_byte u → Stops is_unmarked_byte u
 fails-plain [] fails = absurd fails
 fails-plain (b ∷ u) fails = fails
@@ -308,6 +317,7 @@ tail-stops text (b ∷ params) ((k, y, sws, y_is, whole), (p ∷ ps, (opens, par
     begins : Fails is_unmarked_byte (b ∷ params)
     begins = fail-then is_unmarked_byte (Mark semicolon) _ (fail-mark is_unmarked_byte semicolon not-plain refl) (b ∷ params) part
 
+    -- the ";" follows the blanks, or there are none
     at : Sws k → Fails is_unmarked_byte (k ++ (b ∷ params))
     at (inl none) = subst (λ t. Fails is_unmarked_byte (t ++ (b ∷ params))) (sym none) begins
     at (inr blanks) = fails-append is_unmarked_byte k (b ∷ params) (fail-blanks is_unmarked_byte not-plain k blanks)

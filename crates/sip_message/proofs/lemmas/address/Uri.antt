@@ -97,19 +97,24 @@ scheme-one text (s, r, s_all, whole) (t, q, t_all, whole_too) =
 angle-foreign : IsForeign right_angle
 angle-foreign = record { label = refl; alphanumeric = refl; alphabetic = refl; hexdigit = refl; digit = refl; of_colon = refl; of_dot = refl; of_left = refl; of_right = refl }
 
+-- an optional part with its separator lacks ">"
 lacks-led : (sep : ℕ) (P : List ℕ → Type 0) (o : Option (List ℕ)) → nat_eq sep right_angle ≡ false → AllLack right_angle P → IfSome o P → Lacks right_angle (led sep o)
 lacks-led sep P None apart lack fits = tt
 lacks-led sep P (Some u) apart lack fits = (apart, lack u fits)
 
+-- a user lacks ">"
 lack-user : AllLack right_angle User
 lack-user = lack-some right_angle _ (lack-char right_angle is_user_unreserved refl)
 
+-- a password lacks ">"
 lack-password : AllLack right_angle Password
 lack-password = lack-many right_angle _ (lack-char right_angle is_password_unreserved refl)
 
+-- a port lacks ">"
 lack-port_text : AllLack right_angle Port
 lack-port_text u fits = lack-between right_angle 1 5 (One is_ascii_digit) (lack-one right_angle is_ascii_digit refl) u fits.0
 
+-- the parameters of a URI lack ">"
 lack-parameters : AllLack right_angle UriParameters
 lack-parameters = lack-many right_angle _ (lack-then right_angle _ _ (lack-byte right_angle semicolon refl) (lack-param right_angle refl refl))
 

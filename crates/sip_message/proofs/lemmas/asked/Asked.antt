@@ -35,6 +35,7 @@ found-more n k (g ∷ fields) f = let later = found-more (n + 1) k fields f in (
     at true xs ys zs is = ap (λ t. (n, g.value) ∷ t) is
     at false xs ys zs is = is
 
+-- What follows is of the fields of one name, and one field f more.
 module _ {X : Type 0} (R : List ℕ → X → Type 0) (k : Known) (fields : List Field) (f : Field) where
   -- a further field of another name adds nothing to the fields of the name that are found
   found-passed : is_name_of k f.name ≡ false → found k (fields ++ f ∷ []) ≡ found k fields
@@ -42,10 +43,12 @@ module _ {X : Type 0} (R : List ℕ → X → Type 0) (k : Known) (fields : List
       let more = found-more 1 k fields f in
       more.1 ∙ ap (λ b. found k fields ++ cond b ((more.0, f.value) ∷ []) []) other ∙ append-nil (found k fields)
 
+  -- a field of another name does not change what the one field of a name says
   once-passed : (said : Option X) → is_name_of k f.name ≡ false → OnceSays R k fields said → OnceSays R k (fields ++ f ∷ []) said
   once-passed None other none = found-passed other ∙ none
   once-passed (Some x) other (one, is, says) = (one, found-passed other ∙ is, says)
 
+  -- a field of another name does not change what the first field of a name says
   first-passed : (said : Option X) → is_name_of k f.name ≡ false → FirstSays R k fields said → FirstSays R k (fields ++ f ∷ []) said
   first-passed None other none = found-passed other ∙ none
   first-passed (Some x) other (one, (more, is), says) = (one, (more, found-passed other ∙ is), says)
@@ -81,6 +84,7 @@ asks-other f a (via, from, to, call_id, cseq, content_length) fields of = record
   content_length = once-passed Itself known_name.ContentLength fields f (option_copied a.content_length) content_length of.content_length;
 }
 
+-- where nothing is kept, the new one is the first
 pub or-none : {X : Type 0} (o p : Option X) → is_some o ≡ false → p ≡ option_or o p
 or-none None p none = refl
 or-none (Some x) p none = absurd (false≢true (sym none))
@@ -111,6 +115,7 @@ asks-cseq f a (Some c) cseq named some read (none, is) fields of = record {
   content_length = once-passed Itself known_name.ContentLength fields f (option_copied a.content_length) (ap (is_name_of known_name.ContentLength) named) of.content_length;
 }
 
+-- What follows is of one more field f, and what is kept of the fields that are asked for.
 module _ (f : Field) (a : Asked) (value : Bor (List ℕ)) (kept : Option (Bor (List ℕ))) (value_is : value.now ≡ f.value) (is : kept ≡ Some value) where
   -- the value of a From is kept where none is kept yet
   pub asks-from : f.name ≡ known known_name.From → a.from ≡ None → AsksMore f a (record { via = a.via; from = kept; to = a.to; call_id = a.call_id; cseq = a.cseq; content_length = a.content_length })
@@ -161,10 +166,12 @@ pub once-one : {A X : Type 0} (R : List ℕ → X → Type 0) (k : Known) (field
     → (one : ℕ × List ℕ) × (found k fields ≡ one ∷ []) × R (one.1) (parts a)
 once-one R k fields parts o a is so = subst (λ p. OnceSays R k fields (option_map parts p)) is so
 
+-- the one field of a name that was found says its text
 pub copied-one : (k : Known) (fields : List Field) (o : Option (Bor (List ℕ))) (text : Bor (List ℕ)) → o ≡ Some text → OnceSays Itself k fields (option_copied o)
     → (one : ℕ × List ℕ) × (found k fields ≡ one ∷ []) × (text.now ≡ one.1)
 copied-one k fields o text is so = subst (λ p. OnceSays Itself k fields (option_copied p)) is so
 
+-- the first field of a name that was found says its parts
 pub first-one : {A X : Type 0} (R : List ℕ → X → Type 0) (k : Known) (fields : List Field) (parts : A → X) (o : Option A) (a : A) → o ≡ Some a → FirstSays R k fields (option_map parts o)
     → (one : ℕ × List ℕ) × IsFirstFound k fields one × R (one.1) (parts a)
 first-one R k fields parts o a is so = subst (λ p. FirstSays R k fields (option_map parts p)) is so
@@ -174,6 +181,7 @@ pub said-digits : (fields : List Field) (o : Option (List ℕ)) → AllByRecursi
 said-digits fields None rows none = tt
 said-digits fields (Some x) rows (one, is, says) = subst Digits (sym says) (row-of known_name.ContentLength fields (one.1) rows (first-value known_name.ContentLength fields one ([], is)))
 
+-- the number of the one Content-Length is the length that it says
 pub said-length : (fields : List Field) (o : Option (List ℕ)) → OnceSays Itself known_name.ContentLength fields o → option_map (digits_value 10) o ≡ content_length fields
 said-length fields None none = ap length_in (sym none)
 said-length fields (Some x) (one, is, says) = ap (λ t. Some (digits_value 10 t)) says ∙ ap length_in (sym is)

@@ -47,6 +47,7 @@ says-found {X = X} R k fields f old new x named said is says =
     at [] o none new_is = (x, said, new_is ∙ ap (λ p. option_or p (Some x)) none)
     at (v ∷ vs) o (y, says_y, o_is) new_is = (y, says_y, new_is ∙ ap (λ p. option_or p (Some x)) o_is)
 
+-- the parts of the first of two options are the first of their parts
 pub map-or : {A X : Type 0} (parts : A → X) (o p : Option A) → option_map parts (option_or o p) ≡ option_or (option_map parts o) (option_map parts p)
 map-or parts None p = refl
 map-or parts (Some a) p = refl
@@ -92,6 +93,7 @@ named-keeps k f kept named other = other-keeps f kept (ap (is_name_of known_name
 says-some : {A X : Type 0} (R : List ℕ → X → Type 0) (parts : A → X) (vs more : List (List ℕ)) (text : List ℕ) (o : Option A) → SaysFirst R vs (option_map parts o) → vs ≡ text ∷ more → (x : X) × R text x × (option_map parts o ≡ Some x)
 says-some R parts vs more text o says is = subst (λ l. SaysFirst R l (option_map parts o)) is says
 
+-- where there are parts, there is what they are of
 is-some : {A X : Type 0} (parts : A → X) (o : Option A) (x : X) → option_map parts o ≡ Some x → IsSome o
 is-some parts None x is = absurd (false≢true (ap is_some is))
 is-some parts (Some a) x is = refl

@@ -41,6 +41,7 @@ same-more (e ∷ es) (f ∷ fs) rest a b =
     let n = more-mark f fs rest b in
     at m.0 m.2 (subst (λ t. ElementsText t (f ∷ fs)) (same-mark rest n.0 m.0 n.1 m.1) n.2) (same-more es fs)
   where
+    -- the first elements are the same, and so are the others
     at : (text : List ℕ) → ElementsText text (e ∷ es) → ElementsText text (f ∷ fs) → ((x : List ℕ) → MoreElements es x → MoreElements fs x → es ≡ fs) → e ∷ es ≡ f ∷ fs
     at text (via, (u, x, u_is, more, is)) (via_too, (w, y, w_is, more_too, is_too)) later =
         let same : ◌≡◌ {A = Element × List ℕ} (e, x) (f, y) = one-via text (e, x) (f, y) (via, is ∙ ap (λ t. t ++ x) u_is, ends-more es x more) (via_too, is_too ∙ ap (λ t. t ++ y) w_is, ends-more fs y more_too) in

@@ -66,6 +66,7 @@ closed-trimmed (a ∷ u) [] b w ends opens blanks is =
 closed-trimmed (a ∷ u) (c ∷ v) b w ends opens blanks is =
     (is.0, ends-onto (a ∷ u) space (c ∷ v) (tail (subst EndsSolid (sym (append_assoc (a ∷ u) (b ∷ w) (c ∷ v))) is.1)))
   where
+    -- what follows the blanks does not end with a blank
     tail : EndsSolid (((a ∷ u) ++ (b ∷ w)) ++ c ∷ v) → EndsSolid (space ∷ c ∷ v)
     tail e = ends-right ((a ∷ u) ++ (b ∷ w)) c v e
 
@@ -93,10 +94,12 @@ name-other [] text t is = ap text_in is
     text_in (other u) = u
 name-other (x ∷ xs) text t is = at (name-other xs text t) (bytes_eq (folded text) x.0) is
   where
+    -- whether the name is no known one
     is_other : FieldName → Bool
     is_other (known k) = false
     is_other (other u) = true
 
+    -- whether the text is the first spelling
     at : (name_by xs text ≡ other t → text ≡ t) → (same : Bool) → cond same (known x.1) (name_by xs text) ≡ other t → text ≡ t
     at later true e = absurd (both_ways false refl (ap is_other e))
     at later false e = later e
@@ -139,6 +142,7 @@ code-decimal text code is =
     len : length text ≡ 3
     len = length-code text code is
 
+    -- digits, joined, are digits
     each : (us : List (List ℕ)) → AllByRecursion (One is_ascii_digit) us → all_ascii_digits (concat us) ≡ true
     each [] all = refl
     each (u ∷ us) all = ap (λ t. all_ascii_digits (t ++ concat us)) all.0.2 ∙ and_from _ _ all.0.1 (each us all.1)
@@ -146,6 +150,7 @@ code-decimal text code is =
     digits : all_ascii_digits text ≡ true
     digits = ap all_ascii_digits is.digits.2 ∙ each is.digits.0 is.digits.1
 
+    -- a number from 100 on in three digits does not begin with 0
     first : (ds : List ℕ) → all_ascii_digits ds ≡ true → length ds ≡ 3 → get_or ds 0 0 ≡ 48 → 100 ≤ digits_value 10 ds → ⊥
     first [] all three zero_first low = omega (arith, three)
     first (a ∷ []) all three zero_first low = omega (arith, three)
@@ -188,6 +193,7 @@ inner_class class cr lf b is = at (nat_eq b carriage_return) (nat_eq b line_feed
     at false true x_is y_is = absurd (both_ways (class b) (ap class (eqb-true b line_feed y_is) ∙ lf) is)
     at false false x_is y_is = refl
 
+-- the version of SIP has neither CR nor LF
 version-inner : Inner (codes "SIP/2.0")
 version-inner = (refl, (refl, (refl, (refl, (refl, (refl, (refl, tt)))))))
 
@@ -283,9 +289,11 @@ found-unfolded n name (f ∷ fs) = at (is_name_of name f.name) (found-unfolded (
     at true later = ap (λ t. (n, unfolded f.value) ∷ t) later
     at false later = later
 
+-- a field of the name stands there with the folds made one SP too
 abbrev stands-unfolded : (name : Known) (fs : List Field) → HasField name fs → HasField name (map unfolded_field fs)
 stands-unfolded name fs s = (unfolded_found s.0, (map unfolded_found s.1.0, found-unfolded 1 name fs ∙ ap (map unfolded_found) s.1.1))
 
+-- no second field of the name stands there with the folds made one SP either
 once-unfolded : (name : Known) (fs : List Field) → IsNotTwice name fs → IsNotTwice name (map unfolded_field fs)
 once-unfolded name fs few =
     omega (arith, few, ap length (found-unfolded 1 name fs), length-map (found_from 1 name fs) unfolded_found)
@@ -349,6 +357,7 @@ found-vias n (f ∷ fs) rows = at (is_name_of known_name.Via f.name) refl (found
     at true is later = (subst (λ m. Row m f.value) (named-via f.name is) rows.0, later)
     at false is later = later
 
+-- the first value of Via is one that its row allows
 first-via : (n : ℕ) (fs : List Field) → AllByRecursion (λ f. Row f.name f.value) fs → (one : ℕ × List ℕ) (more : List (ℕ × List ℕ)) → found_from n known_name.Via fs ≡ one ∷ more → Row (known known_name.Via) (one.1)
 first-via n fs rows one more is =
     (subst (AllByRecursion (λ x. Row (known known_name.Via) (x.1))) is (found-vias n fs rows)).0
@@ -358,6 +367,7 @@ body-enough : (len : Option ℕ) (rest : List ℕ) → IsEnough len rest → IsE
 body-enough None rest enough = tt
 body-enough (Some n) rest enough = omega (arith, length-take-le n rest enough)
 
+-- nothing follows a body that was cut to its length
 body-no_more : (stream : List ℕ) (len : Option ℕ) (rest : List ℕ) → IsEnough len rest → IsNoMore stream len (cut_body len rest)
 body-no_more stream None rest enough is = tt
 body-no_more stream (Some n) rest enough is = omega (arith, length-take-le n rest enough)
@@ -393,11 +403,13 @@ fits-unfolded start fs rest rows fits = record {
     via_row : Row (known known_name.Via) fits.via.0.1
     via_row = first-via 1 fs rows fits.via.0 fits.via.1.0 fits.via.1.1
 
+    -- the transport is the same without its folds
     stream : IsStream (unfolded fits.via.0.1) → IsStream fits.via.0.1
     stream (t, top, is) =
         let before = via_row in
         (before.0.transport, (before.0, before.1, before.2, refl), subst (λ x. IsTrue (is_stream x)) (same_transport (unfolded fits.via.0.1) t before.0.transport top (unfolded-via fits.via.0.1 before.0.transport (before.0, before.1, before.2, refl))) is)
 
+    -- the method is the same without its folds
     method : (s : StartLine) → MethodFits s (fits.cseq.0.1) → MethodFits s (unfolded fits.cseq.0.1)
     method (request m uri) is = (is.0, unfolded-cseq fits.cseq.0.1 is.0 m is.1)
     method (status code reason) is = tt

@@ -25,19 +25,23 @@ run-inner run = at (list_any is_end_byte run) refl
     inner false true is = absurd (both_ways true is refl)
     inner false false is = refl
 
+    -- where neither test passes, the first does not
     left : (x y : Bool) → (x || y) ≡ false → x ≡ false
     left true y is = is
     left false y is = refl
 
+    -- where neither test passes, the second does not
     right : (x y : Bool) → (x || y) ≡ false → y ≡ false
     right true y is = absurd (both_ways true is refl)
     right false y is = is
 
+    -- a text in which no byte ends a line has neither CR nor LF
     each : (text : List ℕ) → list_any is_end_byte text ≡ false → Inner text
     each [] is = tt
     each (b ∷ text) is =
         (inner (nat_eq b carriage_return) (nat_eq b line_feed) (left (is_end_byte b) (list_any is_end_byte text) is), each text (right (is_end_byte b) (list_any is_end_byte text) is))
 
+    -- whether the run has a fold: then it becomes one SP
     at : (folds : Bool) → list_any is_end_byte run ≡ folds → Inner (cond folds (space ∷ []) run)
     at true is = (refl, tt)
     at false is = each run is
@@ -74,6 +78,7 @@ inner-run run inner = ap (λ folds. cond folds (space ∷ []) run) (none run inn
     no_end false true is = absurd (both_ways false refl is)
     no_end false false is = refl
 
+    -- in a text with neither CR nor LF no byte ends a line
     none : (text : List ℕ) → Inner text → list_any is_end_byte text ≡ false
     none [] all = refl
     none (b ∷ text) all = ap (λ x. x || list_any is_end_byte text) (no_end (nat_eq b carriage_return) (nat_eq b line_feed) all.0) ∙ none text all.1
@@ -111,6 +116,7 @@ no_empty (l ∷ ls) u v body inner is = at (λ z z_is. no_empty ls z v body inne
     size : length (flat_map with_end (l ∷ ls)) ≡ length l + 2 + length (flat_map with_end ls)
     size = omega (arith, length-append (with_end l) (flat_map with_end ls), length-append l crlf)
 
+    -- where the lines begin with the empty line, there are none
     last : (ms : List (List ℕ)) → AreInner ms → flat_map with_end ms ++ (crlf ++ body) ≡ crlf ++ v → length (flat_map with_end ms) ≡ 0
     last [] all same = refl
     last ([] ∷ ms) all same = absurd (all.0.1 refl)
@@ -118,6 +124,7 @@ no_empty (l ∷ ls) u v body inner is = at (λ z z_is. no_empty ls z v body inne
         let head : b ≡ carriage_return = cc in
         absurd (both_ways (is_inner_byte carriage_return) refl (subst (λ x. is_inner_byte x ≡ true) head all.0.0.0))
 
+    -- the empty line begins in the first line, which has no CR, or after it
     at : ((z : List ℕ) → flat_map with_end ls ++ (crlf ++ body) ≡ z ++ (crlf ++ (crlf ++ v)) → length (flat_map with_end ls) ≤ length z + 2) → Cuts l (crlf ++ (flat_map with_end ls ++ (crlf ++ body))) u (crlf ++ (crlf ++ v)) → length (flat_map with_end (l ∷ ls)) ≤ length u + 2
     at later (same_length front back) =
         let tails : carriage_return ∷ line_feed ∷ (flat_map with_end ls ++ (crlf ++ body)) ≡ carriage_return ∷ line_feed ∷ (crlf ++ v) = back in
@@ -144,6 +151,7 @@ lines-head l ls body inner =
       first = λ u v is. omega (arith, no_empty (l ∷ ls) u v body inner is, ap length cut.1, length-append cut.0 crlf);
     }
   where
+    -- lines with their ends end with CRLF
     last_end : (m : List ℕ) (ms : List (List ℕ)) → (front : List ℕ) × (flat_map with_end (m ∷ ms) ≡ front ++ crlf)
     last_end m [] = (m, append-nil (with_end m))
     last_end m (n ∷ ms) = let later = last_end n ms in (with_end m ++ later.0, ap (λ t. with_end m ++ t) later.1 ∙ sym (append_assoc (with_end m) later.0 crlf))

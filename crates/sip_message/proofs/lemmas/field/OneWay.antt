@@ -90,6 +90,7 @@ same_value rest value other one two =
     back_too : All is_lws_byte two.whole.3.1
     back_too = each-sws _ two.whole.3.3
 
+    -- two values between blank runs at the ends of one text are the same
     at : (v w : List ℕ) → OpensSolid v → EndsSolid v → OpensSolid w → EndsSolid w → one.whole.0 ++ (v ++ one.whole.3.1) ≡ two.whole.0 ++ (w ++ two.whole.3.1) → v ≡ w
     at [] [] vo ve wo we same = refl
     at [] (b ∷ w) vo ve wo we same =

@@ -33,6 +33,7 @@ token-cut text n longest some = at longest.front
     stops u [] token whole len = tt
     stops u (b ∷ v) token whole len = go (is_token_byte b) refl
       where
+        -- whether the next byte is one of a token: then the token would be longer
         go : (x : Bool) → is_token_byte b ≡ x → is_token_byte b ≡ false
         go false is = is
         go true is =
@@ -45,6 +46,7 @@ token-cut text n longest some = at longest.front
             ) in
             absurd (omega (arith, longest.longest (length (u ++ b ∷ [])) longer, length-append u (b ∷ []), len))
 
+    -- the longest token is empty, or stands at the front
     at : (n ≡ 0) ⊎ HasFront Token text n → TokenFront text (take n text, drop n text)
     at (inl none) = absurd (some none)
     at (inr front) =
@@ -63,6 +65,7 @@ no-token text longest t r front =
     let short = longest.longest (length t) (t, is.1, front.0, whole, refl) in
     at t front.0 short
   where
+    -- a token is not empty
     at : (u : List ℕ) → Token u → length u ≤ 0 → ⊥
     at [] token short = some-run is_token_byte [] token refl
     at (b ∷ u) token short = absurd (omega (arith, short))
@@ -130,6 +133,7 @@ parts-mark mark text inner rest (front_stops, (s, t, sws, t_is, whole)) (stops, 
   ),
 )
 
+-- past a mark at the front stands the rest
 past-cons : (mark : ℕ) (rest : List ℕ) → past mark (mark ∷ rest) ≡ Some rest
 past-cons mark rest = ap (λ same. cond same (Some rest) None) (eq-eqb mark mark refl)
 
@@ -159,6 +163,7 @@ same-blanks text r s one other =
 abbrev pub ReadAs : {X : Type 0} → (X → Type 0) → X → Type 0
 ReadAs {X = X} R a = R a × ((x : X) → R x → x ≡ a)
 
+-- R holds of nothing, so nothing is read
 abbrev pub NotRead : {X : Type 0} → (X → Type 0) → Type 0
 NotRead {X = X} R = (x : X) → ¬ (R x)
 

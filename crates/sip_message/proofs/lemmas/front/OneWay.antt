@@ -105,6 +105,7 @@ token-alnum b is = or_left (is_ascii_alphanumeric b) (is_among "-.!%*_+`'~" b) i
 pub token-digit : (b : ℕ) → is_ascii_digit b ≡ true → is_token_byte b ≡ true
 token-digit b is = token-alnum b (or_left (is_in_range 48 57 b || is_in_range 65 90 b) (is_in_range 97 122 b) (or_left (is_in_range 48 57 b) (is_in_range 65 90 b) is))
 
+-- a letter is a byte of a token
 token-alpha : (b : ℕ) → is_ascii_alphabetic b ≡ true → is_token_byte b ≡ true
 token-alpha b is = token-alnum b (alphanumeric-alphabetic b is)
 
@@ -129,6 +130,7 @@ bare-hex b is = bare-token b (elim (or_cases (is_in_range 48 57 b || is_in_range
 abbrev T : ℕ → Bool
 T = is_token_byte
 
+-- a byte of a token, alone, has only bytes of tokens
 token-byte : (b : ℕ) → is_token_byte b ≡ true → Each T (Byte b)
 token-byte b is u text = subst (All T) (sym text) (is, tt)
 
@@ -245,6 +247,7 @@ one-bracket text (v, r) (w, s) (i, i_lacks, v_is, v_whole) (j, j_lacks, w_is, w_
     both_whole : left_bracket ∷ (i ++ right_bracket ∷ r) ≡ left_bracket ∷ (j ++ right_bracket ∷ s)
     both_whole = sym (flat v i r v_is) ∙ sym v_whole ∙ w_whole ∙ flat w j s w_is
 
+    -- what follows the first "]" is one rest
     rests : left_bracket ∷ (i ++ right_bracket ∷ r) ≡ left_bracket ∷ (j ++ right_bracket ∷ s) → r ≡ s
     rests same =
         let inners : i ++ right_bracket ∷ r ≡ j ++ right_bracket ∷ s = cc in

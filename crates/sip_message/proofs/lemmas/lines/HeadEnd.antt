@@ -107,6 +107,7 @@ first-double t rest from k within is none first at some cr = (
     there : OccursAt t inner_end (from + k)
     there = rest-inner t rest from k within is at
 
+    -- each of the four bytes stands where the search found it
     reads : (j : ℕ) → j < 4 → get_or t (from + k - 1 + j) 0 ≡ get_or double_end j 0
     reads zero below = ap (λ i. get_or t i 0) (omega arith) ∙ cr
     reads (suc j) below = ap (λ i. get_or t i 0) (omega (arith, some)) ∙ there.reads j (omega (arith, below))
@@ -142,9 +143,11 @@ one-head t k first at = (is, (λ x other. let same = same_head t x.0 x.1 (take (
     rest_is : drop (k + 4) t ≡ rest
     rest_is = ap (λ n. drop (n + 4) t) (sym len) ∙ ap (drop (length (take k t) + 4)) cut ∙ drop-append-add (take k t) (crlf ++ (crlf ++ rest)) 4
 
+    -- no CRLF CRLF stands before the place k
     least : (u v : List ℕ) → t ≡ u ++ (crlf ++ (crlf ++ v)) → length (take k t) ≤ length u
     least u v is = at_least (nat_lt (length u) k) refl
       where
+        -- whether one would begin before k
         at_least : (b : Bool) → nat_lt (length u) k ≡ b → length (take k t) ≤ length u
         at_least true below = absurd (first.before (length u) (omega arith) (omega (arith, ltb-true (length u) k below)) (cut-occurs t u v is))
         at_least false above = omega (arith, len, ltb-false (length u) k above)
@@ -224,6 +227,7 @@ inner-parts b inner =
     let both = and_parts (not (nat_eq b carriage_return)) (not (nat_eq b line_feed)) inner in
     (not-true _ (both.0), not-true _ (both.1))
 
+-- a byte that is neither CR nor LF is one within a line
 parts-inner : (b : ℕ) → nat_eq b carriage_return ≡ false → nat_eq b line_feed ≡ false → is_inner_byte b ≡ true
 parts-inner b no_end no_feed = ap₂ (λ x y. not x && not y) no_end no_feed
 

@@ -98,6 +98,7 @@ lines-cons b text (a ∷ l) ls is = at l refl (nat_eq b carriage_return) (nat_eq
     longer : ((v : List ℕ) → b ∷ a ∷ l ≡ carriage_return ∷ line_feed ∷ v → OpensBlank v) → (m : List ℕ) × (ms : List (List ℕ)) × LinesSay (b ∷ text) m ms
     longer first = (b ∷ a ∷ l, ls, record { whole = ap (λ t. b ∷ t) is.whole; folded = (folded-cons b (a ∷ l) is.folded.0 first, is.folded.1); cut = is.cut })
 
+    -- the byte and the next one are CR and LF, which end an empty line, if no blank follows
     ends : b ≡ carriage_return → a ≡ line_feed → (OpensBlank l → ⊥) → (m : List ℕ) × (ms : List (List ℕ)) × LinesSay (b ∷ text) m ms
     ends b_is a_is none = (
       [],
@@ -109,12 +110,14 @@ lines-cons b text (a ∷ l) ls is = at l refl (nat_eq b carriage_return) (nat_eq
       },
     )
 
+    -- whether the byte and the next one are CR and LF
     at : (t : List ℕ) → t ≡ l → (x y : Bool) → nat_eq b carriage_return ≡ x → nat_eq a line_feed ≡ y → (m : List ℕ) × (ms : List (List ℕ)) × LinesSay (b ∷ text) m ms
     at t same false y x_is y_is = longer (λ v e. let head : b ≡ carriage_return = cc in absurd (both_ways (nat_eq b carriage_return) x_is (eq-eqb b carriage_return head)))
     at t same true false x_is y_is = longer (λ v e. let head : a ≡ line_feed = cc in absurd (both_ways (nat_eq a line_feed) y_is (eq-eqb a line_feed head)))
     at [] same true true x_is y_is = ends (eqb-true b carriage_return x_is) (eqb-true a line_feed y_is) (λ begins. subst OpensBlank (sym same) begins)
     at (c ∷ t) same true true x_is y_is = blank (is_wsp c) refl
       where
+        -- whether a blank follows the CR and LF
         blank : (z : Bool) → is_wsp c ≡ z → (m : List ℕ) × (ms : List (List ℕ)) × LinesSay (b ∷ text) m ms
         blank true z_is = longer (λ v e. let rest : l ≡ v = cc in subst OpensBlank (same ∙ rest) z_is)
         blank false z_is = ends (eqb-true b carriage_return x_is) (eqb-true a line_feed y_is) (λ begins. both_ways (is_wsp c) z_is (subst OpensBlank (sym same) begins))

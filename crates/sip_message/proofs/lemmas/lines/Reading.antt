@@ -72,12 +72,15 @@ so_far-more lines rest line more fields f n so read is =
       are = fields-push so.done fields line f so.are (first one);
     }
   where
+    -- the only line is the field
     first : FieldsText (line ∷ []) (f ∷ []) → FieldText line f
     first (g, gs, is_field, none, whole) = subst (FieldText line) (sym (head whole)) is_field
       where
+        -- equal lists of one field have the same field
         head : f ∷ [] ≡ g ∷ gs → f ≡ g
         head same = ap (λ fs. first_of fs) same
           where
+            -- the first of some fields
             first_of : List Field → Field
             first_of [] = f
             first_of (h ∷ hs) = h

@@ -45,6 +45,7 @@ no_lf : (u v : List ℕ) → Lacks line_feed (u ++ line_feed ∷ v) → ⊥
 no_lf [] v lacks = both_ways true lacks.0 refl
 no_lf (b ∷ u) v lacks = no_lf u v lacks.1
 
+-- a text without LF has no CRLF
 no_crlf : (t u v : List ℕ) → Lacks line_feed t → t ≡ u ++ (crlf ++ v) → ⊥
 no_crlf t u v lacks is =
     no_lf (u ++ carriage_return ∷ []) v (subst (Lacks line_feed) (is ∙ sym (append_assoc u (carriage_return ∷ []) (line_feed ∷ v))) lacks)
@@ -77,6 +78,7 @@ scan-line done f more scanned lacks cut = (is, (λ x other. only x.0 x.1 other))
     is : LineFront (done ++ (f ++ (crlf ++ more))) (done ++ f, more)
     is = (folded, cut, sym (append_assoc done f (crlf ++ more)) ∙ sym (append_assoc (done ++ f) crlf more))
 
+    -- each line at the front ends at this CRLF
     only : (l m : List ℕ) → LineFront (done ++ (f ++ (crlf ++ more))) (l, m) → ◌≡◌ {A = List ℕ × List ℕ} (l, m) (done ++ f, more)
     only l m (l_folded, m_cut, whole) =
         let same = same_first l (done ++ f) m more l_folded folded m_cut cut (sym whole ∙ is.2) in
@@ -93,6 +95,7 @@ scan-more done front more scanned lacks blank = record { apart = apart; folded =
         let heads : line_feed ≡ carriage_return = cc in
         omega (arith, heads)
 
+    -- the CRLF ends with this LF, since no other stands before it
     within : (w v : List ℕ) → Cuts front (line_feed ∷ []) (w ++ carriage_return ∷ []) (line_feed ∷ v) → OpensBlank (v ++ more)
     within w v (same_length f_is back) =
         let none : [] ≡ v = cc in
@@ -102,6 +105,7 @@ scan-more done front more scanned lacks blank = record { apart = apart; folded =
         absurd (no_lf (w ++ carriage_return ∷ []) z (subst (Lacks line_feed) (longer ∙ ap (λ x. (w ++ carriage_return ∷ []) ++ x ∷ z) (sym head)) lacks))
     within w v (second_longer c z longer back) = absurd (omega (arith, ap length back, length-append z (line_feed ∷ v)))
 
+    -- each CRLF up to this LF has a blank after it
     folded : (u v : List ℕ) → done ++ (front ++ line_feed ∷ []) ≡ u ++ (crlf ++ v) → OpensBlank (v ++ more)
     folded u v same =
         elim (unscanned done (front ++ line_feed ∷ more) u (v ++ more) scanned (
@@ -143,10 +147,12 @@ cr-ends f = at (ends_cr (f ++ carriage_return ∷ [])) refl
     at false is =
         absurd (none-some f (sym (ap (λ x. cond x (Some (take (length (f ++ carriage_return ∷ []) - 1) (f ++ carriage_return ∷ []))) None) is) ∙ up_to-mark carriage_return f))
 
+-- a text that opens with a blank passes the test for SP and HTAB
 begins-wsp : (text : List ℕ) → OpensBlank text → begins_wsp text ≡ true
 begins-wsp [] begins = absurd begins
 begins-wsp (b ∷ text) begins = begins
 
+-- a text that passes the test for SP and HTAB opens with a blank
 wsp-begins : (text : List ℕ) → begins_wsp text ≡ true → OpensBlank text
 wsp-begins [] is = both_ways false refl is
 wsp-begins (b ∷ text) is = is
@@ -173,6 +179,7 @@ line-found text front rest at within scanned front_is rest_is line =
     whole : text ≡ take at text ++ (f.0 ++ (crlf ++ rest))
     whole = sym (take-append-drop at text) ∙ ap (λ t. take at text ++ t) inner
 
+    -- the front of a text without LF has none
     left : (u v : List ℕ) → Lacks line_feed (u ++ v) → Lacks line_feed u
     left [] v all = tt
     left (b ∷ u) v all = (all.0, left u v all.1)
@@ -180,6 +187,7 @@ line-found text front rest at within scanned front_is rest_is line =
     lacks : Lacks line_feed f.0
     lacks = left f.0 (carriage_return ∷ []) (subst (Lacks line_feed) f.1 both.1)
 
+    -- no blank follows the line's end
     cut : OpensBlank rest → ⊥
     cut begins = both_ways false refl (sym (ap not (begins-wsp rest begins)) ∙ parts.1)
 
@@ -200,9 +208,11 @@ line-on text front rest at within scanned front_is rest_is line = (
     both : (drop at text ≡ front ++ line_feed ∷ rest) × Lacks line_feed front
     both = cut-lf (drop at text) front rest front_is rest_is
 
+    -- where a CR stands before the LF, a blank follows it
     blank : (f : List ℕ) → front ≡ f ++ carriage_return ∷ [] → OpensBlank rest
     blank f is = go (begins_wsp rest) refl
       where
+        -- whether a blank follows
         go : (x : Bool) → begins_wsp rest ≡ x → OpensBlank rest
         go true e = wsp-begins rest e
         go false e = absurd (both_ways (is_line front rest) line (and_from (ends_cr front) (not (begins_wsp rest)) (ap ends_cr is ∙ cr-ends f) (ap not e)))

@@ -51,6 +51,7 @@ stream-first text e r ((v, vias, is), (rest, front)) r_is = (to, from)
     to : IsTrue r → IsStream text
     to so = (v.transport, (v, vias, is, refl), ap (λ x. is_stream x.transport) (sym (top v vias is)) ∙ sym r_is ∙ so)
 
+    -- where the text says a stream, the test passes
     from : IsStream text → IsTrue r
     from (transport, (w, others, are, same), so) = r_is ∙ ap (λ x. is_stream x.transport) (top w others are) ∙ ap is_stream (sym same) ∙ so
 
@@ -62,6 +63,7 @@ length-none fields is = ap length_in is
 pub length-some : (fields : List Field) (one : ℕ × List ℕ) (more : List (ℕ × List ℕ)) → found known_name.ContentLength fields ≡ one ∷ more → content_length fields ≡ Some (digits_value 10 (one.1))
 length-some fields one more is = ap length_in is
 
+-- What follows is of one message, of which the start line, CSeq, Via and Content-Length are read, and the bytes after its head.
 module _ (start : StartLine) (cseq : ℕ × List ℕ) (via : List ℕ) (len : Option ℕ) (rest : List ℕ) where
   -- where the method does not fit, the reading stops with that fault at the line of CSeq
   pub body-method : (MethodFits start (cseq.1) → ⊥) → BodyOf start cseq via len rest (stops (fault_in_line (cseq.0) reason.MethodMismatch))
@@ -76,7 +78,9 @@ module _ (start : StartLine) (cseq : ℕ × List ℕ) (via : List ℕ) (len : Op
   body-all fits none datagram =
       passes tt fits (passes tt (λ stream. absurd (datagram stream)) (passes tt (subst (λ l. IsEnough l rest) (sym none) tt) (passes tt (λ stream. absurd (datagram stream)) (ap (λ l. gives (cut_body l rest)) (sym none)))))
 
+  -- What follows is of a message whose Content-Length says n.
   module _ (n : ℕ) (some : len ≡ Some n) where
+    -- the length of the body is said
     has : HasLength via len
     has stream = ap is_some some
 

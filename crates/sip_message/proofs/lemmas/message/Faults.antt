@@ -24,6 +24,7 @@ one-field n line =
     one-then (one-demand (HasName line) _ (λ x y one other. let same = same_name line x.1 y.1 x.0 y.0 one other in ap (λ m. (m, x.1)) same.0 ∙ ap (λ r. (y.0, r)) same.1)) (λ named.
     one-then (one-demand (IsValue named) _ (λ x y one other. same_value named.1 x y one.0 other.0)) (λ value. one-gives _))
 
+-- the reading of field lines has one outcome
 one-fields : (n : ℕ) (lines : List (List ℕ)) → IsOne (FieldsOf n lines)
 one-fields n [] = one-gives []
 one-fields n (line ∷ lines) = one-then (one-field n line) (λ f. one-then (one-fields (n + 1) lines) (λ fs. one-gives (f ∷ fs)))
@@ -36,10 +37,12 @@ same_cons x y xs ys is = ap head is
     head [] = x
     head (z ∷ zs) = z
 
+-- the reading of the first field of a name has one outcome
 one-present : (name : Known) (fields : List Field) → IsOne (FirstOf (found name fields))
 one-present name fields =
     one-demand (IsFirstFound name fields) _ (λ x y one other. same_cons x y one.0 other.0 (sym one.1 ∙ other.1))
 
+-- the reading of the only field of a name has one outcome
 one-once : (name : Known) (fields : List Field) → IsOne (OneOf (found name fields))
 one-once name fields = one-then (one-holds _ _) (λ _. one-present name fields)
 
@@ -49,6 +52,7 @@ one-names fields =
     one-then (one-present known_name.Via fields) (λ via. one-then (one-once known_name.From fields) (λ _. one-then (one-once known_name.To fields) (λ _.
     one-then (one-once known_name.CallId fields) (λ _. one-then (one-once known_name.CSeq fields) (λ cseq. one-then (one-holds _ _) (λ _. one-gives (via, cseq)))))))
 
+-- the reading of the body has one outcome
 one-body : (start : StartLine) (cseq : ℕ × List ℕ) (via : List ℕ) (len : Option ℕ) (rest : List ℕ) → IsOne (BodyOf start cseq via len rest)
 one-body start cseq via len rest =
     one-then (one-holds _ _) (λ _. one-then (one-holds _ _) (λ _. one-then (one-holds _ _) (λ _. one-then (one-holds _ _) (λ _. one-gives (cut_body len rest)))))
@@ -96,6 +100,7 @@ fields-read n (line ∷ lines) fields (f, fs, is, are, whole) =
 -- where the names and the body are read, what a message demands of its fields and its body holds
 read-fits : (start : StartLine) (fields : List Field) (rest body : List ℕ) (names : (ℕ × List ℕ) × (ℕ × List ℕ)) → NamesOf fields (gives names) → BodyOf start (names.1) (names.0.1) (content_length fields) rest (gives body) → MessageFits start fields rest × (body ≡ cut_body (content_length fields) rest)
 read-fits start fields rest body names is read =
+    -- what each stage of the reading gave: the fields by their names, and then the demands on the body
     let via = given-then is in
     let from = given-then via.2 in
     let to = given-then from.2 in
@@ -111,6 +116,7 @@ read-fits start fields rest body names is read =
     let enough = given-then has.2 in
     let no_more = given-then enough.2 in
     let same = given len.2 in (
+      -- what a message demands
       record {
         via = (via.0, via.1);
         from_once = from_once.1;

@@ -54,11 +54,13 @@ pub ordinary-whole : {bytes rest body : List ℕ} {fields : List Field} (start :
     → a.via ≡ Some via → a.from ≡ Some from → a.to ≡ Some to → a.call_id ≡ Some call_id → a.cseq ≡ Some cseq → HasBody start via cseq (option_copied a.content_length) rest body
     → IsWhole bytes rest (start_parts start) fields body (element via) from.now to.now call_id.now (cseq_parts cseq)
 ordinary-whole {rest = rest} {body = body} {fields = fields} start a via from to call_id cseq h of via_is from_is to_is call_id_is cseq_is has =
+    -- what was kept of each field that is asked for: Via, From, To, Call-ID and CSeq
     let v = first-one FirstVia known_name.Via fields element a.via via via_is of.via in
     let f = copied-one known_name.From fields a.from from from_is of.from in
     let t = copied-one known_name.To fields a.to to to_is of.to in
     let i = copied-one known_name.CallId fields a.call_id call_id call_id_is of.call_id in
     let c = once-one CSeqValue known_name.CSeq fields cseq_parts a.cseq cseq cseq_is of.cseq in
+    -- the head, the lines, the fields and the body are those of the message
     record {
       first = h.first;
       via = v.0;

@@ -26,6 +26,7 @@ Comes {X = X} S = ¬ ((out : Outcome X) → ¬ (S out))
 comes-demand : {X : Type 0} (R : X → Type 0) (fault : Fault) → Comes (Demand R fault)
 comes-demand R fault never = never (stops fault) ((λ x is. never (gives x) is), refl)
 
+-- what only gives a value comes to that value
 comes-gives : {X : Type 0} (x : X) → Comes (Gives x)
 comes-gives x never = never (gives x) refl
 
@@ -37,13 +38,16 @@ comes-then {X = X} S T first later never = first at
     at (gives x) is = later x is (λ out then. never out (passes x is then))
     at (stops fault) is = never (stops fault) (stopped fault is refl)
 
+-- the reading of a field line comes to an outcome
 comes-field : (n : ℕ) (line : List ℕ) → Comes (FieldOf n line)
 comes-field n line = comes-then _ _ (comes-demand _ _) (λ named _. comes-then _ _ (comes-demand _ _) (λ value _. comes-gives _))
 
+-- the reading of field lines comes to an outcome
 comes-fields : (n : ℕ) (lines : List (List ℕ)) → Comes (FieldsOf n lines)
 comes-fields n [] = comes-gives []
 comes-fields n (line ∷ lines) = comes-then _ _ (comes-field n line) (λ f _. comes-then _ _ (comes-fields (n + 1) lines) (λ fs _. comes-gives _))
 
+-- the reading of the only field of a name comes to an outcome
 comes-once : (name : Known) (fields : List Field) → Comes (OneOf (found name fields))
 comes-once name fields = comes-then _ _ (comes-demand _ _) (λ _ _. comes-demand _ _)
 

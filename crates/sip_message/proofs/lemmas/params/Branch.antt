@@ -23,6 +23,7 @@ branch-cons : (p : Param) (ps : List Param) (b : Option (List ℕ)) → IsBranch
 branch-cons (name, value) ps b (inl (same, v, token, value_is, b_is, later, more)) = (Some v, (same, token, value_is), later, more, b_is)
 branch-cons (name, value) ps b (inr (differs, more)) = (None, differs, b, more, refl)
 
+-- the branch of a parameter, or else that of the others, is the branch of them together
 pub cons-branch : (p : Param) (ps : List Param) (found later : Option (List ℕ)) → BranchOf p found → IsBranch ps later → IsBranch (p ∷ ps) (option_or found later)
 cons-branch (name, value) ps None later differs more = inr (differs, more)
 cons-branch (name, value) ps (Some v) later (same, token, value_is) more = inl (same, v, token, value_is, refl, later, more)
@@ -50,6 +51,7 @@ After first rest (branch, left) = (later : Option (List ℕ)) × BranchFront res
 abbrev pub Decides : List ℕ → List ℕ → Option (List ℕ) → Type 0
 Decides text rest first = (x : Option (List ℕ) × List ℕ) → BranchFront text x ↔ After first rest x
 
+-- the first of three options is the same, whichever two are taken first
 pub or-assoc : (a b c : Option (List ℕ)) → option_or a (option_or b c) ≡ option_or (option_or a b) c
 or-assoc None b c = refl
 or-assoc (Some v) b c = refl
@@ -71,6 +73,7 @@ decides-more text rest more p first found read is so x = ((λ whole. to x ((so x
         let cons = branch-cons p others.0 later (subst (λ qs. IsBranch qs later) others.1 branch) in
         (cons.2, (others.0, others.2, cons.3), b_is ∙ ap (option_or first) (cons.4 ∙ ap (λ o. option_or o cons.2) (one-branch_of p cons.0 found cons.1 is)) ∙ or-assoc first found cons.2)
 
+    -- what is read of the rest is what is read of the text, with the parameter before it
     from : (y : Option (List ℕ) × List ℕ) → After (option_or first found) more y → After first rest y
     from (b, left) (later, (ps, all, branch), b_is) =
         (option_or found later, (p ∷ ps, ((more, read.0, all.0), all.1), cons-branch p ps found later is branch), b_is ∙ sym (or-assoc first found later))

@@ -96,12 +96,15 @@ some-left P Q some u both none = some both.0 both.2 (nil both.0 both.1 (sym both
     nil [] q is = refl
     nil (b ∷ p) q is = absurd (omega (arith, ap length is))
 
+-- a byte is not empty
 some-byte : (b : ℕ) (u : List ℕ) → Byte b u → u ≡ [] → ⊥
 some-byte b u is none = absurd (omega (arith, ap length is, ap length none))
 
+-- a sequence of hex groups is not empty
 some-hexseq : (u : List ℕ) → Hexseq u → u ≡ [] → ⊥
 some-hexseq u = some-left Hex4 (Many (Byte colon then Hex4)) (λ t is. some-between _ 1 4 t (omega arith) is) u
 
+-- "::" is not empty
 some-double : (u : List ℕ) → Exactly (colon ∷ colon ∷ []) u → u ≡ [] → ⊥
 some-double u is none = absurd (omega (arith, ap length is, ap length none))
 
@@ -172,6 +175,7 @@ closed-param Ok demand u v b w ends opens blanks (name, Some value, ok, (token, 
     same : All is_solid value → ParamSet Ok (u ++ space ∷ v)
     same solid = (name, Some value, ok, (token, kind, with_value (Exactly value) name (solid-token name token) (λ t is. subst OpensSolid (sym is) (opens-solid value solid)) (closed-solid (Exactly value) (λ t is. subst (All is_solid) (sym is) solid)) u v b w ends opens blanks whole))
 
+    -- the blanks lie in the value, if it is a quoted string
     at : GenValue value → ParamSet Ok (u ++ space ∷ v)
     at (inl t) = same (solid-token value t)
     at (inr (inr (inl t))) = same (solid-v6 value t)

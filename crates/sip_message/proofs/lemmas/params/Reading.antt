@@ -88,6 +88,7 @@ separator-bare b is = elim (or_cases (nat_eq b semicolon) (nat_eq b comma) is) [
   | inr same ↦ subst (λ x. is_bare_byte x ≡ false) (sym (eqb-true b comma same)) refl
 ]
 
+-- a blank is no byte of a bare value
 blank-bare : (b : ℕ) → is_lws_byte b ≡ true → is_bare_byte b ≡ false
 blank-bare = blank_is (λ b. is_bare_byte b ≡ false) refl refl refl refl
 
@@ -99,6 +100,7 @@ bare-stops v rest kind = at v (some-bare v kind) (each-bare v kind)
     solid b false is bare = is
     solid b true is bare = absurd (both_ways (is_bare_byte b) (blank-bare b is) bare)
 
+    -- the text is not empty, and its first byte is one of a bare value
     at : (u : List ℕ) → (u ≡ [] → ⊥) → All is_bare_byte u → StopsBlank (u ++ rest)
     at [] some all = absurd (some refl)
     at (b ∷ u) some all = stops-byte b (u ++ rest) (solid b (is_lws_byte b) refl all.0)
@@ -126,9 +128,11 @@ front-value text v rest (inr (inl is)) = inr (inr (inr is.0))
 front-value text v rest (inr (inr (inl token, stops, whole))) = inl token
 front-value text v rest (inr (inr (inr v6, stops, whole))) = inr (inr (inl v6))
 
+-- the byte is "="
 abbrev is_equals : ℕ → Bool
 is_equals b = nat_eq b equals
 
+-- "=" is no byte of a token
 equals-token : (b : ℕ) → is_equals b ≡ true → is_token_byte b ≡ false
 equals-token b is = subst (λ x. is_token_byte x ≡ false) (sym (eqb-true b equals is)) refl
 
@@ -179,6 +183,7 @@ front-param text p rest (both inner mark (both (name, r) token (both (value, s) 
     token_whole : inner ≡ name ++ r
     token_whole = token.2.4 ∙ ap (λ z. z ++ token.2.1) token.2.2 ∙ ap (λ z. name ++ z) token.2.3
 
+    -- the parameter has a value after "=", or none
     at : (v : Option (List ℕ)) → LedFront equals ValueFront r (v, s) → (x : List ℕ) × ParamText x (name, v) × (inner ≡ x ++ s)
     at None (none, s_is) = (name, (token.0, refl), token_whole ∙ ap (λ z. name ++ z) (sym s_is))
     at (Some w) (t, equal, of) = (
@@ -225,6 +230,7 @@ params-open b text (p ∷ ps) (opens, (m, t, (s, c, sws, (byte, after, byte_is, 
     flat : b ∷ text ≡ s ++ (semicolon ∷ (after ++ t))
     flat = whole ∙ ap (λ x. x ++ t) (m_is ∙ ap (λ x. s ++ x) (c_is ∙ ap (λ x. x ++ after) byte_is)) ∙ append_assoc s (semicolon ∷ after) t
 
+    -- no blank stands before the ";", so it is the first byte
     at : (u : List ℕ) → All is_lws_byte u → b ∷ text ≡ u ++ (semicolon ∷ (after ++ t)) → b ≡ semicolon
     at [] all same = cc
     at (a ∷ u) all same =
@@ -253,6 +259,7 @@ params-some text inner rest found all = (to rest all.0 all.1, from)
     to [] ps is none = (ps, (opens-semicolon text inner found, params-yes text ps is.0))
     to (b ∷ r) ps is none = absurd (omega (arith, eqb-true (length (b ∷ r)) 0 none))
 
+    -- where the text is parameters, nothing is left after them
     from : AreParams text → IsTrue (nat_eq (length rest) 0)
     from are = ap (λ t. nat_eq (length t) 0) (params-is text all.0 are.0 rest all.1 are.1.1)
 
@@ -274,6 +281,7 @@ behind-params (b ∷ part) (p ∷ ps) q (opens, (m, t, (s, c, sws, mark, m_is), 
     flat : b ∷ part ≡ s ++ (c ++ t)
     flat = whole ∙ ap (λ x. x ++ t) m_is ∙ append_assoc s c t
 
+    -- no blank stands before the part
     empty : (u : List ℕ) → All is_lws_byte u → b ∷ part ≡ u ++ (c ++ t) → u ≡ []
     empty [] all same = refl
     empty (a ∷ u) all same =

@@ -161,6 +161,7 @@ no-host_reference text part rest bracket none x reference =
     let is : Bracketed part = subst Bracketed (ap (λ y. y.0) same) reference.0 in
     none (v6 part) (is, refl)
 
+-- a quoted value at the front is blanks and a quoted string there
 quoted-string : (text : List ℕ) (x : List ℕ × List ℕ) → QuotedFront text x → HasFront (Sws then Quoted) text (length (x.0))
 quoted-string text (v, r) (q, whole) = (v, r, ([], v, inl refl, q, refl), whole, refl)
 
@@ -183,6 +184,7 @@ one-quoted_string text inner n found ((u, v, (blanks, q, sws, quoted, u_is), who
     flat : dquote ∷ inner ≡ blanks ++ (q ++ v)
     flat = sym (past-some dquote text inner found) ∙ whole ∙ ap (λ x. x ++ v) u_is ∙ append_assoc blanks q v
 
+    -- no blank stands before the quote
     none : (b : List ℕ) → Sws b → dquote ∷ inner ≡ b ++ (q ++ v) → b ≡ []
     none [] is same = refl
     none (c ∷ b) is same =

@@ -28,10 +28,12 @@ same-demand {X = X} {Y = Y} Q R P fault go come = record { to = to; back = back 
     to (gives x) s = let y = go x s in (gives y.0, y.1, y.2)
     to (stops g) s = (stops g, ((λ y p. let x = come y p in s.0 x.0 x.1), s.1), refl)
 
+    -- each outcome of the second demand is one of the first
     back : (b : Outcome Y) → Demand P fault b → (a : Outcome X) × Demand R fault a × Alike Q a b
     back (gives y) t = let x = come y t in (gives x.0, x.1, x.2)
     back (stops g) t = (stops g, ((λ x r. let y = go x r in t.0 y.0 y.1), t.1), refl)
 
+-- two demands without a value, of which each gives the other, come to the same
 pub same-holds : (A B : Type 0) (fault : Fault) → (A → B) → (B → A) → Same {X = ⊤} {Y = ⊤} Equal (Holds A fault) (Holds B fault)
 same-holds A B fault go come = same-demand Equal (λ _. A) (λ _. B) fault (λ x a. (x, go a, refl)) (λ y b. (y, come b, refl))
 
@@ -50,6 +52,7 @@ same-self {X = X} S = record { to = to; back = back }
     to (gives x) s = (gives x, s, refl)
     to (stops f) s = (stops f, s, refl)
 
+    -- each outcome is itself
     back : (b : Outcome X) → S b → (a : Outcome X) × S a × Alike Equal a b
     back (gives x) s = (gives x, s, refl)
     back (stops f) s = (stops f, s, refl)
@@ -63,22 +66,27 @@ same-then {X = X} {Y = Y} {U = U} {V = V} Q W {S = S} {T = T} A B first later = 
     to-gives x out a (gives y) t q = let m = (later x y q).to out a in (m.0, passes y t m.1, m.2)
     to-gives x out a (stops g) t q = absurd q
 
+    -- where the first step stops, both do, with the same fault
     to-stops : (f : Fault) (out : Outcome U) → out ≡ stops f → (b : Outcome Y) → T b → Alike Q (stops f) b → (o : Outcome V) × Then T B o × Alike W out o
     to-stops f out out_is (gives y) t q = absurd q
     to-stops f out out_is (stops g) t q = (stops g, stopped g t refl, subst (λ o. Alike W o (stops g)) (sym out_is) q)
 
+    -- each outcome of the first two steps is one of the others
     to : (a : Outcome U) → Then S A a → (b : Outcome V) × Then T B b × Alike W a b
     to out (passes x s a) = let m = first.to (gives x) s in to-gives x out a m.0 m.1 m.2
     to out (stopped f s out_is) = let m = first.to (stops f) s in to-stops f out out_is m.0 m.1 m.2
 
+    -- where the first step gives a value, the second steps go on alike
     back-gives : (y : Y) (out : Outcome V) → B y out → (a : Outcome X) → S a → Alike Q a (gives y) → (o : Outcome U) × Then S A o × Alike W o out
     back-gives y out b (gives x) s q = let m = (later x y q).back out b in (m.0, passes x s m.1, m.2)
     back-gives y out b (stops g) s q = absurd q
 
+    -- where the first step stops, both do, with the same fault
     back-stops : (f : Fault) (out : Outcome V) → out ≡ stops f → (a : Outcome X) → S a → Alike Q a (stops f) → (o : Outcome U) × Then S A o × Alike W o out
     back-stops f out out_is (gives x) s q = absurd q
     back-stops f out out_is (stops g) s q = (stops g, stopped g s refl, subst (λ o. Alike W (stops g) o) (sym out_is) q)
 
+    -- each outcome of the other two steps is one of the first ones
     back : (b : Outcome V) → Then T B b → (a : Outcome U) × Then S A a × Alike W a b
     back out (passes y t b) = let m = first.back (gives y) t in back-gives y out b m.0 m.1 m.2
     back out (stopped f t out_is) = let m = first.back (stops f) t in back-stops f out out_is m.0 m.1 m.2

@@ -59,6 +59,7 @@ last-solid [] b ends = ends
 last-solid (c ∷ []) b ends = ends
 last-solid (c ∷ d ∷ u) b ends = last-solid (d ∷ u) b ends
 
+-- a text that does not end with a blank has no blank as its last byte
 ends-trimmed : (t : List ℕ) → EndsSolid t → ¬ (((λ before. ⊤) then One is_lws_byte) t)
 ends-trimmed t ends (u, v, any, (b, blank, v_is), whole) =
     both_ways (is_lws_byte b) (last-solid u b (subst EndsSolid (whole ∙ ap (λ z. u ++ z) v_is) ends)) blank
@@ -90,6 +91,7 @@ AreFields n (f ∷ fs) [] = ⊥
 abbrev SaidName : List ℕ → List ℕ × List ℕ → Type 0
 SaidName line y = ((λ t. Token t × (y.0 ≡ t)) then (Many (One (λ byte. byte == 0x20 || byte == 0x09)) then (Byte 58 then Exactly y.1))) line
 
+-- the name is that which the bytes spell, and the rest is the same
 abbrev IsSame : FieldName × List ℕ → List ℕ × List ℕ → Type 0
 IsSame x y = (x.0 ≡ name_of y.0) × (x.1 ≡ y.1)
 
@@ -102,6 +104,7 @@ same-named n line = same-demand IsSame (HasName line) (SaidName line) (fault_in_
         let w = s.whole in
         ((s.spelled, x.1), (w.0, w.1, (subst Token (sym w.2) s.is_token, sym w.2), w.3, w.4), (s.name_is, refl))
 
+    -- what the definitions say of the name, the readers read
     back : (y : List ℕ × List ℕ) → SaidName line y → (x : FieldName × List ℕ) × HasName line x × IsSame x y
     back y (u, v, (token, same), rest, whole) =
         ((name_of y.0, y.1), record { spelled = y.0; is_token = subst Token (sym same) token; name_is = refl; whole = (u, v, sym same, rest, whole) }, (refl, refl))
@@ -118,6 +121,7 @@ same-value n x y same = same-demand Equal (IsValue x) (SaidValue y) (fault_in_li
     to v (text, row) =
         (v, (((opens-trimmed v text.opens, ends-trimmed v text.ends), subst (Sws then Exactly v then Sws) same.1 text.whole), (row-said y.0 v).0 (subst (λ n. Row n v) same.0 row)), refl)
 
+    -- what the definitions say of the value, the readers read
     back : (w : List ℕ) → SaidValue y w → (v : List ℕ) × IsValue x v × (v ≡ w)
     back w (((first, last), whole), row) =
         (w, (record { opens = trimmed-opens w first; ends = trimmed-ends w last; whole = subst (Sws then Exactly w then Sws) (sym same.1) whole }, subst (λ n. Row n w) (sym same.0) ((row-said y.0 w).1 row)), refl)
@@ -148,6 +152,7 @@ all-found k key same n (f ∷ fs) (g ∷ gs) ((f_is, g_is, line_is, value_is), a
     pair : ◌≡◌ {A = ℕ × List ℕ} (n, f.value) (g.line, g.value)
     pair = λ i. (sym line_is i, sym value_is i)
 
+    -- whether the first field has the name, as the readers see it and as it is said
     at : (b c : Bool) → b ≡ c → found_from (n + 1) k fs ≡ all key gs
         → cond b ((n, f.value) ∷ found_from (n + 1) k fs) (found_from (n + 1) k fs) ≡ map (λ h. (h.line, h.value)) (cond c (g ∷ filter (λ h. bytes_eq h.name (codes key)) gs) (filter (λ h. bytes_eq h.name (codes key)) gs))
     at true true b_is later = ap (λ x. x ∷ found_from (n + 1) k fs) pair ∙ ap (λ z. (g.line, g.value) ∷ z) later
@@ -184,6 +189,7 @@ stream-kind t is = elim (or_cases (bytes_eq (folded t) (codes "tcp")) (bytes_eq 
   | inr tls ↦ inr ((bytes_eq-Decides (folded t) (codes "tls")).0 tls)
 ]
 
+-- TCP and TLS, in letters of any case, are streams
 kind-stream : (t : List ℕ) → (AnyCase "tcp" or AnyCase "tls") t → is_stream t ≡ true
 kind-stream t (inl tcp) = or_left (bytes_eq (folded t) (codes "tcp")) (bytes_eq (folded t) (codes "tls")) ((bytes_eq-Decides (folded t) (codes "tcp")).1 tcp)
 kind-stream t (inr tls) = or_right (bytes_eq (folded t) (codes "tcp")) (bytes_eq (folded t) (codes "tls")) ((bytes_eq-Decides (folded t) (codes "tls")).1 tls)
@@ -210,6 +216,7 @@ method-said : (start : StartLine) (cseq : List ℕ) → MethodFits start cseq �
 method-said (request m u) cseq (n, text) = (n, cseq-said cseq n m text)
 method-said (status code why) cseq any = tt
 
+-- what the definitions say of the methods is what the readers ask
 said-method : (start : StartLine) (cseq : List ℕ) → MethodSays start cseq → MethodFits start cseq
 said-method (request m u) cseq (n, says) = (n, said-cseq cseq n m says)
 said-method (status code why) cseq any = tt

@@ -78,10 +78,12 @@ kept start gs body = record { start = start; fields = map field_of gs; body = bo
 abbrev shown : Field → List ℕ × List ℕ
 shown f = (name_text f.name, f.value)
 
+-- fields as the readers show them have their names in full and their values
 shown-told : (gs : List SaidField) → map shown (map field_of gs) ≡ map (λ g. (form.long_name g.spelled, g.value)) gs
 shown-told [] = refl
 shown-told (g ∷ gs) = ap₂ (λ (name : List ℕ) (more : List (List ℕ × List ℕ)). (name, g.value) ∷ more) (long-name g.spelled) (shown-told gs)
 
+-- fields as the readers show them, without folds, are those in full of the definitions
 shown-in_full : (gs : List SaidField) → map shown (map unfolded_field (map field_of gs)) ≡ in_full gs
 shown-in_full [] = refl
 shown-in_full (g ∷ gs) = ap₂ (λ (name : List ℕ) (more : List (List ℕ × List ℕ)). (name, unfolded g.value) ∷ more) (long-name g.spelled) (shown-in_full gs)
@@ -97,6 +99,7 @@ canonical-tells bytes start gs body tells =
 abbrev line_of : List ℕ × List ℕ → List ℕ
 line_of f = f.0 ++ (codes ": " ++ f.1)
 
+-- the lines of fields in full are those of the definitions
 lines-in_full : (gs : List SaidField) → map form.field_text gs ≡ map line_of (in_full gs)
 lines-in_full [] = refl
 lines-in_full (g ∷ gs) = ap (λ ts. form.field_text g ∷ ts) (lines-in_full gs)
@@ -118,6 +121,7 @@ same-canonical a b (s, gs, t) (r, hs, u) one other = (to, from)
           body = ap (λ (k : Message). k.body) is;
         }
 
+    -- messages with the same fields in full have one canonical form
     from : SameInFull (s, gs, t) (r, hs, u) → canonical (s, gs, t) ≡ canonical (r, hs, u)
     from same =
         let lines : map form.field_text gs ≡ map form.field_text hs = lines-in_full gs ∙ ap (map line_of) same.fields ∙ sym (lines-in_full hs) in
@@ -128,5 +132,6 @@ has-code : (line : List ℕ) (start : StartLine) → StartText line start → Ha
 has-code line (request method uri) is = tt
 has-code line (status code why) is = let parts = status_parts line code why is in (parts.is_code.low, parts.is_code.high)
 
+-- the start line of what bytes are read as has its code, if it is a status line
 pub reads-code : (r : Reading) → (bytes : List ℕ) × Reads bytes r → HasCode r.message.start
 reads-code r (bytes, reads) = let text = tells-text bytes r.message reads.tells in has-code text.first r.message.start text.is_start

@@ -40,6 +40,7 @@ miss f s differs = at (bytes_eq f s) (bytes_eq-Decides f s)
 abbrev Ways : Type 0 → Type 0 → Type 0
 Ways A B = (A → B) × (B → A)
 
+-- where the test fails, the second of two ways holds
 skips : (b : Bool) (X Y : Type 0) → b ≡ false → Ways (cond b X Y) Y
 skips true X Y is = absurd (both_ways true is refl)
 skips false X Y is = ((λ y. y), (λ y. y))
@@ -71,6 +72,7 @@ via-row v = (
   (λ said. let es = said-vias said.0 v said.1 in elements-via v es.0 es.1),
 )
 
+-- the row of From asks for an address
 address-row : (v : List ℕ) → Ways (Row (known known_name.From) v) (Address v)
 address-row v = ((λ row. address-said v row.0 row.1), said-address v)
 
@@ -81,6 +83,7 @@ cseq-row v = ((λ row. ((row.0, row.1), cseq-said v row.0 row.1 row.2)), at)
     at : (said : ℕ × List ℕ) × CSeqSays said v → Row (known known_name.CSeq) v
     at ((n, m), says) = (n, m, said-cseq v n m says)
 
+-- each statement gives itself
 same-row : (X : Type 0) → Ways X X
 same-row X = ((λ is. is), (λ is. is))
 
@@ -98,23 +101,30 @@ named k key each differs token =
     by-name (λ f name. is_name_of k name ≡ bytes_eq (full_name f) key) spellings token each
     (λ foreign. sym (ap (λ f. bytes_eq f key) (foreign-name (folded token) foreign) ∙ miss (folded token) key (differs (folded token) foreign)))
 
+-- a token names Via where it is spelled so, in full or by its short form
 pub named-via : (token : List ℕ) → is_name_of known_name.Via (name_of token) ≡ bytes_eq (full_name (folded token)) (codes "via")
 named-via = named known_name.Via (codes "via") (refl, (refl, (refl, (refl, (refl, (refl, (refl, (refl, (refl, (refl, (refl, (refl, (refl, (refl, (refl, (refl, (refl, (refl, (refl, (refl, (refl, (refl, tt)))))))))))))))))))))) (λ f foreign. foreign.0)
 
+-- a token names From where it is spelled so, in full or by its short form
 pub named-from : (token : List ℕ) → is_name_of known_name.From (name_of token) ≡ bytes_eq (full_name (folded token)) (codes "from")
 named-from = named known_name.From (codes "from") (refl, (refl, (refl, (refl, (refl, (refl, (refl, (refl, (refl, (refl, (refl, (refl, (refl, (refl, (refl, (refl, (refl, (refl, (refl, (refl, (refl, (refl, tt)))))))))))))))))))))) (λ f foreign. foreign.1.1.0)
 
+-- a token names To where it is spelled so, in full or by its short form
 pub named-to : (token : List ℕ) → is_name_of known_name.To (name_of token) ≡ bytes_eq (full_name (folded token)) (codes "to")
 named-to = named known_name.To (codes "to") (refl, (refl, (refl, (refl, (refl, (refl, (refl, (refl, (refl, (refl, (refl, (refl, (refl, (refl, (refl, (refl, (refl, (refl, (refl, (refl, (refl, (refl, tt)))))))))))))))))))))) (λ f foreign. foreign.1.1.1.1.0)
 
+-- a token names Call-ID where it is spelled so, in full or by its short form
 pub named-call-id : (token : List ℕ) → is_name_of known_name.CallId (name_of token) ≡ bytes_eq (full_name (folded token)) (codes "call-id")
 named-call-id = named known_name.CallId (codes "call-id") (refl, (refl, (refl, (refl, (refl, (refl, (refl, (refl, (refl, (refl, (refl, (refl, (refl, (refl, (refl, (refl, (refl, (refl, (refl, (refl, (refl, (refl, tt)))))))))))))))))))))) (λ f foreign. foreign.1.1.1.1.1.1.0)
 
+-- a token names CSeq where it is spelled so
 pub named-cseq : (token : List ℕ) → is_name_of known_name.CSeq (name_of token) ≡ bytes_eq (full_name (folded token)) (codes "cseq")
 named-cseq = named known_name.CSeq (codes "cseq") (refl, (refl, (refl, (refl, (refl, (refl, (refl, (refl, (refl, (refl, (refl, (refl, (refl, (refl, (refl, (refl, (refl, (refl, (refl, (refl, (refl, (refl, tt)))))))))))))))))))))) (λ f foreign. foreign.1.1.1.1.1.1.1.1.0)
 
+-- a token names Content-Length where it is spelled so, in full or by its short form
 pub named-content-length : (token : List ℕ) → is_name_of known_name.ContentLength (name_of token) ≡ bytes_eq (full_name (folded token)) (codes "content-length")
 named-content-length = named known_name.ContentLength (codes "content-length") (refl, (refl, (refl, (refl, (refl, (refl, (refl, (refl, (refl, (refl, (refl, (refl, (refl, (refl, (refl, (refl, (refl, (refl, (refl, (refl, (refl, (refl, tt)))))))))))))))))))))) (λ f foreign. foreign.1.1.1.1.1.1.1.1.1.0)
 
+-- a token names Route where it is spelled so
 pub named-route : (token : List ℕ) → is_name_of known_name.Route (name_of token) ≡ bytes_eq (full_name (folded token)) (codes "route")
 named-route = named known_name.Route (codes "route") (refl, (refl, (refl, (refl, (refl, (refl, (refl, (refl, (refl, (refl, (refl, (refl, (refl, (refl, (refl, (refl, (refl, (refl, (refl, (refl, (refl, (refl, tt)))))))))))))))))))))) (λ f foreign. foreign.1.1.1.1.1.1.1.1.1.1.1.1.1.1.1.1.1.1.1.1.1.0)

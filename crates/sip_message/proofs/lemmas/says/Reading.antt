@@ -40,9 +40,11 @@ use Rattle.sip_message.proofs.lemmas.says.Told.{text-tells, tells-text}
 values-said : (k : Known) (key : String) → ((token : List ℕ) → is_name_of k (name_of token) ≡ bytes_eq (full_name (folded token)) (codes key)) → (fs : List Field) (gs : List SaidField) → AreFields 1 fs gs → values k fs ≡ said_values key gs
 values-said k key same fs gs are = found-values 1 k fs ∙ ap (map (λ found. found.1)) (all-found k key same 1 fs gs are)
 
+-- a list has one first element
 one-first : (vs : List (List ℕ)) (a b : List ℕ) → IsFirstOf vs a → IsFirstOf vs b → a ≡ b
 one-first vs a b (more, first) (later, other) = let same : a ∷ more ≡ b ∷ later = sym first ∙ other in cc
 
+-- an address keeps the whole text that it is read from
 whole-of : (a : List ℕ × AddressParts) (text : List ℕ) → AddressValue text a → text ≡ a.0
 whole-of (whole, a) text (address, same) = sym same
 
@@ -73,6 +75,7 @@ tell-parts m start gs body p s (start_is, are, body_is) parts tells = at es.0 es
     es : (es : List Element) × AreElements (values known_name.Via m.fields) es × (s.via ∷ s.others ≡ map said_via es)
     es = said-are (values known_name.Via m.fields) (s.via ∷ s.others) (subst (λ vs. ViasTell vs (s.via ∷ s.others)) (sym (values-said known_name.Via "via" named-via m.fields gs are)) tells.vias)
 
+    -- the elements are the first Via and the others
     at : (es : List Element) → AreElements (values known_name.Via m.fields) es → s.via ∷ s.others ≡ map said_via es → (q : Parts) × HasParts m.fields q × (s ≡ said_of (record { message = m; parts = q }))
     at [] elements vias = let none : ◌≡◌ {A = List SaidVia} (s.via ∷ s.others) [] = vias in cc
     at (e ∷ es) elements vias =

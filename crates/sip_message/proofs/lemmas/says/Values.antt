@@ -34,6 +34,7 @@ said-start line (request m u) (a, w1, (token, m_is), (s1, w2, s1_is, (b, w3, (ur
 said-start line (status code why) (v, w1, version, (s1, w2, s1_is, (c, w3, (digits, code_is, low, high), (s2, r, s2_is, (bytes, r_is), w3_is), w2_is), w1_is), whole) =
     (subst (Many (One is_reason_byte)) (sym r_is) bytes, (v, w1, version, (s1, w2, s1_is, (c, w3, record { digits = digits; code_is = code_is; low = low; high = high }, (s2, r, s2_is, sym r_is, w3_is), w2_is), w1_is), whole))
 
+-- generic-param = token [ EQUAL gen-value ], by the definitions
 abbrev Generic : List ℕ → Type 0
 Generic = Token then Optional (Mark equals then GenValue)
 
@@ -43,10 +44,12 @@ generic-param x (n, None, ok, (token, x_is)) = (x, [], subst Token (sym x_is) to
 generic-param x (n, Some v, ok, (token, kind, (a, b, a_is, (c, d, mark, d_is, b_is), whole))) =
     (a, b, subst Token (sym a_is) token, inr (c, d, mark, subst GenValue (sym d_is) kind, b_is), whole)
 
+-- a parameter of the definitions is one of the readers
 param-generic : (x : List ℕ) → Generic x → ParamSet Any x
 param-generic x (a, r, token, inl none, whole) = (a, None, tt, (token, whole ∙ ap (λ t. a ++ t) none ∙ append-nil a))
 param-generic x (a, r, token, inr (c, d, mark, kind, r_is), whole) = (a, Some d, tt, (token, kind, (a, r, refl, (c, d, mark, refl, r_is), whole)))
 
+-- parameters, each after its SEMI, by the definitions
 abbrev Params : List ℕ → Type 0
 Params = Many (profile.Mark ";" then Generic)
 
@@ -67,14 +70,17 @@ of-params text params =
 abbrev Before : List ℕ → Type 0
 Before = Byte left_angle or (DisplayName then Sws then Byte left_angle)
 
+-- an optional display name and "<" of the readers are the text before a URI
 before-uri : (display : Option (List ℕ)) (text : List ℕ) → IfSome display DisplayName → BeforeUri display text → Before text
 before-uri None text fits angle = inl angle
 before-uri (Some d) text fits (x, y, x_is, rest, whole) = inr (x, y, subst DisplayName (sym x_is) fits, rest, whole)
 
+-- the text before a URI has an optional display name and "<", as the readers take them
 uri-before : (text : List ℕ) → Before text → (display : Option (List ℕ)) × IfSome display DisplayName × BeforeUri display text
 uri-before text (inl angle) = (None, tt, angle)
 uri-before text (inr (x, y, fits, rest, whole)) = (Some x, fits, (x, y, refl, rest, whole))
 
+-- the text has none of the bytes `,?;`
 abbrev Bare : List ℕ → Type 0
 Bare = Many (One (λ byte. not (is_among ",?;" byte)))
 
@@ -132,5 +138,6 @@ said-cseq text n m (low, (d, w, (digits, n_is), (s, word, blanks, (token, m_is),
   whole = (d, w, refl, (s, word, blanks, sym m_is, w_is), whole);
 }
 
+-- a CSeq of the definitions is one of the readers
 pub said-value : (text : List ℕ) (c : ℕ × List ℕ) → CSeqSays c text → CSeqValue text c
 said-value text (n, m) = said-cseq text n m

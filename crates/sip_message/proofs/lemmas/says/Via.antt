@@ -22,6 +22,7 @@ use Rattle.sip_message.proofs.lemmas.text.Each.{each-sws}
 use Rattle.sip_message.proofs.lemmas.asked.Parts.{more-elements}
 use Rattle.sip_message.proofs.lemmas.params.Closed.{no_blanks}
 
+-- parameters, each with its name and its value if it has one
 abbrev Params : Type 0
 Params = List (List ℕ × Option (List ℕ))
 
@@ -54,6 +55,7 @@ branch-said : (x n v : List ℕ) → SameText n (codes "branch") → Token v →
 branch-said x n v same token (named, kind, (a, b, a_is, (c, d, mark, d_is, b_is), whole)) =
     (a, b, (subst Token (sym a_is) named, ap folded a_is ∙ same), (c, d, mark, (subst Token (sym d_is) token, sym d_is), b_is), whole)
 
+-- a parameter that says a branch has the name `branch`, and the branch as its value
 said-branch : (x b : List ℕ) → ParamSays (Some b) x → (n : List ℕ) × (v : List ℕ) × SameText n (codes "branch") × Token v × ParamText x (n, Some v) × (b ≡ v)
 said-branch x b (a, r, (token, any), (c, d, mark, (word, b_is), r_is), whole) =
     (a, d, any, word, (token, inl word, (a, r, refl, (c, d, mark, refl, r_is), whole)), b_is)
@@ -65,10 +67,12 @@ other-said x n None differs (named, x_is) =
 other-said x n (Some v) differs (named, kind, (a, b, a_is, (c, d, mark, d_is, b_is), whole)) =
     (a, b, (subst Token (sym a_is) named, (λ same. differs (ap folded (sym a_is) ∙ same))), inr (c, d, mark, subst GenValue (sym d_is) kind, b_is), whole)
 
+-- a parameter that says no branch has another name
 said-other : (x : List ℕ) → ParamSays None x → (n : List ℕ) × (value : Option (List ℕ)) × ¬ (SameText n (codes "branch")) × ParamText x (n, value)
 said-other x (a, r, (token, none), inl nil, whole) = (a, None, none, (token, whole ∙ ap (λ t. a ++ t) nil ∙ append-nil a))
 said-other x (a, r, (token, none), inr (c, d, mark, kind, r_is), whole) = (a, Some d, none, (token, kind, (a, r, refl, (c, d, mark, refl, r_is), whole)))
 
+-- parameters, each after its SEMI, with the branch that each says, if it says one
 abbrev SaidParams : List (Option (List ℕ)) → List ℕ → Type 0
 SaidParams = EachSays (λ param. profile.Mark ";" then ParamSays param)
 
@@ -111,6 +115,7 @@ port-said : (port : Option (List ℕ)) (text : List ℕ) → IfSome port Port �
 port-said None text fits none = none
 port-said (Some p) text fits (m, t, mark, t_is, whole) = (m, t, mark, (subst Port (sym t_is) fits, sym t_is), whole)
 
+-- a port with its colon of the definitions is one of the readers
 said-port : (port : Option (List ℕ)) (text : List ℕ) → PortSays port text → IfSome port Port × ColonPort port text
 said-port None text none = (tt, none)
 said-port (Some p) text (m, t, mark, (fits, p_is), whole) = (subst Port (sym p_is) fits, (m, t, mark, sym p_is, whole))
@@ -151,6 +156,7 @@ said-via text via (os, branch_is, whole_is, (a, w1, a_is, (s, w2, slash1, (b, w3
       (λ i. record { whole = whole_is i; transport = t_is i; host = host_is i; port = via.port; branch = branch_is i }),
     )
 
+-- further elements of Via, each after its COMMA, by the definitions
 abbrev SaidMore : List SaidVia → List ℕ → Type 0
 SaidMore = EachSays (λ v. profile.Mark "," then ViaSays v)
 
@@ -185,6 +191,7 @@ said-vias (v ∷ vias) text (x, y, said, more, whole) =
     let rest = said-more vias y more in
     ((x, one.0) ∷ rest.0, (one.1, (x, y, refl, rest.1, whole)), ap (λ z. z ∷ vias) one.2 ∙ ap (λ z. said_via (x, one.0) ∷ z) rest.2)
 
+-- what elements of two lists say is what those of the first say, and then those of the second
 map-append : (es fs : List Element) → map said_via (es ++ fs) ≡ map said_via es ++ map said_via fs
 map-append [] fs = refl
 map-append (e ∷ es) fs = ap (λ z. said_via e ∷ z) (map-append es fs)
@@ -219,6 +226,7 @@ elements-first text e es (via, (x, y, x_is, more, whole)) =
     let later = more-vias es y more in
     (later.0, (x, y, subst (λ t. ViaText t e.1) (sym x_is) via, later.1, whole))
 
+-- a text of elements is the first element and the further ones
 pub elements-via : (text : List ℕ) (es : List Element) → ElementsText text es → (v : ViaParts) × (vias : List ViaParts) × ViasText text v vias
 elements-via text [] none = absurd none
 elements-via text (e ∷ es) are = let row = elements-first text e es are in (e.1, row.0, row.1)

@@ -131,9 +131,11 @@ request-read line token rest more at parts read found version uri = (is, only)
       ),
     )
 
+    -- the line is read in one way
     only : (x : List ℕ × List ℕ) → RequestLine line x → ◌≡◌ {A = List ℕ × List ℕ} x (token, take at more)
     only (method, other) o = ap pair (same_start line (request method other) (request token (take at more)) o is)
       where
+        -- the method and the URI of a request line
         pair : StartLine → List ℕ × List ℕ
         pair (request m u) = (m, u)
         pair (status c r) = (method, other)
@@ -196,6 +198,7 @@ code-read text rest n long found digits value high low = (is, only)
       sym (take-append-drop 3 text),
     )
 
+    -- the code is read in one way
     only : (x : ℕ × List ℕ) → CodeFront text x → ◌≡◌ {A = ℕ × List ℕ} x (n, rest)
     only (code, reason) other =
         let f = code-front text code reason other in

@@ -92,6 +92,7 @@ closed-then P Q seam left right u v b w ends opens blanks (p, q, is_p, is_q, who
       ap (λ t. u ++ space ∷ t) rest ∙ sym (append_assoc u (space ∷ d ∷ y) q),
     )
 
+    -- the blanks lie within the text of P, within that of Q, or across the seam
     at : Cuts p q u ((b ∷ w) ++ v) → (P then Q) (u ++ space ∷ v)
     at (same_length front rest) =
         (p, space ∷ v, is_p, right [] v b w tt opens blanks (subst Q rest is_q), ap (λ t. t ++ space ∷ v) (sym front))
@@ -115,6 +116,7 @@ times-many P [] text is = subst (Many P) (sym is) (many-nil P)
 times-many P (x ∷ xs) text is =
     subst (Many P) (sym is.4) (many-cons P is.0 is.1 is.2 (times-many P xs is.1 is.3))
 
+-- texts of P, joined, are P as many times
 many-times : (P : List ℕ → Type 0) (us : List (List ℕ)) → AllByRecursion P us → Times P us (concat us)
 many-times P [] all = refl
 many-times P (u ∷ us) all = (u, concat us, all.0, many-times P us all.1, refl)
@@ -156,6 +158,7 @@ unfolds-from P closed (b ∷ text) u run ends blanks is = at (unfolds-from P clo
         ap (λ x. u ++ x) (sym (append_assoc (unfolded_run run) (b ∷ []) t))
         ∙ sym (append_assoc u (unfolded_run run ++ b ∷ []) t)
 
+    -- whether the next byte is a blank, which makes the run longer
     at : ((x r : List ℕ) → EndsSolid x → All is_lws_byte r → P (x ++ (r ++ text)) → P (x ++ unfolded_from r text)) → (blank : Bool) → is_lws_byte b ≡ blank → P (u ++ cond blank (unfolded_from (run ++ b ∷ []) text) (unfolded_run run ++ b ∷ unfolded_from [] text))
     at later true blank =
         later u (run ++ b ∷ []) ends (all_both is_lws_byte run (b ∷ []) blanks (blank, tt))

@@ -25,6 +25,7 @@ two_cuts (a ∷ u) v (b ∷ x) y same = more (two_cuts u v x y tails)
     tails : u ++ v ≡ x ++ y
     tails = cc
 
+    -- one more byte before both fronts leaves them as they are to each other
     more : Cuts u v x y → Cuts (a ∷ u) v (b ∷ x) y
     more (first_longer c z longer is) = first_longer c z (ap (λ t. t ∷ u) heads ∙ ap (λ t. b ∷ t) longer) is
     more (same_length left right) = same_length (ap (λ t. t ∷ u) heads ∙ ap (λ t. b ∷ t) left) right

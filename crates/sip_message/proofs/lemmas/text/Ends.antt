@@ -56,6 +56,7 @@ opens-solid (b ∷ u) all = solid_is b all.0
 abbrev pub AllFirm : (List ℕ → Type 0) → Type 0
 AllFirm P = (u : List ℕ) → P u → Firm u
 
+-- no text of P ends with a blank
 abbrev pub AllEnd : (List ℕ → Type 0) → Type 0
 AllEnd P = (u : List ℕ) → P u → EndsSolid u
 

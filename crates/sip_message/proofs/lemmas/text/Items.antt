@@ -46,6 +46,7 @@ skip P item ([] ∷ us) (b ∷ w) v all blanks opens is = skip P item us (b ∷ 
 skip P item ((a ∷ p) ∷ us) (b ∷ w) v all blanks opens is =
     at (λ d y y_blanks y_is. skip P item us (d ∷ y) v all.1 y_blanks opens y_is) (two_cuts (a ∷ p) (concat us) (b ∷ w) v is)
   where
+    -- the first item is as long as the blanks, longer than they are, or shorter
     at : ((d : ℕ) (y : List ℕ) → All is_lws_byte (d ∷ y) → concat us ≡ (d ∷ y) ++ v → Many P v) → Cuts (a ∷ p) (concat us) (b ∷ w) v → Many P v
     at later (same_length front rest) = (us, all.1, sym rest)
     at later (first_longer d y longer v_is) =

@@ -14,6 +14,7 @@ use Rattle.sip_text.specs.inner.Pieces.{DecimalGroup, Hex4, Hexpart, Escaped, Pa
 use Rattle.sip_message.proofs.lemmas.text.Cuts.{All, all_both}
 use Rattle.sip_message.proofs.lemmas.text.Each.{Each, each-one, each-exactly, each-then, each-or, each-optional, each-many, each-some, each-between, is_solid, solid_class}
 
+-- the byte is no blank
 abbrev S : ℕ → Bool
 S = is_solid
 
@@ -33,12 +34,15 @@ solid-token = each-some S _ (solid-one is_token_byte refl refl refl refl)
 pub solid-digits : Each S (OneOrMore (One is_ascii_digit))
 solid-digits = each-some S _ (solid-one is_ascii_digit refl refl refl refl)
 
+-- letters and digits are no blanks
 solid-alnum : Each S (One is_ascii_alphanumeric)
 solid-alnum = solid-one is_ascii_alphanumeric refl refl refl refl
 
+-- letters are no blanks
 solid-alpha : Each S (One is_ascii_alphabetic)
 solid-alpha = solid-one is_ascii_alphabetic refl refl refl refl
 
+-- the bytes of a label are no blanks
 solid-label_bytes : Each S (Many (One is_label_byte))
 solid-label_bytes = each-many S _ (solid-one is_label_byte refl refl refl refl)
 
@@ -48,6 +52,7 @@ solid-hostname =
     each-then S _ _ (each-many S _ (each-then S _ _ (each-or S _ _ solid-alnum (each-then S _ _ solid-alnum (each-then S _ _ solid-label_bytes solid-alnum))) (solid-byte 46 refl)))
     (each-then S _ _ (each-or S _ _ solid-alpha (each-then S _ _ solid-alpha (each-then S _ _ solid-label_bytes solid-alnum))) (each-optional S _ (solid-byte 46 refl)))
 
+-- a decimal group of an address has no blank
 solid-group : Each S DecimalGroup
 solid-group = each-between S 1 3 _ (solid-one is_ascii_digit refl refl refl refl)
 
@@ -64,6 +69,7 @@ solid-hexseq = each-then S _ _ hex (each-many S _ (each-then S _ _ (solid-byte c
     hex : Each S Hex4
     hex = each-between S 1 4 _ (solid-one is_ascii_hexdigit refl refl refl refl)
 
+-- "::" has no blank
 solid-double : Each S (Exactly (colon ∷ colon ∷ []))
 solid-double = each-exactly S _ (refl, (refl, tt))
 
@@ -93,16 +99,20 @@ solid-host text (v6 t) is = solid-v6_reference text is.0
 pub solid-port : Each S Port
 solid-port u is = each-between S 1 5 _ (solid-one is_ascii_digit refl refl refl refl) u is.0
 
+-- an escaped byte has no blank
 solid-escaped : Each S Escaped
 solid-escaped =
     each-then S _ _ (solid-byte 37 refl) (each-then S _ _ (solid-one is_ascii_hexdigit refl refl refl refl) (solid-one is_ascii_hexdigit refl refl refl refl))
 
+-- unreserved bytes are no blanks
 solid-unreserved : Each S (One is_unreserved)
 solid-unreserved = solid-one is_unreserved refl refl refl refl
 
+-- a user has no blank
 solid-user : Each S User
 solid-user = each-some S _ (each-or S _ _ (solid-one is_user_unreserved refl refl refl refl) (each-or S _ _ solid-unreserved solid-escaped))
 
+-- a password has no blank
 solid-password : Each S Password
 solid-password = each-many S _ (each-or S _ _ (solid-one is_password_unreserved refl refl refl refl) (each-or S _ _ solid-unreserved solid-escaped))
 

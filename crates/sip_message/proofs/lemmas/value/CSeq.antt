@@ -18,12 +18,15 @@ use Rattle.std.specs.List.{prefix_len}
 use Rattle.sip_message.proofs.lemmas.params.Closed.{some-run}
 use Rattle.sip_message.proofs.lemmas.front.Prefix.{prefix-at, all-some}
 
+-- a run of digits has only digits
 each-digits : Each is_ascii_digit Digits
 each-digits = each-then is_ascii_digit _ _ (each-one is_ascii_digit is_ascii_digit (λ b is. is)) (each-many is_ascii_digit _ (each-one is_ascii_digit is_ascii_digit (λ b is. is)))
 
+-- a blank is no digit
 blank-digit : (b : ℕ) → is_lws_byte b ≡ true → is_ascii_digit b ≡ false
 blank-digit = blank_is (λ b. is_ascii_digit b ≡ false) refl refl refl refl
 
+-- where the next byte is no digit, digits stop
 fails_stops : (u : List ℕ) → Fails is_ascii_digit u → Stops is_ascii_digit u
 fails_stops [] fails = absurd fails
 fails_stops (b ∷ u) fails = fails

@@ -19,6 +19,7 @@ use Rattle.sip_text.proofs.uris.UriPartLemmas.{cut-optional, optional-cut}
 use Rattle.sip_standard.specs.Values.{CallId}
 use Rattle.sip_message.specs.inner.Values.{is_word_byte, Word}
 
+-- a word lacks "@"
 lack-word : AllLack at_sign Word
 lack-word = lack-some at_sign (One is_word_byte) (lack-one at_sign is_word_byte refl)
 

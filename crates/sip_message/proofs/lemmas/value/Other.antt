@@ -20,6 +20,7 @@ use Rattle.sip_message.proofs.lemmas.front.Prefix.{prefix-at}
 abbrev Fold : List ℕ → Type 0
 Fold = Exactly crlf then One is_wsp
 
+-- a piece of a value that the reader does not look into: a plain byte or a fold
 abbrev pub OtherItem : List ℕ → Type 0
 OtherItem = One is_plain_byte or Fold
 
@@ -27,6 +28,7 @@ OtherItem = One is_plain_byte or Fold
 abbrev pub other_len : List ℕ → ℕ
 other_len text = if is_plain_byte (slice_index text 0) then 1 else (if begins_with_fold text then 3 else 0)
 
+-- a fold is CRLF and one SP or HTAB
 fold-text : (u : List ℕ) → Fold u → (b : ℕ) × (is_wsp b ≡ true) × (u ≡ crlf ++ (b ∷ []))
 fold-text u (f, b, is_f, one, whole) = (one.0, one.1, whole ∙ ap (λ t. t ++ b) is_f ∙ ap (λ t. crlf ++ t) one.2)
 
@@ -38,6 +40,7 @@ other-at_front u v (inr fold) =
     let text = fold-text u fold in
     ap (λ t. other_len (t ++ v)) text.2 ∙ ap (λ w. cond w 3 0) text.1 ∙ sym (ap length text.2)
 
+-- a plain byte or a fold is not empty
 other-moves : (u : List ℕ) → OtherItem u → 0 < length u
 other-moves u (inl one) = omega (arith, ap length one.2)
 other-moves u (inr fold) = omega (arith, ap length (fold-text u fold).2)
@@ -61,6 +64,7 @@ fold-front text is =
       refl,
     )
 
+-- the length of a fold, if one stands there
 abbrev fold_len : Bool → ℕ
 fold_len fold = cond fold 3 0
 
@@ -73,10 +77,12 @@ other-piece (a ∷ text) = at (is_plain_byte a) refl
     folds false is = inl refl
     folds true is = inr (fold-front (a ∷ text) is)
 
+    -- whether the first byte is a plain one
     at : (plain : Bool) → is_plain_byte a ≡ plain → (cond plain 1 (fold_len (begins_with_fold (a ∷ text))) ≡ 0) ⊎ HasFront OtherItem (a ∷ text) (cond plain 1 (fold_len (begins_with_fold (a ∷ text))))
     at true is = inr (a ∷ [], text, inl (a, is, refl), refl, refl)
     at false is = folds (begins_with_fold (a ∷ text)) refl
 
+-- `other_len` steps over plain bytes and folds, one after another
 other-step : IsStep OtherItem other_len
 other-step = record { at_piece = other-at_front; moves = other-moves; piece = other-piece }
 
@@ -137,6 +143,7 @@ other-end text rest n front rest_is stops no_fold = (
       eq-eqb n (length text) (omega (arith, low, front-within (Many OtherItem) text n front)),
 )
   where
+    -- neither a plain byte nor a fold stands there, so no piece does
     at : (t : List ℕ) → Stops is_plain_byte t → begins_with_fold t ≡ false → other_len t ≡ 0
     at [] stops_t no_t = refl
     at (b ∷ t) stops_t no_t =

@@ -66,6 +66,7 @@ ends-take (b ∷ []) (suc (suc n)) within solid = absurd (omega (arith, within))
 ends-take (b ∷ c ∷ text) (suc (suc n)) within solid =
     ends-take (c ∷ text) (suc n) (omega (arith, within)) (λ k is. solid (suc k) (ap suc is))
 
+-- where no blank stands at the front, the text does not open with a blank
 stops-opens : (u : List ℕ) → Stops is_lws_byte u → OpensSolid u
 stops-opens [] stops = tt
 stops-opens (b ∷ u) stops = stops
@@ -115,6 +116,7 @@ value-trimmed text front value back w is of = at w of.opens of.ends (of.whole.4 
     b : List ℕ
     b = of.whole.3.1
 
+    -- the value stands between two blank runs
     at : (v : List ℕ) → OpensSolid v → EndsSolid v → text ≡ a ++ (v ++ b) → Sws front × Sws back
     at [] opens ends whole =
         let same : front ++ (value ++ back) ≡ a ++ b = sym is.whole ∙ whole in
@@ -125,6 +127,7 @@ value-trimmed text front value back w is of = at w of.opens of.ends (of.whole.4 
           inl no_back,
         )
       where
+        -- the second part of an empty text is empty
         right : (u v : List ℕ) → u ++ v ≡ [] → length v ≡ 0
         right [] v e = ap length e
         right (c ∷ u) v e = absurd (omega (arith, ap length e))

@@ -84,9 +84,11 @@ some-host t (v6 x) is none = some-left (Byte 91) _ (λ u byte empty. absurd (ome
 abbrev HostSet : List ℕ → Type 0
 HostSet text = (h : HostParts) × HostText (host_text h) h × (text ≡ host_text h)
 
+-- the text is a colon and a port, or empty
 abbrev PortSet : List ℕ → Type 0
 PortSet text = (port : Option (List ℕ)) × IfSome port Port × ColonPort port text
 
+-- what follows the transport of a Via: blanks, a host, an optional port and parameters
 abbrev AfterTransport : List ℕ → Type 0
 AfterTransport = Blanks then (HostSet then (PortSet then ParamsSet BranchOk))
 
@@ -94,9 +96,11 @@ AfterTransport = Blanks then (HostSet then (PortSet then ParamsSet BranchOk))
 abbrev ViaSet : (List ℕ → Type 0) → List ℕ → Type 0
 ViaSet Transport = Token then (Mark slash then (Token then (Mark slash then (Transport then AfterTransport))))
 
+-- a host has no blank
 solid-host_set : Each is_solid HostSet
 solid-host_set u is = subst (All is_solid) (sym is.2) (solid-host (host_text is.0) is.0 is.1)
 
+-- a host is not empty
 some-host_set : (u : List ℕ) → HostSet u → u ≡ [] → ⊥
 some-host_set u is none = some-host (host_text is.0) is.0 is.1 (sym is.2 ∙ none)
 
@@ -150,6 +154,7 @@ firm-via_set T =
 -- an element of Via with a transport of T is of the set of such elements
 via-set : (T : List ℕ → Type 0) (text : List ℕ) (v : ViaParts) → T v.transport → ViaText text v → ViaSet T text
 via-set T text v t (fits, (a, w1, a_is, (s, w2, slash1, (b, w3, b_is, (r, w4, slash2, (c, w5, c_is, (sp, w6, blanks, (h, w7, h_is, (p, q, port, params, w7_is), w6_is), w5_is), w4_is), w3_is), w2_is), w1_is), whole)) = (
+  -- the parts stand in the order of the text: the protocol, the version, the transport, the host, the port and the parameters
   a,
   w1,
   subst Token (sym a_is) fits.protocol,
@@ -166,6 +171,7 @@ via-set T text v t (fits, (a, w1, a_is, (s, w2, slash1, (b, w3, b_is, (r, w4, sl
         w4,
         slash2,
         (
+          -- the transport is of T
           c,
           w5,
           subst T (sym c_is) t,

@@ -28,6 +28,7 @@ values-suc known [] i d below = absurd (omega (arith, below))
 values-suc known (x ∷ xs) zero d below = refl
 values-suc known (x ∷ xs) (suc i) d below = values-suc known xs i d (omega (arith, below))
 
+-- the values from index i on are that of the field there, if it has the name, and those after it
 values-at : (known : Known) (xs : List Code) (i : ℕ) (d : Code) → i < length xs → values known (drop i (map field_parts xs)) ≡ cond (is_name_of known (name_parts (slice_index_or xs i d).name)) ((slice_index_or xs i d).value.now ∷ values known (drop (i + 1) (map field_parts xs))) (values known (drop (i + 1) (map field_parts xs)))
 values-at known xs i d below = rw add-one (values-suc known xs i d below)
 
@@ -127,6 +128,7 @@ first-read text e rest more es read (f ∷ now, later, (via, (u, x, u_is, more_n
     let behind : x ≡ rest = ap (λ p. p.1) same in
     record { others = now ++ later; first = es_is ∙ ap (λ g. g ∷ (now ++ later)) one; are_left = record { now = now; more = later; are_now = subst (MoreElements now) behind more_now; are_more = are; whole = refl } }
 
+-- the first element of a text, before what is left, is the first of all
 read-first : (text : List ℕ) (e : Element) (rest : List ℕ) (more : List (List ℕ)) (es : List Element) → ViaFront text (e, rest) → AreLeft rest more es → AreElements (text ∷ more) (e ∷ es)
 read-first text e rest more es front left =
     (e ∷ left.now, left.more, (front.0, (e.0, rest, refl, left.are_now, front.1)), left.are_more, ap (λ t. e ∷ t) left.whole)
@@ -145,6 +147,7 @@ read-only rest text vals more e behind es next read only = (first.others, first.
     first : FirstRead e behind more es
     first = first-read text e behind more es read (next.to es only.is)
 
+    -- the elements that are left after the first are in one way what they are
     same : (ys : List Element) → AreLeft behind more ys → ys ≡ first.others
     same ys left =
         let eq : ◌≡◌ {A = List Element} (e ∷ ys) (e ∷ first.others) = only.only (e ∷ ys) (next.from (e ∷ ys) (read-first text e behind more ys read.0 left)) ∙ first.first in

@@ -81,9 +81,11 @@ bytes-token (b ∷ u) all some = (b ∷ [], u, (b, all.0, refl), many u all.1, r
     many [] every = many-nil (One is_token_byte)
     many (c ∷ t) every = many-cons (One is_token_byte) (c ∷ []) t (c, every.0, refl) (many t every.1)
 
+-- a hostname is a token
 hostname-token : (u : List ℕ) → Hostname u → Token u
 hostname-token u is = bytes-token u (each-hostname u is) (λ none. both_ways (is_hostname u) (ap is_hostname none) (hostname-is u is))
 
+-- an IPv4 address is a token
 v4-token : (u : List ℕ) → Ipv4 u → Token u
 v4-token u is = bytes-token u (each-v4 u is) (λ none. both_ways (is_v4 u) (ap is_v4 none) (v4-is u is))
 
@@ -138,6 +140,7 @@ front-host text h rest (both (part, left) cut (is, rest_is)) =
     same (v4 x) fits = fits.1
     same (v6 x) fits = fits.1
 
+    -- the part and what is left are the text
     whole : HostCut text (part, left) → text ≡ part ++ left
     whole (inl bracket) = bracket.3
     whole (inr token) = token.2.4 ∙ ap (λ z. z ++ token.2.1) token.2.2 ∙ ap (λ z. part ++ z) token.2.3

@@ -60,6 +60,7 @@ protocol-steps text p is =
 token-then : (x u y : List ℕ) (Q : List ℕ → Type 0) → TokenFront x (u, y) → Q y → (Exactly u then Q) x
 token-then x u y Q is rest = (u, y, refl, rest, is.2.4 ∙ ap (λ z. z ++ is.2.1) is.2.2 ∙ ap (λ z. u ++ z) is.2.3)
 
+-- a slash before a text of Q is a slash and then Q
 mark-then : (x y : List ℕ) (Q : List ℕ → Type 0) → MarkFront slash x y → Q y → (Mark slash then Q) x
 mark-then x y Q is rest = (is.1.0, y, is.1.2, rest, is.1.4 ∙ ap (λ z. is.1.0 ++ z) is.1.3)
 

@@ -64,6 +64,7 @@ part-behind [] q part q_is (stops, (u, v, sws, v_is, whole)) = at part (none u v
     none [] b is = is
     none (c ∷ a) b is = absurd (omega (arith, ap length is))
 
+    -- where nothing is left after the blanks, there are no parameters
     at : (p : List ℕ) → v ≡ [] → v ≡ p → ParamsPart p [] × BehindBlanks p q
     at [] empty is = ((tt, refl), q_is)
     at (b ∷ p) empty is = absurd (omega (arith, ap length is, ap length empty))
@@ -163,6 +164,7 @@ steps-via text v rest (both sent protocol (both (h, r1) host (both (port, r2) le
     tail_is : sent.rest ≡ (host_text h ++ (ported.0 ++ x)) ++ r3
     tail_is = under sent.rest (host_text h) r1 (ported.0 ++ x) r3 hosted.1 (under r1 ported.0 r2 x r3 ported.3 x_is)
 
+    -- the text begins with the protocol, before a host and what follows it
     begun : (whole : List ℕ) × (text ≡ whole ++ r3) × ((Q : List ℕ → Type 0) → Q (host_text h ++ (ported.0 ++ x)) → ProtocolText sent.protocol sent.version sent.transport Q whole)
     begun = protocol-before sent.protocol sent.version sent.transport text sent.rest (host_text h ++ (ported.0 ++ x)) r3 tail_is spelled.whole
 

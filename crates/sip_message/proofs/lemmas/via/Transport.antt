@@ -26,6 +26,7 @@ pub fails-append : (test : ℕ → Bool) (u v : List ℕ) → Fails test u → F
 fails-append test [] v fails = absurd fails
 fails-append test (b ∷ u) v fails = fails
 
+-- where the test fails at the front, it stops there, whatever follows
 fails-stops : (test : ℕ → Bool) (u v : List ℕ) → Fails test u → Stops test (u ++ v)
 fails-stops test [] v fails = absurd fails
 fails-stops test (b ∷ u) v fails = fails

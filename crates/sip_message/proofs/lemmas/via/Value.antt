@@ -54,6 +54,7 @@ more-behind rest next read = (to, from)
         let found = more-comma v vias rest is in
         (v, vias, subst (λ t. ViasText t v vias) (read.1 found.0 found.1) found.2)
 
+    -- elements after a comma are further elements
     from : AreVias next → AreMore rest
     from (v, vias, are) =
         let mark = read.0.1 in

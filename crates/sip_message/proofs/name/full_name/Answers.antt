@@ -12,6 +12,7 @@ returns-in_default-2 c = unknown c.args.text.now 3 c.in-3.is ((λ is. both_ways 
 pub returns-in_default-3 : goal.returns-in_default-3
 returns-in_default-3 c = unknown c.args.text.now 4 c.in-4.is ((λ is. both_ways false refl (c.if-same_text-3.ensures.1 is)), ((λ is. both_ways false refl (c.if-same_text-4.ensures.1 is)), tt))
 
+-- no known name of 5 bytes has this spelling
 pub returns-in_default-4 : goal.returns-in_default-4
 returns-in_default-4 c = unknown c.args.text.now 5 c.in-5.is ((λ is. both_ways false refl (c.if-same_text-5.ensures.1 is)), tt)
 
@@ -21,6 +22,7 @@ returns-in_default-5 c = unknown c.args.text.now 7 c.in-7.is ((λ is. both_ways 
 pub returns-in_default-6 : goal.returns-in_default-6
 returns-in_default-6 c = unknown c.args.text.now 9 c.in-9.is ((λ is. both_ways false refl (c.if-same_text-9.ensures.1 is)), tt)
 
+-- no known name of 12 bytes has this spelling
 pub returns-in_default-7 : goal.returns-in_default-7
 returns-in_default-7 c = unknown c.args.text.now 12 c.in-12.is ((λ is. both_ways false refl (c.if-same_text-10.ensures.1 is)), tt)
 

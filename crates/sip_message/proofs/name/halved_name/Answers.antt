@@ -12,6 +12,7 @@ pub returns-then-second-eq-TYPE : goal.returns-then-second-eq-TYPE
 returns-then-second-eq-TYPE c =
     halved-known c.args.text.now CONTENT TYPE known_name.ContentType c.type_inv.text c.requires.token c.requires.length.1 (sym c.if-first-eq-CONTENT-2.true ∙ c.requires.first) (sym c.if-second-eq-TYPE.true ∙ c.requires.second) refl refl
 
+-- the two halves are those of Content-Encoding
 pub returns-then-second-eq-ENCODING : goal.returns-then-second-eq-ENCODING
 returns-then-second-eq-ENCODING c =
     halved-known c.args.text.now CONTENT ENCODING known_name.ContentEncoding c.type_inv.text c.requires.token c.requires.length.1 (sym c.if-first-eq-CONTENT-3.true ∙ c.requires.first) (sym c.if-second-eq-ENCODING.true ∙ c.requires.second) refl refl
@@ -20,6 +21,7 @@ pub returns-then-second-eq-D : goal.returns-then-second-eq-D
 returns-then-second-eq-D c =
     halved-known c.args.text.now SUPPORTE D known_name.Supported c.type_inv.text c.requires.token c.requires.length.1 (sym c.if-first-eq-SUPPORTE.true ∙ c.requires.first) (sym c.if-second-eq-D.true ∙ c.requires.second) refl refl
 
+-- where the two halves are those of none of the four names of this length, the name is another one
 pub returns-else-first-eq-SUPPORTE : goal.returns-else-first-eq-SUPPORTE
 returns-else-first-eq-SUPPORTE c =
     halved-other c.args.text.now c.type_inv.text c.requires.length.0 (

@@ -3,10 +3,12 @@ use Rattle.std.proofs.lemmas.List.{take-take, drop-take, take_rest}
 use Rattle.sip_message.specs.inner.Numbers.{number_of}
 use Rattle.sip_message.proofs.name.quick_name.Goals as goal
 
+-- the first number is that of the first eight bytes
 pub halved_name-requires-clause-first : goal.halved_name-requires-clause-first
 halved_name-requires-clause-first c =
     c.number_of-first.ensures ∙ ap number_of (sym (take-take 8 c.args.len c.args.window.now (omega (arith, c.if-len-le8.false))))
 
+-- the second number is that of the bytes after these
 pub halved_name-requires-clause-second : goal.halved_name-requires-clause-second
 halved_name-requires-clause-second c =
     let whole : 8 + (c.args.len - 8) ≡ c.args.len = omega (arith, c.if-len-le8.false) in

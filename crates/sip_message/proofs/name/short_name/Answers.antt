@@ -13,6 +13,7 @@ returns-then-number-eq-FROM c = short-known c.args.text.now FROM known_name.From
 pub returns-then-number-eq-TO : goal.returns-then-number-eq-TO
 returns-then-number-eq-TO c = short-known c.args.text.now TO known_name.To c.type_inv.text c.requires.token c.requires.length.1 (sym c.if-number-eq-TO.true ∙ c.requires.number) refl refl
 
+-- the number is that of Call-ID
 pub returns-then-number-eq-CALL_ID : goal.returns-then-number-eq-CALL_ID
 returns-then-number-eq-CALL_ID c = short-known c.args.text.now CALL_ID known_name.CallId c.type_inv.text c.requires.token c.requires.length.1 (sym c.if-number-eq-CALL_ID.true ∙ c.requires.number) refl refl
 
@@ -22,12 +23,14 @@ returns-then-number-eq-CSEQ c = short-known c.args.text.now CSEQ known_name.CSeq
 pub returns-then-number-eq-CONTACT : goal.returns-then-number-eq-CONTACT
 returns-then-number-eq-CONTACT c = short-known c.args.text.now CONTACT known_name.Contact c.type_inv.text c.requires.token c.requires.length.1 (sym c.if-number-eq-CONTACT.true ∙ c.requires.number) refl refl
 
+-- the number is that of Subject
 pub returns-then-number-eq-SUBJECT : goal.returns-then-number-eq-SUBJECT
 returns-then-number-eq-SUBJECT c = short-known c.args.text.now SUBJECT known_name.Subject c.type_inv.text c.requires.token c.requires.length.1 (sym c.if-number-eq-SUBJECT.true ∙ c.requires.number) refl refl
 
 pub returns-then-number-eq-ROUTE : goal.returns-then-number-eq-ROUTE
 returns-then-number-eq-ROUTE c = short-known c.args.text.now ROUTE known_name.Route c.type_inv.text c.requires.token c.requires.length.1 (sym c.if-number-eq-ROUTE.true ∙ c.requires.number) refl refl
 
+-- the number is that of no known name
 pub returns-else-number-eq-ROUTE : goal.returns-else-number-eq-ROUTE
 returns-else-number-eq-ROUTE c =
     short-other c.args.text.now c.type_inv.text c.requires.length.0 c.requires.length.1

@@ -5,6 +5,7 @@ use Rattle.sip_text.proofs.texts.ManyLemmas.{front-within}
 use Rattle.sip_message.proofs.lemmas.value.Other.{OtherItem, other-run, other-fold, other-end, stops-run}
 use Rattle.sip_message.proofs.other.is_other.Goals as goal
 
+-- where neither a plain byte nor a fold follows, the value ends here
 pub returns-then-not-begins_with_fold : goal.returns-then-not-begins_with_fold
 returns-then-not-begins_with_fold c =
     let text = c.args.text.now in
@@ -15,6 +16,7 @@ returns-then-not-begins_with_fold c =
     other-end text _ (at + k) (other-run text _ at k c.folds.invariant.front rest_is c.plain_len-at.ensures.run) more_is
     (stops-run text _ _ at k rest_is more_is c.plain_len-at.ensures.run) (sym c.begins_with_fold.ensures ∙ c.if-not-begins_with_fold.true)
 
+-- after one fold more, the bytes up to here are items of a value
 pub folds-preserved : goal.folds-preserved
 folds-preserved c =
     let text = c.args.text.now in

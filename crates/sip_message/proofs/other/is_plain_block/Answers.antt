@@ -5,6 +5,7 @@ use Rattle.sip_message.specs.inner.Values.{is_plain_byte}
 use Rattle.sip_message.proofs.LaneLemmas.{joined, all_pass}
 use Rattle.sip_message.proofs.other.is_plain_block.Goals as goal
 
+-- the bytes are plain where no lane has a control other than HTAB
 pub returns : goal.returns
 returns c none =
     let v = chunk c.args.at 16 c.args.text.now in

@@ -5,6 +5,7 @@ use Rattle.sip_message.specs.inner.ParamFronts.{BracketFront}
 use Rattle.sip_message.proofs.lemmas.params.Value.{no-close, one-closed, closed-short}
 use Rattle.sip_message.proofs.params.cut_brackets.Goals as goal
 
+-- no `]` follows the `[`
 pub returns-in_err-rest : goal.returns-in_err-rest
 returns-in_err-rest c =
     subst (IsOnlyValue BracketFront pair_parts c.args.text.now) (sym c.from_residual-in_err-rest.ensures)
@@ -14,6 +15,7 @@ pub slice_bounds-result-count : goal.slice_bounds-result-count
 slice_bounds-result-count c =
     closed-short c.args.text.now c.in_ok-past.field-0.now c.in_ok-rest.rest.now (sym c.in_ok-past.ensures) (sym c.cut.ensures.rest ∙ ap option_copied c.in_ok-rest.was)
 
+-- what stands from "[" to the first "]" was cut off
 pub returns : goal.returns
 returns c =
     one-closed c.args.text.now c.in_ok-past.field-0.now c.in_ok-rest.rest.now (sym c.in_ok-past.ensures) (sym c.cut.ensures.rest ∙ ap option_copied c.in_ok-rest.was)

@@ -7,11 +7,13 @@ use Rattle.sip_message.proofs.lemmas.front.Cuts.{ReadAs}
 use Rattle.sip_message.proofs.lemmas.params.Value.{no-quoted, one-quoted_string}
 use Rattle.sip_message.proofs.params.cut_quoted.Goals as goal
 
+-- no quoted string stands at the front
 pub returns-in_err-len : goal.returns-in_err-len
 returns-in_err-len c =
     subst (IsOnlyValue QuotedFront pair_parts c.args.text.now) (sym c.from_residual-in_err-len.ensures)
     (no-quoted c.args.text.now c.in_err-len.ensures.reads)
 
+-- the quoted string is cut off, and what follows it is left
 pub returns : goal.returns
 returns c =
     let text = c.args.text.now in

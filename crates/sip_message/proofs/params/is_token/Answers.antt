@@ -3,6 +3,7 @@ use Rattle.std.proofs.lemmas.Bool.{both_ways, eqb-true, eq-eqb}
 use Rattle.sip_message.proofs.lemmas.params.Value.{token-whole, whole-token}
 use Rattle.sip_message.proofs.params.is_token.Goals as goal
 
+-- the text is a token exactly if its longest front of bytes of tokens is all of it
 pub returns-then-not-is_empty : goal.returns-then-not-is_empty
 returns-then-not-is_empty c = (
   λ same. token-whole c.args.text.now c.token_len.result c.token_len.ensures.reads

@@ -5,6 +5,7 @@ use Rattle.sip_message.specs.inner.Plain.{segment, Opening, SomeUri, SomeParams}
 use Rattle.sip_message.proofs.PlainLemmas.{then-stands, whole-stands, address-plain}
 use Rattle.sip_message.proofs.plain.is_plain_address.Goals as goal
 
+-- a display name, `<`, a URI, `>` and parameters up to the end are an address
 pub returns : goal.returns
 returns c = λ so.
     let m = c.args.masks.now in

@@ -7,6 +7,7 @@ use Rattle.sip_message.specs.inner.Plain.{HostPort}
 use Rattle.sip_message.proofs.PlainLemmas.{stands-as, then-stands, hostport-none, hostport-some}
 use Rattle.sip_message.proofs.plain.past_hostport.Goals as goal
 
+-- a host, a colon and a port are a host with its port
 pub returns-in-Some : goal.returns-in-Some
 returns-in-Some c =
     let m = c.args.masks.now in
@@ -17,6 +18,7 @@ returns-in-Some c =
     (then-stands (λ u. HostText u host.0) (Byte colon then Port) m c.args.at c.args.end c.in_ok-host.host to (found.0, found.1, host.1)
     (then-stands (Byte colon) Port m c.in_ok-host.host c.args.end c.in-Some.port to c.in-Some.ensures port)))
 
+-- a host without a colon after it has no port
 pub returns-in-None : goal.returns-in-None
 returns-in-None c =
     let found = c.in_ok-host.ensures in

@@ -4,6 +4,7 @@ use Rattle.sip_message.specs.inner.Plain.{segment}
 use Rattle.sip_message.proofs.PlainLemmas.{front-stands}
 use Rattle.sip_message.proofs.plain.past_name.Goals as goal
 
+-- the display name is a quoted string
 pub returns-in-Some-cut_quoted : goal.returns-in-Some-cut_quoted
 returns-in-Some-cut_quoted c =
     let m = c.args.masks.now in

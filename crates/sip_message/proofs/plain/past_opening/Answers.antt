@@ -8,6 +8,7 @@ use Rattle.sip_message.specs.inner.Plain.{Opening}
 use Rattle.sip_message.proofs.PlainLemmas.{stands-as, then-stands, opening-some}
 use Rattle.sip_message.proofs.plain.past_opening.Goals as goal
 
+-- a display name, a blank and `<` open an address
 pub returns : goal.returns
 returns c =
     let m = c.args.masks.now in

@@ -4,6 +4,7 @@ use Rattle.sip_message.specs.inner.Plain.{segment, LiesWithin, PlainParam}
 use Rattle.sip_message.proofs.PlainLemmas.{param-none, param-some, run-token}
 use Rattle.sip_message.proofs.plain.past_param.Goals as goal
 
+-- a parameter without a value
 pub returns-in_default-clause-param : goal.returns-in_default-clause-param
 returns-in_default-clause-param c =
     let m = c.args.masks.now in
@@ -12,6 +13,7 @@ returns-in_default-clause-param c =
     subst (λ t. LiesWithin (PlainParam (segment start behind t, None)) m c.args.at c.args.end behind) (sym c.text.ensures)
     (param-none m c.args.at c.args.end start behind c.in_ok-start.ensures c.in_ok-behind.ensures)
 
+-- a ";", a name, `=` and a plain value are a parameter
 pub returns-clause-param : goal.returns-clause-param
 returns-clause-param c =
     let m = c.args.masks.now in
@@ -23,6 +25,7 @@ returns-clause-param c =
     subst (λ t. LiesWithin (PlainParam (segment start behind c.text.result.now, Some (segment first to t))) m c.args.at c.args.end to) (sym c.text-2.ensures)
     (subst (λ t. LiesWithin (PlainParam (segment start behind t, Some (segment first to m))) m c.args.at c.args.end to) (sym c.text.ensures) param)
 
+-- the value is a run of plain bytes, so it is a token
 pub returns-clause-value : goal.returns-clause-value
 returns-clause-value c =
     let m = c.args.masks.now in

@@ -7,6 +7,7 @@ use Rattle.sip_message.proofs.PlainLemmas.{stands-as, then-stands}
 use Rattle.sip_message.proofs.PlainValueLemmas.{quoted-words}
 use Rattle.sip_message.proofs.plain.past_plain_quoted.Goals as goal
 
+-- a quote, words and a quote are a quoted string
 pub returns : goal.returns
 returns c =
     let m = c.args.masks.now in

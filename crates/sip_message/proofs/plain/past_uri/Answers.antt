@@ -6,6 +6,7 @@ use Rattle.sip_message.proofs.PlainLemmas.{stands-as, then-stands}
 use Rattle.sip_message.proofs.PlainUriLemmas.{PlainUser, uri-plain}
 use Rattle.sip_message.proofs.plain.past_uri.Goals as goal
 
+-- `sip:`, a plain user and a host with its port are a URI
 pub returns : goal.returns
 returns c =
     let m = c.args.masks.now in

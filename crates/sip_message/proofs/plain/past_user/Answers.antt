@@ -6,6 +6,7 @@ use Rattle.sip_message.proofs.PlainLemmas.{stands-as, then-stands}
 use Rattle.sip_message.proofs.PlainUriLemmas.{PlainUser}
 use Rattle.sip_message.proofs.plain.past_user.Goals as goal
 
+-- a plain run and an `@` are a user
 pub returns-in-Some : goal.returns-in-Some
 returns-in-Some c =
     let m = c.args.masks.now in

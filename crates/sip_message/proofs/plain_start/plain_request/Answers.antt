@@ -6,6 +6,7 @@ use Rattle.sip_message.specs.inner.Plain.{segment}
 use Rattle.sip_message.proofs.PlainStartLemmas.{request-plain}
 use Rattle.sip_message.proofs.plain_start.plain_request.Goals as goal
 
+-- a method, a URI and the version up to the end are a request line
 pub returns : goal.returns
 returns c =
     let m = c.args.masks.now in

@@ -3,6 +3,7 @@ use Rattle.sip_message.specs.inner.Plain.{segment}
 use Rattle.sip_message.proofs.lemmas.value.CSeq.{same-cseq}
 use Rattle.sip_message.proofs.plain_values.cseq_at.Goals as goal
 
+-- a text has one CSeq at most, so this is the one
 pub returns-in-Some : goal.returns-in-Some
 returns-in-Some c =
     let is = c.in-Some.ensures in

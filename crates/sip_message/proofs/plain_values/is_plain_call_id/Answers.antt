@@ -7,12 +7,14 @@ use Rattle.sip_message.proofs.PlainLemmas.{then-stands}
 use Rattle.sip_message.proofs.PlainValueLemmas.{call_id-one, call_id-two}
 use Rattle.sip_message.proofs.plain_values.is_plain_call_id.Goals as goal
 
+-- the Call-ID is one word, without an `@`
 pub returns-then-word-end : goal.returns-then-word-end
 returns-then-word-end c = λ _.
     let m = c.args.masks.now in
     let run = subst (LiesWithin PlainRun m c.args.at c.args.end) c.if-word-end.true c.in-Some.ensures in
     call_id-one (segment c.args.at c.args.end m) run.2
 
+-- two plain words with `@` between them are a Call-ID
 pub returns-in-Some-past_any_run : goal.returns-in-Some-past_any_run
 returns-in-Some-past_any_run c = λ so.
     let m = c.args.masks.now in

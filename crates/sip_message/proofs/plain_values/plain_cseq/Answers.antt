@@ -5,6 +5,7 @@ use Rattle.sip_message.specs.inner.Plain.{segment, LiesWithin, PlainRun}
 use Rattle.sip_message.proofs.PlainValueLemmas.{cseq-plain}
 use Rattle.sip_message.proofs.plain_values.plain_cseq.Goals as goal
 
+-- a plain number, one blank and a token up to the end are a CSeq
 pub returns : goal.returns
 returns c =
     let m = c.args.masks.now in

@@ -7,6 +7,7 @@ use Rattle.sip_message.proofs.PlainViaLemmas.{branch-behind, branch-none, or-non
 use Rattle.sip_message.proofs.lemmas.params.Branch.{copied-or, or-assoc}
 use Rattle.sip_message.proofs.plain_via.plain_branch.Goals as goal
 
+-- after one parameter more, the branch is the first one of the parameters that were read
 pub params-preserved : goal.params-preserved
 params-preserved c =
     let m = c.args.masks.now in
@@ -20,6 +21,7 @@ params-preserved c =
           subst (ViaParams (segment c.args.at c.args.end m)) (or-assoc old found later ∙ ap (λ b. option_or b later) (sym new)) all,
     )
 
+-- at the end of the loop the branch is that of all parameters
 pub returns : goal.returns
 returns c =
     let m = c.args.masks.now in

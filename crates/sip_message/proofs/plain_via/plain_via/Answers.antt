@@ -5,6 +5,7 @@ use Rattle.sip_message.specs.inner.Plain.{segment}
 use Rattle.sip_message.proofs.PlainViaLemmas.{via-plain, via-first}
 use Rattle.sip_message.proofs.plain_via.plain_via.Goals as goal
 
+-- where each part was found by the masks, the text from `at` to `end` is a Via of these parts
 pub returns : goal.returns
 returns c =
     let m = c.args.masks.now in

@@ -6,6 +6,7 @@ use Rattle.sip_message.proofs.PlainViaLemmas.{via-only}
 use Rattle.sip_message.proofs.lemmas.asked.Asked.{or-none}
 use Rattle.sip_message.proofs.quick.keep_via.Goals as goal
 
+-- where no Via was kept before, this one is the top one
 pub returns-in-Some : goal.returns-in-Some
 returns-in-Some c =
     let none : is_some c.args.kept.now ≡ false = search rules in (

@@ -2,6 +2,7 @@ use Rattle.std.proofs.Common.{◌≡◌, ◌+◌, ◌≤◌, length, get_or, ap,
 use Rattle.sip_message.proofs.QuickLemmas.{open-line}
 use Rattle.sip_message.proofs.quick.line_end.Goals as goal
 
+-- where CR and LF stand at the next control, the line ends there
 pub returns-clause-line : goal.returns-clause-line
 returns-clause-line c =
     let m = c.args.masks.now in

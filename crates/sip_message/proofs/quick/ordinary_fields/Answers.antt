@@ -4,6 +4,7 @@ use Rattle.sip_message.specs.inner.Asked.{AskedOf}
 use Rattle.sip_message.proofs.QuickLemmas.{LinesSoFar, so_far-more}
 use Rattle.sip_message.proofs.quick.ordinary_fields.Goals as goal
 
+-- after one line more, the fields are those of the lines up to it
 pub lines-preserved : goal.lines-preserved
 lines-preserved c =
     let before = fields_parts c.lines.fields in

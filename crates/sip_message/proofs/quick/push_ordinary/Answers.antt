@@ -10,12 +10,14 @@ use Rattle.sip_message.specs.inner.Plain.{segment}
 use Rattle.sip_message.proofs.QuickLemmas.{plain-run, plain-named, behind-open, value-open}
 use Rattle.sip_message.proofs.quick.push_ordinary.Goals as goal
 
+-- a run of plain bytes is a token
 pub quick_name-name-requires-clause-token : goal.quick_name-name-requires-clause-token
 quick_name-name-requires-clause-token c =
     let n = c.run_at-len.result in
     let behind = take_rest c.text-text.result.now c.args.at ∙ ap (drop c.args.at) c.text-text.ensures in
     subst (λ t. Token (take n t)) (sym behind) (plain-run (drop c.args.at c.args.masks.now) n c.run_at-len.ensures (omega (arith, c.if-len-eq0.false)))
 
+-- no control stands in the value
 pub is_value_at-requires-clause-clear : goal.is_value_at-requires-clause-clear
 is_value_at-requires-clause-clear c =
     let m = c.args.masks.now in
@@ -26,6 +28,7 @@ is_value_at-requires-clause-clear c =
     value-open (segment (c.args.at + n + 1) end m) (segment c.in-Some.from end m) (behind-open m c.args.at n end less c.requires.within.1 mark c.requires.clear)
     (subst (λ t. ValueText (segment (c.args.at + n + 1) end t) (segment c.in-Some.from end t)) c.text-text.ensures c.in-Some.ensures.value)
 
+-- a plain name, a colon and a value that its row allows are the field that was pushed
 pub returns : goal.returns
 returns c = λ _.
     let m = c.args.masks.now in

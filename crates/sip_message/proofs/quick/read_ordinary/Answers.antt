@@ -5,6 +5,7 @@ use Rattle.sip_message.specs.ValueParts.{start_parts}
 use Rattle.sip_message.proofs.QuickLemmas.{ordinary-head, front-rest}
 use Rattle.sip_message.proofs.quick.read_ordinary.Goals as goal
 
+-- where the start line and all fields are ordinary, they are the head of the bytes
 pub returns-clause-head : goal.returns-clause-head
 returns-clause-head c =
     let bytes = c.args.bytes.now in

@@ -5,6 +5,7 @@ use Rattle.sip_message.proofs.PlainLemmas.{segment-space}
 use Rattle.sip_message.proofs.lemmas.value.Trimmed.{one-space, no-space}
 use Rattle.sip_message.proofs.quick.value_place.Goals as goal
 
+-- a colon, one blank and a text without a blank at its ends are a value
 pub returns-then-is_solid_at-clause-value : goal.returns-then-is_solid_at-clause-value
 returns-then-is_solid_at-clause-value c =
     let text = c.args.text.now in

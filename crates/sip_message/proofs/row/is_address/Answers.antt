@@ -5,6 +5,7 @@ use Rattle.sip_message.specs.ValueParts.{address_parts}
 use Rattle.sip_message.proofs.lemmas.value.Trimmed.{read-decides}
 use Rattle.sip_message.proofs.row.is_address.Goals as goal
 
+-- the text is an address exactly if one is read of it
 pub returns : goal.returns
 returns c =
     Decides-like c.is_some.result (λ x. (x.0.1, x.1.0)) (λ x. ((c.args.text.now, x.0), (x.1, refl)))

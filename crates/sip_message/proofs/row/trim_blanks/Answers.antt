@@ -7,6 +7,7 @@ use Rattle.sip_message.proofs.lemmas.value.Trimmed.{trimmed, trimmed-value, valu
 use Rattle.sip_message.proofs.row.trim_blanks.Goals as goal
 use Rattle.sip_message.proofs.row.trim_blanks.Goals.{else-is_sws-via-then-is_sws+else-is_sws-2, else-is_sws-via-else-is_sws}
 
+-- where the bytes at both ends are blank runs, what is left between them is the value
 pub returns-then-is_sws-2 : goal.returns-then-is_sws-2
 returns-then-is_sws-2 c =
     let text = c.args.text.now in
@@ -16,6 +17,7 @@ returns-then-is_sws-2 c =
     (subst Sws (take_rest _ c.solid_len-end.result) (c.is_sws-then-is_sws.ensures.0 c.if-is_sws-2.true)) in
     (value, (λ w is. same_value text w _ is value))
 
+-- where the bytes at one end are no blank run, the text has no value
 pub returns-else-is_sws : goal.returns-else-is_sws
 returns-else-is_sws c = λ w is.
     let text = c.args.text.now in

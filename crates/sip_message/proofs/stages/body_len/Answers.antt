@@ -10,6 +10,7 @@ use Rattle.sip_message.specs.ViaParts.{element}
 use Rattle.sip_message.proofs.lemmas.message.Body.{stream-first, body-all, body-cut, body-whole}
 use Rattle.sip_message.proofs.stages.body_len.Goals as goal
 
+-- over a transport that keeps messages apart, a body without Content-Length is all that follows
 pub returns-else-is_stream : goal.returns-else-is_stream
 returns-else-is_stream c = (
   omega arith,
@@ -20,6 +21,7 @@ returns-else-is_stream c = (
       subst (λ b. BodyOf (start_parts c.args.start.now) cseq (v.1) len c.args.rest.now (gives b)) (sym (take-length c.args.rest.now)) all,
 )
 
+-- where Content-Length is the length of what follows, all of that is the body
 pub returns-then-len-rest : goal.returns-then-len-rest
 returns-then-len-rest c = (
   omega (arith, c.if-len-rest.true),
@@ -29,6 +31,7 @@ returns-then-len-rest c = (
       subst (λ b. BodyOf (start_parts c.args.start.now) cseq (v.1) len c.args.rest.now (gives b)) (sym (ap (λ n. take n c.args.rest.now) c.if-len-rest.true ∙ take-length c.args.rest.now)) all,
 )
 
+-- where Content-Length is less than what follows, and the transport keeps messages apart, the body is as long as it says
 pub returns-else-is_stream-2 : goal.returns-else-is_stream-2
 returns-else-is_stream-2 c = (
   c.in_ok-len.ensures.1,

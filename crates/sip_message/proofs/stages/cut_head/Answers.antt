@@ -7,9 +7,11 @@ use Rattle.sip_message.proofs.lemmas.front.Cuts.{ReadAs}
 use Rattle.sip_message.proofs.lemmas.lines.HeadEnd.{no-head, one-head}
 use Rattle.sip_message.proofs.stages.cut_head.Goals as goal
 
+-- no empty line stands in the bytes
 pub returns-in_err-at : goal.returns-in_err-at
 returns-in_err-at c = subst (IsOnlyValue CutSays pair_parts c.args.bytes.now) (sym c.from_residual.ensures) (no-head c.args.bytes.now c.in_err-at.ensures)
 
+-- the head ends before the empty line
 pub returns : goal.returns
 returns c =
     let text = c.args.bytes.now in

@@ -5,18 +5,21 @@ use Rattle.memchr.specs.Find.{FindsNeedle}
 use Rattle.sip_message.proofs.lemmas.lines.HeadEnd.{double_end, nowhere-double, none-before, first-double, none-more}
 use Rattle.sip_message.proofs.stages.find_double_end.Goals as goal
 
+-- no line feed is followed by an empty line
 pub returns-in_err-at : goal.returns-in_err-at
 returns-in_err-at c =
     let text = c.args.bytes.now in
     subst (FindsNeedle text double_end 0) (sym c.from_residual.ensures)
     (nowhere-double text _ c.feeds.from c.feeds.invariant.0 (take_rest text c.feeds.from) c.feeds.invariant.1 c.in_err-at.ensures)
 
+-- the CR before the line feed makes it a double line end
 pub returns-then-is_behind_cr : goal.returns-then-is_behind_cr
 returns-then-is_behind_cr c =
     let text = c.args.bytes.now in
     let behind = c.if-is_behind_cr.ensures.0 refl in
     first-double text _ c.feeds.from c.in_ok-at.field-0 c.feeds.invariant.0 (take_rest text c.feeds.from) c.feeds.invariant.1 c.in_ok-at.ensures.0 c.in_ok-at.ensures.1 behind.0 behind.1
 
+-- the line feed that was found ends no empty line, so the search goes on after it
 pub feeds-preserved : goal.feeds-preserved
 feeds-preserved c =
     let text = c.args.bytes.now in

@@ -10,16 +10,19 @@ use Rattle.sip_message.proofs.lemmas.asked.Parts.{row-of, first-value}
 use Rattle.sip_message.proofs.lemmas.message.Body.{length-none, length-some}
 use Rattle.sip_message.proofs.stages.read_body.Goals as goal
 
+-- the value of Content-Length is digits
 pub body_by_length-requires-clause-digits : goal.body_by_length-requires-clause-digits
 body_by_length-requires-clause-digits c =
     let fields = slice_fields c.args.fields in
     row-of known_name.ContentLength fields c.in-Some.digits.now c.requires.rows (first-value known_name.ContentLength fields (c.in-Some.field-0-1, c.in-Some.digits.now) (_, c.in-Some.ensures.found))
 
+-- the message has a Content-Length
 pub returns-in-Some : goal.returns-in-Some
 returns-in-Some c =
     subst (λ len. BodyOf (start_parts c.args.start) ((names_parts c.args.named).1) ((names_parts c.args.named).0.1) len c.args.rest.now (outcome_of text_parts c.body_by_length.result))
     (sym (length-some (slice_fields c.args.fields) _ _ c.in-Some.ensures.found)) c.body_by_length.ensures
 
+-- without a Content-Length the body is what the transport leaves
 pub returns-in-None : goal.returns-in-None
 returns-in-None c =
     subst (λ len. BodyOf (start_parts c.args.start) ((names_parts c.args.named).1) ((names_parts c.args.named).0.1) len c.args.rest.now (outcome_of text_parts c.body_by_length-in-None.result))

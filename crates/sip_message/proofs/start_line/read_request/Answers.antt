@@ -13,22 +13,26 @@ use Rattle.sip_message.proofs.start_line.read_request.Goals as goal
 pub returns-in_err-method : goal.returns-in_err-method
 returns-in_err-method c = subst (IsOnlyValue RequestLine pair_parts c.args.line.now) (sym c.from_residual.ensures) (request-no_token c.args.line.now c.in_err-method.ensures)
 
+-- no SP follows the method
 pub returns-in_err-rest : goal.returns-in_err-rest
 returns-in_err-rest c =
     subst (IsOnlyValue RequestLine pair_parts c.args.line.now) (sym c.from_residual-in_err-rest.ensures)
     (request-no_space c.args.line.now c.in_ok-method.method.now c.in_ok-method.rest.now c.in_ok-method.ensures (sym c.in_err-rest.ensures))
 
+-- a line that is too short for the version is no request line
 pub returns-in_err-at : goal.returns-in_err-at
 returns-in_err-at c =
     subst (IsOnlyValue RequestLine pair_parts c.args.line.now) (sym c.from_residual-in_err-at.ensures)
     (request-short c.args.line.now c.in_ok-method.method.now c.in_ok-method.rest.now c.in_ok-rest.rest.now c.in_ok-method.ensures (sym c.in_ok-rest.ensures) (omega (arith, c.in_err-at.ensures)))
 
+-- the line does not end with SIP/2.0
 pub returns-then-not-same_text : goal.returns-then-not-same_text
 returns-then-not-same_text c =
     let more = c.in_ok-rest.rest.now in
     request-no_version c.args.line.now c.in_ok-method.method.now c.in_ok-method.rest.now more c.in_ok-at.at c.in_ok-method.ensures (sym c.in_ok-rest.ensures) (omega (arith, c.in_ok-at.ensures.0, c.in_ok-at.ensures.1))
     (λ same. both_ways false refl (c.if-not-same_text.ensures.1 (subst (λ t. SameText t (codes " SIP/2.0")) (sym c.split_at.ensures.back) same)))
 
+-- where what stands before the version is no URI, the line is no request line
 pub returns-in_err-read_uri : goal.returns-in_err-read_uri
 returns-in_err-read_uri c =
     let more = c.in_ok-rest.rest.now in
@@ -36,6 +40,7 @@ returns-in_err-read_uri c =
     (request-no_uri c.args.line.now c.in_ok-method.method.now c.in_ok-method.rest.now more c.in_ok-at.at c.in_ok-method.ensures (sym c.in_ok-rest.ensures) (omega (arith, c.in_ok-at.ensures.0, c.in_ok-at.ensures.1))
     (subst (λ t. NotRead (UriText t)) c.split_at.ensures.front c.in_err-read_uri.ensures))
 
+-- a method, a URI and the version are the parts of the request line
 pub returns : goal.returns
 returns c =
     let more = c.in_ok-rest.rest.now in

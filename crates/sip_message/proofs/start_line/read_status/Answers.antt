@@ -8,20 +8,24 @@ use Rattle.sip_message.proofs.lemmas.front.Cuts.{ReadAs, NotRead}
 use Rattle.sip_message.proofs.lemmas.start_line.Reading.{status-no_version, status-no_code, status-no_reason, status-read}
 use Rattle.sip_message.proofs.start_line.read_status.Goals as goal
 
+-- the line does not begin with SIP/2.0 and a SP
 pub returns-then-not-same_text : goal.returns-then-not-same_text
 returns-then-not-same_text c =
     status-no_version c.args.line.now (λ same. both_ways false refl (c.if-not-same_text.ensures.1 (subst (λ t. SameText t (codes "SIP/2.0 ")) (sym c.split_at.ensures.front) same)))
 
+-- no code follows the protocol
 pub returns-in_err-code : goal.returns-in_err-code
 returns-in_err-code c =
     subst (IsOnlyValue StatusLine status_parts c.args.line.now) (sym c.from_residual.ensures)
     (status-no_code c.args.line.now (subst (λ t. NotRead (CodeFront t)) c.split_at.ensures.back c.in_err-code.ensures))
 
+-- where a byte may not stand in a reason, the line is no status line
 pub returns-then-not-are_reason_bytes : goal.returns-then-not-are_reason_bytes
 returns-then-not-are_reason_bytes c =
     status-no_reason c.args.line.now c.in_ok-code.code c.in_ok-code.reason.now (subst (λ t. ReadAs (CodeFront t) (c.in_ok-code.code, c.in_ok-code.reason.now)) c.split_at.ensures.back c.in_ok-code.ensures)
     (sym c.are_reason_bytes.ensures ∙ c.if-not-are_reason_bytes.true)
 
+-- the protocol, a code and a reason are a Status-Line
 pub returns : goal.returns
 returns c =
     status-read c.args.line.now c.in_ok-code.code c.in_ok-code.reason.now (subst (λ t. SameText t (codes "SIP/2.0 ")) c.split_at.ensures.front (c.if-not-same_text.ensures.0 refl))

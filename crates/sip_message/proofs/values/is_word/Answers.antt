@@ -8,6 +8,7 @@ use Rattle.sip_message.proofs.lemmas.value.Number.{all-decides}
 use Rattle.sip_message.proofs.lemmas.value.CallId.{words-behind}
 use Rattle.sip_message.proofs.values.is_word.Goals as goal
 
+-- the bytes of a token are bytes of a word, so only those after them are looked at
 pub returns-then-not-is_empty : goal.returns-then-not-is_empty
 returns-then-not-is_empty c =
     some-decides (One is_word_byte) c.args.text.now c.are_word_bytes.result (sym c.is_empty.ensures ∙ c.if-not-is_empty.true)

@@ -3,10 +3,12 @@ use Rattle.sip_message.proofs.lemmas.value.Number.{digits-at, number-more, numbe
 use Rattle.sip_message.proofs.values.number_at_most.Goals as goal
 use Rattle.sip_message.proofs.values.number_at_most.Goals.{then-digit-most-via-then-digit-most, then-digit-most-via-else-digit-most+then-number-most}
 
+-- a byte that is no digit stands in the text
 pub returns-then-not-is_ascii_digit : goal.returns-then-not-is_ascii_digit
 returns-then-not-is_ascii_digit c = λ digits.
     absurd (digits-at c.args.text.now c.loop-byte.byte-index digits c.loop-byte-test.true (sym c.is_ascii_digit.ensures.value ∙ c.if-not-is_ascii_digit.true))
 
+-- where one digit more leads above the greatest number, so does the whole text
 pub returns-then-digit-most : goal.returns-then-digit-most
 returns-then-digit-most c = λ digits.
     let text = c.args.text.now in
@@ -18,6 +20,7 @@ returns-then-digit-most c = λ digits.
     ] in
     number-large text (at + 1) (c.loop-byte.number * 10 + c.from-digit.result) c.args.most (ap (λ d. c.loop-byte.number * 10 + d) c.from-digit.ensures ∙ more) large
 
+-- after one digit more, the number is that of the digits up to it, and not above the greatest one
 pub loop-byte-preserved : goal.loop-byte-preserved
 loop-byte-preserved c =
     let more = number-more c.args.text.now c.loop-byte.byte-index c.loop-byte.number c.args.most c.loop-byte-test.true c.loop-byte.invariant (sym c.is_ascii_digit.ensures.value ∙ c.if-not-is_ascii_digit.false) in

@@ -8,11 +8,13 @@ use Rattle.sip_message.proofs.lemmas.value.CSeq.{same-cseq, cseq-large, cseq-no_
 use Rattle.sip_message.proofs.values.read_cseq.Goals as goal
 use Rattle.sip_message.proofs.values.read_cseq.Goals.{then-len-eq0-via-then-len-eq0, then-len-eq0-via-else-len-eq0+then-blanks-eq0, then-len-eq0-via-else-len-eq0+else-blanks-eq0+then-not-is_token}
 
+-- the number is too great
 pub returns-in_err-number : goal.returns-in_err-number
 returns-in_err-number c =
     subst (IsOnlyValue CSeqValue cseq_parts c.args.text.now) (sym c.from_residual.ensures)
     (cseq-large c.args.text.now c.digits_len-len.result c.digits_len-len.ensures.run c.in_err-number.ensures)
 
+-- without a digit at the front, a blank after the digits or a method after the blank, the text is no CSeq
 pub returns-then-len-eq0 : goal.returns-then-len-eq0
 returns-then-len-eq0 c = λ x is.
     let text = c.args.text.now in
@@ -28,6 +30,7 @@ returns-then-len-eq0 c = λ x is.
           (w.is_token.ensures.1 (cseq-method text _ _ n c.skip_lws-blanks.result run rest_is (take_rest _ c.skip_lws-blanks.result) c.skip_lws-blanks.ensures.reads w.if-blanks-eq0.false x is))
     ]
 
+-- digits, blanks and a method are the one CSeq of the text
 pub returns : goal.returns
 returns c =
     let text = c.args.text.now in

@@ -5,18 +5,21 @@ use Rattle.sip_message.specs.ViaParts.{element}
 use Rattle.sip_message.proofs.lemmas.via.Value.{vias-none, vias-behind, more-behind, more-none}
 use Rattle.sip_message.proofs.via.are_more_vias.Goals as goal
 
+-- no element follows the comma
 pub returns-in_default-read_via : goal.returns-in_default-read_via
 returns-in_default-read_via c = (
   λ is. absurd (false≢true is),
   λ are. absurd (vias-none c.in-Some.next.now c.in_default-read_via.ensures ((more-behind c.elements.rest.now c.in-Some.next.now c.in-Some.ensures).0 (c.elements.invariant.1 are))),
 )
 
+-- after one element more, the text is elements exactly if what is left is
 pub elements-preserved : goal.elements-preserved
 elements-preserved c =
     let behind = more-behind c.elements.rest.now c.in-Some.next.now c.in-Some.ensures in
     let first = vias-behind c.in-Some.next.now c.in-Some-read_via.more.now (element c.in-Some-read_via.field-0-0) c.in-Some-read_via.ensures in
     (λ more. c.elements.invariant.0 (behind.1 (first.1 more)), λ text. first.0 (behind.0 (c.elements.invariant.1 text)))
 
+-- no comma is left, so the elements are all there are
 pub returns : goal.returns
 returns c =
     let none = more-none c.elements.rest.now c.in_default.ensures in (

@@ -10,26 +10,31 @@ use Rattle.sip_message.proofs.lemmas.front.Cuts.{stop, go-stop}
 use Rattle.sip_message.proofs.lemmas.via.Steps.{parts_of, via-steps_of, via-missing, via-found, via-short}
 use Rattle.sip_message.proofs.via.read_via.Goals as goal
 
+-- where no protocol can be read, the text is no element of Via
 pub returns-in_err-protocol : goal.returns-in_err-protocol
 returns-in_err-protocol c =
     subst (IsOnlyValue ViaFront front_parts c.args.text.now) (sym c.from_residual.ensures)
     (via-missing c.args.text.now (stop c.in_err-protocol.ensures))
 
+-- where no host can be read after the protocol, the text is no element of Via
 pub returns-in_err-host : goal.returns-in_err-host
 returns-in_err-host c =
     subst (IsOnlyValue ViaFront front_parts c.args.text.now) (sym c.from_residual-in_err-host.ensures)
     (via-missing c.args.text.now (go-stop c.in_ok-protocol.ensures (stop c.in_err-host.ensures)))
 
+-- where no port can be read after the host, the text is no element of Via
 pub returns-in_err-port : goal.returns-in_err-port
 returns-in_err-port c =
     subst (IsOnlyValue ViaFront front_parts c.args.text.now) (sym c.from_residual-in_err-port.ensures)
     (via-missing c.args.text.now (go-stop c.in_ok-protocol.ensures (go-stop c.in_ok-host.ensures (stop c.in_err-port.ensures))))
 
+-- where no parameters can be read after the port, the text is no element of Via
 pub returns-in_err-params : goal.returns-in_err-params
 returns-in_err-params c =
     subst (IsOnlyValue ViaFront front_parts c.args.text.now) (sym c.from_residual-in_err-params.ensures)
     (via-missing c.args.text.now (go-stop c.in_ok-protocol.ensures (go-stop c.in_ok-host.ensures (go-stop c.in_ok-port.ensures (stop c.in_err-params.ensures)))))
 
+-- where neither the end nor a comma follows, the text is no element of Via
 pub returns-then-not-ends_element : goal.returns-then-not-ends_element
 returns-then-not-ends_element c =
     via-missing c.args.text.now (go-stop c.in_ok-protocol.ensures (go-stop c.in_ok-host.ensures (go-stop c.in_ok-port.ensures (go-stop c.in_ok-params.ensures
@@ -57,8 +62,10 @@ steps c =
     via-steps_of c.args.text.now (sent c) (host c) (port c) (tail c) c.in_ok-protocol.ensures.0 c.in_ok-host.ensures.0 c.in_ok-port.ensures.0
     c.in_ok-params.ensures.0 (c.ends_element.ensures.0 c.if-not-ends_element.false)
 
+-- what is left is not longer than the text
 pub slice_bounds-result-count : goal.slice_bounds-result-count
 slice_bounds-result-count c = via-short c.args.text.now (parts c) c.in_ok-params.rest.now (steps c)
 
+-- the protocol, the host, the port and the parameters are an element
 pub returns : goal.returns
 returns c = via-found c.args.text.now (parts c) c.in_ok-params.rest.now (steps c)

@@ -8,6 +8,7 @@ use Rattle.sip_part.proofs.led.via_line.Goals as goal
 pub returns-in_err-end : goal.returns-in_err-end
 returns-in_err-end c = ap option_copied c.from_residual.ensures ∙ sym (c.lines.invariant.0 ∙ no_line c.lines.rest.now c.in_err-end.ensures)
 
+-- the line that begins here is the first that opens with the name of a Via
 pub returns-then-opens_via : goal.returns-then-opens_via
 returns-then-opens_via c =
     let rest = c.lines.rest.now in
@@ -17,6 +18,7 @@ returns-then-opens_via c =
     let opens = sym (ap opens_via (take_rest rest (end + 1))) ∙ sym c.opens_via.ensures ∙ c.if-opens_via.true in
     ap Some (take_rest rest (end + 1)) ∙ sym (c.lines.invariant.0 ∙ next_line end rest first.0.high first.0.before first.1 ∙ ap (λ is. if is then Some left else via_line left) opens)
 
+-- the line that begins here is no Via, so the search goes on with the next one
 pub lines-preserved : goal.lines-preserved
 lines-preserved c =
     let rest = c.lines.rest.now in

@@ -6,6 +6,7 @@ use Rattle.sip_part.specs.Part.{fnv1a}
 use Rattle.sip_part.proofs.Plain.{starts_is}
 use Rattle.sip_part.proofs.part.fnv1a.Goals as goal
 
+-- the sum of the cookie is known, so only the bytes after it are looked at
 pub returns-then-starts_with : goal.returns-then-starts_with
 returns-then-starts_with c =
     let text = c.args.text.now in

@@ -4,6 +4,7 @@ use Rattle.sip_program.proofs.AskedLemmas.{two-words, three-words, not-long, not
 use Rattle.sip_program.proofs.asking.asked.Goals.{in_default-via-then-words-lt2, in_default-via-in-len2-2+else-eq-2, in_default-via-in-len3+else-eq-3, in_default-via-else-words-lt2+else-words-lt3+else-words-lt4}
 use Rattle.sip_program.proofs.asking.asked.Goals as goal
 
+-- two words ask for a file
 pub returns-in-len2 : goal.returns-in-len2
 returns-in-len2 c = (
   two-words string_bytes c.args.words.now c.word-item.result c.file-item.result _ _
@@ -12,6 +13,7 @@ returns-in-len2 c = (
   tt,
 )
 
+-- two words, `check` or `show` and a file, ask for that of the file
 pub returns-in-len2-2 : goal.returns-in-len2-2
 returns-in-len2-2 c = (
   two-words string_bytes c.args.words.now c.word-item-then-words-lt3.result c.file-item-then-words-lt3.result _ _
@@ -20,6 +22,7 @@ returns-in-len2-2 c = (
   tt,
 )
 
+-- three words, `states`, a file and a number, ask for the listing at that entry
 pub returns-in_ok-entry-in-len3 : goal.returns-in_ok-entry-in-len3
 returns-in_ok-entry-in-len3 c = (
   three-words string_bytes c.args.words.now c.word-item-then-words-lt4.result c.file-item-then-words-lt4.result c.entry-item.result _ _ _
@@ -29,6 +32,7 @@ returns-in_ok-entry-in-len3 c = (
   c.in_ok-entry-in-len3.ensures.0,
 )
 
+-- words of no form that is told ask for nothing
 pub returns-in_default : goal.returns-in_default
 returns-in_default c = λ asked meant same.
     elim c.in_default.branch [

@@ -4,12 +4,14 @@ use Rattle.std.proofs.lemmas.Fmt.{parse-decimal}
 use Rattle.sip_program.proofs.asking.entry_number.Goals.{then-number-lt-LEAST-via-then-number-lt-LEAST, then-number-lt-LEAST-via-else-number-lt-LEAST+then-number-gt-MOST, then-number-lt-LEAST-via-else-number-lt-LEAST+else-number-gt-MOST+then-ne}
 use Rattle.sip_program.proofs.asking.entry_number.Goals as goal
 
+-- the word is no number of 64 bits
 pub returns-in_default : goal.returns-in_default
 returns-in_default c = λ entry is same.
     let read = parse-decimal 64 entry c.args.word.now c.parse.result (omega (arith, is.1)) (omega (arith, is.1)) same c.parse.ensures.value.0 in
     let never : Err c.in_default.field-0 ≡ Ok entry = sym c.in_default.is ∙ read in
     cc
 
+-- a number out of its limits, or with another spelling than the plain one, is no number of an entry
 pub returns-then-number-lt-LEAST : goal.returns-then-number-lt-LEAST
 returns-then-number-lt-LEAST c = λ entry is same.
     let read = parse-decimal 64 entry c.args.word.now c.parse.result (omega (arith, is.1)) (omega (arith, is.1)) same c.parse.ensures.value.0 in

@@ -3,6 +3,7 @@ use Rattle.sip_states.proofs.sets.Advancing.{advances_stay, advances_push}
 use Rattle.sip_states.proofs.ends.advance_states.Goals as goal
 use Rattle.sip_states.proofs.ends.advance_states.Goals.{then-some_can_end+then-not-has_at_rest+in_ok-push, else-some_can_end, else-some_can_end-via-then-some_can_end+else-not-has_at_rest, else-some_can_end-via-else-some_can_end}
 
+-- the states that can wait stay, and ended is added where some state can end and ended is not there yet
 pub returns-clause-advances : goal.returns-clause-advances
 returns-clause-advances g c =
     let m = c.args.machine.now in

@@ -4,9 +4,11 @@ use Rattle.std.proofs.lemmas.List.Elements.{All-get_or}
 use Rattle.sip_states.proofs.runs.Reaching.{last_push, last_all}
 use Rattle.sip_states.proofs.ends.last_of_all.Goals as goal
 
+-- the moments of the state are in range
 pub last_of-requires-clause-in_range : goal.last_of-requires-clause-in_range
 last_of-requires-clause-in_range g c = λ d. All-get_or g.M.Machine.in_range c.args.pool.now c.loop-at.at d (omega arith) c.requires.in_range
 
+-- one state can wait for ever, so all together can
 pub returns-in_err-last_of : goal.returns-in_err-last_of
 returns-in_err-last_of g c = rw c.from_residual.ensures (λ m low.
     let xs = c.args.pool.now in
@@ -15,6 +17,7 @@ returns-in_err-last_of g c = rw c.from_residual.ensures (λ m low.
     let inside : i < length xs = omega arith in
     (λ _. tt, λ _. (i, get_or xs i d, inside, get_or_default xs i (get_or xs i d) d inside, (c.in_err-last_of.ensures d m low).1 tt)))
 
+-- after one state more, the last moment so far is the latest to which one of them can wait
 pub loop-at-preserved : goal.loop-at-preserved
 loop-at-preserved g c =
     let m = c.args.machine.now in
@@ -26,6 +29,7 @@ loop-at-preserved g c =
     rw (take_more xs i d low)
     (last_push (g.M.Machine.end_window m) (g.M.Machine.until m) c.args.from (take i xs) (get_or xs i d) c.loop-at.last c.in_ok-last_of.field-0 c.max-last.result c.loop-at.invariant (c.in_ok-last_of.ensures d) later)
 
+-- at the end of the loop the last moment is the latest to which one of all states can wait
 pub returns : goal.returns
 returns g c =
     let m = c.args.machine.now in

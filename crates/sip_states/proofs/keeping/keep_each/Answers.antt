@@ -3,6 +3,7 @@ use Rattle.sip_states.proofs.lists.Kept.{keeps_done, step_not, step_swap}
 use Rattle.sip_states.proofs.keeping.keep_each.Goals.{then-flags-at, else-flags-at}
 use Rattle.sip_states.proofs.keeping.keep_each.Goals as goal
 
+-- of the items up to here, those whose flag is set stand at the front, in their order
 pub loop-at-preserved : goal.loop-at-preserved
 loop-at-preserved g c =
     let flags = c.args.flags.now in
@@ -17,5 +18,6 @@ loop-at-preserved g c =
           rw (w.items-is, w.count-is) (step_not flags xs ys c.loop-at.count c.loop-at.at c.loop-at.invariant (omega arith) (omega (arith, long)) (search rules))
     ]
 
+-- at the end of the loop the items are those whose flag is set
 pub returns : goal.returns
 returns g c = c.truncate.ensures.items ∙ keeps_done c.args.flags.now c.args.items.now.items c.loop-at.items.items c.loop-at.count c.loop-at.at c.loop-at.invariant (omega arith)

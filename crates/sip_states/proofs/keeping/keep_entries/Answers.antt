@@ -3,6 +3,7 @@ use Rattle.sip_states.proofs.lists.Kept.{step_not, step_swap}
 use Rattle.sip_states.proofs.keeping.keep_entries.Goals.{then-flags-at, else-flags-at}
 use Rattle.sip_states.proofs.keeping.keep_entries.Goals as goal
 
+-- of the entries up to here, those whose flag is set stand at the front, in their order
 pub loop-at-preserved : goal.loop-at-preserved
 loop-at-preserved g c =
     let flags = c.args.flags.now in

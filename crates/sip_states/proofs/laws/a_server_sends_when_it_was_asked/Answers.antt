@@ -5,6 +5,7 @@ use Rattle.sip_states.proofs.runs.StandsLemmas.{stands-after}
 use Rattle.sip_states.proofs.runs.ServerLaws.{server_sends_when_asked}
 use Rattle.sip_states.proofs.laws.a_server_sends_when_it_was_asked.Goals as goal
 
+-- what stands in the law is a run, of which the lemma speaks
 pub returns : goal.returns
 returns c = λ p rules invite events e y stands.
     let machine = machine_of rules Server invite in

@@ -7,6 +7,7 @@ use Rattle.sip_states.proofs.runs.StandsLemmas.{stands-after}
 use Rattle.sip_states.proofs.runs.ClientLaws.{invite_again}
 use Rattle.sip_states.proofs.laws.an_invite_is_sent_again_after_t1.Goals as goal
 
+-- what stands in the law is a run, of which the lemma speaks
 pub returns : goal.returns
 returns c =
     λ p first between e y first_sent first_kind sent kind stands.

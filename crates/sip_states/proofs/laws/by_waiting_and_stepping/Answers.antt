@@ -3,6 +3,7 @@ use Rattle.sip_states.proofs.keyed.KeySetLaws.{coded_holds}
 use Rattle.sip_states.proofs.runs.StandsLemmas.{stands-wait_first, stands-wait, stands-gives}
 use Rattle.sip_states.proofs.laws.by_waiting_and_stepping.Goals as goal
 
+-- the laws of runs hold of the figure of each machine
 pub returns : goal.returns
 returns c =
     record {

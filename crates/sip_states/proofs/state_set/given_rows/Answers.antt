@@ -14,6 +14,7 @@ use Rattle.sip_states.proofs.state_set.given_rows.Given.{Over}
 use Rattle.sip_states.proofs.state_set.given_rows.Goals as goal
 use Rattle.sip_states.proofs.state_set.given_rows.Goals.{After-len}
 
+-- What follows is of the moment after the states were found and each was taken once.
 module _ (g : Over) (c : After-len g) where
   -- the states that were found, each once, stand for exactly what the event gives
   found_stand : (x : CodeOwing _) → StandFor g.M.Machine.names g.M.Machine.in_range g.M.Machine.seen c.args.book.now
@@ -34,6 +35,7 @@ module _ (g : Over) (c : After-len g) where
       c.requires.order c.requires.book (GivesAfter g.M.Machine.seen texts r xs c.args.from e) _ (picked new x rows)
       c.in_ok-first.ensures.gives (picked-members new c.in_ok-first.first rows x ones) (picked-distinct new c.in_ok-first.first rows x ones)
 
+-- where more states were found than a set follows, the event gives too many
 pub returns-then-len-gt-WIDEST-clause-too_many : goal.returns-then-len-gt-WIDEST-clause-too_many
 returns-then-len-gt-WIDEST-clause-too_many g c = λ _.
     let at = (goal.at.returns-then-len-gt-WIDEST-clause-too_many g c).After-len in

@@ -5,6 +5,7 @@ use Rattle.sip_machine.specs.Owing.{at_rest}
 use Rattle.sip_states.proofs.keyed.NamesLemmas.{owes_something, rest_may_name}
 use Rattle.sip_states.proofs.state_set.state_may_name.Goals as goal
 
+-- the state is not at rest, so it owes something
 pub returns-then-not-is_at_rest : goal.returns-then-not-is_at_rest
 returns-then-not-is_at_rest g c d =
     let x = get_or c.args.states.now c.args.at d in
@@ -12,6 +13,7 @@ returns-then-not-is_at_rest g c d =
     let other : x ≢ at_rest phase = λ rest. false≢true (sym (search rules) ∙ (c.is_at_rest.ensures d).1 rest) in
     (λ _. inr (owes_something x phase (c.phase-phase.ensures d) other), λ _. refl)
 
+-- a state at rest names the message of its phase and no other, so the two numbers are compared
 pub returns-in-Some : goal.returns-in-Some
 returns-in-Some g c d =
     let number = c.args.number in
@@ -27,6 +29,7 @@ returns-in-Some g c d =
       )
     ]
 
+-- a state at rest whose phase names no message names none
 pub returns-in-None : goal.returns-in-None
 returns-in-None g c d =
     let number = c.args.number in

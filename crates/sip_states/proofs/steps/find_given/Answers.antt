@@ -11,12 +11,15 @@ use Rattle.sip_states.proofs.sets.Following.{Follows}
 use Rattle.sip_states.proofs.sets.Stepping.{gives_stayed, gives_ended, found-behind, next-there}
 use Rattle.sip_states.proofs.steps.find_given.Goals as goal
 
+-- the book has what the states before the event name
 pub step_each-requires-clause-known : goal.step_each-requires-clause-known
 step_each-requires-clause-known g c = All-take (Knows g.M.Machine.names c.args.book.now) c.len-count.result c.args.pool.now c.requires.known
 
+-- the moments of the states before the event are in range
 pub step_each-requires-clause-in_range : goal.step_each-requires-clause-in_range
 step_each-requires-clause-in_range g c = All-take g.M.Machine.in_range c.len-count.result c.args.pool.now c.requires.in_range
 
+-- where no state can end before the event, what the event gives is found from the states themselves
 pub returns-then-not-some_can_end-clause-gives : goal.returns-then-not-some_can_end-clause-gives
 returns-then-not-some_can_end-clause-gives g c =
     let texts = c.args.book.now in
@@ -37,18 +40,22 @@ returns-then-not-some_can_end-clause-gives g c =
     c.requires.order (λ some. true≢false (sym (ends.1 some) ∙ c.if-not-some_can_end.true)) found
     (subst (λ ys. Covers g.M.Machine.names g.M.Machine.in_range g.M.Machine.seen texts (GivesFrom g.M.Machine.seen texts r ys e) found) all covers))
 
+-- the book has all that the old states name, which stand before ended
 pub step_each-requires-2-clause-known : goal.step_each-requires-2-clause-known
 step_each-requires-2-clause-known g c =
     subst (All (Knows g.M.Machine.names c.args.book.now)) (sym (take-old c.args.pool.now (at_rest c.ended.result ∷ []) c.push.new.self c.len-count.result c.in_ok-push.ensures.ok c.len-count.ensures)) c.requires.known
 
+-- the states before the event are as they were, and so are their moments
 pub step_each-requires-2-clause-in_range : goal.step_each-requires-2-clause-in_range
 step_each-requires-2-clause-in_range g c =
     subst (All g.M.Machine.in_range) (sym (take-old c.args.pool.now (at_rest c.ended.result ∷ []) c.push.new.self c.len-count.result c.in_ok-push.ensures.ok c.len-count.ensures)) c.requires.in_range
 
+-- where memory is refused, the old states are as they were
 pub returns-in_err-step_each-2-clause-before : goal.returns-in_err-step_each-2-clause-before
 returns-in_err-step_each-2-clause-before g c =
     before-more c.args.pool.now c.push.new.self c.step_each-2.new.pool (at_rest c.ended.result ∷ []) c.in_ok-push.ensures.ok c.in_err-step_each-2.ensures.before
 
+-- the ended state names nothing, so the book has what it names
 pub successors-requires-clause-known : goal.successors-requires-clause-known
 successors-requires-clause-known g c = λ d.
     let m = c.args.machine.now in
@@ -56,6 +63,7 @@ successors-requires-clause-known g c = λ d.
     let there = next-there c.args.pool.now c.push.new.self c.step_each-2.new.pool found (at_rest c.ended.result) d c.len-count.result c.in_ok-push.ensures.ok is c.len-count.ensures ∙ c.ended.ensures in
     subst (Knows g.M.Machine.names c.args.book.now) (sym there) (subst (All (Keeps c.args.book.now)) (sym (g.met.M.Machine.ended_fits m).0) (All-nil (Keeps c.args.book.now)))
 
+-- ended, which was pushed, is in range
 pub successors-requires-clause-in_range : goal.successors-requires-clause-in_range
 successors-requires-clause-in_range g c = λ d.
     let m = c.args.machine.now in
@@ -63,11 +71,13 @@ successors-requires-clause-in_range g c = λ d.
     let there = next-there c.args.pool.now c.push.new.self c.step_each-2.new.pool found (at_rest c.ended.result) d c.len-count.result c.in_ok-push.ensures.ok is c.len-count.ensures ∙ c.ended.ensures in
     subst g.M.Machine.in_range (sym there) (g.met.M.Machine.ended_fits m).1
 
+-- where memory is refused, the old states are as they were
 pub returns-in_err-successors-clause-before : goal.returns-in_err-successors-clause-before
 returns-in_err-successors-clause-before g c =
     before-more c.args.pool.now c.push.new.self c.successors.new.pool (at_rest c.ended.result ∷ []) c.in_ok-push.ensures.ok
     (ap (take (length c.push.new.self)) c.in_err-successors.ensures.err ∙ c.in_ok-step_each-2.ensures.before)
 
+-- what was found begins after the old states and ended
 pub returns-clause-within : goal.returns-clause-within
 returns-clause-within g c =
     let (found, is, covers) = c.in_ok-step_each-2.ensures.gives in
@@ -78,6 +88,7 @@ returns-clause-within g c =
     let first = c.len-first.ensures in
     omega (arith, one, two, first)
 
+-- where some state can end before the event, what it gives to ended is found too
 pub returns-clause-gives : goal.returns-clause-gives
 returns-clause-gives g c =
     let texts = c.args.book.now in
@@ -103,6 +114,7 @@ returns-clause-gives g c =
     (subst (λ ys. Covers g.M.Machine.names g.M.Machine.in_range g.M.Machine.seen texts (GivesFrom g.M.Machine.seen texts r ys e) found) all covers)
     (subst (λ s. StandFor g.M.Machine.names g.M.Machine.in_range g.M.Machine.seen texts (r.Take (g.M.Machine.seen texts s) e) added) there gives) refl)
 
+-- the old states are as they were
 pub returns-clause-before : goal.returns-clause-before
 returns-clause-before g c =
     let (found, is, covers) = c.in_ok-step_each-2.ensures.gives in

@@ -8,12 +8,15 @@ use Rattle.sip_states.proofs.sets.Following.{Follows}
 use Rattle.sip_states.proofs.sets.Stepping.{gives_alone, only}
 use Rattle.sip_states.proofs.steps.step_alone.Goals as goal
 
+-- the book has what the one state names
 pub step-requires-clause-known : goal.step-requires-clause-known
 step-requires-clause-known g c = λ d. All-get_or (Knows g.M.Machine.names c.args.book.now) c.args.pool.now 0 d (omega arith) c.requires.known
 
+-- the moments of the one state are in range
 pub step-requires-clause-in_range : goal.step-requires-clause-in_range
 step-requires-clause-in_range g c = λ d. All-get_or g.M.Machine.in_range c.args.pool.now 0 d (omega arith) c.requires.in_range
 
+-- where the one state cannot end before the event, what it gives is all that the event gives
 pub returns-clause-gives : goal.returns-clause-gives
 returns-clause-gives g c =
     let texts = c.args.book.now in

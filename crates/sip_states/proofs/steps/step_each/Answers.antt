@@ -7,6 +7,7 @@ use Rattle.sip_states.specs.inner.Ways.{GivesFrom}
 use Rattle.sip_states.proofs.sets.Stepping.{Covers-iff, gives_some}
 use Rattle.sip_states.proofs.steps.step_each.Goals as goal
 
+-- what was found is what the event gives to the first states, which are `count`
 pub returns-clause-gives : goal.returns-clause-gives
 returns-clause-gives g c =
     let texts = c.args.book.now in

@@ -6,6 +6,7 @@ use Rattle.sip_states.proofs.keyed.TablesLemmas.{values_of-set_value_at}
 use Rattle.sip_states.proofs.due.AdvanceLemmas.{advances_more, advances_failed, still_early, fresh_next, take_among, always_err}
 use Rattle.sip_states.proofs.tables.advance_each.Goals as goal
 
+-- the set at the index was not waited yet, and is not later than the moment
 pub advance-requires : goal.advance-requires
 advance-requires g c =
     let indices = c.args.indices.now in
@@ -13,6 +14,7 @@ advance-requires g c =
     let fresh = fresh_next indices i 0 c.requires.once (omega arith) in
     still_early c.args.moment (take i indices) (values c.args.sets.now) (values c.loop-index.sets) (get_or indices i 0) c.index_mut.result.now c.loop-index.invariant.up fresh c.requires.early c.index_mut.ensures.value
 
+-- the keys are as they were
 pub returns-in_err-advance-clause-keys : goal.returns-in_err-advance-clause-keys
 returns-in_err-advance-clause-keys g c =
     keys-with_value_at c.loop-index.sets (get_or c.args.indices.now c.loop-index.index-index 0) c.advance.new.self ∙ c.loop-index.invariant.keys_are
@@ -21,6 +23,7 @@ pub returns-in_err-advance-clause-size : goal.returns-in_err-advance-clause-size
 returns-in_err-advance-clause-size g c =
     index_map_len-with_value_at c.loop-index.sets (get_or c.args.indices.now c.loop-index.index-index 0) c.advance.new.self ∙ c.loop-index.invariant.size
 
+-- where memory is refused at a set, those before it have waited, and the others are as they were
 pub returns-in_err-advance-clause-err : goal.returns-in_err-advance-clause-err
 returns-in_err-advance-clause-err g c =
     let indices = c.args.indices.now in
@@ -35,6 +38,7 @@ returns-in_err-advance-clause-err g c =
           (advances_failed c.args.moment (take i indices) (values c.args.sets.now) (values sets) at c.index_mut.result.now w c.loop-index.invariant.up c.index_mut.ensures.value c.in_err-advance.ensures.err),
     )
 
+-- after one set more has waited, all sets of the indices up to it have
 pub loop-index-preserved : goal.loop-index-preserved
 loop-index-preserved g c =
     let indices = c.args.indices.now in

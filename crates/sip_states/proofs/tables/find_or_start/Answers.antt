@@ -8,6 +8,7 @@ use Rattle.sip_states.specs.AnySet.{start_of}
 use Rattle.sip_states.proofs.keyed.TablesLemmas.{found-at, All-absent}
 use Rattle.sip_states.proofs.tables.find_or_start.Goals as goal
 
+-- the key was there, and the tables are as before
 pub returns-in-Occupied-clause-ok : goal.returns-in-Occupied-clause-ok
 returns-in-Occupied-clause-ok g c =
     let old = c.args.sets.now.entries in
@@ -20,6 +21,7 @@ returns-in-Occupied-clause-ok g c =
     let lent : (c.entry.follows.lender c.in-Occupied.entry.map.now).entries ≡ old = ap (λ m. m.entries) link ∙ same in
     inl (subst (λ i. slice_get (keys_of old) i ≡ Some c.args.key) (sym is) place.0, subst (λ i. i < length old) (sym is) place.1, search (rules, lent))
 
+-- a key that was not there stands at the end, with the set that it starts with
 pub returns-in-Ok-clause-ok : goal.returns-in-Ok-clause-ok
 unfolding entry_index entry_value
 returns-in-Ok-clause-ok g c =

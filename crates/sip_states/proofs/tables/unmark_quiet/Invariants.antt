@@ -6,9 +6,9 @@ use Rattle.sip_states.proofs.tables.unmark_quiet.Given as goal
 abbrev pub invariant-loop-place : goal.invariant-loop-place
 invariant-loop-place g l =
     record {
-      long : length l.moved ≡ length l.initial.moved;
-      as_long : length l.marks ≡ length l.initial.marks;
-      marked : AreMarked l.marks (values l.initial.sets);
-      moves : AreMoved l.moved l.marks (values l.initial.sets);
+      long : length l.marks.moved ≡ length l.initial.marks.moved;
+      as_long : length l.marks.named ≡ length l.initial.marks.named;
+      marked : AreMarked l.marks.named (values l.initial.sets);
+      moves : AreMoved l.marks.moved l.marks.named (values l.initial.sets);
       same : l.sets ≡ l.initial.sets;
     }

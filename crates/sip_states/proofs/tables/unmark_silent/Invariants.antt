@@ -6,8 +6,9 @@ use Rattle.sip_states.proofs.tables.unmark_silent.Given as goal
 abbrev pub invariant-loop-place : goal.invariant-loop-place
 invariant-loop-place g l =
     record {
-      long : length l.marks ≡ length l.initial.marks;
-      marked : AreMarked l.marks (values l.initial.sets);
-      fewer : (index : ℕ) → IsMarked l.marks index → IsMarked l.initial.marks index;
+      long : length l.marks.named ≡ length l.initial.marks.named;
+      marked : AreMarked l.marks.named (values l.initial.sets);
+      fewer : (index : ℕ) → IsMarked l.marks.named index → IsMarked l.initial.marks.named index;
+      moved : l.marks.moved ≡ l.initial.marks.moved;
       same : l.sets ≡ l.initial.sets;
     }

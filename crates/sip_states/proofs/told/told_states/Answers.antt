@@ -6,6 +6,7 @@ use Rattle.sip_states.specs.Told.{said_state, meant}
 use Rattle.sip_states.specs.declared.told.ToldState.{ToldState}
 use Rattle.sip_states.proofs.told.told_states.Goals as goal
 
+-- what is told so far says what the states up to here mean, in their order
 pub loop-at-preserved : goal.loop-at-preserved
 loop-at-preserved g c = λ texts.
     let m = g.M.Phases in

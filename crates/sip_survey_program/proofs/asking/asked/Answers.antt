@@ -4,11 +4,13 @@ use Rattle.sip_survey_program.specs.Asked.{IsRestFor, begin_with}
 use Rattle.sip_survey_program.proofs.AskedLemmas.{no_forget, split_first, with_forget, without_forget}
 use Rattle.sip_survey_program.proofs.asking.asked.Goals as goal
 
+-- the words do not begin with `--forget`
 pub returns-then-not-names_forget : goal.returns-then-not-names_forget
 returns-then-not-names_forget c =
     let other : begin_with (codes "--forget") (map string_bytes c.args.words.now) ≡ false = search rules in
     without_forget (map string_bytes c.args.words.now) c.rest_of.result other c.rest_of.ensures
 
+-- the word after `--forget` is no number
 pub returns-in_err-age : goal.returns-in_err-age
 returns-in_err-age c =
     let words = c.args.words.now in
@@ -16,6 +18,7 @@ returns-in_err-age c =
     let split = split_first string_bytes (codes "--forget") words c.index-words-1.result names c.index-words-1.is in
     rw c.from_residual.ensures (no_forget (map string_bytes words) _ _ split (λ age low is. c.in_err-age.ensures age low (c.as_str.ensures.value ∙ is)))
 
+-- the words are `--forget`, an age, and what the others ask for
 pub returns : goal.returns
 returns c =
     let words = c.args.words.now in

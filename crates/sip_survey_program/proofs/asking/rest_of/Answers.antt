@@ -5,6 +5,7 @@ use Rattle.sip_survey_program.specs.Asked.{begin_with}
 use Rattle.sip_survey_program.proofs.AskedLemmas.{split_first}
 use Rattle.sip_survey_program.proofs.asking.rest_of.Goals as goal
 
+-- the words are `--part`, its word, and what the others ask for
 pub returns : goal.returns
 returns c =
     let words = c.args.words.now in

@@ -4,12 +4,14 @@ use Rattle.std.proofs.lemmas.Slice.Eq.{bytes_eq-Decides}
 use Rattle.std.proofs.lemmas.Fmt.{parse-decimal}
 use Rattle.sip_survey_program.proofs.part_word.number_of.Goals as goal
 
+-- the word is no number of 32 bits
 pub returns-in_default : goal.returns-in_default
 returns-in_default c = λ number few same.
     let read = parse-decimal 32 number c.args.word.now c.parse.result few (omega (arith, few)) same c.parse.ensures.value.0 in
     let never : Err c.in_default.field-0 ≡ Ok number = sym c.in_default.is ∙ read in
     cc
 
+-- a word that is not the plain spelling of its number is no number
 pub returns-then-ne : goal.returns-then-ne
 returns-then-ne c = λ number few same.
     let read = parse-decimal 32 number c.args.word.now c.parse.result few (omega (arith, few)) same c.parse.ensures.value.0 in

@@ -5,9 +5,11 @@ use Rattle.sip_part.specs.Part.{PartOf}
 use Rattle.sip_survey_program.specs.PartWords.{IsPartBetween}
 use Rattle.sip_survey_program.proofs.part_word.part_between.Goals as goal
 
+-- what stands before the slash is no number
 pub returns-in_err-number : goal.returns-in_err-number
 returns-in_err-number c = rw c.from_residual.ensures (λ part is one two. c.in_err-number.ensures part.number (omega (arith, is)) one)
 
+-- what stands after the slash is no number
 pub returns-in_err-count : goal.returns-in_err-count
 returns-in_err-count c = rw c.from_residual-in_err-count.ensures (λ part is one two. c.in_err-count.ensures part.count (omega (arith, is)) two)
 
@@ -23,6 +25,7 @@ made a b k n (Some part) low high a_is b_is (same, some, within) =
     let count : part.count ≡ n = ap (λ p. p.count) same in
     ((omega (arith, number, some), omega (arith, number, count, within), omega (arith, count, high)), a_is ∙ ap decimal (sym number), b_is ∙ ap decimal (sym count))
 
+-- where both words are numbers, the part is the one of these
 pub returns : goal.returns
 returns c =
     made c.args.number.now c.args.count.now c.in_ok-number.number c.in_ok-count.count c.new.result c.in_ok-number.ensures.0 c.in_ok-count.ensures.0 c.in_ok-number.ensures.1 c.in_ok-count.ensures.1 c.new.ensures

@@ -6,10 +6,12 @@ use Rattle.sip_survey_program.specs.PartWords.{IsPart, IsPartBetween, IsPartFor,
 use Rattle.sip_survey_program.proofs.Slashes.{is_slash, has_slash, number_before, number_after, split_slash}
 use Rattle.sip_survey_program.proofs.part_word.part_of.Goals as goal
 
+-- a word without a slash is that of no part
 without : (word : List ℕ) → position_or_len is_slash word ≡ length word → (part : PartOf) → IsPart part → word ≢ part_word part
 without word none part is same =
     has_slash part.number part.count (omega (arith, is)) (subst (λ w. position_or_len is_slash w ≡ length w) same none)
 
+-- where the word has a slash, the part between its two numbers is the part of the word
 whole : (word a b : List ℕ) (r : Option PartOf) → position_or_len is_slash word < length word → a ≡ before_first is_slash word → b ≡ after_first is_slash word → IsPartBetween a b r → IsPartFor word r
 whole word a b (Some part) within front rest (is, one, two) =
     (is, split_slash word within ∙ ap (λ t. t ++ 47 ∷ after_first is_slash word) (sym front ∙ one) ∙ ap (λ t. decimal part.number ++ 47 ∷ t) (sym rest ∙ two))
@@ -20,6 +22,7 @@ whole word a b None within front rest none = λ part is same.
 pub returns-in_err-number : goal.returns-in_err-number
 returns-in_err-number c = rw c.from_residual.ensures (without c.args.word.now (c.in_err-number.ensures.byte (omega arith) (λ w o f. f)))
 
+-- where the word has a slash, the part is the one between its two numbers
 pub returns : goal.returns
 returns c =
     let parts = c.in_ok-number.ensures.byte (omega arith) (λ w o f. f) in

@@ -2,6 +2,7 @@ use Rattle.std.proofs.Common.{◌≡◌, IfSome, map, string_bytes, rules}
 use Rattle.sip_survey_program.proofs.Answered.{answered_to}
 use Rattle.sip_survey_program.proofs.running.run.Goals as goal
 
+-- the answer is that to what the words ask for, with the log that they name
 pub returns-clause-answer : goal.returns-clause-answer
 returns-clause-answer g c =
     let words = map string_bytes c.as_slice.result.now in

@@ -4,11 +4,13 @@ use Rattle.std.proofs.lemmas.List.{length-take, take_rest}
 use Rattle.sip_text.proofs.cuts.LastLemmas.{last-nowhere, last-place}
 use Rattle.sip_text.proofs.cut.cut_last.Goals as goal
 
+-- the front ends before the last mark
 pub returns-in-Some-clause-front : goal.returns-in-Some-clause-front
 returns-in-Some-clause-front c =
     let last = c.in-Some.ensures in
     sym (last-place c.args.mark c.in-Some.at c.args.text.now last.0.high last.0.after last.1)
 
+-- after the last mark stands what is left of the text
 pub returns-in-Some-clause-rest : goal.returns-in-Some-clause-rest
 returns-in-Some-clause-rest c =
     let last = c.in-Some.ensures in
@@ -18,9 +20,11 @@ returns-in-Some-clause-rest c =
     ∙ ap (λ o. option_map_or (λ u. drop (length u + 1) c.args.text.now) o c.args.text.now)
     (sym (last-place c.args.mark c.in-Some.at c.args.text.now last.0.high last.0.after last.1))
 
+-- without a mark there is no front
 pub returns-in-None-clause-front : goal.returns-in-None-clause-front
 returns-in-None-clause-front c = sym (last-nowhere c.args.mark c.args.text.now c.in-None.ensures)
 
+-- without a mark the whole text is the rest
 pub returns-in-None-clause-rest : goal.returns-in-None-clause-rest
 returns-in-None-clause-rest c =
     ap (λ o. option_map_or (λ u. drop (length u + 1) c.args.text.now) o c.args.text.now)

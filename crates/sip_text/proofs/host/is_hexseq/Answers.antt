@@ -9,6 +9,7 @@ pub returns-in_default : goal.returns-in_default
 returns-in_default c =
     sym (parts-fail is_hex4 colon c.groups.rest.now (and_right _ _ (sym c.in_default.ensures.run))) ∙ c.groups.invariant
 
+-- where a group has no byte or more than four, the text is no hexseq
 pub returns-then-not-has_len : goal.returns-then-not-has_len
 returns-then-not-has_len c =
     let group = c.in-Some.ensures in
@@ -16,11 +17,13 @@ returns-then-not-has_len c =
     (and_left _ _ (ap (has_len 4) (sym group.front) ∙ sym c.has_len.ensures ∙ c.if-not-has_len.true)))
     ∙ c.groups.invariant
 
+-- what is left is shorter
 pub groups-smaller : goal.groups-smaller
 groups-smaller c =
     let group = c.in-Some.ensures in
     behind-shorter colon c.groups.rest.now c.in-Some-more.groups.now (sym group.rest ∙ ap option_copied c.in-Some-more.is)
 
+-- after one group more, the text is a hexseq exactly if what is left is
 pub groups-preserved : goal.groups-preserved
 groups-preserved c =
     let group = c.in-Some.ensures in
@@ -29,6 +32,7 @@ groups-preserved c =
     (sym group.rest ∙ ap option_copied c.in-Some-more.is)
     ∙ c.groups.invariant
 
+-- the last group is one of hex digits, and so the text is a hexseq
 pub returns-in-None : goal.returns-in-None
 returns-in-None c =
     let group = c.in-Some.ensures in

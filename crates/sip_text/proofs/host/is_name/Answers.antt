@@ -9,11 +9,13 @@ use Rattle.sip_text.proofs.host.is_name.Goals as goal
 pub returns-in_default : goal.returns-in_default
 returns-in_default c = sym (labels-other c.labels.rest.now (sym c.in_default.ensures.run)) ∙ c.labels.invariant
 
+-- a label and its dot have bytes, so less is left
 pub labels-smaller : goal.labels-smaller
 labels-smaller c =
     let label = c.in-Some.ensures in
     behind-shorter dot c.labels.rest.now c.in-Some-more.labels.now (sym label.rest ∙ ap option_copied c.in-Some-more.is)
 
+-- after one label more, the text is a hostname exactly if what is left is
 pub labels-preserved : goal.labels-preserved
 labels-preserved c =
     let label = c.in-Some.ensures in
@@ -22,6 +24,7 @@ labels-preserved c =
     (sym label.rest ∙ ap option_copied c.in-Some-more.is)
     ∙ c.labels.invariant
 
+-- where a label does not begin and end rightly, the text is no hostname
 pub returns-in-Some-2 : goal.returns-in-Some-2
 returns-in-Some-2 c =
     let label = c.in-Some.ensures in
@@ -30,6 +33,7 @@ returns-in-Some-2 c =
     (sym label.rest ∙ ap option_copied c.in-Some-more.is))
     ∙ c.labels.invariant
 
+-- the last label decides
 pub returns-in-None : goal.returns-in-None
 returns-in-None c =
     let label = c.in-Some.ensures in

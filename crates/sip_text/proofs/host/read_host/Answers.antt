@@ -2,16 +2,20 @@ use Rattle.std.proofs.Common.{sym, ◌∙◌}
 use Rattle.sip_text.proofs.hosts.HostLemmas.{only-v6, only-v4, only-name, no-host}
 use Rattle.sip_text.proofs.host.read_host.Goals as goal
 
+-- the host is an IPv6 address in brackets
 pub returns-then-is_v6_reference : goal.returns-then-is_v6_reference
 returns-then-is_v6_reference c =
     only-v6 c.args.text.now (sym c.is_v6_reference.ensures ∙ c.if-is_v6_reference.true)
 
+-- the host is an IPv4 address
 pub returns-then-is_v4 : goal.returns-then-is_v4
 returns-then-is_v4 c = only-v4 c.args.text.now (sym c.is_v4.ensures ∙ c.if-is_v4.true)
 
+-- the host is a name
 pub returns-then-is_hostname : goal.returns-then-is_hostname
 returns-then-is_hostname c = only-name c.args.text.now (sym c.is_hostname.ensures ∙ c.if-is_hostname.true)
 
+-- a text that passes none of the three tests is no host
 pub returns-else-is_hostname : goal.returns-else-is_hostname
 returns-else-is_hostname c =
     no-host c.args.text.now (sym c.is_v6_reference.ensures ∙ c.if-is_v6_reference.false)

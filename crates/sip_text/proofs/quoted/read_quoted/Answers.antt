@@ -9,6 +9,7 @@ use Rattle.sip_text.proofs.strings.BlanksLemmas.{blanks-longest}
 use Rattle.sip_text.proofs.strings.QuotedLemmas.{none-opens, none-closes, only-quoted}
 use Rattle.sip_text.proofs.quoted.read_quoted.Goals as goal
 
+-- no quote follows the blanks
 pub returns-in_err-inner-clause-reads : goal.returns-in_err-inner-clause-reads
 returns-in_err-inner-clause-reads c =
     let text = c.args.text.now in
@@ -17,6 +18,7 @@ returns-in_err-inner-clause-reads c =
     subst (IsOnlyFront (Sws then Quoted) text) (sym c.from_residual.ensures)
     (none-opens text n blanks.0 blanks.1 (ap (past dquote) (sym (take_rest text n)) ∙ sym c.in_err-inner.ensures))
 
+-- where no quote ends the string, no quoted string stands at the front
 pub returns-in_err-past-clause-reads : goal.returns-in_err-past-clause-reads
 returns-in_err-past-clause-reads c =
     let text = c.args.text.now in
@@ -30,6 +32,7 @@ returns-in_err-past-clause-reads c =
     c.contents_len-close.ensures.stops
     (ap (past dquote) (sym (take_rest inner k)) ∙ sym c.in_err-past.ensures))
 
+-- blanks, a quote, contents and a quote are the one quoted string at the front
 pub returns-clause-reads : goal.returns-clause-reads
 returns-clause-reads c =
     let text = c.args.text.now in

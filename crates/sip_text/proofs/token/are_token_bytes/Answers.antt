@@ -2,6 +2,7 @@ use Rattle.sip_text.specs.Bytes.{is_token_byte}
 use Rattle.sip_text.proofs.texts.RunLemmas.{longest-same, longest-run, run-whole}
 use Rattle.sip_text.proofs.token.are_token_bytes.Goals as goal
 
+-- all bytes are of tokens exactly if the longest run of them is the whole text
 pub returns : goal.returns
 returns c =
     let text = c.args.text.now in

@@ -7,6 +7,7 @@ use Rattle.sip_text.specs.Bytes.{is_token_byte}
 use Rattle.sip_text.proofs.texts.BlockLemmas.{shares, others, long-and, block-run}
 use Rattle.sip_text.proofs.token.block_len.Goals as goal
 
+-- all bytes of the block are bytes of tokens
 pub returns-then-others-eq0-clause-run : goal.returns-then-others-eq0-clause-run
 returns-then-others-eq0-clause-run c =
     let v = chunk c.args.at 16 c.args.text.now in
@@ -15,6 +16,7 @@ returns-then-others-eq0-clause-run c =
     let bits = bitmask_splat w8 eqb _ 16 0 (long-and v _ _ _ _ long c.by_low.ensures c.by_high.ensures) (omega arith) ∙ others v _ _ c.by_low.ensures c.by_high.ensures in
     sym (leading_from_mask_l (λ x. eqb (shares x) 0) v (sym bits ∙ c.if-others-eq0.true) ∙ long) ∙ block-run v fits
 
+-- the first byte that shares no bit ends the run
 pub returns-else-others-eq0-clause-run : goal.returns-else-others-eq0-clause-run
 returns-else-others-eq0-clause-run c =
     let v = chunk c.args.at 16 c.args.text.now in
@@ -23,6 +25,7 @@ returns-else-others-eq0-clause-run c =
     let bits = bitmask_splat w8 eqb _ 16 0 (long-and v _ _ _ _ long c.by_low.ensures c.by_high.ensures) (omega arith) ∙ others v _ _ c.by_low.ensures c.by_high.ensures in
     ap (count_trailing_zeros 64) bits ∙ trailing_mask_l (λ x. eqb (shares x) 0) 64 v (omega (arith, long)) (omega (arith, bits, c.if-others-eq0.false)) ∙ block-run v fits
 
+-- the run is no longer than the block
 pub returns-else-others-eq0-clause-within : goal.returns-else-others-eq0-clause-within
 returns-else-others-eq0-clause-within c =
     let v = chunk c.args.at 16 c.args.text.now in

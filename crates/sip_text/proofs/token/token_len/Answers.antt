@@ -11,6 +11,7 @@ pub returns-then-text-lt-BLOCK-clause-reads : goal.returns-then-text-lt-BLOCK-cl
 returns-then-text-lt-BLOCK-clause-reads c =
     subst (IsLongestFront Token c.args.text.now) (sym c.run_len.ensures.run) (longest-run is_token_byte c.args.text.now)
 
+-- where a byte of this block is no token byte, the token ends before it
 pub returns-then-step-lt-BLOCK-clause-reads : goal.returns-then-step-lt-BLOCK-clause-reads
 returns-then-step-lt-BLOCK-clause-reads c =
     let text = c.args.text.now in
@@ -22,6 +23,7 @@ returns-then-step-lt-BLOCK-clause-reads c =
     (λ _. block-stops is_token_byte text at step room c.block_len-step.ensures.run c.if-step-lt-BLOCK.true))
     (longest-run is_token_byte text)
 
+-- after one block more, all bytes up to its end are token bytes
 pub loop-at-preserved : goal.loop-at-preserved
 loop-at-preserved c =
     let text = c.args.text.now in
@@ -30,6 +32,7 @@ loop-at-preserved c =
     let room : at + 16 ≤ length text = omega (arith, c.loop-at-test.true, c.if-text-lt-BLOCK.false) in
     (room, λ k below. block-passes is_token_byte text at step room c.block_len-step.ensures.run c.loop-at.invariant.1 k (omega (arith, below, c.if-step-lt-BLOCK.false)))
 
+-- the last 16 bytes are looked at once more as a block, and the token ends where they say
 pub returns-clause-reads : goal.returns-clause-reads
 returns-clause-reads c =
     let text = c.args.text.now in

@@ -5,6 +5,7 @@ use Rattle.sip_text.specs.inner.Pieces.{Header}
 use Rattle.sip_text.proofs.uris.UriPartLemmas.{each-past, each-last, each-first, headers-each, each-headers}
 use Rattle.sip_text.proofs.uri.are_headers.Goals as goal
 
+-- where one of the parts between `&` is no header, the text is no headers
 pub returns-then-not-is_header : goal.returns-then-not-is_header
 returns-then-not-is_header c = (
   λ is. absurd (false≢true is),
@@ -14,17 +15,20 @@ returns-then-not-is_header c = (
       (c.is_header.ensures.1 (each-first ampersand Header c.headers.rest.now _ c.cut.ensures.front each))),
 )
 
+-- what is left is shorter
 pub headers-smaller : goal.headers-smaller
 headers-smaller c =
     (each-past ampersand Header c.headers.rest.now c.cut.result.0.now c.in-Some.more.now c.cut.ensures.front
     (ap option_copied (sym c.in-Some.is) ∙ c.cut.ensures.rest) (c.is_header.ensures.0 c.if-not-is_header.false)).1
 
+-- after one header more, the text is headers exactly if what is left is
 pub headers-preserved : goal.headers-preserved
 headers-preserved c =
     let past = (each-past ampersand Header c.headers.rest.now c.cut.result.0.now c.in-Some.more.now c.cut.ensures.front
     (ap option_copied (sym c.in-Some.is) ∙ c.cut.ensures.rest) (c.is_header.ensures.0 c.if-not-is_header.false)).0 in
     (λ each. c.headers.invariant.0 (past.0 each), λ each. past.1 (c.headers.invariant.1 each))
 
+-- each part was a header, the last one too, so the text is headers
 pub returns-in-None : goal.returns-in-None
 returns-in-None c = (
   λ _. each-headers c.args.text.now (c.headers.invariant.0

@@ -5,6 +5,7 @@ use Rattle.sip_text.specs.inner.Pieces.{UriParameter}
 use Rattle.sip_text.proofs.uris.UriPartLemmas.{each-past, each-last, each-first, joined-each, each-joined}
 use Rattle.sip_text.proofs.uri.are_joined_params.Goals as goal
 
+-- where one of the parts between ";" is no parameter, the text is no parameters
 pub returns-then-not-is_param : goal.returns-then-not-is_param
 returns-then-not-is_param c = (
   λ is. absurd (false≢true is),
@@ -14,17 +15,20 @@ returns-then-not-is_param c = (
       (c.is_param.ensures.1 (each-first semicolon UriParameter c.params.rest.now _ c.cut.ensures.front each))),
 )
 
+-- what is left is shorter
 pub params-smaller : goal.params-smaller
 params-smaller c =
     (each-past semicolon UriParameter c.params.rest.now c.cut.result.0.now c.in-Some.more.now c.cut.ensures.front
     (ap option_copied (sym c.in-Some.is) ∙ c.cut.ensures.rest) (c.is_param.ensures.0 c.if-not-is_param.false)).1
 
+-- after one parameter more, the text is parameters exactly if what is left is
 pub params-preserved : goal.params-preserved
 params-preserved c =
     let past = (each-past semicolon UriParameter c.params.rest.now c.cut.result.0.now c.in-Some.more.now c.cut.ensures.front
     (ap option_copied (sym c.in-Some.is) ∙ c.cut.ensures.rest) (c.is_param.ensures.0 c.if-not-is_param.false)).0 in
     (λ each. c.params.invariant.0 (past.0 each), λ each. past.1 (c.params.invariant.1 each))
 
+-- each part was a parameter, the last one too, so the text is parameters
 pub returns-in-None : goal.returns-in-None
 returns-in-None c = (
   λ _. each-joined c.args.text.now (c.params.invariant.0

@@ -7,17 +7,20 @@ use Rattle.sip_text.proofs.uri.cut_sip.Goals as goal
 pub slice_bounds-params-count : goal.slice_bounds-params-count
 slice_bounds-params-count c = before-within semicolon c.cut.result.0.now c.cut-2.result.0.now c.cut-2.ensures.front
 
+-- the parameters begin within the text
 pub slice_bounds-params-start : goal.slice_bounds-params-start
 slice_bounds-params-start c =
     let within : length c.cut-2.result.0.now ≤ length c.cut.result.0.now =
     before-within semicolon c.cut.result.0.now c.cut-2.result.0.now c.cut-2.ensures.front in
     search rules
 
+-- a host of token bytes ends where they do
 pub returns-then-are_token_bytes : goal.returns-then-are_token_bytes
 returns-then-are_token_bytes c =
     host-cut is_token_byte c.args.text.now _ _ c.cut_userinfo.result.2.now refl refl refl
     c.cut_userinfo.ensures (sym c.are_token_bytes.ensures ∙ c.if-are_token_bytes.true)
 
+-- the text is cut at its `@`, its `?`, its first `;` and its port
 pub returns : goal.returns
 returns c =
     sip-cut c.args.text.now _ c.cut_userinfo.result.2.now c.cut.result.0.now c.cut-2.result.0.now

@@ -5,6 +5,7 @@ use Rattle.sip_text.proofs.uris.UriPortLemmas.{port-length, port-digit, port-lar
 use Rattle.sip_text.proofs.uri.is_port.Goals as goal
 use Rattle.sip_text.proofs.uri.is_port.Goals.{then-is_empty-via-then-is_empty, then-is_empty-via-else-is_empty+then-text-gt-PORT_DIGITS}
 
+-- a text without a byte, or with more than five, is no port
 pub returns-then-is_empty : goal.returns-then-is_empty
 returns-then-is_empty c = decides-not (λ port.
     let (some, few) = port-length c.args.text.now port in
@@ -14,10 +15,12 @@ returns-then-is_empty c = decides-not (λ port.
       | then-is_empty-via-else-is_empty+then-text-gt-PORT_DIGITS w ↦ absurd (omega (arith, few, w.if-text-gt-PORT_DIGITS.true))
     ])
 
+-- where a byte is no digit, the text is no port
 pub returns-then-not-has : goal.returns-then-not-has
 returns-then-not-has c = decides-not (λ port.
     port-digit c.args.text.now c.loop-byte.byte-index port c.loop-byte-test.true (sym c.has.ensures ∙ c.if-not-has.true))
 
+-- the digits so far write a number that is too great for a port
 pub returns-then-number-gt-LAST_PORT : goal.returns-then-number-gt-LAST_PORT
 returns-then-number-gt-LAST_PORT c = decides-not (λ port.
     let more = digit-more c.args.text.now c.loop-byte.byte-index c.loop-byte.number c.loop-byte-test.true
@@ -25,6 +28,7 @@ returns-then-number-gt-LAST_PORT c = decides-not (λ port.
     port-large c.args.text.now (c.loop-byte.byte-index + 1) (c.loop-byte.number * 10 + c.from.result)
     (ap (λ d. c.loop-byte.number * 10 + d) c.from.ensures ∙ more.1) c.if-number-gt-LAST_PORT.true port)
 
+-- after one digit more, the number is that of the digits up to it, and not above 65535
 pub loop-byte-preserved : goal.loop-byte-preserved
 loop-byte-preserved c =
     let more = digit-more c.args.text.now c.loop-byte.byte-index c.loop-byte.number c.loop-byte-test.true
@@ -35,6 +39,7 @@ loop-byte-preserved c =
       small = c.if-number-gt-LAST_PORT.false;
     }
 
+-- one to five digits up to 65535 are a port
 pub returns : goal.returns
 returns c = (
   λ _. port-end c.args.text.now c.loop-byte.byte-index c.loop-byte.number

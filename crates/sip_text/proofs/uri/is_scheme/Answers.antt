@@ -2,6 +2,7 @@ use Rattle.std.proofs.Common.{sym, ◌∙◌}
 use Rattle.sip_text.proofs.uris.UriSchemeLemmas.{decides-scheme}
 use Rattle.sip_text.proofs.uri.is_scheme.Goals as goal
 
+-- the first byte is a letter, so the others decide
 pub returns-then-has : goal.returns-then-has
 returns-then-has c =
     decides-scheme c.args.text.now c.in-Some.rest.now c.in-Some.first.now c.all_in.result

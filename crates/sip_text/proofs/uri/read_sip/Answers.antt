@@ -8,11 +8,13 @@ use Rattle.sip_text.proofs.uris.UriSipLemmas.{no-host_cut, info-fits, parts-fit,
 use Rattle.sip_text.proofs.uri.read_sip.Goals as goal
 use Rattle.sip_text.proofs.uri.read_sip.Goals.{then-not-userinfo_fits-via-then-not-userinfo_fits, then-not-userinfo_fits-via-else-not-userinfo_fits+then-not-tail_fits}
 
+-- what stands in the place of the host is none
 pub returns-in_err-host : goal.returns-in_err-host
 returns-in_err-host c =
     subst (IsOnlyValue (SipText c.args.secure) uri_parts c.args.text.now) (sym c.from_residual.ensures)
     (λ x. no-host_cut c.args.secure c.args.text.now (cut_parts c.cut_sip-cuts.result) x c.cut_sip-cuts.ensures c.in_err-host.ensures)
 
+-- where the user or what follows the host does not fit, the text is no such URI
 pub returns-then-not-userinfo_fits : goal.returns-then-not-userinfo_fits
 returns-then-not-userinfo_fits c = λ x is.
     let fits = info-fits c.args.secure c.args.text.now (cut_parts c.cut_sip-cuts.result) x c.cut_sip-cuts.ensures is in
@@ -23,6 +25,7 @@ returns-then-not-userinfo_fits c = λ x is.
           both_ways w.tail_fits.result w.if-not-tail_fits.true (w.tail_fits.ensures.1 fits.1)
     ]
 
+-- where the user, the host and what follows it fit, they are the only parts that the text has
 pub returns : goal.returns
 returns c =
     let cut = cut_parts c.cut_sip-cuts.result in

@@ -9,11 +9,13 @@ use Rattle.sip_text.proofs.uris.UriLemmas.{scheme-at, read-sip, named-so, not-si
 use Rattle.sip_text.proofs.uri.read_uri.Goals as goal
 use Rattle.sip_text.proofs.uri.read_uri.Goals.{then-is_sip-via-then-is_sip, then-is_sip-via-else-is_sip+then-same_text, else-is_scheme-via-then-is_scheme+else-is_some_chars, else-is_scheme-via-else-is_scheme}
 
+-- no colon stands in the text, so it is no URI
 pub returns-in_err-rest : goal.returns-in_err-rest
 returns-in_err-rest c =
     subst (IsOnlyValue UriText uri_parts c.args.text.now) (sym c.from_residual.ensures)
     (λ x. no-colon c.args.text.now x (ap option_copied (sym c.in_err-rest.was) ∙ c.cut_scheme.ensures.rest))
 
+-- where the scheme is `sip` or `sips`, the text is read as a URI of that scheme
 pub returns-then-is_sip : goal.returns-then-is_sip
 returns-then-is_sip c =
     let is_sip = c.same_text-is_sip.result in
@@ -27,6 +29,7 @@ returns-then-is_sip c =
     read-sip (not is_sip) c.args.text.now scheme c.in_ok-rest.rest.now c.read_sip.result cut
     (named-so is_sip scheme c.same_text-is_sip.ensures.0 sips_named) c.read_sip.ensures
 
+-- another scheme with bytes of a URI after it is that URI
 pub returns-then-is_some_chars : goal.returns-then-is_some_chars
 returns-then-is_some_chars c =
     let cut = scheme-at c.args.text.now c.cut_scheme.result.0.now c.cut_scheme.result.1 c.in_ok-rest.rest c.cut_scheme.ensures.front c.cut_scheme.ensures.rest c.in_ok-rest.was in
@@ -39,6 +42,7 @@ returns-then-is_some_chars c =
       λ x fits. (other-only c.args.text.now c.cut_scheme.result.0.now c.in_ok-rest.rest.now x cut neither fits).2,
     )
 
+-- where the scheme is neither, and no scheme or no bytes of a URI follow, the text is no URI
 pub returns-else-is_scheme : goal.returns-else-is_scheme
 returns-else-is_scheme c = λ x is.
     let cut = scheme-at c.args.text.now c.cut_scheme.result.0.now c.cut_scheme.result.1 c.in_ok-rest.rest c.cut_scheme.ensures.front c.cut_scheme.ensures.rest c.in_ok-rest.was in

@@ -8,6 +8,7 @@ use Rattle.sip_text.proofs.uris.UriCharLemmas.{if-some, decides-some, decides-ma
 use Rattle.sip_text.proofs.uris.UriPartLemmas.{both-when, both-unless}
 use Rattle.sip_text.proofs.uri.userinfo_fits.Goals as goal
 
+-- the user fits, so the answer is whether the password does
 pub returns-then-is_none_or : goal.returns-then-is_none_or
 returns-then-is_none_or c =
     let user : Decides c.is_none_or.result (IfSome (option_copied c.args.cuts.now.user) (OneOrMore (ClassChar class.User))) = search rules in
@@ -15,6 +16,7 @@ returns-then-is_none_or c =
     both-when c.is_none_or.result c.is_none_or-then-is_none_or.result c.if-is_none_or.true
     (if-some (decides-some is_user_unreserved) _ _ user) (if-some (decides-many is_password_unreserved) _ _ password)
 
+-- the user does not fit
 pub returns-else-is_none_or : goal.returns-else-is_none_or
 returns-else-is_none_or c =
     let user : Decides c.is_none_or.result (IfSome (option_copied c.args.cuts.now.user) (OneOrMore (ClassChar class.User))) = search rules in

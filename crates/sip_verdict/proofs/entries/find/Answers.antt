@@ -3,6 +3,7 @@ use Rattle.sip_log.specs.Told.{item}
 use Rattle.sip_verdict.proofs.surveys.found.Found.{found_here}
 use Rattle.sip_verdict.proofs.entries.find.Goals as goal
 
+-- what was found is the fault of the entry's message, if it has one, and then the trouble that the entry brings
 pub returns-clause-found : goal.returns-clause-found
 returns-clause-found g c =
     let e = c.args.entry.now in

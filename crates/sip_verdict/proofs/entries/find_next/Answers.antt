@@ -5,6 +5,7 @@ use Rattle.sip_verdict.proofs.sweeps.SweptBook.{same_within, within_keeps}
 use Rattle.sip_verdict.proofs.surveys.kept.Kept.{surveyed_kept, surveyed_swept}
 use Rattle.sip_verdict.proofs.entries.find_next.Goals as goal
 
+-- where no sweep is due yet, what was found at the entry is right, and the book has few enough messages
 pub returns-then-kept-left-clause-found : goal.returns-then-kept-left-clause-found
 returns-then-kept-left-clause-found g c = λ es surveyed counts late.
     let s = c.args.standing.now in
@@ -14,9 +15,11 @@ returns-then-kept-left-clause-found g c = λ es surveyed counts late.
     let (e, here, seen, now, found, added, tracks) = c.in_ok-find.ensures.found es surveyed.tracks counts late in
     (e, here, seen, found, added, surveyed_kept s.book mid.book s.tables mid.tables c.args.troubled.now.deaf.items c.find.new.troubled.deaf.items left es e c.in_ok-find.ensures.times surveyed few tracks)
 
+-- an entry without keys leaves the book no more than it had
 pub returns-then-kept-left-clause-keyless : goal.returns-then-kept-left-clause-keyless
 returns-then-kept-left-clause-keyless g c none = same_within c.args.standing.now.book c.find.new.standing.book (c.in_ok-find.ensures.keyless none)
 
+-- after the sweep the next entry may come
 pub returns-clause-may : goal.returns-clause-may
 returns-clause-may g c =
     let mid = c.find.new.standing in
@@ -25,9 +28,11 @@ returns-clause-may g c =
     let swept = c.in_ok-sweep.ensures in
     swept_take mid.book new.book mid.tables new.tables (e.number + 1) e.moment c.in_ok-find.ensures.may swept.may swept.recorded (within_keeps mid.book new.book swept.fewer) swept.keys
 
+-- at most two keys more are known after the sweep too
 pub returns-clause-keys : goal.returns-clause-keys
 returns-clause-keys g c = let same = ap length c.in_ok-sweep.ensures.keys in let few = c.in_ok-find.ensures.keys in omega arith
 
+-- no more messages are left than there are entries
 pub returns-clause-left : goal.returns-clause-left
 returns-clause-left g c =
     let may = c.in_ok-find.ensures.may in
@@ -35,15 +40,18 @@ returns-clause-left g c =
     let high = c.kept-2.ensures.few (c.args.entry.now.number + 1) (λ n keeps. may.numbered n (fewer n keeps)) in
     omega (arith, high, c.requires.count)
 
+-- the sweep leaves the book no more than it had
 pub returns-clause-keyless : goal.returns-clause-keyless
 returns-clause-keyless g c none = subst (λ b. All (Contains b) c.sweep.new.self.book) (c.in_ok-find.ensures.keyless none) c.in_ok-sweep.ensures.fewer
 
+-- the sweep leaves what is watched of each transaction
 pub returns-clause-watched : goal.returns-clause-watched
 returns-clause-watched g c =
     let h = c.in_ok-find.ensures.watched in
     let swept = c.in_ok-sweep.ensures in
     record { long = h.long ∙ ap length (sym swept.keys); recorded = swept.recorded; silent = λ n is. ap (λ rs. slice_get rs n) swept.records ∙ h.silent n is }
 
+-- what was found at the entry is still right after the sweep, and the tables that are left track one entry more
 pub returns-clause-found : goal.returns-clause-found
 returns-clause-found g c = λ es surveyed counts late.
     let mid = c.find.new.standing in

@@ -13,6 +13,7 @@ use Rattle.sip_verdict.proofs.surveys.kept.Histories.{silent_histories, restart_
 use Rattle.sip_verdict.proofs.surveys.passing.Taken.{unheard_taken, fault_taken, restart_taken, heard_taken, dropped_passing, watched_touched}
 use Rattle.sip_verdict.proofs.entries.take.Goals as goal
 
+-- the grown book and the touched tables may pass the entry
 pub pass_each-requires-in-Heard-clause-may : goal.pass_each-requires-in-Heard-clause-may
 pass_each-requires-in-Heard-clause-may g c =
     let s = c.args.standing.now in
@@ -20,6 +21,7 @@ pass_each-requires-in-Heard-clause-may g c =
     touches_may c.observe.new.book e.moment (each c.in-Heard.concerned) (each c.in_ok-concerned-in-Heard.concerned) s.tables c.touch_each.new.tables
     (grown_may s.book c.observe.new.book e.number e.bytes.items (rw c.in-Heard.is at c.in_ok-told.ensures.kept).4 s.tables e.moment c.requires.may.passes) c.in_ok-concerned-in-Heard.ensures.touched
 
+-- the transactions that are to hear the event have their sets, at its moment
 pub pass_each-requires-in-Heard-clause-hear : goal.pass_each-requires-in-Heard-clause-hear
 pass_each-requires-in-Heard-clause-hear g c =
     let e = c.args.entry.now in
@@ -28,16 +30,19 @@ pass_each-requires-in-Heard-clause-hear g c =
     (may_hear c.observe.new.book e.moment c.in-Heard.event c.in-Heard.concerned c.in_ok-concerned-in-Heard.concerned c.args.standing.now.tables c.touch_each.new.tables c.in_ok-concerned-in-Heard.ensures.touched
     is_heard.0 is_heard.1 is_heard.2 (c.in_ok-concerned-in-Heard.ensures.same ∙ is_heard.3))
 
+-- after the keys were looked up, only the hearers may lack a last moment on record
 pub pass_each-requires-in-Heard-clause-watched : goal.pass_each-requires-in-Heard-clause-watched
 pass_each-requires-in-Heard-clause-watched g c =
     let grown = c.in_ok-grow-in-Heard.ensures.deaf in
     watched_touched (each c.in-Heard.concerned) (each c.in_ok-concerned-in-Heard.concerned) c.args.standing.now.tables c.touch_each.new.tables c.args.troubled.now c.grow.new.self grown.0
     c.in_ok-concerned-in-Heard.ensures.touched c.requires.may.passes.long c.requires.watched grown.1 grown.2 (c.in_ok-grow-in-Heard.ensures.long ∙ c.len.ensures)
 
+-- the keys that were touched have histories or come next
 pub note_each-requires : goal.note_each-requires
 note_each-requires g c =
     touched_low (each c.in-Heard.concerned) (each c.in_ok-concerned-in-Heard.concerned) c.args.standing.now.tables c.touch_each.new.tables c.in_ok-concerned-in-Heard.ensures.touched
 
+-- the hearers have numbers of keys
 pub drop_unnamed-requires-clause-given : goal.drop_unnamed-requires-clause-given
 drop_unnamed-requires-clause-given g c =
     let keys = each c.in-Heard.concerned in
@@ -46,6 +51,7 @@ drop_unnamed-requires-clause-given g c =
     (subst (λ all. HaveNumbers all numbers keys) (sym c.in_ok-pass_each-in-Heard.ensures.keys)
     (have_numbers keys numbers c.args.standing.now.tables c.touch_each.new.tables c.in_ok-concerned-in-Heard.ensures.touched))
 
+-- no set but those of the hearers names the newest message
 pub drop_unnamed-requires-clause-others : goal.drop_unnamed-requires-clause-others
 drop_unnamed-requires-clause-others g c some n set among at =
     let s = c.args.standing.now in
@@ -54,16 +60,19 @@ drop_unnamed-requires-clause-others g c some n set among at =
     let may = touches_may s.book e.moment (each c.in-Heard.concerned) numbers s.tables c.touch_each.new.tables c.requires.may.passes c.in_ok-concerned-in-Heard.ensures.touched in
     known_unnamed s.book e.number c.requires.may.numbered set (c.in_ok-pass_each-in-Heard.ensures.others s.book n set may (ap (λ b. b || is_among numbers (n + 1)) some ∙ among) at)
 
+-- an entry that no transaction hears leaves the histories right
 pub returns-in_ok-pass_each-in-Unheard-clause-histories : goal.returns-in_ok-pass_each-in-Unheard-clause-histories
 returns-in_ok-pass_each-in-Unheard-clause-histories g c = λ es e told keys counts seen.
     let (f, f_seen, (fine, at, none)) = (rw c.in-Unheard.is at c.in_ok-told.ensures.observed) es in
     silent_histories es e c.args.histories.now (ap (λ o. o.keys) (observes_one es (item c.args.entry.now) e f seen f_seen) ∙ none) told
 
+-- an entry with a fault concerns no key, so the histories stay
 pub returns-in_ok-pass_each-in-Fault-clause-histories : goal.returns-in_ok-pass_each-in-Fault-clause-histories
 returns-in_ok-pass_each-in-Fault-clause-histories g c = λ es e told keys counts seen.
     let (f, f_seen, is) = (rw c.in-Fault.is at c.in_ok-told.ensures.observed) es in
     silent_histories es e c.args.histories.now (ap (λ o. o.keys) (observes_one es (item c.args.entry.now) e f seen f_seen ∙ is)) told
 
+-- a restart is written into the histories once, for all transactions
 pub returns-in_ok-pass_each-in-Restart-clause-histories : goal.returns-in_ok-pass_each-in-Restart-clause-histories
 returns-in_ok-pass_each-in-Restart-clause-histories g c = λ es e told keys counts seen.
     let b = c.args.histories.now in
@@ -72,6 +81,7 @@ returns-in_ok-pass_each-in-Restart-clause-histories g c = λ es e told keys coun
     restart_histories es e b (record { each = b.each; restart = number }) number
     (ap (λ o. o.keys) (observes_one es (item c.args.entry.now) e f seen f_seen ∙ is)) counts refl refl told
 
+-- the histories of the transactions that hear the message have the entry as their last one
 pub returns-in_ok-pass_each-in-Heard-clause-histories : goal.returns-in_ok-pass_each-in-Heard-clause-histories
 returns-in_ok-pass_each-in-Heard-clause-histories g c = λ es e told t_keys counts seen.
     let s = c.args.standing.now in
@@ -84,6 +94,7 @@ returns-in_ok-pass_each-in-Heard-clause-histories g c = λ es e told t_keys coun
     told t_keys c.requires.may.passes.long counts c.in_ok-concerned-in-Heard.ensures.touched c.known-in-Heard.ensures.unique noted.noted c.note_each.ensures.restart (ap (λ o. o.keys) is)
     (message_says es (item entry) e kept.0 seen) (ap (λ o. o.event.text) is ∙ kept.3)
 
+-- after an entry that no transaction hears, the next one may be taken
 pub returns-in_ok-pass_each-in-Unheard-clause-may : goal.returns-in_ok-pass_each-in-Unheard-clause-may
 returns-in_ok-pass_each-in-Unheard-clause-may g c =
     let s = c.args.standing.now in
@@ -92,6 +103,7 @@ returns-in_ok-pass_each-in-Unheard-clause-may g c =
     may_next None s.book c.observe.new.book c.observe.new.book s.tables s.tables c.pass_each.new.tables e.number e.moment e.bytes.items c.requires.may
     (inl (rw c.in-Unheard.is at c.in_ok-told.ensures.kept)) (omega arith) passed.keys refl passed.may passed.watched.recorded
 
+-- an entry that no transaction hears is taken
 pub returns-in_ok-pass_each-in-Unheard-clause-taken : goal.returns-in_ok-pass_each-in-Unheard-clause-taken
 returns-in_ok-pass_each-in-Unheard-clause-taken g c = λ es fresh tracks late.
     let s = c.args.standing.now in
@@ -99,6 +111,7 @@ returns-in_ok-pass_each-in-Unheard-clause-taken g c = λ es fresh tracks late.
     unheard_taken s.book c.observe.new.book e.number e.bytes.items (inl (rw c.in-Unheard.is at c.in_ok-told.ensures.kept)) (item e) e.moment refl s.tables c.pass_each.new.tables c.args.troubled.now c.pass_each.new.troubled
     c.requires.watched.long c.requires.may.passes.long fresh c.in_ok-pass_each-in-Unheard.ensures.keys (rw c.in-Unheard.is at c.in_ok-told.ensures.observed) c.in_ok-pass_each-in-Unheard.ensures.passed es tracks late
 
+-- after an entry whose message has a fault, the next one may be taken
 pub returns-in_ok-pass_each-in-Fault-clause-may : goal.returns-in_ok-pass_each-in-Fault-clause-may
 returns-in_ok-pass_each-in-Fault-clause-may g c =
     let s = c.args.standing.now in
@@ -107,6 +120,7 @@ returns-in_ok-pass_each-in-Fault-clause-may g c =
     may_next None s.book c.observe.new.book c.observe.new.book s.tables s.tables c.pass_each-in-Fault.new.tables e.number e.moment e.bytes.items c.requires.may
     (inl (rw c.in-Fault.is at c.in_ok-told.ensures.kept)) (omega arith) passed.keys refl passed.may passed.watched.recorded
 
+-- an entry whose message has a fault is taken
 pub returns-in_ok-pass_each-in-Fault-clause-taken : goal.returns-in_ok-pass_each-in-Fault-clause-taken
 returns-in_ok-pass_each-in-Fault-clause-taken g c = λ es fresh tracks late.
     let s = c.args.standing.now in
@@ -114,6 +128,7 @@ returns-in_ok-pass_each-in-Fault-clause-taken g c = λ es fresh tracks late.
     fault_taken s.book c.observe.new.book e.number e.bytes.items (inl (rw c.in-Fault.is at c.in_ok-told.ensures.kept)) (item e) e.moment refl s.tables c.pass_each-in-Fault.new.tables c.args.troubled.now c.pass_each-in-Fault.new.troubled
     c.requires.watched.long c.requires.may.passes.long fresh c.in_ok-pass_each-in-Fault.ensures.keys c.in-Fault.fault (rw c.in-Fault.is at c.in_ok-told.ensures.observed) c.in_ok-pass_each-in-Fault.ensures.passed es tracks late
 
+-- after a restart the next entry may be taken
 pub returns-in_ok-pass_each-in-Restart-clause-may : goal.returns-in_ok-pass_each-in-Restart-clause-may
 returns-in_ok-pass_each-in-Restart-clause-may g c =
     let s = c.args.standing.now in
@@ -122,6 +137,7 @@ returns-in_ok-pass_each-in-Restart-clause-may g c =
     may_next None s.book c.observe.new.book c.observe.new.book s.tables s.tables c.pass_each-in-Restart.new.tables e.number e.moment e.bytes.items c.requires.may
     (inl (rw c.in-Restart.is at c.in_ok-told.ensures.kept).0) (omega arith) passed.keys refl passed.may passed.watched.recorded
 
+-- a restart is taken
 pub returns-in_ok-pass_each-in-Restart-clause-taken : goal.returns-in_ok-pass_each-in-Restart-clause-taken
 returns-in_ok-pass_each-in-Restart-clause-taken g c = λ es fresh tracks late.
     let s = c.args.standing.now in
@@ -130,6 +146,7 @@ returns-in_ok-pass_each-in-Restart-clause-taken g c = λ es fresh tracks late.
     restart_taken s.book c.observe.new.book e.number e.bytes.items (inl same) (item e) e.moment refl s.tables c.pass_each-in-Restart.new.tables c.args.troubled.now c.pass_each-in-Restart.new.troubled
     c.requires.watched.long c.requires.may.passes.long fresh c.in_ok-pass_each-in-Restart.ensures.keys c.restart-event.result c.restart-event.ensures (λ n keeps. c.requires.may.some n (subst (λ b. Keeps b n) same keeps)) (rw c.in-Restart.is at c.in_ok-told.ensures.observed) c.in_ok-pass_each-in-Restart.ensures.passed es tracks late
 
+-- after transactions heard the message, and it was dropped if no state names it, the next entry may be taken
 pub returns-in_ok-pass_each-in-Heard-clause-may : goal.returns-in_ok-pass_each-in-Heard-clause-may
 returns-in_ok-pass_each-in-Heard-clause-may g c =
     let s = c.args.standing.now in
@@ -145,10 +162,12 @@ returns-in_ok-pass_each-in-Heard-clause-may g c =
     (few_keys c.in-Heard.concerned (each c.in_ok-concerned-in-Heard.concerned) s.tables c.touch_each.new.tables c.in_ok-concerned-in-Heard.ensures.touched)
     passed.keys refl passed.may passed.watched.recorded))
 
+-- the transactions are watched, also where the newest message was dropped
 pub returns-in_ok-pass_each-in-Heard-clause-watched : goal.returns-in_ok-pass_each-in-Heard-clause-watched
 returns-in_ok-pass_each-in-Heard-clause-watched g c =
     subst (λ x. AreWatched [] x c.pass_each-in-Heard.new.troubled) (sym c.drop_unnamed.ensures.tables) c.in_ok-pass_each-in-Heard.ensures.watched
 
+-- an entry whose message transactions hear is taken: the tables track it too, also where the message was dropped since no state names it
 pub returns-in_ok-pass_each-in-Heard-clause-taken : goal.returns-in_ok-pass_each-in-Heard-clause-taken
 returns-in_ok-pass_each-in-Heard-clause-taken g c = λ es fresh tracks late.
     let s = c.args.standing.now in
@@ -173,15 +192,19 @@ returns-in_ok-pass_each-in-Heard-clause-taken g c = λ es fresh tracks late.
       subst (λ x. ArePassing new.book s.tables.times es f (is_among []) x b) (sym dropped.tables) (dropped_passing e.number mid new.book s.tables.times es f t b dropped.book passing),
     )
 
+-- no key more is known
 pub returns-in_ok-pass_each-in-Unheard-clause-keys : goal.returns-in_ok-pass_each-in-Unheard-clause-keys
 returns-in_ok-pass_each-in-Unheard-clause-keys g c = let same = ap length c.in_ok-pass_each-in-Unheard.ensures.keys in omega arith
 
+-- there are as many keys as before
 pub returns-in_ok-pass_each-in-Fault-clause-keys : goal.returns-in_ok-pass_each-in-Fault-clause-keys
 returns-in_ok-pass_each-in-Fault-clause-keys g c = let same = ap length c.in_ok-pass_each-in-Fault.ensures.keys in omega arith
 
+-- there are as many keys as before
 pub returns-in_ok-pass_each-in-Restart-clause-keys : goal.returns-in_ok-pass_each-in-Restart-clause-keys
 returns-in_ok-pass_each-in-Restart-clause-keys g c = let same = ap length c.in_ok-pass_each-in-Restart.ensures.keys in omega arith
 
+-- at most two keys more are known
 pub returns-in_ok-pass_each-in-Heard-clause-keys : goal.returns-in_ok-pass_each-in-Heard-clause-keys
 returns-in_ok-pass_each-in-Heard-clause-keys g c =
     let few = few_keys c.in-Heard.concerned (each c.in_ok-concerned-in-Heard.concerned) c.args.standing.now.tables c.touch_each.new.tables c.in_ok-concerned-in-Heard.ensures.touched in

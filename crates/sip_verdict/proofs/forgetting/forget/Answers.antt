@@ -19,6 +19,7 @@ keep-requires g c = ap length c.as_slice-flags.ensures.value ∙ c.in_ok-flags.e
 pub keep-requires-2 : goal.keep-requires-2
 keep-requires-2 g c = ap length c.as_slice-flags.ensures.value ∙ c.in_ok-flags.ensures.long ∙ ap length c.in_ok-wait.ensures.keys ∙ sym c.requires.watched.long
 
+-- the tables of what is kept may pass the moment
 pub sweep-requires-clause-may : goal.sweep-requires-clause-may
 sweep-requires-clause-may g c =
     let s = c.wait.new.self in
@@ -26,6 +27,7 @@ sweep-requires-clause-may g c =
     let long = ap length c.as_slice-flags.ensures.value ∙ c.in_ok-flags.ensures.long in
     subst (λ t. MayPass s.book t c.args.newest.moment) (sym c.in_ok-keep.ensures.ok) (pass_kept flags s.tables long c.known.ensures.unique s.book c.args.newest.moment c.in_ok-wait.ensures.may)
 
+-- the last moment of each set that is kept is on record
 pub sweep-requires-clause-recorded : goal.sweep-requires-clause-recorded
 sweep-requires-clause-recorded g c =
     let s = c.wait.new.self in
@@ -33,6 +35,7 @@ sweep-requires-clause-recorded g c =
     let long = ap length c.as_slice-flags.ensures.value ∙ c.in_ok-flags.ensures.long in
     subst AllAreOnRecord (sym c.in_ok-keep.ensures.ok) (recorded_kept flags s.tables long c.known.ensures.unique c.in_ok-wait.ensures.recorded)
 
+-- after all sets have waited, some were forgotten and the book was swept, the next entry may be taken
 pub returns-clause-may : goal.returns-clause-may
 returns-clause-may g c =
     let old = c.args.standing.now in
@@ -47,6 +50,7 @@ returns-clause-may g c =
     let may = subst (λ t. MayTake s.book t (newest.number + 1) newest.moment) (sym c.in_ok-keep.ensures.ok) (take_kept flags s.tables long c.known.ensures.unique s.book (newest.number + 1) newest.moment waited) in
     swept_take s.book new.book mid new.tables (newest.number + 1) newest.moment may swept.may swept.recorded (within_keeps s.book new.book swept.fewer) swept.keys
 
+-- what is kept is watched: the last moment of each set is on record, and a transaction in trouble has none
 pub returns-clause-watched : goal.returns-clause-watched
 returns-clause-watched g c =
     let s = c.wait.new.self in
@@ -61,6 +65,7 @@ returns-clause-watched g c =
 pub returns-clause-fresh : goal.returns-clause-fresh
 returns-clause-fresh g c = record { broken = c.keep-2.ensures.broken ∙ c.requires.fresh.broken; wide = c.keep-2.ensures.wide ∙ c.requires.fresh.wide }
 
+-- no more messages are left than there are entries
 pub returns-clause-left : goal.returns-clause-left
 returns-clause-left g c =
     let old = c.args.standing.now in
@@ -72,6 +77,7 @@ returns-clause-left g c =
 pub returns-clause-fewer : goal.returns-clause-fewer
 returns-clause-fewer g c = subst (λ b. All (Contains b) c.sweep.new.self.book) c.in_ok-wait.ensures.book c.in_ok-sweep.ensures.fewer
 
+-- exactly what is over was forgotten, and what is left tracks the entries as they are remembered
 pub returns-clause-forgets : goal.returns-clause-forgets
 returns-clause-forgets g c = λ es surveyed told newest.
     let old = c.args.standing.now in

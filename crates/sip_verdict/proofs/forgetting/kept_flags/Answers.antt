@@ -4,6 +4,7 @@ use Rattle.sip_verdict.specs.inner.Forgetting.{TellsPast}
 use Rattle.sip_verdict.proofs.surveys.forgetting.Forgotten.{flags_more}
 use Rattle.sip_verdict.proofs.forgetting.kept_flags.Goals as goal
 
+-- one flag more is right: it says whether the next transaction is kept
 pub loop-index-preserved : goal.loop-index-preserved
 loop-index-preserved g c =
     let t = c.args.tables.now in

@@ -6,6 +6,7 @@ use Rattle.sip_verdict.specs.inner.SurveyingLogs.{SurveysRead}
 use Rattle.sip_verdict.proofs.surveys.written.Gathering.{gathered_on, gathered_end, gathered_stop}
 use Rattle.sip_verdict.proofs.gathering.gather_entries.Goals as goal
 
+-- no entry was read yet
 pub loop-found-init : goal.loop-found-init
 loop-found-init g c = record {
   fine = refl;
@@ -14,6 +15,7 @@ loop-found-init g c = record {
   told = λ start reads. subst (λ fs. SurveysRead None c.args.survey.now fs start (beside_source c.args.progress.now (g.R.Source.left c.args.reader.now) (g.R.Source.has_failed c.args.reader.now))) (sym c.new-found.ensures.items) reads;
 }
 
+-- the entry has the next number, it is not before the newest one, its moment is within the limit, and there is room for it
 pub entry-requires : goal.entry-requires
 entry-requires g c = λ goes_on.
     let l = c.loop-found in
@@ -26,6 +28,7 @@ entry-requires g c = λ goes_on.
     let low = moves.4 in
     record { next = omega (arith, number, counts); order = omega (arith, newest, order); limit = moves.1.moment_high; room = (omega (arith, counts, low), omega (arith, room, low)) }
 
+-- after one entry more the findings are those of all entries that were read, and the survey stands after these
 pub loop-found-preserved : goal.loop-found-preserved
 loop-found-preserved g c =
     let l = c.loop-found in
@@ -50,6 +53,7 @@ loop-found-preserved g c =
           gathered_on None start old l.survey l.found.items read c.in-Entry.entry c.in-Entry.entry new more refl c.entry.new.self taken.times c.entry.new.found.items taken.found;
     }
 
+-- where the log ends, the findings are those of all its entries
 pub returns-in-End-clause-survey : goal.returns-in-End-clause-survey
 returns-in-End-clause-survey g c start reads =
     let l = c.loop-found in
@@ -58,6 +62,7 @@ returns-in-End-clause-survey g c start reads =
     let logs = (rw c.in-End.is at c.in_ok-entry.ensures.gives) start l.survey.tables.times read.items read.read in
     gathered_end None start old l.survey l.found.items read c.unwrap.result (same_Some _ _ (sym c.unwrap.ensures ∙ c.end.ensures.clean read.es read.follows)) logs
 
+-- where the next entry cannot be read, the findings are those of the entries before it
 pub returns-in-Fault-clause-survey : goal.returns-in-Fault-clause-survey
 returns-in-Fault-clause-survey g c start reads =
     let l = c.loop-found in

@@ -10,6 +10,7 @@ use Rattle.sip_verdict.proofs.surveys.written.Gathering.{gathered_header}
 use Rattle.sip_verdict.proofs.surveys.written.Writing.{surveys_none}
 use Rattle.sip_verdict.proofs.gathering.survey_bytes.Goals as goal
 
+-- after the header nothing was read; from there on the loop finds what the whole log has
 pub returns-in-Ok-clause-survey : goal.returns-in-Ok-clause-survey
 returns-in-Ok-clause-survey g c =
     let start = Some c.args.bytes.now in
@@ -19,6 +20,7 @@ returns-in-Ok-clause-survey g c =
     IfOk-weaker c.gather_entries.result _ _
     (λ done holds. holds start (subst (λ place. SurveysRead None c.new-survey.result [] start (state place)) (search rules) (surveys_none None c.new-survey.result c.in-Ok.params start (state c.in-Ok.progress) times c.new-survey.ensures.stands read))) c.gather_entries.ensures.survey
 
+-- where the header has a fault, nothing is found
 pub returns-in-Err-clause-survey : goal.returns-in-Err-clause-survey
 returns-in-Err-clause-survey g c =
     let fault = rw c.in-Err.is at c.in_ok-params.ensures.fault in

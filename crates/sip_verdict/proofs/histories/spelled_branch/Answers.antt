@@ -6,16 +6,19 @@ use Rattle.sip_verdict.specs.inner.Histories.{SpellsBranch}
 use Rattle.sip_verdict.proofs.surveys.kept.Histories.{led_spells, read_spells, fault_spells}
 use Rattle.sip_verdict.proofs.histories.spelled_branch.Goals as goal
 
+-- the branch stands plainly in the bytes
 pub returns-in-Some : goal.returns-in-Some
 returns-in-Some c =
     subst (SpellsBranch c.args.bytes.now) (sym (c.in_ok-to_vec.ensures.items_if_clones_equal (λ x y same. same)))
     (led_spells c.args.bytes.now c.in-Some.branch.now (sym c.led_branch.ensures ∙ ap option_copied c.in-Some.is))
 
+-- the message that is read has a branch
 pub returns-in-Some-branch : goal.returns-in-Some-branch
 returns-in-Some-branch c =
     read_spells c.args.bytes.now (said_of c.in-Ok.message) (Some c.in-Some-branch.branch.now) c.in_ok-to_vec-in-Some-branch.field-0.items c.in-Ok.ensures.says
     (sym (ap (λ (e : Element). e.1.branch) c.top_via.ensures) ∙ ap option_copied c.in-Some-branch.is) (c.in_ok-to_vec-in-Some-branch.ensures.items_if_clones_equal (λ x y same. same))
 
+-- a message without a branch spells none
 pub returns-in-Ok : goal.returns-in-Ok
 returns-in-Ok c =
     read_spells c.args.bytes.now (said_of c.in-Ok.message) None c.new.result.items c.in-Ok.ensures.says

@@ -5,6 +5,7 @@ use Rattle.sip_verdict.specs.inner.Concerned.{each}
 use Rattle.sip_verdict.proofs.judges.ObservingLemmas.{going, going_on, observes, observes_fault, observes_no_cookie, keyless_observation, observes_none, observes_heard, concerns_some, each_some, event_fits, going_says, event_kept}
 use Rattle.sip_verdict.proofs.observing.observe_message.Goals as goal
 
+-- a message that concerns no transaction is observed without keys
 pub returns-in-None-clause-observed : goal.returns-in-None-clause-observed
 returns-in-None-clause-observed c es =
     let i = item c.args.entry.now in
@@ -15,6 +16,7 @@ returns-in-None-clause-observed c es =
       (refl, refl, refl),
     )
 
+-- bytes that are no message are observed as their fault
 pub returns-in-Err-Fault-clause-observed : goal.returns-in-Err-Fault-clause-observed
 returns-in-Err-Fault-clause-observed c es =
     let i = item c.args.entry.now in
@@ -25,6 +27,7 @@ returns-in-Err-Fault-clause-observed c es =
       refl,
     )
 
+-- a sent request whose branch lacks the cookie is observed as that fault
 pub returns-in-Err-NoCookie-clause-observed : goal.returns-in-Err-NoCookie-clause-observed
 returns-in-Err-NoCookie-clause-observed c es =
     let i = item c.args.entry.now in (
@@ -43,6 +46,7 @@ of-event-requires-clause-message c = going_on c.args.entry.now.action c.args.dir
 pub keep_to-requires-clause-read : goal.keep_to-requires-clause-read
 keep_to-requires-clause-read c = rw (c.in_ok-number.ensures.ok.1, c.as_slice-2.ensures.value, ← c.as_slice.ensures.value) c.in-Ok.ensures
 
+-- a message that concerns some transaction is observed with its event and its keys
 pub returns-clause-observed : goal.returns-clause-observed
 returns-clause-observed c es =
     let i = item c.args.entry.now in
@@ -54,11 +58,13 @@ returns-clause-observed c es =
       refl,
     )
 
+-- the event fits the book, and its keys are those of the message
 pub returns-clause-heard : goal.returns-clause-heard
 returns-clause-heard c =
     let fits = event_fits (item c.args.entry.now) c.in-Ok.message c.add.new.self c.of-event.result c.in_ok-number.number c.of-event.ensures c.in_ok-number.ensures.ok.0 c.requires.limit in
     rw c.keep_to.ensures (fits.0, fits.1, c.in-Ok-keys_of.ensures.2, c.in-Ok-keys_of.ensures.3)
 
+-- the event goes where the action says and concerns some transaction, and the book has the bytes of its message under its number
 pub returns-clause-kept : goal.returns-clause-kept
 returns-clause-kept c =
     let i = item c.args.entry.now in

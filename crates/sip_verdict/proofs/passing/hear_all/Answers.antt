@@ -5,12 +5,14 @@ use Rattle.sip_verdict.specs.inner.TablesTracking.{HearsEach}
 use Rattle.sip_verdict.proofs.tables.TablesPassing.{given_still, hears_more}
 use Rattle.sip_verdict.proofs.passing.hear_all.Goals as goal
 
+-- the tables still have the number
 pub hear_one-requires-clause-given : goal.hear_one-requires-clause-given
 hear_one-requires-clause-given g c =
     let numbers = c.args.numbers.now in
     let i = c.loop-number.number-index in
     given_still (get_or numbers i 0) c.args.tables.now c.loop-number.tables c.loop-number.invariant.keys_are (c.requires.given i 0 (omega arith))
 
+-- after one transaction more has heard the event, the outcome is the first trouble of those that have heard it
 pub loop-number-preserved : goal.loop-number-preserved
 loop-number-preserved g c =
     let numbers = c.args.numbers.now in

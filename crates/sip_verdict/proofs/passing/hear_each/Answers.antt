@@ -9,6 +9,7 @@ pub hear_one-requires-in-OwnAndCancelled-2-clause-given : goal.hear_one-requires
 hear_one-requires-in-OwnAndCancelled-2-clause-given g c =
     given_still c.in-OwnAndCancelled.cancelled c.args.tables.now c.hear_one-in-OwnAndCancelled.new.tables c.in_ok-hear_one-in-OwnAndCancelled.ensures.keys ((rw c.in-OwnAndCancelled.is at c.requires.hear.given) 1 0 (omega arith))
 
+-- where the event concerns no transaction, none hears it, and the tables are as before
 pub returns-in-None-clause-heard : goal.returns-in-None-clause-heard
 returns-in-None-clause-heard g c =
     let t = c.args.tables.now in
@@ -22,6 +23,7 @@ returns-in-None-clause-heard g c =
       ),
     )
 
+-- where the event concerns its own transaction alone, that one hears it
 pub returns-in_ok-hear_one-in-Own-clause-heard : goal.returns-in_ok-hear_one-in-Own-clause-heard
 returns-in_ok-hear_one-in-Own-clause-heard g c =
     let t = c.args.tables.now in
@@ -37,6 +39,7 @@ returns-in_ok-hear_one-in-Own-clause-heard g c =
       ),
     )
 
+-- where the event concerns its own transaction and the cancelled one, both hear it, the own one first
 pub returns-in_ok-hear_one-in-OwnAndCancelled-2-clause-heard : goal.returns-in_ok-hear_one-in-OwnAndCancelled-2-clause-heard
 returns-in_ok-hear_one-in-OwnAndCancelled-2-clause-heard g c =
     let t = c.args.tables.now in

@@ -6,6 +6,7 @@ use Rattle.sip_verdict.specs.inner.TablesTracking.{MayPass, Leaves}
 use Rattle.sip_verdict.proofs.tables.TablesPassing.{settles_leaves, trouble_leaves}
 use Rattle.sip_verdict.proofs.passing.hear_one.Goals as goal
 
+-- after one set has heard the event and its record is new, the tables may still pass the moment
 pub returns-in_ok-settle-clause-may : goal.returns-in_ok-settle-clause-may
 returns-in_ok-settle-clause-may g c =
     let sets = c.args.tables.now.sets in
@@ -16,6 +17,7 @@ returns-in_ok-settle-clause-may g c =
       long = length-set sets index c.hear.new.set ∙ c.requires.may.long;
     })
 
+-- where the set has states left, the transaction has heard the event, and its record is new
 pub returns-in_ok-settle-clause-heard : goal.returns-in_ok-settle-clause-heard
 returns-in_ok-settle-clause-heard g c = record {
   before = c.set_mut.result.now;
@@ -27,6 +29,7 @@ returns-in_ok-settle-clause-heard g c = record {
   stepped = c.in_ok-outcome.ensures.stepped;
 }
 
+-- where the set has no state left or too many, the transaction has heard the event and is in trouble
 pub returns-in_default-clause-heard : goal.returns-in_default-clause-heard
 returns-in_default-clause-heard g c = record {
   before = c.set_mut.result.now;

@@ -11,12 +11,14 @@ use Rattle.sip_verdict.proofs.passing.pass_all.Goals as goal
 pub returns-in_default-clause-recorded : goal.returns-in_default-clause-recorded
 returns-in_default-clause-recorded g c = on_record_if _ c.args.tables.now (λ fine. rw c.in_default.is at c.requires.recorded)
 
+-- the entry concerns no key, so what is overdue is the outcome
 pub returns-in_default-clause-outcome : goal.returns-in_default-clause-outcome
 returns-in_default-clause-outcome g c = λ p es e newest told ready.
     let t = c.args.tables.now in
     subst (IsOutcome p (key_keeping c.args.book.now p) es e (transactions_of t)) (sym c.overdue-overdue.ensures)
     (mark_outcome c.args.book.now p es e c.args.moment _ t c.requires.may [] (rw c.in_default.is at c.requires.recorded) (rw c.in_default.is at told) ready newest (λ n among. absurd (false≢true among)) (λ n key s at here none. inl refl) refl)
 
+-- the event comes at the moment of the entry
 pub hear_each-requires-clause-hear : goal.hear_each-requires-clause-hear
 hear_each-requires-clause-hear g c =
     let hear = c.requires.hear c.in-Some.hearing c.in-Some.is in
@@ -26,10 +28,12 @@ pub hear_each-requires-clause-may : goal.hear_each-requires-clause-may
 hear_each-requires-clause-may g c =
     subst (MayPass c.args.book.now c.args.tables.now) (sym (c.requires.hear c.in-Some.hearing c.in-Some.is).at) c.requires.may
 
+-- the tables may still pass the moment after the event was heard
 pub returns-clause-may : goal.returns-clause-may
 returns-clause-may g c =
     IfOk-weaker c.hear_each.result _ _ (λ outcome h. subst (MayPass c.args.book.now c.hear_each.new.tables) (c.requires.hear c.in-Some.hearing c.in-Some.is).at h.0) c.hear_each.ensures.heard
 
+-- after the event was heard, each last moment is on record
 pub returns-clause-recorded : goal.returns-clause-recorded
 returns-clause-recorded g c =
     let h = c.in-Some.hearing.now in
@@ -40,6 +44,7 @@ returns-clause-recorded g c =
     heard_recorded c.args.book.now h.event heard.1.0 t c.hear_each.new.tables c.overdue-overdue.result outcome hearers.given
     (recorded_more (each h.concerned) heard.1.0 t hearers.named (rw c.in-Some.is at c.requires.recorded)) heard.1.2) c.hear_each.ensures.heard
 
+-- the outcome is the first transaction in trouble, of those that hear the event and those whose time is over
 pub returns-clause-outcome : goal.returns-clause-outcome
 returns-clause-outcome g c =
     let h = c.in-Some.hearing.now in
@@ -56,6 +61,7 @@ returns-clause-outcome g c =
     (omega (arith, newest, hear.at)) hearers.given hearers.apart u heard.0.long outcome
     (subst (λ o. HearsEach c.args.book.now h.event heard.1.0 t o u outcome) c.overdue-overdue.ensures heard.1.2)) c.hear_each.ensures.heard
 
+-- the sets that are not to hear the event are as they were
 pub returns-clause-others : goal.returns-clause-others
 returns-clause-others g c =
     let h = c.in-Some.hearing.now in

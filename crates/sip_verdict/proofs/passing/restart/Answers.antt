@@ -5,9 +5,11 @@ use Rattle.sip_verdict.specs.inner.TablesTracking.{MayPass, AreHearers, HearsEac
 use Rattle.sip_verdict.proofs.tables.TablesPassing.{all_hearers}
 use Rattle.sip_verdict.proofs.passing.restart.Goals as goal
 
+-- the tables have all these numbers
 pub hear_all-requires-clause-given : goal.hear_all-requires-clause-given
 hear_all-requires-clause-given g c = subst (All (IsGiven c.args.tables.now)) (sym c.as_slice.ensures.value) c.in_ok-numbers.ensures.given
 
+-- the hearers of a restart are all transactions
 pub returns-clause-heard : goal.returns-clause-heard
 returns-clause-heard g c =
     let t = c.args.tables.now in

@@ -11,6 +11,7 @@ use Rattle.sip_verdict.proofs.releasing.hear_each.Goals as goal
 pub returns-in-None-clause-watched : goal.returns-in-None-clause-watched
 returns-in-None-clause-watched g c = λ h. rw c.in-None.is at h
 
+-- where the event concerns no transaction, none hears it
 pub returns-in-None-clause-heard : goal.returns-in-None-clause-heard
 returns-in-None-clause-heard g c =
     let t = c.args.tables.now in
@@ -19,10 +20,12 @@ returns-in-None-clause-heard g c =
     let hear = c.requires.hear in
     (each h.concerned, named_hearers t h.concerned (ap is_all c.in-None.is) hear.given hear.apart, subst (λ x. HearsNumbers c.args.book.now h.event (each x) t b t b) (sym c.in-None.is) (hears_none c.args.book.now h.event t b))
 
+-- the other sets are as they were
 pub returns-in-Own-clause-others : goal.returns-in-Own-clause-others
 returns-in-Own-clause-others g c =
     on_ok_weaker c.hear_or_release.result (λ still n none. still n (among_none (n + 1) c.in-Own.own [] (subst (λ x. (is_all x || is_among (each x) (n + 1)) ≡ false) c.in-Own.is none)).0) c.hear_or_release.ensures.others
 
+-- the other sets are as they were
 pub returns-in_ok-hear_or_release-in-OwnAndCancelled-clause-others : goal.returns-in_ok-hear_or_release-in-OwnAndCancelled-clause-others
 returns-in_ok-hear_or_release-in-OwnAndCancelled-clause-others g c =
     let own = c.in-OwnAndCancelled.own in
@@ -34,6 +37,7 @@ returns-in_ok-hear_or_release-in-OwnAndCancelled-clause-others g c =
 pub returns-in-All-clause-others : goal.returns-in-All-clause-others
 returns-in-All-clause-others g c = on_ok_weaker c.restart.result (λ keys n none. absurd (false≢true (sym (subst (λ x. (is_all x || is_among (each x) (n + 1)) ≡ false) c.in-All.is none)))) c.restart.ensures.keys
 
+-- the cancelled transaction is still one of the tables
 pub hear_or_release-requires-in-OwnAndCancelled-2-clause-given : goal.hear_or_release-requires-in-OwnAndCancelled-2-clause-given
 hear_or_release-requires-in-OwnAndCancelled-2-clause-given g c =
     given_still c.in-OwnAndCancelled.cancelled c.args.tables.now c.hear_or_release-in-OwnAndCancelled.new.tables c.in_ok-hear_or_release-in-OwnAndCancelled.ensures.keys ((rw c.in-OwnAndCancelled.is at c.requires.hear.given) 1 0 (omega arith))
@@ -41,6 +45,7 @@ hear_or_release-requires-in-OwnAndCancelled-2-clause-given g c =
 pub returns-in-Own-clause-watched : goal.returns-in-Own-clause-watched
 returns-in-Own-clause-watched g c = on_ok_weaker c.hear_or_release.result (λ watched h. watched [] (rw c.in-Own.is at h)) c.hear_or_release.ensures.watched
 
+-- where the event concerns its own transaction alone, that one hears it or is released
 pub returns-in-Own-clause-heard : goal.returns-in-Own-clause-heard
 returns-in-Own-clause-heard g c =
     let t = c.args.tables.now in
@@ -53,11 +58,13 @@ returns-in-Own-clause-heard g c =
     (each h.concerned, named_hearers t h.concerned (ap is_all c.in-Own.is) hear.given hear.apart, subst (λ x. HearsNumbers c.args.book.now h.event (each x) t b u d) (sym c.in-Own.is) (hears_one c.args.book.now h.event c.in-Own.own t b u d heard)))
     c.hear_or_release.ensures.heard
 
+-- after both have heard the event, all transactions are watched
 pub returns-in_ok-hear_or_release-in-OwnAndCancelled-clause-watched : goal.returns-in_ok-hear_or_release-in-OwnAndCancelled-clause-watched
 returns-in_ok-hear_or_release-in-OwnAndCancelled-clause-watched g c =
     on_ok_weaker c.hear_or_release-in-OwnAndCancelled-2.result
     (λ watched h. watched [] (c.in_ok-hear_or_release-in-OwnAndCancelled.ensures.watched (c.in-OwnAndCancelled.cancelled ∷ []) (rw c.in-OwnAndCancelled.is at h))) c.hear_or_release-in-OwnAndCancelled-2.ensures.watched
 
+-- where the event concerns its own transaction and the cancelled one, each hears it or is released, the own one first
 pub returns-in_ok-hear_or_release-in-OwnAndCancelled-clause-heard : goal.returns-in_ok-hear_or_release-in-OwnAndCancelled-clause-heard
 returns-in_ok-hear_or_release-in-OwnAndCancelled-clause-heard g c =
     let t = c.args.tables.now in

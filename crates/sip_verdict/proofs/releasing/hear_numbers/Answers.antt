@@ -5,12 +5,14 @@ use Rattle.sip_verdict.proofs.tables.TablesPassing.{given_still}
 use Rattle.sip_verdict.proofs.surveys.found.Numbered.{next_number, next_apart, none_left, concerned_rest}
 use Rattle.sip_verdict.proofs.releasing.hear_numbers.Goals as goal
 
+-- the tables still have the number
 pub hear_or_release-requires-clause-given : goal.hear_or_release-requires-clause-given
 hear_or_release-requires-clause-given g c =
     let numbers = c.args.numbers.now in
     let i = c.loop-number.number-index in
     given_still (get_or numbers i 0) c.args.tables.now c.loop-number.tables c.loop-number.invariant.keys_are (c.requires.given i 0 (omega arith))
 
+-- after one transaction more has heard the event or was released, those that are left in the list can hear it
 pub loop-number-preserved : goal.loop-number-preserved
 loop-number-preserved g c =
     let numbers = c.args.numbers.now in
@@ -31,10 +33,12 @@ loop-number-preserved g c =
           (subst (λ ns. ArePassing c.args.book.now p es e (is_among ns) c.loop-number.tables c.loop-number.troubled) next (old.heard p es e times late apart concerned h));
     }
 
+-- at the end of the loop none is still to hear the event
 pub returns-clause-watched : goal.returns-clause-watched
 returns-clause-watched g c = λ h.
     subst (λ ns. AreWatched ns c.loop-number.tables c.loop-number.troubled) (none_left c.args.numbers.now c.loop-number.number-index (omega arith)) (c.loop-number.invariant.watched h)
 
+-- no number is left, so all have heard the event
 pub returns-clause-heard : goal.returns-clause-heard
 returns-clause-heard g c = λ p es e times late apart concerned h.
     subst (λ ns. ArePassing c.args.book.now p es e (is_among ns) c.loop-number.tables c.loop-number.troubled) (none_left c.args.numbers.now c.loop-number.number-index (omega arith))

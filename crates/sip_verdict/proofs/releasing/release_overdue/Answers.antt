@@ -6,6 +6,7 @@ use Rattle.sip_verdict.proofs.surveys.passing.Lasts.{lasts, one_less}
 use Rattle.sip_verdict.proofs.surveys.passing.Watching.{watched_released, passes_anew}
 use Rattle.sip_verdict.proofs.releasing.release_overdue.Goals as goal
 
+-- after one transaction more, whose time is over, was called broken and its set began anew, the tables still pass the entry
 pub loop-number-preserved : goal.loop-number-preserved
 loop-number-preserved g c =
     let t = c.loop-number.tables in
@@ -32,6 +33,7 @@ loop-number-preserved g c =
           u d t.times anew.key anew.at (old.times_are ∙ times) keys sets added.deaf added.broken added.wide;
     }
 
+-- one set less has a last moment on record
 pub loop-number-smaller : goal.loop-number-smaller
 loop-number-smaller g c =
     let t = c.loop-number.tables in

@@ -8,17 +8,21 @@ use Rattle.sip_verdict.proofs.tables.TablesPassing.{all_hearers}
 use Rattle.sip_verdict.proofs.surveys.passing.Watching.{watched_more}
 use Rattle.sip_verdict.proofs.releasing.restart.Goals as goal
 
+-- the tables have all these numbers
 pub hear_numbers-requires-clause-given : goal.hear_numbers-requires-clause-given
 hear_numbers-requires-clause-given g c = subst (All (IsGiven c.args.tables.now)) (sym c.as_slice.ensures.value) c.in_ok-numbers.ensures.given
 
+-- the restart was heard, and the next entry may come
 pub returns-clause-may : goal.returns-clause-may
 returns-clause-may g c = subst (λ u. MayPass c.args.book.now u c.args.event.now.moment) (sym c.restarted.ensures) c.in_ok-hear_numbers.ensures.may
 
+-- after all have heard the restart, all are watched
 pub returns-clause-watched : goal.returns-clause-watched
 returns-clause-watched g c = λ h.
     subst (λ u. AreWatched [] u c.hear_numbers.new.troubled) (sym c.restarted.ensures)
     (c.in_ok-hear_numbers.ensures.watched (watched_more [] c.as_slice.result.now c.args.tables.now c.args.troubled.now (λ n none. absurd (false≢true none)) h))
 
+-- all transactions hear the restart, one after another
 pub returns-clause-heard : goal.returns-clause-heard
 returns-clause-heard g c =
     let t = c.args.tables.now in (

@@ -4,6 +4,7 @@ use Rattle.sip_verdict.specs.Forgetting.{remembered}
 use Rattle.sip_verdict.proofs.surveys.written.Horizons.{came_long_ago, horizon_kept, horizon_left}
 use Rattle.sip_verdict.proofs.remembering.forget_due.Goals as goal
 
+-- where it is time to forget, the survey stands after what is remembered, and the horizon tells how many messages are left
 pub returns-clause-left : goal.returns-clause-left
 returns-clause-left g c = λ es stands horizon_is.
     let m = c.args.horizon.now in
@@ -16,6 +17,7 @@ returns-clause-left g c = λ es stands horizon_is.
       horizon_left m (record { age = m.age; until = m.until; number = m.number; moment = m.moment; left = c.transactions-horizon.result }) (remembered kept es) (horizon_kept kept m es horizon_is) refl refl refl refl,
     )
 
+-- exactly what is over was forgotten, and the horizon is that of the entries as they are remembered
 pub returns-clause-due : goal.returns-clause-due
 returns-clause-due g c = λ es stands later many_are twice.
     let (kept, forgets, left_stands, many) = c.in_ok-forget.ensures.forgets es stands in (kept, forgets, left_stands, c.transactions-horizon.ensures.transactions)

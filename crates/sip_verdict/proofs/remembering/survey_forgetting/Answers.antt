@@ -10,6 +10,7 @@ use Rattle.sip_verdict.proofs.surveys.written.Remembering.{all_told_forgetting, 
 use Rattle.sip_verdict.proofs.surveys.written.Writing.{still_fine, summed}
 use Rattle.sip_verdict.proofs.remembering.survey_forgetting.Goals as goal
 
+-- after the header nothing was read or forgotten; from there on the loop tells the survey of the whole log
 pub returns-in-Ok-clause-surveyed : goal.returns-in-Ok-clause-surveyed
 returns-in-Ok-clause-surveyed g c =
     let part = option_copied c.args.part in
@@ -27,6 +28,7 @@ pub returns-in-Ok-clause-fine : goal.returns-in-Ok-clause-fine
 returns-in-Ok-clause-fine g c =
     still_fine _ c.write_on.result (g.R.Source.has_failed c.read_header.new.reader) (g.R.Source.has_failed c.write_on.new.reader) c.write_on.ensures.fine (c.in_ok-params.ensures.ok ∙ c.requires)
 
+-- where the header has a fault, the survey tells this fault alone
 pub returns-in-Err-clause-surveyed : goal.returns-in-Err-clause-surveyed
 returns-in-Err-clause-surveyed g c =
     let part = option_copied c.args.part in

@@ -16,6 +16,7 @@ use Rattle.sip_verdict.proofs.surveys.written.Remembering.{remembers_on, remembe
 use Rattle.sip_verdict.proofs.surveys.written.Writing.{told_none, told_more, summed}
 use Rattle.sip_verdict.proofs.remembering.write_on.Goals as goal
 
+-- before the first entry nothing was found, written or forgotten
 pub loop-found-init : goal.loop-found-init
 loop-found-init g c = record {
   read = refl;
@@ -32,6 +33,7 @@ loop-found-init g c = record {
   );
 }
 
+-- the entry has the next number, it is not before the newest one, its moment is within the limit, and the survey has room for it
 pub entry-requires : goal.entry-requires
 entry-requires g c = λ goes_on.
     let l = c.loop-found in
@@ -49,6 +51,7 @@ entry-requires g c = λ goes_on.
     let is_room : IsTrue c.has_room.result = search rules in
     record { next = omega (arith, number, same, counts, kept); order = omega (arith, newest, now, order, moment); limit = omega (arith, high, moment); room = c.has_room.ensures.0 is_room }
 
+-- after one entry more, the lines are those of all findings so far, and the survey stands after what is remembered
 pub loop-found-preserved : goal.loop-found-preserved
 loop-found-preserved g c =
     let l = c.loop-found in
@@ -57,6 +60,7 @@ loop-found-preserved g c =
     let old : log.ReaderState = beside_source l.progress (g.R.Source.left l.reader) (g.R.Source.has_failed l.reader) in
     let new : log.ReaderState = beside_source c.read_on.new.progress (g.R.Source.left c.read_on.new.reader) (g.R.Source.has_failed c.read_on.new.reader) in
     let moves = rw c.in-Entry.is at c.in_ok-entry.ensures.moves in
+    -- what the calls of the loop did: entries were forgotten, one was cut and taken, and its lines were put
     let forgot = c.in_ok-forget_due-in-Entry.ensures in
     let taken = c.in_ok-entry-in-Entry.ensures in
     let put = c.in_ok-counts-in-Entry.ensures in
@@ -71,6 +75,7 @@ loop-found-preserved g c =
     let cut_moment = cut.moment in
     let is_room : IsTrue c.has_room.result = search rules in
     let has_room : HasRoom c.forget_due.new.survey.number (length c.forget_due.new.survey.tables.keys) = c.has_room.ensures.0 is_room in
+    -- what the loop keeps holds again
     record {
       read = c.in_ok-entry.ensures.ok ∙ l.invariant.read;
       written = put.fine ∙ l.invariant.written;
@@ -87,6 +92,7 @@ loop-found-preserved g c =
         told.1 ++ put.text.0,
         told_more told.0 items told.1 put.text.0 l.counts c.in_ok-counts-in-Entry.counts (g.W.Sink.written c.args.writer.now) (g.W.Sink.written l.writer) (g.W.Sink.written c.put_findings.new.writer) told.2
             (search rules) put.text.1,
+        -- what was read, forgotten and taken is told on
         λ start reads.
             let so = told.3 start reads in
             let more = (rw c.in-Entry.is at c.in_ok-entry.ensures.gives) start p so.0.items so.0.read in
@@ -97,6 +103,7 @@ loop-found-preserved g c =
       );
     }
 
+-- where the survey has no room for the entry, it ends there with the fault Limit
 pub returns-then-not-has_room-clause-surveyed : goal.returns-then-not-has_room-clause-surveyed
 returns-then-not-has_room-clause-surveyed g c =
     let l = c.loop-found in
@@ -120,6 +127,7 @@ returns-then-not-has_room-clause-surveyed g c =
     remembers_full c.args.age part p start old l.survey told.0 told.1 so.0 l.counts summary before mid after told.2 findings undecided l.horizon so.1 l.invariant.aged c.in-Entry.entry new more
     c.forget_due.new.survey c.forget_due.new.horizon forgot.left full number next end last)
 
+-- where the log ends, the summary and the last line tell all its entries
 pub returns-in-End-clause-surveyed : goal.returns-in-End-clause-surveyed
 returns-in-End-clause-surveyed g c =
     let l = c.loop-found in
@@ -136,6 +144,7 @@ returns-in-End-clause-surveyed g c =
     let is = same_Some _ _ (sym c.unwrap.ensures ∙ c.end.ensures.clean so.es so.follows) in
     remembers_end c.args.age part p start old l.survey told.0 told.1 so l.counts summary before mid after told.2 findings undecided (end ∙ is) (subst (λ e. Appends mid after (end_text e l.counts.findings)) is last) logs)
 
+-- where the next entry cannot be read, the survey ends with that fault
 pub returns-in-Fault-clause-surveyed : goal.returns-in-Fault-clause-surveyed
 returns-in-Fault-clause-surveyed g c =
     let l = c.loop-found in

@@ -2,6 +2,7 @@ use Rattle.std.proofs.Common.{◌++◌, List, ℕ, ap, sym, ◌∙◌, subst}
 use Rattle.sip_standard.specs.Canonical.{IsCanonical}
 use Rattle.sip_verdict.proofs.showing.canonical.Goals as goal
 
+-- what is appended to no bytes is the form itself
 pub returns-clause-form : goal.returns-clause-form
 returns-clause-form c =
     let form = c.in_ok-write.ensures.ok in

@@ -10,6 +10,7 @@ use Rattle.sip_verdict.proofs.listings.WalkingLemmas.{told-fault}
 use Rattle.sip_verdict.proofs.shows.ShowingLemmas.{Answers, finished, showed_start, showed_end, showed_stops, showed_more, showed_fault}
 use Rattle.sip_verdict.proofs.showing.show.Goals as goal
 
+-- after the header no entry was shown and nothing was written
 pub loop-entry-init : goal.loop-entry-init
 loop-entry-init g c =
     let start = g.R.Source.left c.args.reader.now in
@@ -26,6 +27,7 @@ loop-entry-init g c =
       showed = showed_start start (beside_source progress left after) c.in-Ok.field-0-0 (g.W.Sink.written c.args.writer.now) opened.on opened.times opened.stands;
     }
 
+-- where the log ends, all its entries were shown, and the last line tells how many they are
 pub returns-in-Ok-None-clause-shown : goal.returns-in-Ok-None-clause-shown
 returns-in-Ok-None-clause-shown g c =
     let l = c.loop-entry in
@@ -40,6 +42,7 @@ returns-in-Ok-None-clause-shown g c =
     c.finish-in-Ok-None.ensures.same c.finish-in-Ok-None.ensures.text
     (λ last. showed_end start old first before l.invariant.showed new after l.count l.invariant.count nexts last)
 
+-- where the next entry cannot be read, the last line tells the fault and the entry
 pub returns-in-Err-next-clause-shown : goal.returns-in-Err-next-clause-shown
 returns-in-Err-next-clause-shown g c =
     let l = c.loop-entry in
@@ -57,6 +60,7 @@ returns-in-Err-next-clause-shown g c =
     c.in-Err-next.error reason c.in_ok-reason-in-Err-next.ensures
     (showed_stops start old first before l.invariant.showed new after l.count l.invariant.count c.in-Err-next.error c.in-Err-next.ensures)).1
 
+-- where the message of an entry has a fault, the last line tells the fault and the entry
 pub returns-in-Some-clause-shown : goal.returns-in-Some-clause-shown
 returns-in-Some-clause-shown g c =
     let l = c.loop-entry in
@@ -75,6 +79,7 @@ returns-in-Some-clause-shown g c =
     (λ last. showed_fault start old first before l.invariant.showed new e nexts after fault shows.0 shows.1
     (subst (λ w. Appends w after (last_text (Malformed e.number fault) ++ line_feed ∷ [])) shows.2 last))
 
+-- after one entry more, what was written is the text of all entries that were read
 pub loop-entry-preserved : goal.loop-entry-preserved
 loop-entry-preserved g c =
     let l = c.loop-entry in

@@ -3,6 +3,7 @@ use Rattle.sip_standard.specs.Outcome.{stops}
 use Rattle.sip_standard.specs.Says.{Says}
 use Rattle.sip_verdict.proofs.showing.show_entry.Goals as goal
 
+-- a message with a fault has no canonical form, and nothing is written
 pub returns-in-Err-Fault : goal.returns-in-Err-Fault
 returns-in-Err-Fault g c =
     let no_form = rw c.in-Err-Fault.field-0-is at c.in-Err-Fault.ensures.fault in

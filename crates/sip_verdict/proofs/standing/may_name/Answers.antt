@@ -8,17 +8,20 @@ use Rattle.sip_verdict.proofs.sweeps.MayNameLemmas.{none_may, own_may, first_may
 use Rattle.sip_verdict.proofs.sweeps.NewestLemmas.{names_not}
 use Rattle.sip_verdict.proofs.standing.may_name.Goals as goal
 
+-- the entry concerns no key, so none may be named
 pub returns-in-None-clause-may : goal.returns-in-None-clause-may
 returns-in-None-clause-may g c =
     let t = c.args.tables.now in
     let number = c.args.number in
     subst (λ x. IsTrue false ↔ MayBeNamed t number x) (sym c.in-None.is) (λ yes. absurd (false≢true yes), λ may. absurd (none_may t number may))
 
+-- no key is named
 pub returns-in-None-clause-none : goal.returns-in-None-clause-none
 returns-in-None-clause-none g c none =
     let names = NamesNot c.args.tables.now c.args.number in
     subst (λ x. (is_all x ≡ false) × All names (each x)) (sym c.in-None.is) (refl, All-nil names)
 
+-- the one key of the entry may be named exactly if its set may
 pub returns-in-Own-clause-may : goal.returns-in-Own-clause-may
 returns-in-Own-clause-may g c =
     let t = c.args.tables.now in
@@ -27,6 +30,7 @@ returns-in-Own-clause-may g c =
     let may = c.may_name.ensures.may in
     subst (λ x. IsTrue c.may_name.result ↔ MayBeNamed t number x) (sym c.in-Own.is) (λ yes. tells.0 (may.0 yes), λ named. may.1 (tells.1 named))
 
+-- the one key of the entry is not named
 pub returns-in-Own-clause-none : goal.returns-in-Own-clause-none
 returns-in-Own-clause-none g c none =
     let t = c.args.tables.now in
@@ -35,6 +39,7 @@ returns-in-Own-clause-none g c none =
     subst (λ x. (is_all x ≡ false) × All names (each x)) (sym c.in-Own.is)
     (refl, All-cons names own [] (names_not c.args.number own t c.set.result.now c.set.ensures (c.may_name.ensures.none none)) (All-nil names))
 
+-- where the own transaction can name the message, some set may name it
 pub returns-then-may_name-clause-may : goal.returns-then-may_name-clause-may
 returns-then-may_name-clause-may g c =
     let t = c.args.tables.now in
@@ -47,6 +52,7 @@ returns-then-may_name-clause-may g c =
 pub set-requires-else-may_name : goal.set-requires-else-may_name
 set-requires-else-may_name g c = (rw c.in-OwnAndCancelled.is at c.requires) 1 0 (omega arith)
 
+-- where the own transaction cannot name the message, some set may name it exactly if the cancelled one may
 pub returns-else-may_name-clause-may : goal.returns-else-may_name-clause-may
 returns-else-may_name-clause-may g c =
     let t = c.args.tables.now in

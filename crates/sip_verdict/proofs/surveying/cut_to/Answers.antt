@@ -10,6 +10,7 @@ use Rattle.sip_verdict.specs.SurveyParts.{IsTaken}
 use Rattle.sip_verdict.proofs.surveys.parts.Taking.{mark_of, part_item}
 use Rattle.sip_verdict.proofs.surveying.cut_to.Goals as goal
 
+-- an entry whose branch falls into another part becomes a mark at its moment
 pub returns-then-not-branch-clause-cut : goal.returns-then-not-branch-clause-cut
 returns-then-not-branch-clause-cut c =
     let e = c.args.entry.now in
@@ -25,6 +26,7 @@ returns-then-not-branch-clause-cut c =
     ap (λ (t : List ℕ). record { action = Mark; moment = e.moment; text = t }) c.clear.ensures.items ∙ sym (ap (λ f. if f then item e else mark_of (item e)) other) in
     subst (λ o. IsTaken o (item e) cut) (ap option_copied (sym c.in-Some.is)) (part_item part (item e) cut falls goes told is)
 
+-- an entry whose branch falls into the part stays as it is
 pub returns-else-not-branch-clause-cut : goal.returns-else-not-branch-clause-cut
 returns-else-not-branch-clause-cut c =
     let e = c.args.entry.now in

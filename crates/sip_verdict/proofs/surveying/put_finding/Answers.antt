@@ -4,6 +4,7 @@ use Rattle.sip_verdict.specs.inner.SurveyingLogs.{line_with}
 use Rattle.sip_verdict.proofs.surveys.written.Writing.{line_by}
 use Rattle.sip_verdict.proofs.surveying.put_finding.Goals as goal
 
+-- what is written is the line of the finding, with the transaction that it names
 pub returns-clause-text : goal.returns-clause-text
 returns-clause-text g c =
     let f = c.args.finding.now in

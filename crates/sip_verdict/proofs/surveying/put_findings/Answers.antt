@@ -5,6 +5,7 @@ use Rattle.sip_verdict.specs.inner.SurveyingLogs.{AreCounted, AreLinesBy}
 use Rattle.sip_verdict.proofs.surveys.written.Writing.{counted_more, lines_push, some_of_ok}
 use Rattle.sip_verdict.proofs.surveying.put_findings.Goals as goal
 
+-- after one finding more, the lines and the counts are those of all findings up to it
 pub loop-finding-preserved : goal.loop-finding-preserved
 loop-finding-preserved g c =
     let l = c.loop-finding in

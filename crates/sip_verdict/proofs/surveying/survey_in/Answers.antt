@@ -8,6 +8,7 @@ use Rattle.sip_verdict.specs.inner.SurveyingLogs.{SurveysRead}
 use Rattle.sip_verdict.proofs.surveys.written.Writing.{all_told, as_told, still_fine, summed, surveys_header, surveys_none}
 use Rattle.sip_verdict.proofs.surveying.survey_in.Goals as goal
 
+-- after the header nothing was read; from there on the loop tells the survey of the whole log
 pub returns-in-Ok-clause-surveyed : goal.returns-in-Ok-clause-surveyed
 returns-in-Ok-clause-surveyed g c =
     let part = option_copied c.args.part in
@@ -22,6 +23,7 @@ pub returns-in-Ok-clause-fine : goal.returns-in-Ok-clause-fine
 returns-in-Ok-clause-fine g c =
     still_fine _ c.write_entries.result (g.R.Source.has_failed c.read_header.new.reader) (g.R.Source.has_failed c.write_entries.new.reader) c.write_entries.ensures.fine (c.in_ok-params.ensures.ok ∙ c.requires)
 
+-- where the header has a fault, the survey tells this fault alone
 pub returns-in-Err-clause-surveyed : goal.returns-in-Err-clause-surveyed
 returns-in-Err-clause-surveyed g c =
     let part = option_copied c.args.part in

@@ -11,6 +11,7 @@ use Rattle.sip_verdict.specs.inner.SurveyingLogs.{AreLinesBy}
 use Rattle.sip_verdict.proofs.surveys.written.Writing.{told_none, told_nothing, told_more, summed, surveys_on, surveys_end, surveys_stop}
 use Rattle.sip_verdict.proofs.surveying.write_entries.Goals as goal
 
+-- before the first entry nothing was found or written
 pub loop-found-init : goal.loop-found-init
 loop-found-init g c = record {
   read = refl;
@@ -26,6 +27,7 @@ loop-found-init g c = record {
   );
 }
 
+-- the entry has the next number, it is not before the newest one, its moment is within the limit, and there is room for it
 pub entry-requires : goal.entry-requires
 entry-requires g c = λ goes_on.
     let l = c.loop-found in
@@ -41,6 +43,7 @@ entry-requires g c = λ goes_on.
     let low = moves.4 in
     record { next = omega (arith, number, same, counts); order = omega (arith, newest, order, moment); limit = omega (arith, high, moment); room = (omega (arith, counts, low), omega (arith, room, low)) }
 
+-- after one entry more, the lines are those of all findings so far, and the survey stands after the entries that were read
 pub loop-found-preserved : goal.loop-found-preserved
 loop-found-preserved g c =
     let l = c.loop-found in
@@ -48,11 +51,13 @@ loop-found-preserved g c =
     let old : log.ReaderState = beside_source l.progress (g.R.Source.left l.reader) (g.R.Source.has_failed l.reader) in
     let new : log.ReaderState = beside_source c.read_next.new.progress (g.R.Source.left c.read_next.new.reader) (g.R.Source.has_failed c.read_next.new.reader) in
     let moves = rw c.in-Entry.is at c.in_ok-entry.ensures.moves in
+    -- what the calls of the loop did: an entry was taken, and its lines were put
     let taken = c.in_ok-entry-in-Entry.ensures in
     let put = c.in_ok-counts-in-Entry.ensures in
     let items : List Finding = c.entry.new.found.items in
     let lines : c.as_slice.result.now ≡ items = search rules in
     let told = l.invariant.told in
+    -- what the loop keeps holds again
     record {
       read = c.in_ok-entry.ensures.ok ∙ l.invariant.read;
       written = put.fine ∙ l.invariant.written;
@@ -70,6 +75,7 @@ loop-found-preserved g c =
         told.1 ++ put.text.0,
         told_more told.0 items told.1 put.text.0 l.counts c.in_ok-counts-in-Entry.counts (g.W.Sink.written c.args.writer.now) (g.W.Sink.written l.writer) (g.W.Sink.written c.put_findings.new.writer) told.2
             (search rules) put.text.1,
+        -- what was read and taken is told on
         λ start reads.
             let so = told.3 start reads in
             let read = so.read in
@@ -79,6 +85,7 @@ loop-found-preserved g c =
       );
     }
 
+-- where the log ends, the summary and the last line tell all its entries
 pub returns-in-End-clause-surveyed : goal.returns-in-End-clause-surveyed
 returns-in-End-clause-surveyed g c =
     let l = c.loop-found in
@@ -95,6 +102,7 @@ returns-in-End-clause-surveyed g c =
     let is = same_Some _ _ (sym c.unwrap.ensures ∙ c.end.ensures.clean read.es read.follows) in
     surveys_end part start old l.survey told.0 told.1 so l.counts summary before mid after told.2 findings undecided (end ∙ is) (subst (λ e. Appends mid after (end_text e l.counts.findings)) is last) logs)
 
+-- where the next entry cannot be read, the survey ends with that fault
 pub returns-in-Fault-clause-surveyed : goal.returns-in-Fault-clause-surveyed
 returns-in-Fault-clause-surveyed g c =
     let l = c.loop-found in

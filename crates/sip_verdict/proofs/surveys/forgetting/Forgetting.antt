@@ -34,6 +34,7 @@ split_of {A} (y ∷ xs) ys (z ∷ front) x rest is = by (split_of xs ys front x 
     by (inl (zs, e)) = inl (zs, cc)
     by (inr (zs, e, f)) = inr (zs, cc, f)
 
+-- What follows is of one key, which the old entries leave idle again.
 module _ (p : Times) (key : KeyParts) (old : List (Observation KeyParts)) (again : IsIdleAgain (machine_of_key p.rules key) p (events_for key old) (newest_moment old)) where
   -- the old entries and these later ones are in order of their moments
   abbrev order_of : List (Observation KeyParts) → Type 0
@@ -69,10 +70,12 @@ module _ (p : Times) (key : KeyParts) (old : List (Observation KeyParts)) (again
       let one : (old ++ front) ++ e ∷ [] ≡ old ++ (front ++ e ∷ []) = append_assoc old front (e ∷ []) in
       let whole = newest_moment-push (old ++ front) e in
       let new = newest_moment-push front e in (
+        -- from all entries to the later ones
         λ runs.
             let at : Stands f p (events_for key (old ++ (front ++ e ∷ []))) e.event.moment runs.0 =
             subst (λ es. Stands f p (events_for key es) e.event.moment runs.0) one (subst (λ m. Stands f p (events_for key ((old ++ front) ++ e ∷ [])) m runs.0) whole runs.1) in
             (runs.0, subst (λ m. Stands f p (events_for key (front ++ e ∷ [])) m runs.0) (sym new) ((stands_new (front ++ e ∷ []) order e.event.moment late runs.0).0 at)),
+        -- from the later entries to all of them
         λ runs.
             let at : Stands f p (events_for key (old ++ (front ++ e ∷ []))) e.event.moment runs.0 =
             (stands_new (front ++ e ∷ []) order e.event.moment late runs.0).1 (subst (λ m. Stands f p (events_for key (front ++ e ∷ [])) m runs.0) new runs.1) in
@@ -93,6 +96,7 @@ module _ (p : Times) (key : KeyParts) (old : List (Observation KeyParts)) (again
         λ wide. (wide.0, (wide.1.0, wide.1.1, wide.1.2, All-weaker (StandsAfter f p (events_for key front) e.event) (StandsAfter f p (events_for key (old ++ front)) e.event) from wide.1.0 wide.1.3)),
       )
 
+  -- What follows is of a key that came into no trouble over the old entries.
   module _ (sound : IsSound p old key) where
     -- the key is in no trouble over all entries exactly if it is in none over the later ones
     sound_new : (more : List (Observation KeyParts)) → order_of more → IsSound p (old ++ more) key ↔ IsSound p more key
@@ -104,23 +108,28 @@ module _ (p : Times) (key : KeyParts) (old : List (Observation KeyParts)) (again
         order_at : (front : List (Observation KeyParts)) (e : Observation KeyParts) (rest : List (Observation KeyParts)) → more ≡ front ++ e ∷ rest → order_of (front ++ e ∷ [])
         order_at front e rest is = order_front (front ++ e ∷ []) rest (subst order_of (is ∙ sym (append_assoc front (e ∷ []) rest)) order)
 
+        -- no entry of the old ones or of the later ones finds the key too wide
         narrow : IsSound p more key → (front : List (Observation KeyParts)) (e : Observation KeyParts) (rest : List (Observation KeyParts)) → IsWideAt p front e key
             → ((zs : List (Observation KeyParts)) × (old ≡ front ++ e ∷ zs)) ⊎ ((zs : List (Observation KeyParts)) × (front ≡ old ++ zs) × (more ≡ zs ++ e ∷ rest)) → ⊥
         narrow new front e rest wide (inl (zs, is)) = sound.1 front e zs is wide
         narrow new front e rest wide (inr (zs, before, is)) = new.1 zs e rest is ((wide_new zs e (order_at zs e rest is)).0 (subst (λ xs. IsWideAt p xs e key) before wide))
 
+        -- a run over all entries is one over the later ones
         runs_of : (es : List (Observation KeyParts)) → order_of es → RunsOver p (old ++ es) key → RunsOver p es key
         runs_of es order runs = by (empty_or_last es)
           where
+            -- there are no later entries, or there is a last one
             by : (es ≡ []) ⊎ ((front : List (Observation KeyParts)) × (e : Observation KeyParts) × (es ≡ front ++ e ∷ [])) → RunsOver p es key
             by (inl none) = subst (λ xs. RunsOver p xs key) (sym none) (sound_nil p key).0
             by (inr (front, e, is)) =
                 subst (λ xs. RunsOver p xs key) (sym is)
                 ((runs_new front e (subst order_of is order)).0 (subst (λ xs. RunsOver p xs key) (ap (λ xs. old ++ xs) is ∙ sym (append_assoc old front (e ∷ []))) runs))
 
+        -- a run over the later entries is one over all of them
         runs_both : (es : List (Observation KeyParts)) → order_of es → RunsOver p es key → RunsOver p (old ++ es) key
         runs_both es order runs = by (empty_or_last es)
           where
+            -- there are no later entries, or there is a last one
             by : (es ≡ []) ⊎ ((front : List (Observation KeyParts)) × (e : Observation KeyParts) × (es ≡ front ++ e ∷ [])) → RunsOver p (old ++ es) key
             by (inl none) = subst (λ xs. RunsOver p (old ++ xs) key) (sym none) (subst (λ xs. RunsOver p xs key) (sym (append-nil old)) sound.0)
             by (inr (front, e, is)) =

@@ -56,6 +56,7 @@ kept_by_at (c ∷ flags) (k ∷ keys) apart zero key b at flag =
 kept_by_at (c ∷ flags) (k ∷ keys) apart (suc n) key b at flag =
     go (same_key key k) refl (kept_by_at flags keys (AllPairs-tail (λ a b. a ≢ b) k keys apart) n key b at flag)
   where
+    -- whether the first key is the one that is looked for
     go : (t : Bool) → same_key key k ≡ t → kept_by flags keys key ≡ b → cond (same_key key k) c (kept_by flags keys key) ≡ b
     go true e rest = absurd (All-place (λ x. k ≢ x) keys n key at (AllPairs-head (λ a b. a ≢ b) k keys apart) (sym ((same_key-decides key k).0 e)))
     go false e rest = ap (λ t. cond t c (kept_by flags keys key)) e ∙ rest
@@ -92,6 +93,7 @@ flags_more until t b flags is_past says each n is_kept set h flag at of = go (pu
     turned true = (λ e. refl, λ e. refl)
     turned false = (λ e. absurd (true≢false e), λ e. absurd (false≢true e))
 
+    -- the flag is one of those so far, or the new one
     go : (slice_get flags n ≡ Some is_kept) ⊎ ((n ≡ length flags) × (not is_past ≡ is_kept)) → (is_kept ≡ false) ↔ IsPast until b.restart set h
     go (inl old) = each n is_kept set h old at of
     go (inr (last, is)) =
@@ -102,6 +104,7 @@ flags_more until t b flags is_past says each n is_kept set h flag at of = go (pu
 pub All-kept : {A : Type 0} (P : A → Type 0) (flags : List Bool) (xs : List A) → All P xs → All P (kept_of flags xs)
 All-kept P flags xs all = All-places P (kept_of flags xs) (λ n x at. All-place P xs (place_of flags n) x (kept_at flags xs n x at).0 all)
 
+-- What follows is of one key that is kept.
 module _ (kept : KeyParts → Bool) (key : KeyParts) (is : kept key ≡ true) where
   -- an entry without the keys that are not kept is of a kept key exactly if the entry is
   same_of : (e : Observation KeyParts) → is_of key (record { fault = e.fault; event = e.event; keys = filter kept e.keys }) ≡ is_of key e
@@ -194,6 +197,7 @@ pub watched_waited : (t u : Tabled) (b : Troubled) → u.keys ≡ t.keys → u.r
 watched_waited t u b keys records recorded h =
     record { long = h.long ∙ sym (ap length keys); recorded = recorded; silent = λ n is. ap (λ rs. slice_get rs n) records ∙ h.silent n is }
 
+-- What follows is of tables of which the keys with a set flag are kept.
 module _ (flags : List Bool) (t : Tabled) (long : length flags ≡ length t.keys) (apart : AllPairs (λ a b. a ≢ b) t.keys) where
   -- whether a key is kept by the flags, which are those of the tables' keys
   abbrev pub kept : KeyParts → Bool

@@ -22,6 +22,7 @@ IsTo m e = e.moment ≤ m
 abbrev IsFrom : ℕ → MachineEvent → Type 0
 IsFrom m e = m ≤ e.moment
 
+-- What follows is of a machine that can stay in idle for ever and does not end there: its figure f with the times p.
 module _ {X : Type 0} (f : Figure X) (p : Times) (lasts : (m : ℕ) → Lasts f p (quiet f.idle) m) (has_no_end : (m : ℕ) → ¬ (MayEnd f p (quiet f.idle) m)) where
   -- no event of a run is after the moment at which the run stands
   events_to : (events : List MachineEvent) (m : ℕ) (y : Owing X) → Stands f p events m y → All (IsTo m) events
@@ -30,10 +31,13 @@ module _ {X : Type 0} (f : Figure X) (p : Times) (lasts : (m : ℕ) → Lasts f 
   events_to events m y (ends evs h x stands may) = events_to evs h x stands
   events_to events m y (takes evs e x z stands does) = All-push (IsTo e.moment) evs e (events_to evs e.moment x stands) (omega arith)
 
+  -- What follows is of old events that leave the transaction idle at the moment m.
   module _ (old : List MachineEvent) (m : ℕ) (idle : Stands f p old m (quiet f.idle)) where
     -- where old events leave the transaction idle at m, a run over later events goes on after them; before m such a run has no event and stands in idle
     on : (more : List MachineEvent) (k : ℕ) (y : Owing X) → Stands f p more k y → All (IsFrom m) more → (m ≤ k → Stands f p (old ++ more) k y) × (k < m → (more ≡ []) × (y ≡ quiet f.idle))
+    -- the run begins at 0, so that m is 0 or after its moment
     on more k y begins from = (λ high. subst (λ n. Stands f p (old ++ []) n (quiet f.idle)) (let same : m ≡ 0 = omega (arith, high) in same) (subst (λ es. Stands f p es m (quiet f.idle)) (sym (append-nil old)) idle), λ low. (refl, refl))
+    -- the run waits
     on more k y (waits evs h n x stands low lasting) from = go (dec_le m h) (on evs h x stands from)
       where
         go : Dec (m ≤ h) → (m ≤ h → Stands f p (old ++ evs) h x) × (h < m → (evs ≡ []) × (x ≡ quiet f.idle)) → (m ≤ n → Stands f p (old ++ evs) n x) × (n < m → (evs ≡ []) × (x ≡ quiet f.idle))
@@ -43,16 +47,20 @@ module _ {X : Type 0} (f : Figure X) (p : Times) (lasts : (m : ℕ) → Lasts f 
               λ high. subst (λ es. Stands f p (old ++ es) n x) (sym new.0) (subst (λ es. Stands f p es n x) (sym (append-nil old)) (subst (Stands f p old n) (sym new.1) (waits old m n (quiet f.idle) idle high (lasts n)))),
               λ before. new,
             )
+    -- the state ends
     on more k y (ends evs h x stands may) from = go (dec_le m h) (on evs h x stands from)
       where
+        -- the end comes at m or later, or before it
         go : Dec (m ≤ h) → (m ≤ h → Stands f p (old ++ evs) h x) × (h < m → (evs ≡ []) × (x ≡ quiet f.idle)) → (m ≤ h → Stands f p (old ++ evs) h (quiet f.ended)) × (h < m → (evs ≡ []) × (quiet f.ended ≡ quiet f.idle))
         go (yes late) both = (λ high. ends (old ++ evs) h x (both.0 late) may, λ before. absurd (omega (arith, late, before)))
         go (no early) both = absurd (has_no_end h (subst (λ z. MayEnd f p z h) (both.1 (omega (arith, early))).1 may))
+    -- the run takes an event, which comes at m or later
     on more k y (takes evs e x z stands does) from =
         let last : m ≤ e.moment = All-middle (IsFrom m) evs [] e from in
         let before = (on evs e.moment x stands (All-front (IsFrom m) evs (e ∷ []) from)).0 last in
         (λ high. subst (λ es. Stands f p es e.moment z) (append_assoc old evs (e ∷ [])) (takes (old ++ evs) e x z before does), λ low. absurd (omega (arith, low, last)))
 
+  -- What follows is of old events after which the transaction stands in idle alone at the moment m.
   module _ (old : List MachineEvent) (m : ℕ) (only : (x : Owing X) → Stands f p old m x → x ≡ quiet f.idle) (past : All (IsTo m) old) where
     -- the transaction stands in idle at each moment, where there is no event
     new : (k : ℕ) → Stands f p [] k (quiet f.idle)
@@ -67,9 +75,11 @@ module _ {X : Type 0} (f : Figure X) (p : Times) (lasts : (m : ℕ) → Lasts f 
         second (x ∷ xs) ys e = absurd (cc)
     off all k y (waits evs h n x stands low lasting) high more is from = go (dec_le m h) (λ late. off evs h x stands late more is from)
       where
+        -- where the run is not at m yet, no later event was taken
         none : (ys : List MachineEvent) → evs ≡ old ++ ys → All (IsFrom m) ys → h < m → ys ≡ []
         none ys are later early = by (empty_or_last ys)
           where
+            -- there are no later events, or there is a last one
             by : (ys ≡ []) ⊎ ((front : List MachineEvent) × (e : MachineEvent) × (ys ≡ front ++ e ∷ [])) → ys ≡ []
             by (inl e) = e
             by (inr (front, e, is_last)) =
@@ -78,6 +88,7 @@ module _ {X : Type 0} (f : Figure X) (p : Times) (lasts : (m : ℕ) → Lasts f 
                 let at = All-middle (IsFrom m) front [] e (subst (All (IsFrom m)) is_last later) in
                 absurd (omega (arith, to, at, early))
 
+        -- the wait begins at m or later, or before it
         go : Dec (m ≤ h) → (m ≤ h → Stands f p more h x) → Stands f p more n x
         go (yes late) before = waits more h n x (before late) low lasting
         go (no early) before =
@@ -87,6 +98,7 @@ module _ {X : Type 0} (f : Figure X) (p : Times) (lasts : (m : ℕ) → Lasts f 
     off all k y (ends evs h x stands may) high more is from = ends more h x (off evs h x stands high more is from) may
     off all k y (takes evs e x z stands does) high more is from = go (empty_or_last more) (λ front are later. off evs e.moment x stands high front are later)
       where
+        -- no later event was taken, or the last one is e
         go : (more ≡ []) ⊎ ((front : List MachineEvent) × (d : MachineEvent) × (more ≡ front ++ d ∷ [])) → ((front : List MachineEvent) → evs ≡ old ++ front → All (IsFrom m) front → Stands f p front e.moment x) → Stands f p more e.moment z
         go (inl nil) before =
             let whole : evs ++ e ∷ [] ≡ old = is ∙ ap (λ ys. old ++ ys) nil ∙ append-nil old in

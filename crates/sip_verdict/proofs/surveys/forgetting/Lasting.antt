@@ -10,6 +10,7 @@ use Rattle.sip_states.proofs.keyed.KeySetLaws.{coded_holds}
 use Rattle.sip_states.proofs.runs.StandsLemmas.{lasts-waits}
 use Rattle.sip_states.proofs.sets.Waiting.{IsWithin-none}
 
+-- What follows is of a machine by its figure f with the times p.
 module _ {X : Type 0} (f : Figure X) (is : IsFigure f) (p : Times) where
   -- idle lasts for ever
   first_lasts : (m : ℕ) → Lasts f p (quiet f.idle) m
@@ -19,6 +20,7 @@ module _ {X : Type 0} (f : Figure X) (is : IsFigure f) (p : Times) where
   first_stays : (m : ℕ) → ¬ (MayEnd f p (quiet f.idle) m)
   first_stays m may = subst (λ window. IsSomeAnd window (λ w. w.0 ≤ m)) (is.idle_has_no_end p) may.0
 
+-- What follows is of a machine by its figure f with the times p.
 module _ {X : Type 0} (f : Figure X) (p : Times) where
   -- where a moment is within a window, an earlier one does not come after the window's close
   earlier_in_window : (h m : ℕ) → h ≤ m → (window : Option (ℕ × Option ℕ)) → IfSome window (λ w. IfSome w.1 (λ close. m ≤ close)) → IfSome window (λ w. IfSome w.1 (λ close. h ≤ close))

@@ -81,6 +81,7 @@ few_more keys (key ∷ more) =
     let one : length (with_key keys key) ≤ length keys + 1 = one_more (list_any (same_key key) keys) in
     omega (arith, rest, one)
   where
+    -- whether the key is known already
     one_more : (b : Bool) → length (if b then keys else keys ++ key ∷ []) ≤ length keys + 1
     one_more true = omega arith
     one_more false = let long = length-append keys (key ∷ []) in omega arith
@@ -93,6 +94,7 @@ two_keys s direction keys is =
     let long = ap length is ∙ length-append (option_to_list (own_key s direction)) (option_to_list (cancelled_key s direction)) in
     omega arith
   where
+    -- an option has at most one element
     at_most_one : (key : Option KeyParts) → length (option_to_list key) ≤ 1
     at_most_one None = omega arith
     at_most_one (Some key) = omega arith
@@ -111,6 +113,7 @@ two_more es item e sees = by (direction_of item.action) refl sees
     silent Received is = none (ap (λ o. o.keys) is)
     silent Failed is = none (ap (λ o. o.keys) is)
 
+    -- an entry with a message brings at most two keys
     heard : (direction : Direction) → ObservesMessage direction item e → length (keys_in (es ++ e ∷ [])) ≤ length (keys_in es) + 2
     heard direction (has_fault fault says is) = none (ap (λ o. o.keys) is)
     heard direction (has_no_cookie s says lacks is) = none (ap (λ o. o.keys) is)
@@ -121,6 +124,7 @@ two_more es item e sees = by (direction_of item.action) refl sees
         let push = ap length (keys_in-push es e) in
         omega arith
 
+    -- whether the entry has a message, and which way it went
     by : (d : Option Direction) → direction_of item.action ≡ d → MatchOption d (e ≡ silent_observation item.action item.moment (keys_in es)) (λ direction. ObservesMessage direction item e)
         → length (keys_in (es ++ e ∷ [])) ≤ length (keys_in es) + 2
     by None is saw = silent item.action saw
@@ -130,11 +134,13 @@ two_more es item e sees = by (direction_of item.action) refl sees
 never_after : (age : ℕ) (part : Option PartOf) (p : Times) (es : Entries) (items taken : List Item) (close : LogEnd) (found : List Finding) (end : SurveyEnd) (after : Entries) (lines : List ℕ) → AreTaken part items taken
     → length es + length items ≤ most_entries → length (keys_in es) ≤ length es + length es → IsSurveyAfter p es taken close found end → AreSeen es taken after
     → IsTextOf (es ++ after) found lines → IsToldAfter age part p es items close found end lines
+-- no item is left
 never_after age part p es [] [] Clean found end after lines are few keys is seen text = (is, subst (λ fs. IsTextOf (es ++ after) fs lines) is.0 text)
 never_after age part p es [] [] (Stops fault) found end after lines are few keys is seen text = (is, subst (λ fs. IsTextOf (es ++ after) fs lines) is.0 text)
 never_after age part p es [] (x ∷ taken) close found end after lines are few keys is seen text = absurd are
 never_after age part p es (item ∷ items) [] close found end after lines are few keys is seen text = absurd are
 never_after age part p es (item ∷ items) (x ∷ taken) close found end [] lines are few keys is seen text = absurd seen
+-- one item more, at which nothing is forgotten
 never_after age part p es (item ∷ items) (x ∷ taken) close found end (f ∷ after) lines (one, more) few keys (e, here, later, sees, both, are, left) (saw, seen) text =
     let same : f ≡ e = observes_one es x f e saw sees in
     let whole : IsTextOf ((es ++ e ∷ []) ++ after) (here ++ later) lines =

@@ -72,6 +72,7 @@ order_by xs ys same order i j d low high =
     let was = order i j d low (omega (arith, high, long)) in
     omega (arith, first, second, was)
 
+-- What follows is of one key.
 module _ (key : KeyParts) where
   -- those of the keys that are equal to `key`, the one key of which all that follows speaks
   abbrev own : List KeyParts → List KeyParts
@@ -89,6 +90,7 @@ module _ (key : KeyParts) where
       known : same_key key k ≡ true → with_key (key ∷ []) k ≡ key ∷ []
       known e = ap (λ b. cond (b || false) (key ∷ []) (key ∷ k ∷ [])) ((same_key-decides k key).1 (same_back k e))
 
+      -- whether the next key is equal to the one key
       go : (b : Bool) → same_key key k ≡ b → fold with_key (key ∷ []) (own keys) ≡ key ∷ [] → fold with_key (key ∷ []) (cond (same_key key k) (k ∷ own keys) (own keys)) ≡ key ∷ []
       go false e rest = ap (λ b. fold with_key (key ∷ []) (cond b (k ∷ own keys) (own keys))) e ∙ rest
       go true e rest =
@@ -127,6 +129,7 @@ module _ (key : KeyParts) where
   cut_self : (e : Observation KeyParts) → IsCutOf (same_key key) e (cut_of e)
   cut_self e = (refl, refl, λ some. refl)
 
+  -- What follows is of the key by the times p.
   module _ (p : Times) where
     -- where the key is among the keys of two logs alike, and one entry more concerns it in both or in neither, it is among their keys alike still
     own_push : (done left : Entries) (e f : Observation KeyParts) → own (keys_in done) ≡ own (keys_in left) → own e.keys ≡ own f.keys → own (keys_in (done ++ e ∷ [])) ≡ own (keys_in (left ++ f ∷ []))
@@ -283,6 +286,7 @@ module _ (key : KeyParts) where
           sound = sound_push p es e key r.sound (idle, subst (λ m. Stands f p (events_for key (es ++ e ∷ [])) m idle) (sym now) stands) (λ wide. narrow only wide);
         }
       where
+        -- the transaction stands in idle alone, so it is not too wide
         narrow : ((x : Owing (transaction_of kind).Phase) → Stands (transaction_of kind).figure p (events_for key (es ++ e ∷ [])) e.event.moment x → x ≡ quiet (transaction_of kind).figure.idle) → ¬ (IsWideAt p es e key)
         narrow only (concerned, (many, distinct, long, all)) =
             let f = (transaction_of kind).figure in
@@ -343,6 +347,7 @@ module _ (key : KeyParts) where
         first_left : IsOrdered (left ++ h ∷ [])
         first_left = ordered_to left [] h fs order_left
 
+        -- the entries that are compared are the next ones, or later ones
         at : Rests (old ++ g ∷ []) → Rests (left ++ h ∷ []) → HasSameTroubleAfter p (old ++ g ∷ []) (left ++ h ∷ []) es fs key
             → (front back : Entries) (e f : Observation KeyParts) (rest more : Entries) → g ∷ es ≡ front ++ e ∷ rest → h ∷ fs ≡ back ++ f ∷ more → length front ≡ length back → Alike (old ++ front) e (left ++ back) f
         at now now_left later [] [] e f rest more split other long =
@@ -364,6 +369,7 @@ module _ (key : KeyParts) where
             (subst (λ xs. Alike ((old ++ g ∷ []) ++ front) e xs f) (append_assoc left (h ∷ []) back ∙ ap (λ z. left ++ z ∷ back) is_left)
             (later front back e f rest more tail tail_left (omega (arith, long))))
 
+        -- the next entries of both logs are alike for the key
         by : Comes g h → (Rests (old ++ g ∷ []) → Rests (left ++ h ∷ []) → HasSameTroubleAfter p (old ++ g ∷ []) (left ++ h ∷ []) es fs key) → Alike (old ++ front) e (left ++ back) f
         by (inl (same, some)) on =
             let own_same : own (keys_in (old ++ g ∷ [])) ≡ own (keys_in (left ++ h ∷ [])) = own_with old g some ∙ sym (own_with left h (ap (λ x. list_any (same_key key) x.keys) (sym same) ∙ some)) in

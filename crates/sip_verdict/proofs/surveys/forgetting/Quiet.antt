@@ -19,6 +19,7 @@ use Rattle.sip_verdict.specs.Forgetting.{HasEnded}
 use Rattle.sip_verdict.specs.SurveyLaws.{IsIdleAgain}
 use Rattle.sip_verdict.specs.inner.TablesTracking.{LeadsOf}
 
+-- What follows is of the set of one transaction, which leads to its runs over the events and waits until the moment n.
 module _ (texts : Texts) (p : Times) (machine : MachineKind) (events : List MachineEvent) (n : ℕ) (set : AnySet) (leads : LeadsOf texts p machine events n set) (low : moment_of set ≤ n) where
   -- the states of the set that lead to the runs
   abbrev held : Held Times (StateOf machine)

@@ -70,6 +70,7 @@ pub zip_remembered : (kept : KeyParts → Bool) (es : List (Observation KeyParts
 zip_remembered kept [] = tt
 zip_remembered kept (e ∷ es) = ((refl, refl, λ some. refl), zip_remembered kept es)
 
+-- What follows is of entries of which the keys that pass `kept` are remembered.
 module _ (kept : KeyParts → Bool) where
   -- an entry as it is remembered: with the kept keys alone
   abbrev one_of : Observation KeyParts → Observation KeyParts
@@ -89,6 +90,7 @@ module _ (kept : KeyParts → Bool) where
       (moments_kept e.event.moment old more (AllPairs-head (λ a b. a.event.moment ≤ b.event.moment) e (old ++ more) order))
       (order_kept old more (AllPairs-tail (λ a b. a.event.moment ≤ b.event.moment) e (old ++ more) order))
 
+  -- What follows is of one key that is kept.
   module _ (key : KeyParts) (is : kept key ≡ true) where
     -- the keys equal to a kept key among the kept keys are those among all keys
     same_left : (keys : List KeyParts) → filter (same_key key) (filter kept keys) ≡ filter (same_key key) keys
@@ -126,6 +128,7 @@ module _ (kept : KeyParts → Bool) where
         let whole = trouble_cut (same_key key) key here p (old ++ front) mid e c (zip_append old (remembered (same_key key) old) (zip_remembered (same_key key) old) front) cut in
         ((λ h. whole.0.1 (left.0.0 h), λ h. left.0.1 (whole.0.0 h)), (λ h. whole.1.1 (left.1.0 h), λ h. left.1.1 (whole.1.0 h)))
 
+  -- What follows is of one key that is forgotten.
   module _ (key : KeyParts) (not : kept key ≡ false) where
     -- a forgotten key is not among the keys that are kept
     none_left : (keys : List KeyParts) → list_any (same_key key) (filter kept keys) ≡ false

@@ -65,6 +65,7 @@ waited_known texts book moment old new waits known =
     let stand = waited.states texts book (of_set (λ X M S m s. IsKnown m texts s) machine s (subst (IsKnownSet texts) is known)) in
     (subst (IsKnownSet texts) (sym new_is) (to_set (λ X M S m s. IsKnown m texts s) machine t stand.known), ap moment_of new_is ∙ moment_is machine t ∙ waited.at)
 
+-- What follows is of the set of one transaction, before it has waited until the moment and after it.
 module _ (texts : Texts) (book : IsBook texts) (p : Times) (machine : MachineKind) (events : List MachineEvent) (from moment : ℕ) (late : from ≤ moment) (old new : AnySet)
     (low : moment_of old ≤ moment) (waits : SetWaits moment old new) where
   -- the states of the set that has waited stand for just where the runs stand at the moment, and the set leads to these runs
@@ -80,7 +81,9 @@ module _ (texts : Texts) (book : IsBook texts) (p : Times) (machine : MachineKin
       let m = meaning_of machine in
       let (t, new_is, waited) = of_sets (λ X M S m s u. HasWaited m moment s u) machine s new (subst (λ o. SetWaits moment o new) is waits) in
       let not_later : s.moment ≤ moment = subst (λ n. n ≤ moment) (ap moment_of is ∙ moment_is machine s) low in
+      -- the waited states stand for where the runs that wait until the moment stand
       let stand = subst (λ q. StandFor m.names m.in_range m.seen texts (Wait (m.rules q) (Contains (map (m.seen texts) s.states)) s.moment moment) t.states) leads.machine_is (waited.states texts book leads.leads.known) in
+      -- so they also lead to the runs until the moment
       let on = waited_leads m.names m.in_range m.seen texts (m.rules p) (lawful_of machine p) events from s.moment moment s.states t.states not_later leads.leads stand in
       record {
         held = t;
@@ -160,18 +163,23 @@ module _ (texts : Texts) (book : IsBook texts) (t u : Tabled) (moment : ℕ) (wa
         go n r old new was at (recorded.each n old r was there);
   }
     where
+      -- of one set: its last moment on record is still right
       go : (n : ℕ) (r : Option (Option ℕ)) (old new : AnySet) → slice_get t.sets n ≡ Some old → slice_get u.sets n ≡ Some new → IsOnRecord [] (n + 1) old r → IsOnRecord [] (n + 1) new r
       go n None old new was at h = h
       go n (Some limit) old new was at h = swept_agenda texts book moment old new (low n old was) (inl (waited.each n old new was at)) (known n old was) limit h
 
+  -- What follows is of tables t that track the entries es, and the tables u after all sets have waited.
   module _ (es : List (Observation KeyParts)) (deaf : List Bool) (tracks : TablesSurvey texts es t deaf) (newest : newest_moment es ≡ moment) (as_many : length deaf ≡ length t.keys) where
+    -- no entry is after the moment
     late : newest_moment es ≤ moment
     late = omega (arith, newest)
 
+    -- a set that has waited leads to the runs to which it led
     on : (n : ℕ) (old new : AnySet) → slice_get t.sets n ≡ Some old → slice_get u.sets n ≡ Some new → (machine : MachineKind) (events : List MachineEvent)
         → LeadsOf texts t.times machine events (newest_moment es) old → LeadsOf texts t.times machine events (newest_moment es) new
     on n old new was at machine events leads = waited_on texts book t.times machine events (newest_moment es) moment late old new (low n old was) (waited.each n old new was at) leads
 
+    -- a set that has waited follows the entries that it followed
     follows : (n : ℕ) (old new : AnySet) → slice_get t.sets n ≡ Some old → slice_get u.sets n ≡ Some new → (key : KeyParts) (d : Bool) → IsFollowed texts t.times es key old d → IsFollowed texts t.times es key new d
     follows n old new was at key true (leads, unsound) = (on n old new was at (machine_of_key t.times.rules key) [] leads, unsound)
     follows n old new was at key false (leads, sound) = (on n old new was at (machine_of_key t.times.rules key) (events_for key es) leads, sound)
@@ -195,16 +203,19 @@ module _ (texts : Texts) (book : IsBook texts) (t u : Tabled) (moment : ℕ) (wa
         let (d, is) = at_place deaf n (let inside = slice_get_within t.keys n key key_at in omega (arith, inside, as_many)) in
         by n old new was here key d (tracks.each n key old d key_at was is) (subst (λ q. IsOver q es key) waited.times over)
       where
+        -- of one set: where its runs stand in idle alone, it is quiet
         idle : (n : ℕ) (old new : AnySet) → slice_get t.sets n ≡ Some old → slice_get u.sets n ≡ Some new → (machine : MachineKind) (events : List MachineEvent)
             → LeadsOf texts t.times machine events (newest_moment es) old → IsIdleAgain machine t.times events (newest_moment es) → IsQuietSet new
         idle n old new was at machine events leads again =
             idle_quiet texts book t.times machine events (newest_moment es) moment late old new (low n old was) (waited.each n old new was at) leads (subst (IsIdleAgain machine t.times events) newest again)
 
+        -- of one set: where its transaction has ended, it is quiet
         ended : (n : ℕ) (old new : AnySet) → slice_get t.sets n ≡ Some old → slice_get u.sets n ≡ Some new → (machine : MachineKind) (events : List MachineEvent)
             → LeadsOf texts t.times machine events (newest_moment es) old → HasEnded machine t.times events (newest_moment es) → IsQuietSet new
         ended n old new was at machine events leads is_over =
             ended_quiet texts book t.times machine events (newest_moment es) moment late old new (low n old was) (waited.each n old new was at) leads (subst (HasEnded machine t.times events) newest is_over)
 
+        -- the transaction is in trouble, idle again, or ended
         by : (n : ℕ) (old new : AnySet) → slice_get t.sets n ≡ Some old → slice_get u.sets n ≡ Some new → (key : KeyParts) (d : Bool) → IsFollowed texts t.times es key old d → IsOver t.times es key → IsQuietSet new
         by n old new was at key true (leads, unsound) over = idle n old new was at (machine_of_key t.times.rules key) [] leads (idle_begun (machine_of_key t.times.rules key) t.times (newest_moment es))
         by n old new was at key false (leads, sound) (inl unsound) = absurd (unsound sound)

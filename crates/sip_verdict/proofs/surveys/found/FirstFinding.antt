@@ -35,6 +35,7 @@ first_least P Q keys n k (before, key, rest, is, holds, earlier, counts) (front,
 found_none : (P Q : KeyParts → Type 0) (keys : List KeyParts) (k : ℕ) → HoldsOf Q keys k → All P keys → ((key : KeyParts) → Q key → P key → ⊥) → ⊥
 found_none P Q keys k (front, key, rest, is, has, number) all not = not key has (All-middle P front rest key (subst (All P) is all))
 
+-- What follows is of the entry e after the entries es, and what a survey finds at it.
 module _ (p : Times) (es : List (Observation KeyParts)) (e : Observation KeyParts) (here : List Finding) (at : AreFoundAt p es e here) where
   -- the keys of the entries and e
   abbrev keys : List KeyParts
@@ -48,6 +49,7 @@ module _ (p : Times) (es : List (Observation KeyParts)) (e : Observation KeyPart
       by [] sorted h none = absurd (Contains-none f h)
       by (g ∷ found) sorted h none = go (Contains-cons g found f h)
         where
+          -- the finding is the first of the list, or a later one
           go : (g ≡ f) ⊎ Contains found f → verdict_of g ≡ verdict_of f
           go (inl same) = ap verdict_of same
           go (inr rest) = absurd (none g (Contains-here g found) (first_before Precedes g found sorted f rest))
@@ -88,10 +90,12 @@ module _ (p : Times) (es : List (Observation KeyParts)) (e : Observation KeyPart
       sym (least_first (Malformed n a) ((at.1 (Malformed n a)).1 trouble) (λ g h. before_fault n a g) later end)
   trouble_first sound (verdicts.Breach n t) (is, formed, first) later end = sym (least_first (Breach n t) (has first) (before_breach formed n t first) later end)
     where
+      -- the breach of the first key without a run is found
       has : IsFirstKey (λ key. ¬ (RunsOver p (es ++ e ∷ []) key)) keys t → Contains here (Breach n t)
       has (before, key, rest, are, without, earlier, counts) = (at.1 (Breach n t)).1 (is, (before, key, rest, are, (sound key, without), counts))
   trouble_first sound (verdicts.Undecided n t) (is, formed, runs, first) later end = sym (least_first (Undecided n t) (has first) (before_wide formed runs n t first) later end)
     where
+      -- the first key that is too wide is found
       has : IsFirstKey (IsWideAt p es e) keys t → Contains here (Undecided n t)
       has (before, key, rest, are, wide, earlier, counts) = (at.1 (Undecided n t)).1 (is, (before, key, rest, are, (sound key, wide), counts))
 
@@ -104,6 +108,7 @@ module _ (p : Times) (es : List (Observation KeyParts)) (e : Observation KeyPart
       none (Breach k t) h = whole_none runs k t h
       none (Undecided k t) h = found_none (λ key. ¬ (IsWideAt p es e key)) (Widens p es e) keys t ((at.1 (Undecided k t)).0 h).1 narrow (λ key widens not. not widens.1)
 
+      -- there is no finding, since each is of some trouble
       by : (found : List Finding) → AreFoundAt p es e found → found ≡ []
       by [] found = refl
       by (f ∷ found) is = absurd (none f ((at.1 f).1 ((is.1 f).0 (Contains-here f found))))

@@ -48,6 +48,7 @@ fault_alone : (n : ℕ) (fault : Option Fault) → AllPairs Precedes (fault_foun
 fault_alone n None = λ i j d low high. absurd (omega (arith, high))
 fault_alone n (Some a) = λ i j d low high. absurd (omega (arith, low, high))
 
+-- What follows is of the entry e with the number n, and the numbers of the transactions that come into trouble at it.
 module _ (p : Times) (es : List (Observation KeyParts)) (e : Observation KeyParts) (n : ℕ) (is : n ≡ length es + 1) (broken wide : List ℕ)
     (breaks : AreNumbers (Breaks p es e) (keys_in (es ++ e ∷ [])) broken) (widens : AreNumbers (Widens p es e) (keys_in (es ++ e ∷ [])) wide) where
   -- the findings of transactions alone: those that break, and those that are followed no further

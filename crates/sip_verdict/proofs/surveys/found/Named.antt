@@ -68,6 +68,7 @@ found_is p done (item ∷ items) close (g ∷ es) found end (sees, seen) (h, her
     FoundLater : Type 0
     FoundLater = (front : List (Observation KeyParts)) × (e : Observation KeyParts) × (more : List (Observation KeyParts)) × (es ≡ front ++ e ∷ more) × IsFoundAt p ((done ++ g ∷ []) ++ front) e f
 
+    -- the finding is of the next entry, or of a later one
     by : Contains here f ⊎ Contains later f → (Contains later f → FoundLater)
         → (front : List (Observation KeyParts)) × (e : Observation KeyParts) × (more : List (Observation KeyParts)) × (g ∷ es ≡ front ++ e ∷ more) × IsFoundAt p (done ++ front) e f
     by (inl c) more = ([], g, es, refl, subst (λ xs. IsFoundAt p xs g f) (sym (append-nil done)) (subst (λ x. IsFoundAt p done x f) known ((are.1 f).0 c)))

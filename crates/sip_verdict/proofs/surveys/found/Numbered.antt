@@ -46,6 +46,7 @@ pub concerned_rest : (texts : Texts) (p : Times) (es : List (Observation KeyPart
 concerned_rest texts p es e event ns i number next keys now same concerned n key at among =
     concerned n key (ap (λ ks. slice_get ks n) (sym same) ∙ at) (rest_among ns i (n + 1) (subst (λ xs. is_among xs (n + 1) ≡ true) (sym next) among))
 
+-- What follows is of one event that transactions hear.
 module _ (texts : Texts) (event : NumberedEvent) where
   -- where there is no number, nothing changes when the event is heard
   pub hears_none : (t : Tabled) (b : Troubled) → HearsNumbers texts event [] t b t b

@@ -26,6 +26,7 @@ same_place P keys before key rest n is (front, other, more, are, holds, number) 
     by (inr (inl h)) = absurd (omega (arith, number, place, simp length-append at (ap length h.1)))
     by (inr (inr h)) = absurd (omega (arith, number, place, simp length-append at (ap length h.1)))
 
+-- What follows is of a property P of keys, and the numbers of those keys that have it.
 module _ (P : KeyParts → Type 0) (keys : List KeyParts) where
   -- the numbers above `low` of the keys of which P holds, each once and in order
   abbrev AreAbove : ℕ → List ℕ → Type 0
@@ -38,6 +39,7 @@ module _ (P : KeyParts → Type 0) (keys : List KeyParts) where
       over : (n : ℕ) → HoldsOf P keys n → length keys < n → ⊥
       over n (front, key, rest, are, holds, number) low = omega (arith, low, number, simp length-append at (ap length are))
 
+  -- What follows is of one of the keys, with those before it and those after it.
   module _ (before : List KeyParts) (key : KeyParts) (rest : List KeyParts) (is : keys ≡ before ++ key ∷ rest) where
     -- where P holds of the next key, its number comes before the numbers above it
     one_above : P key → (ns : List ℕ) → AreAbove (length before + 1) ns → AreAbove (length before) ((length before + 1) ∷ ns)
@@ -47,10 +49,12 @@ module _ (P : KeyParts → Type 0) (keys : List KeyParts) where
       λ n. (λ h. into n (Contains-cons (length before + 1) ns n h), λ h. from n h.0 h.1 (dec_le n (length before + 1))),
     )
       where
+        -- each of the numbers is that of a key of which P holds
         into : (n : ℕ) → (length before + 1 ≡ n) ⊎ Contains ns n → HoldsOf P keys n × (length before < n)
         into n (inl same) = ((before, key, rest, is, holds, sym same), omega (arith, same))
         into n (inr h) = let both = (are n).0 h in (both.0, omega (arith, both.1))
 
+        -- each key of which P holds has its number there: the next key, or a later one
         from : (n : ℕ) → HoldsOf P keys n → length before < n → Dec (n ≤ length before + 1) → Contains ((length before + 1) ∷ ns) n
         from n has above (yes to) = let same : length before + 1 ≡ n = omega (arith, above, to) in subst (Contains ((length before + 1) ∷ ns)) same (Contains-here (length before + 1) ns)
         from n has above (no beyond) = Contains-there (length before + 1) ns n ((are n).1 (has, omega (arith, beyond)))
@@ -63,6 +67,7 @@ module _ (P : KeyParts → Type 0) (keys : List KeyParts) where
       λ n. (λ h. let both = (are n).0 h in (both.0, omega (arith, both.1)), λ h. from n h.0 h.1 (dec_le n (length before + 1))),
     )
       where
+        -- each key of which P holds has its number there: it is a later one
         from : (n : ℕ) → HoldsOf P keys n → length before < n → Dec (n ≤ length before + 1) → Contains ns n
         from n has above (yes to) = absurd (not (same_place P keys before key rest n is has (omega (arith, above, to))))
         from n has above (no beyond) = (are n).1 (has, omega (arith, beyond))
@@ -75,6 +80,7 @@ module _ (P : KeyParts → Type 0) (keys : List KeyParts) where
       let more : AreAbove (length before + 1) later.0 = subst (λ n. AreAbove n later.0) (length-append before (key ∷ [])) later.1 in
       either (λ holds. never ((length before + 1) ∷ later.0, one_above before key rest is holds later.0 more)) (λ not. never (later.0, none_more before key rest is not later.0 more)))
     where
+      -- P holds of the next key, or it does not
       either : (P key → ⊥) → (¬ (P key) → ⊥) → ⊥
       either holds not = not holds
 

@@ -89,6 +89,7 @@ troubled p front e t (Malformed n a) is found = absurd is
 troubled p front e t (Breach n u) is (at, (before, key, rest, are, breaks, number)) = (before, key, rest, are, inl breaks, sym is ∙ number)
 troubled p front e t (Undecided n u) is (at, (before, key, rest, are, widens, number)) = (before, key, rest, are, inr widens, sym is ∙ number)
 
+-- What follows is of one transaction t over entries in the order of their moments.
 module _ (p : Times) (es : List (Observation KeyParts)) (order : AllPairs (λ a b. a.event.moment ≤ b.event.moment) es) (t : ℕ) where
   -- a transaction that comes into trouble at an entry does not come into it at a later one
   not_later : (front : List (Observation KeyParts)) (e : Observation KeyParts) (zs : List (Observation KeyParts)) (last : Observation KeyParts) (more : List (Observation KeyParts)) → es ≡ (front ++ e ∷ zs) ++ last ∷ more
@@ -129,6 +130,7 @@ module _ (p : Times) (es : List (Observation KeyParts)) (order : AllPairs (λ a 
       second : HoldsOf (IsTroubled p back c) (keys_in (back ++ c ∷ [])) t
       second = troubled p back c t g so other
 
+      -- the two entries are the same, or one comes before the other
       by : ((front ≡ back) × (e ≡ c)) ⊎ (((zs : List (Observation KeyParts)) × (back ≡ front ++ e ∷ zs)) ⊎ ((zs : List (Observation KeyParts)) × (front ≡ back ++ c ∷ zs))) → f ≡ g
       by (inl h) = alike front e f g is so found (subst (λ xs. IsFoundAt p xs e g) (sym h.0) (subst (λ x. IsFoundAt p back x g) (sym h.1) other))
       by (inr (inl h)) =

@@ -5,6 +5,7 @@ use Rattle.std.proofs.lemmas.List.Kept.{AllPairs-cons}
 use Rattle.sip_standard.proofs.Few.{AllPairs-head, AllPairs-tail}
 use Rattle.sip_states.proofs.lists.Listed.{Contains-none, Contains-here, Contains-there, Contains-cons}
 
+-- What follows is of lists in the order R.
 module _ {A : Type 0} (R : A → A → Type 0) where
   -- two lists in order, of which each element of the second comes after each of the first, are in order one after the other
   pub ordered_append : (xs ys : List A) → AllPairs R xs → AllPairs R ys → ((x y : A) → Contains xs x → Contains ys y → R x y) → AllPairs R (xs ++ ys)
@@ -25,6 +26,7 @@ ordered_map R S f keeps (x ∷ xs) sorted =
     AllPairs-cons S (f x) (map f xs) (All-map (S (f x)) f xs (All-weaker (R x) (λ a. S (f x) (f a)) (keeps x) xs (AllPairs-head R x xs sorted)))
     (ordered_map R S f keeps xs (AllPairs-tail R x xs sorted))
 
+-- What follows is of lists in the order R, in which no two elements come before each other.
 module _ {A : Type 0} (R : A → A → Type 0) (once : (a b : A) → R a b → R b a → ⊥) where
   -- lists in order with the same elements are the same
   pub ordered_one : (xs ys : List A) → AllPairs R xs → AllPairs R ys → ((a : A) → Contains xs a → Contains ys a) → ((a : A) → Contains ys a → Contains xs a) → xs ≡ ys
@@ -34,6 +36,7 @@ module _ {A : Type 0} (R : A → A → Type 0) (once : (a b : A) → R a b → R
   ordered_one (x ∷ xs) (y ∷ ys) a b to from =
       ap₂ (λ h t. h ∷ t) same (ordered_one xs ys (AllPairs-tail R x xs a) (AllPairs-tail R y ys b) forth back)
     where
+      -- the first elements of both lists are the same, since neither comes before the other
       by : (y ≡ x) ⊎ Contains ys x → (x ≡ y) ⊎ Contains xs y → x ≡ y
       by (inl e) h = sym e
       by (inr h) (inl e) = e
@@ -50,12 +53,15 @@ module _ {A : Type 0} (R : A → A → Type 0) (once : (a b : A) → R a b → R
       forth_by f h (inr k) = k
       forth_by f h (inl e) = absurd (apart x f (same ∙ e) (first_before R x xs a f h))
 
+      -- an element after the first of the one list is after the first of the other
       forth : (f : A) → Contains xs f → Contains ys f
       forth f h = forth_by f h (Contains-cons y ys f (to f (Contains-there x xs f h)))
 
+      -- the element is the first one of the one list, or a later one
       back_by : (f : A) → Contains ys f → (x ≡ f) ⊎ Contains xs f → Contains xs f
       back_by f h (inr k) = k
       back_by f h (inl e) = absurd (apart y f (sym same ∙ e) (first_before R y ys b f h))
 
+      -- an element after the first of the other list is after the first of the one
       back : (f : A) → Contains ys f → Contains xs f
       back f h = back_by f h (Contains-cons x xs f (from f (Contains-there y ys f h)))

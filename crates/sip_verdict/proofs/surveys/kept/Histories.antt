@@ -137,6 +137,7 @@ IsAt entry text old i h true =
     × (((k : History) × (slice_get old i ≡ Some k) × (h.branch.items ≡ k.branch.items) × (h.first ≡ k.first)) ⊎ ((length old ≤ i) × (h.first ≡ entry) × SpellsBranch text h.branch.items))
 IsAt entry text old i h false = slice_get old i ≡ Some h
 
+-- What follows is of the note of one entry and the text of its message.
 module _ (entry : ℕ) (text : List ℕ) where
   -- where a key was looked up and its number noted, there are as many histories as keys, and the number is at most one above those before
   note_long : (key : KeyParts) (n : ℕ) (t u : Tabled) (old new : List History) → Touches key n t u → length old ≡ length t.keys → Notes entry text n old new → (length new ≡ length u.keys) × (0 < n) × (n ≤ length old + 1)
@@ -167,6 +168,7 @@ module _ (entry : ℕ) (text : List ℕ) where
       by false other (inr (differs, was)) = was
   note_at n old new low high (inr note) i h here = by (nat_eq (i + 1) n) refl (push_place old note.begun i h (ap (λ hs. slice_get hs i) (sym note.is) ∙ here))
     where
+      -- whether the place is that of the new history
       by : (b : Bool) → nat_eq (i + 1) n ≡ b → (slice_get old i ≡ Some h) ⊎ ((i ≡ length old) × (note.begun ≡ h)) → IsAt entry text old i h b
       by true same (inl was) = (let within = slice_get_within old i h was in let beyond = note.beyond in absurd (omega (arith, (unsigned_Decides (i + 1) n).0 same)))
       by true same (inr (at, is)) = (
@@ -198,10 +200,12 @@ module _ (entry : ℕ) (text : List ℕ) where
       let (as_long, low, high) = note_long k n t between old mid one long note in
       by (is_among ns (i + 1)) (notes_at ks ns between u mid new rest as_long notes i h here) (note_at n old mid low high note i)
     where
+      -- whether the number of the place is among the others
       by : (b : Bool) → IsAt entry text mid i h b → ((j : History) → slice_get mid i ≡ Some j → IsAt entry text old i j (nat_eq (i + 1) n)) → IsAt entry text old i h (nat_eq (i + 1) n || b)
       by false was step = subst (IsAt entry text old i h) (sym (or_none (nat_eq (i + 1) n))) (step h was)
       by true (last, inl (j, was, branch, first)) step = subst (IsAt entry text old i h) (sym (or_some (nat_eq (i + 1) n))) (last, back (nat_eq (i + 1) n) (step j was))
         where
+          -- whether the number of the place was noted first
           back : (b : Bool) → IsAt entry text old i j b → ((k : History) × (slice_get old i ≡ Some k) × (h.branch.items ≡ k.branch.items) × (h.first ≡ k.first)) ⊎ ((length old ≤ i) × (h.first ≡ entry) × SpellsBranch text h.branch.items)
           back false same = inl (j, same, branch, first)
           back true (_, inl (o, same, o_branch, o_first)) = inl (o, same, branch ∙ o_branch, first ∙ o_first)
@@ -251,9 +255,11 @@ module _ (es : Entries) (e : Observation KeyParts) (b c : Histories) (number : �
         by n key k (is_among ns (n + 1)) is (notes_at number text ks ns t w b.each.items c.each.items touched t_long notes n k here) (old_or_new n key there);
   }
     where
+      -- the last entry is the newest, which is not before the last restart
       newest : (k : History) → k.last ≡ number → max k.last c.restart ≡ length es + 1
       newest k last = (let low = h.restart in omega (arith, last, counts, same_restart))
 
+      -- whether the entry is one of the transaction, and whether its key is new
       by : (n : ℕ) (key : KeyParts) (k : History) (is : Bool) → is_of key e ≡ is → IsAt number text b.each.items n k is → (slice_get (keys_in es) n ≡ Some key) ⊎ ((length t.keys ≤ n) × ¬ Contains (keys_in es) key)
           → IsHistoryOf (es ++ e ∷ []) c.restart key k
       by n key k false other was (inl at) =

@@ -39,6 +39,7 @@ surveyed_none p = record {
   few = omega arith;
 }
   where
+    -- before the first entry no transaction names a message
     none : {text : List ℕ} → IsStillNamed p [] text → ⊥
     none {text} h = no_events_silent p 0 (machine_of_key p.rules h.key) [] text refl (h.state, h.stands, h.names)
 

@@ -28,6 +28,7 @@ use Rattle.sip_verdict.proofs.sweeps.SweptSets.{swept_leads}
 use Rattle.sip_verdict.proofs.sweeps.SweptTables.{before, within}
 use Rattle.sip_verdict.proofs.tables.TablesPassing.{at_place, All-place}
 
+-- What follows is of a survey that is swept: t are the tables before, u after all sets have waited, and `numbers` what the sets name.
 module _ (texts : Texts) (book : IsBook texts) (t u : Tabled) (moment : ℕ) (advances : AdvancesAll moment t u) (may : MayPass texts t moment)
     (numbers : List ℕ) (up : AllPairs (λ a b. a < b) numbers) (same : (n : ℕ) → Contains numbers n ↔ Contains (flat_map numbers_of u.sets) n) (kept : All (Keeps texts) numbers)
     (es : List (Observation KeyParts)) (deaf : List Bool) (tracks : TablesSurvey texts es t deaf) (newest : newest_moment es ≡ moment) (as_many : length deaf ≡ length t.keys) where
@@ -93,6 +94,7 @@ module _ (texts : Texts) (book : IsBook texts) (t u : Tabled) (moment : ℕ) (ad
       let (old, new, d, was, there, follows_it) = at_key n h.key at in
       by n old new was there d follows_it
     where
+      -- of one set: it names the message if its transaction does
       by : (n : ℕ) (old new : AnySet) → slice_get t.sets n ≡ Some old → slice_get u.sets n ≡ Some new → (d : Bool) → IsFollowed texts p es h.key old d → IsNumberOf texts (flat_map numbers_of u.sets) text
       by n old new was there true (leads_it, unsound) = absurd (unsound h.sound)
       by n old new was there false (leads_it, sound) =
@@ -109,6 +111,7 @@ module _ (texts : Texts) (book : IsBook texts) (t u : Tabled) (moment : ℕ) (ad
       let (old, same_new, d, was, same_there, follows_it) = at_key n key at in
       by n key new there (number, in_set, text_is) old was d follows_it
     where
+      -- of one set: its transaction names the message if it does
       by : (n : ℕ) (key : KeyParts) (new : AnySet) → slice_get u.sets n ≡ Some new → IsNumberOf texts (numbers_of new) text → (old : AnySet) → slice_get t.sets n ≡ Some old → (d : Bool) → IsFollowed texts p es key old d → IsStillNamed p es text
       by n key new there named old was true (leads_it, unsound) =
           absurd (no_events_silent p moment (machine_of_key p.rules key) [] text refl ((names n old new was there key [] leads_it text).1 named))

@@ -40,6 +40,7 @@ of_one_branch s direction keys concerns =
     (All-append (λ key. branch ≡ Some key.branch) _ _ (own_branch (role_of s.start direction) (sent_by_of (role_of s.start direction) s.via) (method_of s.start s.cseq.1) branch)
     (cancelled_branch (is_sent (λ method. bytes_eq method (codes "CANCEL")) s.start direction) branch))
 
+-- What follows is of the branches that are chosen.
 module _ (chosen : List ℕ → Bool) where
   -- the item has a form in the log of the chosen branches: it stays, or becomes a mark
   abbrev Cut : Item → Observation KeyParts → Type 0
@@ -57,6 +58,7 @@ module _ (chosen : List ℕ → Bool) where
       same : (key : KeyParts) → Some text ≡ Some key.branch → text ≡ key.branch
       same key is = cc
 
+      -- whether the branch is chosen
       by : (b : Bool) → chosen text ≡ b → Cut item e
       by true is = (item, inl (refl, inr (All-weaker (λ key. Some text ≡ Some key.branch) (λ key. chosen key.branch ≡ true) (λ key has. ap chosen (sym (same key has)) ∙ is) e.keys all)))
       by false is = (

@@ -28,6 +28,7 @@ seen_moment es item e Failed sees = heard_moment way.Sent item e sees
 seen_moment es item e Mark sees = ap (λ f. f.event.moment) sees
 seen_moment es item e Restart sees = ap (λ f. f.event.moment) sees
 
+-- What follows is of the keys that are chosen.
 module _ (chosen : KeyParts → Bool) where
   -- where all keys are chosen, the chosen ones are all
   filter_all : (keys : List KeyParts) → All (λ key. chosen key ≡ true) keys → filter chosen keys ≡ keys

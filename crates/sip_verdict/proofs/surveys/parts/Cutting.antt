@@ -18,6 +18,7 @@ use Rattle.sip_standard.specs.VerdictOf.{keys_in, events_for, RunsOver, IsWideAt
 use Rattle.sip_verdict.specs.SurveyOf.{IsSound, Breaks, Widens}
 use Rattle.sip_verdict.specs.SurveyLaws.{IsCutOf, HasSameTrouble}
 
+-- What follows is of the keys that are chosen.
 module _ (chosen : KeyParts → Bool) where
   -- a chosen key is among keys exactly if it is among the chosen ones of them
   pub among_chosen : (key : KeyParts) → chosen key ≡ true → (keys : List KeyParts) → list_any (same_key key) (filter chosen keys) ≡ list_any (same_key key) keys
@@ -45,12 +46,14 @@ module _ (chosen : KeyParts → Bool) where
       there : (t : Bool) → list_any (same_key k) keys ≡ t → chosen k ≡ true → list_any (same_key k) (filter chosen keys) ≡ t
       there t e is = among_chosen k is keys ∙ e
 
+      -- whether k is chosen, and whether it is among the keys already
       by : (b t : Bool) → chosen k ≡ b → list_any (same_key k) keys ≡ t → OneMore keys k b t
       by true true e f = sym (ap (λ t. cond t (filter chosen keys) (filter chosen keys ++ k ∷ [])) (there true f e))
       by true false e f = one true e ∙ sym (ap (λ t. cond t (filter chosen keys) (filter chosen keys ++ k ∷ [])) (there false f e))
       by false true e f = refl
       by false false e f = one false e ∙ append-nil (filter chosen keys)
 
+      -- with the tests themselves in place of what they say
       go : (b : Bool) → chosen k ≡ b → (t : Bool) → list_any (same_key k) keys ≡ t → OneMore keys k (chosen k) (list_any (same_key k) keys)
       go b e t f = subst (λ c. OneMore keys k c (list_any (same_key k) keys)) (sym e) (subst (λ c. OneMore keys k b c) (sym f) (by b t e f))
 
@@ -93,10 +96,13 @@ module _ (chosen : KeyParts → Bool) where
   newest_cut last (e ∷ es) (c ∷ cs) (here, rest) =
       ap (λ t. fold (λ moment e. e.event.moment) t cs) here.0 ∙ newest_cut e.event.moment es cs rest
 
+  -- What follows is of one key that is chosen.
   module _ (key : KeyParts) (is : chosen key ≡ true) where
+    -- an entry of the cut log concerns the key exactly if the entry of the whole log does
     concerns_cut : (e c : Observation KeyParts) → IsCutOf chosen e c → concerns key c ≡ concerns key e
     concerns_cut e c cut = ap (list_any (same_key key)) cut.1 ∙ among_chosen key is e.keys
 
+    -- keys among which one is are not none
     not_nil : (keys : List KeyParts) → list_any (same_key key) keys ≡ true → keys ≢ []
     not_nil keys any none = false≢true (sym (ap (list_any (same_key key)) none) ∙ any)
 
@@ -119,9 +125,11 @@ module _ (chosen : KeyParts → Bool) where
         by true any same = ap₂ (λ f fs. f ∷ fs) (event_cut e c here any) same
         by false any same = same
 
+        -- with the test itself in place of what it says
         go : (b : Bool) → concerns key c ≡ b → events_for key cs ≡ events_for key es → events_with (concerns key c) c cs ≡ events_with (concerns key e) e es
         go b any same = ap (λ t. events_with t c cs) any ∙ by b any same ∙ ap (λ t. events_with t e es) (sym any ∙ concerns_cut e c here)
 
+    -- What follows is of the chosen key by the times p.
     module _ (p : Times) where
       -- a chosen key has a run over the entries of the whole log exactly if it has one over those of the cut log
       pub runs_cut : (es cs : List (Observation KeyParts)) → AllZip (IsCutOf chosen) es cs → RunsOver p es key ↔ RunsOver p cs key

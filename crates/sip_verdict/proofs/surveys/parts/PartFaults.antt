@@ -53,6 +53,7 @@ at_place chosen done back items cuts [] cs seen saw cut n low = absurd (omega (a
 at_place chosen done back [] cuts (e ∷ es) cs seen saw cut n low = absurd seen
 at_place chosen done back (item ∷ items) [] (e ∷ es) cs seen saw cut n low = absurd cut
 at_place chosen done back (item ∷ items) (i ∷ cuts) (e ∷ es) [] seen saw cut n low = absurd saw
+-- the first place
 at_place chosen done back (item ∷ items) (i ∷ cuts) (e ∷ es) (c ∷ cs) seen saw cut zero low =
     record {
       front = [];
@@ -79,6 +80,7 @@ at_place chosen done back (item ∷ items) (i ∷ cuts) (e ∷ es) (c ∷ cs) se
       sees = subst (λ xs. Sees xs item e) (sym (append-nil done)) seen.0;
       saw = subst (λ xs. Sees xs i c) (sym (append-nil back)) saw.0;
     }
+-- a later place, which is one less in the logs without their first entries
 at_place chosen done back (item ∷ items) (i ∷ cuts) (e ∷ es) (c ∷ cs) seen saw cut (suc n) low =
     let at = at_place chosen (done ++ e ∷ []) (back ++ c ∷ []) items cuts es cs seen.1 saw.1 cut.1 n (omega (arith, low)) in
     record {
@@ -165,6 +167,7 @@ faults_of p chosen items cuts es cs close shut found part end fin seen saw cut w
         number : n ≡ length at.so_far + 1
         number = let long = at.so_far_long in let entry = there.4.0 in omega (arith, long, entry)
 
+        -- the item stays or is a mark, which has no fault
         by : StaysOrIsMark chosen at.item at.e at.cut → Contains found (Malformed n fault) × StaysAt items cuts n
         by (inl (is, which)) = (
           found_at p [] items close es found end seen whole at.so_far at.e at.more at.es_are (Malformed n fault)
@@ -182,11 +185,13 @@ faults_of p chosen items cuts es cs close shut found part end fin seen saw cut w
           ),
         )
           where
+            -- where the item stays, the part of the log has it at its place
             cuts_are : at.cut ≡ at.item → cuts ≡ at.before ++ at.item ∷ at.others
             cuts_are is = at.cuts_are ∙ ap (λ i. at.before ++ i ∷ at.others) is
         by (inr (is, none)) =
             let both : None ≡ Some fault = sym (mark_whole at.cut_so_far at.item at.c (subst (λ i. Sees at.cut_so_far i at.c) is at.saw)) ∙ fault_is in absurd (cc)
 
+    -- a fault of the whole whose message stays is found in the part
     from : Contains found (Malformed n fault) → StaysAt items cuts n → Contains part (Malformed n fault)
     from has (front, item, rest, back, others, items_are, cuts_are, entry, long) = found_at p [] cuts shut cs part fin saw some at.cut_so_far at.c at.cut_more at.cs_are (Malformed n fault) (number, fault_is)
       where

@@ -29,6 +29,7 @@ cookie_compared (Some branch) text is = by (bytes_eq (take 7 (compared (Some bra
     by true e = cc
     by false e = absurd (cc)
 
+-- What follows is of part K of N of a log.
 module _ (part : PartOf) where
   -- whether the branch of a key falls into the part
   abbrev Chosen : KeyParts → Bool

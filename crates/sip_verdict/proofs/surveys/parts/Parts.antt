@@ -36,6 +36,7 @@ zip_long R [] (y ∷ ys) zip = absurd zip
 zip_long R (x ∷ xs) [] zip = absurd zip
 zip_long R (x ∷ xs) (y ∷ ys) zip = let rest = zip_long R xs ys zip.1 in omega (arith, rest)
 
+-- What follows is of one kind of finding, and the property P of a key at an entry that it tells.
 module _ (p : Times) (kind : ℕ → ℕ → Finding) (P : List (Observation KeyParts) → Observation KeyParts → KeyParts → Type 0)
     (into : (front : List (Observation KeyParts)) (e : Observation KeyParts) (n t : ℕ) → IsFoundAt p front e (kind n t) → (n ≡ length front + 1) × HoldsOf (P front e) (keys_in (front ++ e ∷ [])) t)
     (from : (front : List (Observation KeyParts)) (e : Observation KeyParts) (t : ℕ) → HoldsOf (P front e) (keys_in (front ++ e ∷ [])) t → IsFoundAt p front e (kind (length front + 1) t))
@@ -62,6 +63,7 @@ module _ (p : Times) (kind : ℕ → ℕ → Finding) (P : List (Observation Key
       let (t, named, at) = numbered (P front e) (keys_in (front ++ e ∷ [])) key (known front e key holds) holds in
       (front, e, more, t, is, entry, named, subst (λ m. Contains found (kind m t)) (sym entry) (found_at p [] items close es found end seen survey front e more is (kind (length front + 1) t) (from front e t at)))
 
+  -- What follows is of one chosen key, of which P holds in the cut log exactly where it holds in the whole log.
   module _ (chosen : KeyParts → Bool) (key : KeyParts) (is_chosen : chosen key ≡ true)
       (same : (front back : List (Observation KeyParts)) (e c : Observation KeyParts) → AllZip (IsCutOf chosen) front back → IsCutOf chosen e c → P front e key ↔ P back c key) where
     -- P holds of a chosen key at the same entries of the whole log and of the cut log

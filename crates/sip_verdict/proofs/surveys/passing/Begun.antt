@@ -58,6 +58,7 @@ module _ (old t : Tabled) (h : AreMore old t) (k : KeyParts) (n : ℕ) where
     each = λ i key s at here. by i key s (push_place t.keys k i key at) (push_place t.sets (start_of t.times k) i s here);
   })
     where
+      -- the key and its set are old ones, or the new one
       by : (i : ℕ) (key : KeyParts) (s : AnySet) → (slice_get t.keys i ≡ Some key) ⊎ ((i ≡ length t.keys) × (k ≡ key)) → (slice_get t.sets i ≡ Some s) ⊎ ((i ≡ length t.sets) × (start_of t.times k ≡ s))
           → ((slice_get old.keys i ≡ Some key) × (slice_get old.sets i ≡ Some s)) ⊎ ((length old.keys ≤ i) × (s ≡ start_of old.times key) × ¬ Contains old.keys key)
       by i key s (inl a) (inl b) = h.each i key s a b
@@ -105,6 +106,7 @@ back_place P [] ys n x low all at = All-place P ys n x at all
 back_place P (u ∷ xs) ys zero x low all at = absurd (omega (arith, low))
 back_place P (u ∷ xs) ys (suc n) x low all at = back_place P xs ys n x (omega (arith, low)) all at
 
+-- What follows is of tables that track the entries es, and new keys, which are in no trouble.
 module _ (texts : Texts) (es : List (Observation KeyParts)) (e : Observation KeyParts) (old : Tabled) (deaf more : List Bool) (tracks : TablesSurvey texts es old deaf) (long : length deaf ≡ length old.keys)
     (false_all : All (λ d. d ≡ false) more) (late : newest_moment es ≤ e.event.moment) where
   -- a key that is none of the entries' is in no trouble, and the set that it starts with follows the entries
@@ -125,10 +127,12 @@ module _ (texts : Texts) (es : List (Observation KeyParts)) (e : Observation Key
     each = λ n key s d at here is. by n key s d (ap (λ ds. slice_get ds n) (sym deaf_is) ∙ is) (h.each n key s at here);
   }
     where
+      -- an old transaction is passing the entry
       follows : (n : ℕ) (key : KeyParts) (s : AnySet) (d : Bool) → IsFollowed texts old.times es key s d → IsPassing texts old.times es e any b (n + 1) key s d
       follows n key s true (leads, unsound) = (leads_later texts old.times (machine_of_key old.times.rules key) [] (newest_moment es) e.event.moment s late leads, inl unsound)
       follows n key s false (ready, sound) = (sound, ready)
 
+      -- the transaction is an old one, or a new one
       by : (n : ℕ) (key : KeyParts) (s : AnySet) (d : Bool) → slice_get (deaf ++ more) n ≡ Some d
           → ((slice_get old.keys n ≡ Some key) × (slice_get old.sets n ≡ Some s)) ⊎ ((length old.keys ≤ n) × (s ≡ start_of old.times key) × ¬ Contains old.keys key) → IsPassing texts old.times es e any b (n + 1) key s d
       by n key s d is (inl (at, here)) =

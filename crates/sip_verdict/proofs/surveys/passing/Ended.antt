@@ -39,6 +39,7 @@ ordered_push es e order late = ordered_append (λ a b. a.event.moment ≤ b.even
     last y (inl same) = same
     last y (inr none) = absurd (Contains-none y none)
 
+    -- each of the entries is before the new one
     across : (x y : Observation KeyParts) → Contains es x → Contains (e ∷ []) y → x.event.moment ≤ y.event.moment
     across x y h g =
         let low = All-contains (λ a. a.event.moment ≤ newest_moment es) es x to h in
@@ -50,6 +51,7 @@ split_at [] i x at = absurd cc
 split_at (u ∷ xs) zero x at = ([], xs, (let same : u ≡ x = cc in ap (λ y. y ∷ xs) same), refl)
 split_at (u ∷ xs) (suc i) x at = let (before, rest, is, long) = split_at xs i x at in (u ∷ before, rest, ap (λ ys. u ∷ ys) is, ap suc long)
 
+-- What follows is of a property P of keys, by the numbers of the keys.
 module _ (P : KeyParts → Type 0) (keys : List KeyParts) where
   -- where P holds of the key that stands under the number n, it holds of the key with the number n
   number_holds : (n : ℕ) → IsNumberOf P keys n → HoldsOf P keys n
@@ -61,6 +63,7 @@ module _ (P : KeyParts → Type 0) (keys : List KeyParts) where
       let place : length before ≡ n - 1 = omega (arith, number) in
       (key, ap (λ ks. slice_get ks (n - 1)) is ∙ subst (λ i. slice_get (before ++ key ∷ rest) i ≡ Some key) place (middle_place before key rest), holds, omega (arith, number))
 
+-- What follows is of tables in which each transaction has passed the entry e.
 module _ (texts : Texts) (es : List (Observation KeyParts)) (e : Observation KeyParts) (t : Tabled) (b : Troubled) (p : Times) (order : IsOrdered es) (late : newest_moment es ≤ e.event.moment)
     (keys : t.keys ≡ keys_in (es ++ e ∷ [])) (sets : length t.sets ≡ length t.keys) (long : length b.deaf.items ≡ length t.keys) (h : ArePassing texts p es e (is_among []) t b) where
   -- a transaction that was in trouble, or came into it at the entry e, is in trouble over the entries and e
@@ -81,6 +84,7 @@ module _ (texts : Texts) (es : List (Observation KeyParts)) (e : Observation Key
     each = λ n key s d at here is. subst (λ q. IsFollowed texts q (es ++ e ∷ []) key s d) (sym times) (by n key s d at (h.each n key s d at here is));
   }
     where
+      -- of one transaction: in trouble, or in none
       by : (n : ℕ) (key : KeyParts) (s : AnySet) (d : Bool) → slice_get t.keys n ≡ Some key → IsPassing texts p es e (is_among []) b (n + 1) key s d → IsFollowed texts p (es ++ e ∷ []) key s d
       by n key s true at (leads, troubled) = (subst (λ m. LeadsOf texts p (machine_of_key p.rules key) [] m s) (sym (newest_moment-push es e)) leads, unsound n key at troubled)
       by n key s false at (sound, goes) =
@@ -118,6 +122,7 @@ module _ (texts : Texts) (es : List (Observation KeyParts)) (e : Observation Key
       by true s (leads, inr (inr has)) = has
       by false s (still, goes) = absurd (goes.narrow wide)
 
+  -- What follows is of the numbers of the transactions that came into trouble at the entry, in ascending order.
   module _ (broken wide : List ℕ) (broken_is : AreAscending b.broken.items broken) (wide_is : AreAscending b.wide.items wide) where
     -- the numbers of the broken are those of the keys that break at the entry, each once and in order
     breaks : AreNumbers (Breaks p es e) t.keys broken

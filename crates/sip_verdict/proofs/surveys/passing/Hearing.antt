@@ -46,6 +46,7 @@ module _ (texts : Texts) (p q : Times) (moment : ℕ) (t u : Tabled) (number : �
       )
       by (inr other) = inr other
 
+-- What follows is of one transaction, by its number, and the entry e that it hears.
 module _ (texts : Texts) (p : Times) (es : List (Observation KeyParts)) (e : Observation KeyParts) (t : Tabled) (b : Troubled) (number : ℕ) (given : IsGiven t number) where
   -- what is kept of each key: its set, beside these texts
   abbrev k : Keeping (KeyParts × AnySet)

@@ -31,6 +31,7 @@ among_cons n number ns differ = by (nat_eq n number) refl
 pub same_at : {A : Type 0} (xs : List A) (n : ℕ) (x y : A) → slice_get xs n ≡ Some x → slice_get xs n ≡ Some y → x ≡ y
 same_at xs n x y a b = let both : Some x ≡ Some y = sym a ∙ b in cc
 
+-- What follows is of one entry e after the entries es.
 module _ (texts : Texts) (p : Times) (es : List (Observation KeyParts)) (e : Observation KeyParts) where
   -- what is kept of each key: its set, beside these texts
   abbrev k : Keeping (KeyParts × AnySet)
@@ -73,6 +74,7 @@ module _ (texts : Texts) (p : Times) (es : List (Observation KeyParts)) (e : Obs
         each = λ n key s d at here is. one n key s d (ap (λ ks. slice_get ks n) (sym keys) ∙ at) is (set_place t.sets place n after s (ap (λ xs. slice_get xs n) (sym sets) ∙ here));
       }
         where
+          -- of the transaction itself
           own : (n : ℕ) (key : KeyParts) (s : AnySet) (d : Bool) → slice_get t.keys n ≡ Some key → n ≡ place → after ≡ s → false ≡ d → IsPassing texts p es e w b (n + 1) key s d
           own n key s true at here same is = absurd (false≢true is)
           own n key s false at here same is =
@@ -80,6 +82,7 @@ module _ (texts : Texts) (p : Times) (es : List (Observation KeyParts)) (e : Obs
               let off : w (n + 1) ≡ false = ap w (omega (arith, here, next)) ∙ done in
               (g.0, waits_alike false (w (n + 1)) key s (sym off) (subst (λ x. GoesOn p k es e (key, x)) same g.1))
 
+          -- of the transaction itself, or of another one
           one : (n : ℕ) (key : KeyParts) (s : AnySet) (d : Bool) → slice_get t.keys n ≡ Some key → slice_get b.deaf.items n ≡ Some d
               → ((n ≡ place) × (after ≡ s)) ⊎ ((n ≢ place) × (slice_get t.sets n ≡ Some s)) → IsPassing texts p es e w b (n + 1) key s d
           one n key s d at is (inl (here, same)) = own n key s d at here same (same_at b.deaf.items n false d (ap (slice_get b.deaf.items) here ∙ hearing) is)
@@ -99,6 +102,7 @@ module _ (texts : Texts) (p : Times) (es : List (Observation KeyParts)) (e : Obs
         each = λ n key s d at here is. one n key s d (ap (λ ks. slice_get ks n) (sym keys) ∙ at) (set_place b.deaf.items place n true d (ap (λ xs. slice_get xs n) (sym deaf) ∙ is)) (sets n s here);
       }
         where
+          -- of the transaction itself
           own : (n : ℕ) (key : KeyParts) (s : AnySet) (d : Bool) → slice_get t.keys n ≡ Some key → n ≡ place → true ≡ d
               → ((key : KeyParts) → slice_get t.keys place ≡ Some key → LeadsOf texts p (machine_of_key p.rules key) [] e.event.moment s) → IsPassing texts p es e w c (n + 1) key s d
           own n key s false at here is leads = absurd (false≢true (sym is))
@@ -106,6 +110,7 @@ module _ (texts : Texts) (p : Times) (es : List (Observation KeyParts)) (e : Obs
               let same : number ≡ n + 1 = omega (arith, here, next) in
               (leads key (ap (slice_get t.keys) (sym here) ∙ at), inr (subst (λ i. Contains c.broken.items i ⊎ Contains c.wide.items i) same among))
 
+          -- of the transaction itself, or of another one
           one : (n : ℕ) (key : KeyParts) (s : AnySet) (d : Bool) → slice_get t.keys n ≡ Some key → ((n ≡ place) × (true ≡ d)) ⊎ ((n ≢ place) × (slice_get b.deaf.items n ≡ Some d))
               → ((n ≡ place) × ((key : KeyParts) → slice_get t.keys place ≡ Some key → LeadsOf texts p (machine_of_key p.rules key) [] e.event.moment s)) ⊎ ((n ≢ place) × (slice_get t.sets n ≡ Some s))
               → IsPassing texts p es e w c (n + 1) key s d
@@ -125,6 +130,7 @@ module _ (texts : Texts) (p : Times) (es : List (Observation KeyParts)) (e : Obs
           more n (inl has) = inl (subst (λ ns. Contains ns n) (sym added) (Contains-append_left b.broken.items (number ∷ []) n has))
           more n (inr has) = inr (subst (λ ns. Contains ns n) (sym kept) has)
 
+          -- the number is an old one of the broken, or the new one
           by : (n : ℕ) → Contains b.broken.items n ⊎ (number ≡ n) → IsNumberOf (Breaks p es e) u.keys n
           by n (inl has) = number_still (Breaks p es e) t.keys u.keys n keys (h.broken n has)
           by n (inr same) = subst (IsNumberOf (Breaks p es e) u.keys) same
@@ -139,10 +145,12 @@ module _ (texts : Texts) (p : Times) (es : List (Observation KeyParts)) (e : Obs
           (λ n has. number_still (Breaks p es e) t.keys u.keys n keys (h.broken n (subst (λ ns. Contains ns n) kept has)))
           (λ n has. by n (Contains-push_cases b.wide.items number n (subst (λ ns. Contains ns n) added has)))
         where
+          -- a number that came into trouble is there still
           more : (n : ℕ) → Contains b.broken.items n ⊎ Contains b.wide.items n → Contains c.broken.items n ⊎ Contains c.wide.items n
           more n (inl has) = inl (subst (λ ns. Contains ns n) (sym kept) has)
           more n (inr has) = inr (subst (λ ns. Contains ns n) (sym added) (Contains-append_left b.wide.items (number ∷ []) n has))
 
+          -- the number is an old one of the wide, or the new one
           by : (n : ℕ) → Contains b.wide.items n ⊎ (number ≡ n) → IsNumberOf (λ key. Widens p es e key × RunsOver p (es ++ e ∷ []) key) u.keys n
           by n (inl has) = number_still (λ key. Widens p es e key × RunsOver p (es ++ e ∷ []) key) t.keys u.keys n keys (h.wide n has)
           by n (inr same) = subst (IsNumberOf (λ key. Widens p es e key × RunsOver p (es ++ e ∷ []) key) u.keys) same

@@ -72,11 +72,13 @@ Passes texts moment hearing t b u c =
     (p : Times) (es : List (Observation KeyParts)) (e : Observation KeyParts) → t.times ≡ p → newest_moment es ≤ moment → e.event.moment ≡ moment → AreTold texts t.keys moment hearing e
     → ArePassing texts p es e any t b → ArePassing texts p es e (is_among []) u c
 
+-- What follows is of one item i of a log; `mid` is the book after it was observed.
 module _ (old mid : Texts) (number : ℕ) (bytes : List ℕ) (grown : IsGrown old number bytes mid) (i : Item) (moment : ℕ) (at : i.moment ≡ moment) where
   -- this is told of the entry, and observed of it after any entries
   abbrev Tells : Observed → Type 0
   Tells told = (es : List (Observation KeyParts)) → (e : Observation KeyParts) × Sees es i e × IsObserved mid es i told e
 
+  -- What follows is of an item that brings no key: t and b are kept before it, u and c after it.
   module _ (t u : Tabled) (b c : Troubled) (long : length b.deaf.items ≡ length t.keys) (sets : length t.sets ≡ length t.keys) (fresh : IsFresh b) (keys : u.keys ≡ t.keys) where
     -- an entry that concerns no transaction is taken
     silent_taken : (es : List (Observation KeyParts)) (e : Observation KeyParts) (fault : Option Fault) → Sees es i e → e.fault ≡ fault → e.event.moment ≡ moment → e.keys ≡ [] → Passes mid moment None t b u c
@@ -160,6 +162,7 @@ dropped_passing number before new p es e t b (inr (bytes, is, unnamed)) h =
       each = λ n key s d at here deaf. by n key s d (All-place (λ set. ¬ Contains (numbers_of set) number) t.sets n s here unnamed) (passing.each n key s d at here deaf);
     }
   where
+    -- of one transaction, whose set does not name the message that was dropped
     by : (n : ℕ) (key : KeyParts) (s : AnySet) (d : Bool) → ¬ Contains (numbers_of s) number → IsPassing (new ++ (number, bytes) ∷ []) p es e (is_among []) b (n + 1) key s d
         → IsPassing new p es e (is_among []) b (n + 1) key s d
     by n key s true none (leads, why) = (unnamed_leads number bytes new p (machine_of_key p.rules key) [] e.event.moment s none leads, why)
@@ -182,6 +185,7 @@ watched_touched ks ns t w b d more touched sets h deaf false_all long = record {
   silent = λ n is. by n (ap (λ ds. slice_get ds n) (sym deaf) ∙ is) (dec_le (length b.deaf.items) n);
 }
   where
+    -- only an old transaction is in trouble, since new ones are in none
     by : (n : ℕ) → slice_get (b.deaf.items ++ more) n ≡ Some true → Dec (length b.deaf.items ≤ n) → slice_get w.records n ≡ Some (Some None)
     by n is (yes low) = absurd (true≢false (back_place (λ x. x ≡ false) b.deaf.items more n true low false_all is))
     by n is (no high) =

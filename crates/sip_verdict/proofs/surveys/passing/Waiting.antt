@@ -37,6 +37,7 @@ decided : (b : Bool) → (b ≡ true) ⊎ (b ≡ false)
 decided true = inl refl
 decided false = inr refl
 
+-- What follows is of the entry e at a moment until which each transaction that is in no trouble can wait.
 module _ (texts : Texts) (p : Times) (es : List (Observation KeyParts)) (e : Observation KeyParts) (moment : ℕ) (late : newest_moment es ≤ moment) (now : e.event.moment ≡ moment) (t : Tabled) (b : Troubled)
     (may : MayPass texts t moment) (none : due_of t moment ≡ None) (h : ArePassing texts p es e any t b) where
   -- what is kept of each key: its set, beside these texts
@@ -61,6 +62,7 @@ module _ (texts : Texts) (p : Times) (es : List (Observation KeyParts)) (e : Obs
             in_time_goes texts p es e key s ready since (subst (λ i. moment_of s ≤ i) (sym now) (All-place (λ x. moment_of x ≤ moment) t.sets n s here may.order)) limit (watched.recorded.each n s (Some limit) here on)
             (ap (λ i. is_overdue i (Some limit)) now ∙ none_past moment t.records none n (Some limit) on) apart
 
+        -- the entry does not concern the key, or the key goes on anyway
         by : (concerns key e ≡ false) ⊎ GoesOn p k es e (key, s) → GoesOn p k es e (key, s)
         by (inr g) = g
         by (inl apart) = let r = at_place t.records n (let within = slice_get_within t.keys n key at in let long = watched.recorded.long in omega arith) in recorded r.0 r.1 apart
@@ -73,6 +75,7 @@ module _ (texts : Texts) (p : Times) (es : List (Observation KeyParts)) (e : Obs
         one n key s true at here g = g
         one n key s false at here (sound, ready) = (sound, by (is_among waits (n + 1)) refl)
           where
+            -- whether the number is one of those that are to hear
             by : (w : Bool) → is_among waits (n + 1) ≡ w → MatchBool w (IsReady k es (key, s)) (GoesOn p k es e (key, s))
             by true is = ready
             by false is = goes n key s at here is ready
@@ -95,6 +98,7 @@ module _ (texts : Texts) (p : Times) (es : List (Observation KeyParts)) (e : Obs
       unnamed : is_among (each hearing.concerned) (n + 1) ≡ false
       unnamed = not_passing (is_among (each hearing.concerned) (n + 1)) (λ among. false≢true (sym other ∙ hearers.named (n + 1) among))
 
+      -- whether the event is a restart, which concerns all
       by : (a : Bool) → is_all hearing.concerned ≡ a → (concerns key e ≡ false) ⊎ GoesOn p (key_keeping texts p) es e (key, s)
       by false some = inl ((told n key at).concerned ∙ ap (λ a. a || is_among (each hearing.concerned) (n + 1)) some ∙ unnamed)
       by true all = inr (quiet_goes texts p es e key s ready (subst (λ i. newest_moment es ≤ i) (sym now) late)

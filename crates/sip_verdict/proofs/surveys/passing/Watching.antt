@@ -20,6 +20,7 @@ use Rattle.sip_verdict.proofs.tables.TablesTouching.{start_at, start_known}
 none_some : {A : Type 0} (x : A) → Some None ≡ Some (Some x) → ⊥
 none_some x h = cc
 
+-- What follows is of one transaction, the first of those that are still to hear the event.
 module _ (t : Tabled) (b : Troubled) (number : ℕ) (waits : List ℕ) (given : IsGiven t number) (h : AreWatched (number ∷ waits) t b) where
   -- the place of the transaction, which counts from 0
   abbrev place : ℕ
@@ -47,6 +48,7 @@ module _ (t : Tabled) (b : Troubled) (number : ℕ) (waits : List ℕ) (given : 
     silent = h.silent;
   }
     where
+      -- of one record: that of the transaction itself, or of another one
       one : (n : ℕ) (s : AnySet) (r : Option (Option ℕ)) → slice_get t.records n ≡ Some r → IsOnRecord (number ∷ waits) (n + 1) s r → IsOnRecord waits (n + 1) s r
       one n s (Some limit) here kept = kept
       one n s None here kept = among_one (n + 1) number waits kept (λ same.
@@ -62,6 +64,7 @@ module _ (t : Tabled) (b : Troubled) (number : ℕ) (waits : List ℕ) (given : 
     silent = λ n is. ap (λ rs. slice_get rs n) records ∙ one n (set_place b.deaf.items place n true true (ap (λ ds. slice_get ds n) (sym deaf) ∙ is));
   }
     where
+      -- of one record: that of the transaction itself, or of another one
       one : (n : ℕ) → ((n ≡ place) × (true ≡ true)) ⊎ ((n ≢ place) × (slice_get b.deaf.items n ≡ Some true)) → slice_get (slice_set t.records place (Some None)) n ≡ Some (Some None)
       one n (inl (same, same_too)) = ap (slice_get (slice_set t.records place (Some None))) same ∙ set_here t.records place (Some None) (let low = inside in let long = h.long in let as_long = h.recorded.long in omega arith)
       one n (inr (other, is)) = set_other t.records place n (Some None) (Some None) other (h.silent n is)

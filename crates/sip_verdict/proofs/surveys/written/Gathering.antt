@@ -75,6 +75,7 @@ survey_without : (part : Option PartOf) (input : List ℕ) (end : SurveyEnd) →
 survey_without None input end lacks same = inl (lacks, refl, same)
 survey_without (Some part) input end lacks same = inl (lacks, refl, same)
 
+-- What follows is of a survey that has read some items, and what it has found.
 module _ (part : Option PartOf) (start : Option (List ℕ)) (now : log.ReaderState) (s : Surveying) (found : List Finding) (read : SurveysRead part s found start now) where
   -- where one more item was read and taken, and these findings were made at it, the survey has read that item too
   unfoldable pub found_on : (e cut : Entry) (new : log.ReaderState) → HasRead start s.tables.times (read.items ++ item e ∷ []) new → IsTaken part (item e) (item cut) → (k : Surveying) → k.tables.times ≡ s.tables.times

@@ -25,6 +25,7 @@ horizon_push m es e are later =
       long_ago = by are.long_ago;
     }
   where
+    -- the horizon has no moment yet, or was long ago
     by : (m.until ≡ 0) ⊎ IsLongAgo m.age m.until es → (m.until ≡ 0) ⊎ IsLongAgo m.age m.until (es ++ e ∷ [])
     by (inl none) = inl none
     by (inr ago) =
@@ -45,9 +46,11 @@ horizon_kept kept m es are =
       long_ago = by are.long_ago;
     }
   where
+    -- the first entries are as new, however their keys are forgotten
     same : (n : ℕ) → newest_moment (take n (remembered kept es)) ≡ newest_moment (take n es)
     same n = ap newest_moment (take-map (λ e. record { fault = e.fault; event = e.event; keys = filter kept e.keys }) n es) ∙ newest_kept kept (take n es)
 
+    -- the horizon has no moment yet, or was long ago
     by : (m.until ≡ 0) ⊎ IsLongAgo m.age m.until es → (m.until ≡ 0) ⊎ IsLongAgo m.age m.until (remembered kept es)
     by (inl none) = inl none
     by (inr ago) =
@@ -67,6 +70,7 @@ horizon_left m n es are age until number moment =
       long_ago = by are.long_ago;
     }
   where
+    -- the horizon has no moment yet, or was long ago
     by : (m.until ≡ 0) ⊎ IsLongAgo m.age m.until es → (n.until ≡ 0) ⊎ IsLongAgo n.age n.until es
     by (inl none) = inl (until ∙ none)
     by (inr ago) = let before = ap (λ i. newest_moment (take i es)) until in inr (omega (arith, before, age, ago))

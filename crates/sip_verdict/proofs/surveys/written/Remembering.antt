@@ -45,6 +45,7 @@ pub remembers_none : (age : ℕ) (part : Option PartOf) (p : Times) (s : Surveyi
 remembers_none age part p s start now times stands read =
     record { items = []; es = []; times = times; follows = stands; read = read; front = λ rest close later end more told. told }
 
+-- What follows is of a survey that has read some items and forgotten some transactions, what it has found, and its lines.
 module _ (age : ℕ) (part : Option PartOf) (p : Times) (start : Option (List ℕ)) (now : log.ReaderState) (s : Surveying) (found : List Finding) (lines : List ℕ) (so : RemembersRead age part p s found lines start now) where
   -- where transactions may have been forgotten, one more item was read and surveyed, and its lines were written, the survey has read that item too
   pub remembers_on : (m : Horizon) → IsHorizonOf m so.es → m.age ≡ age
@@ -59,6 +60,7 @@ module _ (age : ℕ) (part : Option PartOf) (p : Times) (start : Option (List �
       → ((es : List (Observation KeyParts)) → IsHorizonOf a es → SurveysFor k es → IsHorizonOf b es)
       → (on : RemembersRead age part p k (found ++ items) (lines ++ text) start new) × IsHorizonOf b on.es
   remembers_on m horizon_is aged e cut new more is_taken f k a b f_times k_times moves forgets room items says text are_lines notes =
+      -- what is left after the forgetting, and what is seen and found at the entry
       let (left, left_is, f_stands, f_horizon) = forgets so.es so.follows horizon_is in
       let (seen, here, observed, are, same, k_stands) = says left f_stands in
       let is_left : IsLeftOf age p so.es left = subst (λ t. IsLeftOf age t so.es left) so.times (subst (λ n. IsLeftOf n s.tables.times so.es left) aged left_is) in
@@ -68,6 +70,7 @@ module _ (age : ℕ) (part : Option PartOf) (p : Times) (start : Option (List �
       let f_now = f_stands.moment in
       let k_now = k_stands.moment in
       let newest = newest_moment-push left seen in (
+        -- the survey has read the item, and its horizon goes on
         record {
           items = so.items ++ item e ∷ [];
           es = left ++ seen ∷ [];
@@ -85,6 +88,7 @@ module _ (age : ℕ) (part : Option PartOf) (p : Times) (start : Option (List �
         notes (left ++ seen ∷ []) (horizon_push a left seen f_horizon (omega (arith, f_now, k_now, newest, moves))) k_stands,
       )
 
+  -- What follows is of the end of the survey, and its summary.
   module _ (counts : Counts) (summary : Summary) (before mid after : Option (List ℕ)) (told : AreTold found lines counts before mid)
       (findings : summary.findings ≡ counts.findings) (undecided : summary.undecided ≡ counts.undecided) where
     -- this is told of the whole input

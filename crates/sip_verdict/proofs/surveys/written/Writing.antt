@@ -87,6 +87,7 @@ line_with-told s f number told line tells is es stands P (before, key, rest, who
     at : slice_get (keys_in es) (number - 1) ≡ Some key
     at = ap (slice_get (keys_in es)) (let n : number - 1 ≡ length before = omega (arith, counts) in n) ∙ ap (λ ks. slice_get ks (length before)) whole ∙ middle_place before key rest
 
+    -- the survey has the transaction, and so the words of its line
     by : (o : Option Transaction) → IsSomeAnd o (λ t. (t.key.now ≡ key) × IsFirstOf es key t.first t.branch.now × IsLastOf es key t.last) → line ≡ line_with f o
         → (words : List ℕ) × HoldsOf (AreWordsOf es words) (keys_in es) number × (line ≡ rendered (verdict_of f) ++ words ++ line_feed ∷ [])
     by None none same = absurd none
@@ -119,6 +120,7 @@ found_text s p es e stands (f ∷ found) text at (line, more, is, are, whole) =
       whole,
     )
   where
+    -- each finding is of the newest entry
     at_entry : (g : Finding) → IsFoundAt p es e g → entry_of g ≡ length es + 1
     at_entry (Malformed entry fault) h = h.0
     at_entry (Breach entry transaction) h = h.0
@@ -158,6 +160,7 @@ pub record ToldSoFar (part : Option PartOf) (s : Surveying) (found : List Findin
 pub told_nothing : (part : Option PartOf) (s : Surveying) (start : Option (List ℕ)) (now : log.ReaderState) → SurveysRead part s [] start now → ToldSoFar part s [] [] start now
 told_nothing part s start now read = record { read = read; lines_are = refl }
 
+-- What follows is of a survey that has read some items, what it has found, and its lines.
 module _ (part : Option PartOf) (start : Option (List ℕ)) (now : log.ReaderState) (s : Surveying) (found : List Finding) (lines : List ℕ) (told_so : ToldSoFar part s found lines start now) where
   -- what the survey has read so far
   abbrev pub read : SurveysRead part s found start now
@@ -178,6 +181,7 @@ module _ (part : Option PartOf) (start : Option (List ℕ)) (now : log.ReaderSta
             (found_text k s.tables.times read.es seen stands here text (λ f has. (are.1 f).0 has) (subst (λ fs. AreLinesBy k fs text) same are_lines));
       })
 
+  -- What follows is of the end of the survey, and its summary.
   module _ (counts : Counts) (summary : Summary) (before mid after : Option (List ℕ)) (told : AreTold found lines counts before mid)
       (findings : summary.findings ≡ counts.findings) (undecided : summary.undecided ≡ counts.undecided) where
     -- where the log ends after the items that were read, and the last line is written, the survey is written and summed up

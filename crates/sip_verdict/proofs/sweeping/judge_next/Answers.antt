@@ -5,6 +5,7 @@ use Rattle.sip_verdict.proofs.sweeps.FollowedLemmas.{followed_kept, followed_swe
 use Rattle.sip_verdict.proofs.sweeps.SweptBook.{within_keeps}
 use Rattle.sip_verdict.proofs.sweeping.judge_next.Goals as goal
 
+-- where no sweep is due yet, the judge follows the entries as it did, and the book has few enough messages
 pub returns-then-kept-left-clause-judged : goal.returns-then-kept-left-clause-judged
 returns-then-kept-left-clause-judged g c =
     let s = c.args.standing.now in
@@ -14,6 +15,7 @@ returns-then-kept-left-clause-judged g c =
     let few : length mid.book ≤ left + left + 64 = omega (arith, c.kept.ensures.kept, c.if-kept-left.true) in
     followed_kept s.book mid.book s.tables mid.tables c.in_ok-verdict.ensures.times e.number (item e) (rw c.in_default.is at c.in_ok-verdict.ensures.judged) left few
 
+-- after the sweep the next entry may come
 pub returns-clause-may : goal.returns-clause-may
 returns-clause-may g c =
     let mid = c.judge.new.self in
@@ -22,6 +24,7 @@ returns-clause-may g c =
     let swept = c.in_ok-sweep.ensures in
     swept_take mid.book new.book mid.tables new.tables (e.number + 1) e.moment (rw c.in_default.is at c.in_ok-verdict.ensures.may) swept.may swept.recorded (within_keeps mid.book new.book swept.fewer) swept.keys
 
+-- no more messages are left than there are entries
 pub returns-clause-left : goal.returns-clause-left
 returns-clause-left g c =
     let may = rw c.in_default.is at c.in_ok-verdict.ensures.may in
@@ -29,12 +32,14 @@ returns-clause-left g c =
     let high = c.kept-2.ensures.few (c.args.entry.now.number + 1) (λ n keeps. may.numbered n (fewer n keeps)) in
     omega (arith, high, c.requires.count)
 
+-- an entry without keys leaves the book no more than it had
 pub returns-clause-keyless : goal.returns-clause-keyless
 returns-clause-keyless g c none =
     let old = c.args.standing.now.book in
     let mid = c.judge.new.self.book in
     All-weaker (Contains mid) (Contains old) (λ x has. All-contains (Contains old) mid x (c.in_ok-verdict.ensures.keyless none) has) c.sweep.new.self.book c.in_ok-sweep.ensures.fewer
 
+-- after a sweep the judge follows the entries, and `left` is how many messages the book kept
 pub returns-clause-judged : goal.returns-clause-judged
 returns-clause-judged g c =
     let s = c.args.standing.now in

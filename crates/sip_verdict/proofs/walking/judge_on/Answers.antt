@@ -2,6 +2,7 @@ use Rattle.std.proofs.lemmas.Result.{IfOk-weaker}
 use Rattle.sip_verdict.proofs.listings.WalksLemmas.{judges_end, judges_entry}
 use Rattle.sip_verdict.proofs.walking.judge_on.Goals as goal
 
+-- on the way to the end an entry is judged in the usual way
 pub returns-in-End-clause-judged : goal.returns-in-End-clause-judged
 returns-in-End-clause-judged g c =
     let s = c.args.standing.now in
@@ -9,6 +10,7 @@ returns-in-End-clause-judged g c =
     IfOk-weaker c.judge_next.result _ _
     (λ verdict says. judges_end s.book new.book s.tables new.tables c.args.left.now c.judge_next.new.left c.args.entry.now c.args.aim c.in-End.is verdict says) c.judge_next.ensures.judged
 
+-- on the way to an entry no sweep takes place
 pub returns-in-Entry-clause-judged : goal.returns-in-Entry-clause-judged
 returns-in-Entry-clause-judged g c =
     let s = c.args.standing.now in

@@ -10,11 +10,13 @@ use Rattle.sip_verdict.proofs.tables.JudgeTables.{first_may, next_may}
 use Rattle.sip_verdict.proofs.listings.WalksLemmas.{walks_start, walks_stop, none_listed, walks_on, walks_end, walks_fault, walks_trouble, walks_listed}
 use Rattle.sip_verdict.proofs.walking.walk.Goals as goal
 
+-- the log has no header that can be read
 pub returns-in-Err-clause-answer : goal.returns-in-Err-clause-answer
 returns-in-Err-clause-answer g c =
     let fault = rw c.in-Err.is at c.in_ok-opened.ensures.fault in
     walks_stop c.args.aim (g.R.Source.left c.args.reader.now) c.in-Err.verdict 0 fault.1 (λ n same. omega arith) fault.0
 
+-- entry 0 is asked for, which no log has
 pub returns-then-is_entry-clause-answer : goal.returns-then-is_entry-clause-answer
 returns-then-is_entry-clause-answer g c =
     let start = g.R.Source.left c.args.reader.now in
@@ -22,6 +24,7 @@ returns-then-is_entry-clause-answer g c =
     let now : log.ReaderState = beside_source opened.1 (g.R.Source.left c.read_header.new.reader) (g.R.Source.has_failed c.read_header.new.reader) in
     none_listed c.args.aim start opened.0 now (rw c.in-Ok.is at c.in_ok-opened.ensures.reads) (c.is_entry.ensures.is c.if-is_entry.true)
 
+-- after the header the walk has read no entry and judged nothing
 pub loop-standing-init : goal.loop-standing-init
 loop-standing-init g c =
     let start = g.R.Source.left c.args.reader.now in
@@ -41,6 +44,7 @@ loop-standing-init g c =
       walks = walks_start c.args.aim start now opened.0 c.new-standing.result.book c.new-standing.result.tables c.new-standing.ensures.book c.new-standing.ensures.tables reads;
     }
 
+-- the entry may come next
 pub list-requires-clause-may : goal.list-requires-clause-may
 list-requires-clause-may g c =
     let l = c.loop-standing in
@@ -48,6 +52,7 @@ list-requires-clause-may g c =
     let moves = rw c.in-Entry.is at c.in_ok-entry.ensures.moves in
     next_may l.standing.book l.standing.tables l.count l.progress.last e.number e.moment (moves.1.number_is ∙ ap (λ n. n + 1) (sym l.invariant.counts)) moves.1.order l.invariant.may
 
+-- the entry may come next
 pub judge_on-requires-clause-may : goal.judge_on-requires-clause-may
 judge_on-requires-clause-may g c =
     let l = c.loop-standing in
@@ -55,6 +60,7 @@ judge_on-requires-clause-may g c =
     let moves = rw c.in-Entry.is at c.in_ok-entry.ensures.moves in
     next_may l.standing.book l.standing.tables l.count l.progress.last e.number e.moment (moves.1.number_is ∙ ap (λ n. n + 1) (sym l.invariant.counts)) moves.1.order l.invariant.may
 
+-- the entry is the aim, and what is listed of it is the answer
 pub returns-then-is_entry-2-clause-answer : goal.returns-then-is_entry-2-clause-answer
 returns-then-is_entry-2-clause-answer g c =
     let l = c.loop-standing in
@@ -66,6 +72,7 @@ returns-then-is_entry-2-clause-answer g c =
     walks_listed c.args.aim start old l.count l.left l.standing.book l.standing.tables walks c.in-Entry.entry (moves.1.number_is ∙ ap (λ n. n + 1) (sym l.invariant.counts)) moves.1.order new
     ((rw c.in-Entry.is at c.in_ok-entry.ensures.gives) start l.standing.tables.times walks.items walks.read) c.in_ok-list-in-Entry.field-0 (c.is_entry-in-Entry.ensures.is c.if-is_entry-2.true) c.in_ok-list-in-Entry.ensures.listed
 
+-- where the judge gives a verdict at the entry, this verdict is the walk's answer
 pub returns-in-Some-clause-answer : goal.returns-in-Some-clause-answer
 returns-in-Some-clause-answer g c =
     let l = c.loop-standing in
@@ -79,6 +86,7 @@ returns-in-Some-clause-answer g c =
     ((rw c.in-Entry.is at c.in_ok-entry.ensures.gives) start l.standing.tables.times walks.items walks.read) now.left now.standing.book now.standing.tables c.in-Some.verdict
     (rw c.in-Some.is at c.in_ok-verdict-in-Entry.ensures.judged) c.in_ok-verdict-in-Entry.ensures.times l.invariant.before
 
+-- after an entry without a verdict the walk has judged one entry more, and its aim is still ahead
 pub loop-standing-preserved : goal.loop-standing-preserved
 loop-standing-preserved g c =
     let l = c.loop-standing in
@@ -106,6 +114,7 @@ loop-standing-preserved g c =
           (subst (JudgesOn c.args.aim l.standing.book l.standing.tables l.left now.standing.book now.standing.tables now.left e) c.in_default.is c.in_ok-verdict-in-Entry.ensures.judged) c.in_ok-verdict-in-Entry.ensures.times moves.3;
     }
 
+-- where the log ends before the aim, the walk tells how many entries and transactions there were
 pub returns-in-End-clause-answer : goal.returns-in-End-clause-answer
 returns-in-End-clause-answer g c =
     let l = c.loop-standing in
@@ -115,6 +124,7 @@ returns-in-End-clause-answer g c =
     walks_end c.args.aim start old l.count l.left l.standing.book l.standing.tables walks c.transactions-transactions.result c.transactions-transactions.ensures l.invariant.may.passes.long l.invariant.before
     ((rw c.in-End.is at c.in_ok-entry.ensures.gives) start l.standing.tables.times walks.items walks.read)
 
+-- where the next entry cannot be read, the walk's answer is that fault
 pub returns-in-Fault-clause-answer : goal.returns-in-Fault-clause-answer
 returns-in-Fault-clause-answer g c =
     let l = c.loop-standing in

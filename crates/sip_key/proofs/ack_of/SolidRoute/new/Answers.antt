@@ -7,6 +7,7 @@ use Rattle.sip_standard.specs.Solid.{solid}
 use Rattle.sip_key.proofs.AckOfLemmas.{solid-begins}
 use Rattle.sip_key.proofs.ack_of.SolidRoute.new.Goals as goal
 
+-- the bytes begin with the first value, and a comma stands before each other one
 pub returns : goal.returns
 returns c =
     ap (λ (t : Bor (List ℕ)). solid t.now ++ flat_map (λ value. comma ∷ solid value) c.next.new.self) c.unwrap_or-rest.ensures

@@ -6,6 +6,7 @@ use Rattle.sip_key.proofs.KeyLemmas.{begun_folded, built, keyed}
 use Rattle.sip_key.proofs.key.Key.client.Goals as goal
 use Rattle.sip_key.proofs.key.Key.client.Goals.{In_ok-extend_from_slice}
 
+-- the text that was made is that of a client's key with this branch and method
 made : (c : In_ok-extend_from_slice) → let text = c.extend_from_slice.new.self.items in
     (parts_of text ≡ record { role = Client; branch = folded c.args.branch.now; sent_by = []; method = c.args.method.now }) × (text ≡ key_text (parts_of text))
 made c =

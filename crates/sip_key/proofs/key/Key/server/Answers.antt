@@ -8,6 +8,7 @@ use Rattle.sip_key.proofs.KeyLemmas.{begun_folded, built, keyed}
 use Rattle.sip_key.proofs.key.Key.server.Goals as goal
 use Rattle.sip_key.proofs.key.Key.server.Goals.{In_ok-extend_from_slice-2}
 
+-- the text that was made is that of a server's key with this branch, sent-by and method
 made : (c : In_ok-extend_from_slice-2) → let text = c.extend_from_slice-2.new.self.items in
     (parts_of text ≡ record { role = Server; branch = folded c.args.branch.now; sent_by = sent_by c.args.host.now (option_copied c.args.port); method = c.args.method.now })
     × (text ≡ key_text (parts_of text))

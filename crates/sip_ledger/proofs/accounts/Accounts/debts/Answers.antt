@@ -1,10 +1,8 @@
-use Rattle.std.proofs.Common.{take, ap, ◌∙◌, arith}
-use Rattle.std.proofs.lemmas.List.{take_all}
-use Rattle.std.proofs.lemmas.Result.{IfOk-weaker}
-use Rattle.sip_ledger.specs.Accounts.{owed_in}
+use Rattle.sip_ledger.proofs.Words.{take, ap, ◌∙◌, arith, take_all, IfOk-weaker, owed_in}
 use Rattle.sip_ledger.proofs.rows.SeenLemmas.{account-at, row-few}
 use Rattle.sip_ledger.proofs.accounts.Accounts.debts.Goals as goal
 
+-- a row owes fewer debts than a number of 64 bits counts, so the first ones are all
 pub returns : goal.returns
 returns c =
     let owes = owed_in c.args.self.now c.args.row in

@@ -1,9 +1,8 @@
-use Rattle.std.proofs.Common.{ap, ◌∙◌, List}
-use Rattle.sip_ledger.specs.declared.debt.Debt.{Debt}
-use Rattle.sip_ledger.specs.Debts.{debt_deadlines, earliest}
+use Rattle.sip_ledger.proofs.Words.{ap, ◌∙◌, List, Debt, debt_deadlines, earliest}
 use Rattle.sip_ledger.proofs.rows.SeenLemmas.{account-at}
 use Rattle.sip_ledger.proofs.accounts.Accounts.earliest_must.Goals as goal
 
+-- what is told of the account is told of what the row owes
 pub returns : goal.returns
 returns c =
     let is = account-at c.args.row c.index.result.now c.self.invariant c.self.view_is c.requires c.index.ensures in

@@ -1,15 +1,15 @@
-use Rattle.std.proofs.Common.{arith, ◌∙◌, ap, get_or, set, []}
-use Rattle.std.specs.Prelude.{filter}
-use Rattle.sip_ledger.specs.Debts.{counts_at}
+use Rattle.sip_ledger.proofs.Words.{arith, ◌∙◌, ap, get_or, set, [], filter, counts_at}
 use Rattle.sip_ledger.proofs.lists.EachLemmas.{changing-more, on_ok}
 use Rattle.sip_ledger.proofs.rows.GainEachLemmas.{none-past}
 use Rattle.sip_ledger.proofs.accounts.Accounts.expire_each.Goals as goal
 
+-- no debt has expired, so all rows stay as they are
 pub returns-then-all_count-clause-ok : goal.returns-then-all_count-clause-ok
 returns-then-all_count-clause-ok c =
     let s = c.self.inside in
     none-past s.gains s.strikes.items s.rows.items c.args.self.now c.args.from c.args.moment c.self.invariant.gained c.self.view_is c.if-all_count.ensures
 
+-- after one row more, the rows up to it owe nothing whose deadline is past
 pub loop-row-preserved : goal.loop-row-preserved
 loop-row-preserved c =
     let was = c.loop-row.invariant in

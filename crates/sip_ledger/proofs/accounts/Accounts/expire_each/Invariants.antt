@@ -1,5 +1,4 @@
-use Rattle.std.specs.Prelude.{◌≡◌, ◌≤◌, filter}
-use Rattle.sip_ledger.specs.Debts.{counts_at}
+use Rattle.sip_ledger.proofs.Words.{◌≡◌, ◌≤◌, filter, counts_at}
 use Rattle.sip_ledger.proofs.lists.EachLemmas.{changing}
 use Rattle.sip_ledger.proofs.accounts.Accounts.expire_each.Given as goal
 

@@ -1,8 +1,8 @@
-use Rattle.std.proofs.Common.{take, ap, ◌∙◌}
-use Rattle.std.proofs.lemmas.Result.{IfOk-weaker}
+use Rattle.sip_ledger.proofs.Words.{take, ap, ◌∙◌, IfOk-weaker}
 use Rattle.sip_ledger.proofs.rows.SeenLemmas.{account-at}
 use Rattle.sip_ledger.proofs.accounts.Accounts.first_debts.Goals as goal
 
+-- what the account owes first is what the row owes first
 pub returns : goal.returns
 returns c =
     let is = account-at c.args.row c.index.result.now c.self.invariant c.self.view_is c.requires c.index.ensures in

@@ -1,37 +1,37 @@
-use Rattle.std.proofs.Common.{List, None, Some, subst}
-use Rattle.sip_ledger.specs.declared.debt.Debt.{Debt}
-use Rattle.sip_ledger.specs.Debts.{IsFirstPaid, PaysSome}
-use Rattle.sip_ledger.specs.Indexes.{holds}
-use Rattle.sip_ledger.specs.inner.Accounts.{entries_of, entry_at}
+use Rattle.sip_ledger.proofs.Words.{List, None, Some, subst, Debt, IsFirstPaid, PaysSome, holds, entries_of, entry_at}
 use Rattle.sip_ledger.proofs.gains.LeftLemmas.{left-kept, owed-left}
 use Rattle.sip_ledger.proofs.account.FirstLemmas.{first-account, none-account}
 use Rattle.sip_ledger.proofs.rows.SeenLemmas.{account-at}
 use Rattle.sip_ledger.proofs.accounts.Accounts.first_payable.Goals as goal
 
+-- the row is an account
 pub find_under-requires-clause-account : goal.find_under-requires-clause-account
 find_under-requires-clause-account c =
     rw c.deref.ensures.value (account-at c.args.row c.index-account.result.now c.self.invariant c.self.view_is c.requires c.index-account.ensures).0
 
+-- what an account owes is kept
 pub entry-requires-clause-kept : goal.entry-requires-clause-kept
 entry-requires-clause-kept c =
     let s = c.self.inside in
-    let found = rw (c.in-Some.is, c.deref.ensures.value) at c.in_ok-found.ensures in
+    let found = rw (c.in-Some.is, c.deref.ensures.value) at c.in_ok-found.ensures.first in
     left-kept s.gains c.in-Some.place c.self.invariant.gained (owed-left s.gains s.strikes.items c.index-account.result.now c.in-Some.place found.0)
 
-pub returns-in-Some : goal.returns-in-Some
-returns-in-Some c =
+-- the debt of the row that was found is the first that a send under the key pays
+pub returns-in-Some-clause-first : goal.returns-in-Some-clause-first
+returns-in-Some-clause-first c =
     let s = c.self.inside in
     let is = account-at c.args.row c.index-account.result.now c.self.invariant c.self.view_is c.requires c.index-account.ensures in
     let test = holds c.args.index.now c.args.key in
-    let found = rw (c.in-Some.is, c.deref.ensures.value) at c.in_ok-found.ensures in
+    let found = rw (c.in-Some.is, c.deref.ensures.value) at c.in_ok-found.ensures.first in
     rw c.entry.ensures (subst (λ (debts : List Debt). IsFirstPaid (PaysSome test c.args.moment) c.args.moment debts (Some (entry_at (entries_of s.gains) c.in-Some.place).message)) is.1
     (first-account s.gains s.strikes.items c.index-account.result.now test c.args.moment c.in-Some.place is.0 found))
 
-pub returns-in-None : goal.returns-in-None
-returns-in-None c =
+-- where the account has none, the row has no debt that a send under the key pays
+pub returns-in-None-clause-first : goal.returns-in-None-clause-first
+returns-in-None-clause-first c =
     let s = c.self.inside in
     let is = account-at c.args.row c.index-account.result.now c.self.invariant c.self.view_is c.requires c.index-account.ensures in
     let test = holds c.args.index.now c.args.key in
-    let none = rw (c.in-None.is, c.deref.ensures.value) at c.in_ok-found.ensures in
+    let none = rw (c.in-None.is, c.deref.ensures.value) at c.in_ok-found.ensures.first in
     subst (λ (debts : List Debt). IsFirstPaid (PaysSome test c.args.moment) c.args.moment debts None) is.1
     (none-account s.gains s.strikes.items c.index-account.result.now test c.args.moment none)

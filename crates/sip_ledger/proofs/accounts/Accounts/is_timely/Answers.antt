@@ -1,9 +1,8 @@
-use Rattle.std.proofs.Common.{List, ap, ◌∙◌}
-use Rattle.sip_ledger.specs.declared.debt.Debt.{Debt}
-use Rattle.sip_ledger.specs.Debts.{is_timely}
+use Rattle.sip_ledger.proofs.Words.{List, ap, ◌∙◌, Debt, is_timely}
 use Rattle.sip_ledger.proofs.rows.SeenLemmas.{account-at}
 use Rattle.sip_ledger.proofs.accounts.Accounts.is_timely.Goals as goal
 
+-- what is told of the account is told of what the row owes
 pub returns : goal.returns
 returns c =
     let is = account-at c.args.row c.index.result.now c.self.invariant c.self.view_is c.requires c.index.ensures in

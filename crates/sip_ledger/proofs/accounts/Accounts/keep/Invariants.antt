@@ -1,4 +1,4 @@
-use Rattle.std.specs.Prelude.{[]}
+use Rattle.sip_ledger.proofs.Words.{[]}
 use Rattle.sip_ledger.proofs.lists.KeepLemmas.{IsKeptTo}
 use Rattle.sip_ledger.proofs.accounts.Accounts.keep.Given as goal
 

@@ -1,5 +1,4 @@
-use Rattle.std.proofs.Common.{◌≡◌, ◌++◌, map, take}
-use Rattle.sip_ledger.specs.declared.debt.Debt.{Debt}
+use Rattle.sip_ledger.proofs.Words.{◌≡◌, ◌++◌, map, take, Debt}
 use Rattle.sip_ledger.proofs.accounts.Accounts.names.Given as goal
 
 abbrev pub invariant-loop-debt : goal.invariant-loop-debt

@@ -1,7 +1,8 @@
-use Rattle.sip_ledger.specs.Accounts.{owed_in}
+use Rattle.sip_ledger.proofs.Words.{owed_in}
 use Rattle.sip_ledger.proofs.rows.SeenLemmas.{account-at, owes-nothing}
 use Rattle.sip_ledger.proofs.accounts.Accounts.owes_nothing.Goals as goal
 
+-- an account owes nothing exactly where it has no debts
 pub returns : goal.returns
 returns c =
     let s = c.self.inside in

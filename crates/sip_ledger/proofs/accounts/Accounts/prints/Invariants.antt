@@ -1,6 +1,4 @@
-use Rattle.std.specs.Prelude.{◌≡◌, ◌<◌, ◌≤◌, ◌+◌, ◌-◌, ◌⊎◌, ℕ, length, get_or}
-use Rattle.std.specs.Vec.{vec_capacity}
-use Rattle.sip_ledger.specs.Accounts.{debts_print, owed_in}
+use Rattle.sip_ledger.proofs.Words.{◌≡◌, ◌<◌, ◌≤◌, ◌+◌, ◌-◌, ◌⊎◌, ℕ, length, get_or, vec_capacity, debts_print, owed_in}
 use Rattle.sip_ledger.proofs.accounts.Accounts.prints.Given as goal
 
 -- the prints of the rows before the index are in the list

@@ -1,7 +1,8 @@
-use Rattle.sip_ledger.specs.Accounts.{owed_in}
+use Rattle.sip_ledger.proofs.Words.{owed_in}
 use Rattle.sip_ledger.proofs.rows.SeenLemmas.{account-at, pushed-to}
 use Rattle.sip_ledger.proofs.accounts.Accounts.push_copy.Goals as goal
 
+-- the new row has the same account, and so it owes the same
 pub returns-clause-ok : goal.returns-clause-ok
 returns-clause-ok c =
     let is = account-at c.args.row c.index.result.now c.self.invariant c.self.view_is c.requires c.index.ensures in

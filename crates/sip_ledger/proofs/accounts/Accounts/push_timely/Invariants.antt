@@ -1,6 +1,4 @@
-use Rattle.std.specs.Prelude.{◌≡◌, ◌≤◌, ◌⊎◌, ◌++◌, filter, length}
-use Rattle.sip_ledger.specs.Debts.{is_timely}
-use Rattle.sip_ledger.specs.Lists.{from_to}
+use Rattle.sip_ledger.proofs.Words.{◌≡◌, ◌≤◌, ◌⊎◌, ◌++◌, filter, length, is_timely, from_to}
 use Rattle.sip_ledger.proofs.accounts.Accounts.push_timely.Given as goal
 
 -- the timely rows before the index stand after the others

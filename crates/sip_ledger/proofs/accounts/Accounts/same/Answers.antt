@@ -1,7 +1,8 @@
-use Rattle.std.proofs.Common.{sym, ◌∙◌}
+use Rattle.sip_ledger.proofs.Words.{sym, ◌∙◌}
 use Rattle.sip_ledger.proofs.rows.SeenLemmas.{account-at}
 use Rattle.sip_ledger.proofs.accounts.Accounts.same.Goals as goal
 
+-- two rows owe the same where their accounts do
 pub returns : goal.returns
 returns c =
     let one = account-at c.args.row c.index.result.now c.self.invariant c.self.view_is c.requires.row c.index.ensures in

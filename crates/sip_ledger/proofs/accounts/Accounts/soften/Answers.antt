@@ -1,12 +1,9 @@
-use Rattle.std.proofs.Common.{◌≡◌, length, map, set, subst, sym}
-use Rattle.std.proofs.Math.Seq.{take-length}
-use Rattle.sip_ledger.specs.Accounts.{owed_in}
-use Rattle.sip_ledger.specs.Debts.{softened_debt}
-use Rattle.sip_ledger.specs.inner.Accounts.{AreAccounts, accounts_debts, entries_of}
+use Rattle.sip_ledger.proofs.Words.{◌≡◌, length, map, set, subst, sym, take-length, owed_in, softened_debt, AreAccounts, accounts_debts, entries_of}
 use Rattle.sip_ledger.proofs.gains.LeftLemmas.{entries_long}
 use Rattle.sip_ledger.proofs.rows.SeenLemmas.{account-at, changed-by, softened-account, softened_account}
 use Rattle.sip_ledger.proofs.accounts.Accounts.soften.Goals as goal
 
+-- the row has the same debts, of which none must be sent any more
 pub invariant_of-self : goal.invariant_of-self
 invariant_of-self c =
     let s = c.self.inside in
@@ -16,6 +13,7 @@ invariant_of-self c =
     let changed = changed-by (map softened_debt) s.strikes.items c.args.row c.index.result.now (softened_account (length (entries_of s.gains)) c.index.result.now) (take-length s.strikes.items) c.self.invariant c.self.view_is c.requires c.index.ensures soft.0 soft.1 in
     subst (λ n. AreAccounts s.gains s.strikes.items (set s.rows.items c.args.row (softened_account n c.index.result.now))) (sym long) changed.0
 
+-- the row has the same debts, of which none must be sent any more
 pub returns : goal.returns
 returns c =
     let s = c.self.inside in

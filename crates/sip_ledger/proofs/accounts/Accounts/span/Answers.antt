@@ -1,9 +1,8 @@
-use Rattle.std.proofs.Common.{◌≤◌, subst}
-use Rattle.std.specs.Prelude.{All}
-use Rattle.sip_ledger.specs.declared.debt.Debt.{Debt}
+use Rattle.sip_ledger.proofs.Words.{◌≤◌, subst, All, Debt}
 use Rattle.sip_ledger.proofs.rows.NamedLemmas.{spanned}
 use Rattle.sip_ledger.proofs.accounts.Accounts.span.Goals as goal
 
+-- the span of the gains holds all that the rows owe
 pub returns : goal.returns
 returns c =
     let s = c.self.inside in

@@ -1,5 +1,4 @@
-use Rattle.std.proofs.Common.{◌≤◌, ◌-◌, length}
-use Rattle.sip_ledger.specs.inner.Accounts.{IsSeek, entries_of, owes_at}
+use Rattle.sip_ledger.proofs.Words.{◌≤◌, ◌-◌, length, IsSeek, entries_of, owes_at}
 use Rattle.sip_ledger.proofs.account.FindLemmas.{NonePays}
 use Rattle.sip_ledger.proofs.accounts.account.find.Given as goal
 

@@ -1,58 +1,94 @@
 use Rattle.std.proofs.Common.{◌+◌, subst, arith}
 use Rattle.sip_ledger.specs.Indexes.{holds}
-use Rattle.sip_ledger.specs.inner.Accounts.{IsFirstOf, entries_of, entry_at, owes_at}
-use Rattle.sip_ledger.proofs.account.FirstLemmas.{below, below-parts, found-kept, left-next, newest-first, none-left, none-under, one-more}
-use Rattle.sip_ledger.proofs.accounts.account.find_under.Goals.{then-left-message+else-is_newest+in_ok-from, else-left-message}
+use Rattle.sip_ledger.specs.inner.Accounts.{IsFirstOf, entries_of, entry_at, owes_at, sooner}
+use Rattle.sip_ledger.proofs.account.FirstLemmas.{below, below-parts, found-kept, highest-first, left-next, newest-first, none-left, none-under, one-more}
+use Rattle.sip_ledger.proofs.lists.CountLemmas.{count_all, count_passed}
+use Rattle.sip_ledger.proofs.accounts.account.find_under.Goals.{then-left-message+else-is_newest+else-gains-message, else-left-message}
 use Rattle.sip_ledger.proofs.accounts.account.find_under.Goals as goal
 
-pub loop-init : goal.loop-init
-loop-init c = λ k owed (passes, early).
-    let m = (entry_at (entries_of c.args.gains.now) k).message in
-    let low = (below-parts (holds c.args.index.now c.args.key m) m 0 passes).1 in
-    absurd (omega (arith, low))
+-- no message is below 0, so nothing is looked at yet
+pub loop-step-init : goal.loop-step-init
+loop-step-init c =
+    let all = count_all c.args.index.now c.args.key in (
+      λ k owed (passes, early).
+          let m = (entry_at (entries_of c.args.gains.now) k).message in
+          let low = (below-parts (holds c.args.index.now c.args.key m) m 0 passes).1 in
+          absurd (omega (arith, low)),
+      omega (arith, all),
+    )
 
-pub returns-in_default : goal.returns-in_default
-returns-in_default c =
-    none-under c.args.gains.now c.args.strikes.now c.args.account c.args.index.now c.args.key c.args.moment c.loop.from c.loop.first c.loop.invariant c.in_default.ensures.none
+-- the index has no greater message
+pub returns-in_default-clause-first : goal.returns-in_default-clause-first
+returns-in_default-clause-first c =
+    none-under c.args.gains.now c.args.strikes.now c.args.account c.args.index.now c.args.key c.args.moment c.loop-step.from c.loop-step.first c.loop-step.invariant.0 c.in_default.ensures.none
 
-pub returns-in_default-message_from : goal.returns-in_default-message_from
-returns-in_default-message_from c =
-    none-left c.args.gains.now c.args.strikes.now c.args.account c.args.index.now c.args.key c.args.moment c.loop.from c.loop.first c.loop.invariant
+-- where no message from this one on is left, what was found is the first of all
+pub returns-in_default-message_from-clause-first : goal.returns-in_default-message_from-clause-first
+returns-in_default-message_from-clause-first c =
+    none-left c.args.gains.now c.args.strikes.now c.args.account c.args.index.now c.args.key c.args.moment c.loop-step.from c.loop-step.first c.loop-step.invariant.0
     c.in-Some.message c.in-Some.ensures.found c.in_default-message_from.ensures.none
 
+-- the place that was found is kept
 pub is_newest-requires-clause-kept : goal.is_newest-requires-clause-kept
 is_newest-requires-clause-kept c =
     found-kept c.args.gains.now c.args.strikes.now c.args.account c.args.index.now c.args.key c.args.moment c.in-Some.message c.requires.gained c.find-place.result c.find-place.ensures.found
 
-pub returns-then-is_newest : goal.returns-then-is_newest
-returns-then-is_newest c =
+-- where nothing before the place has a greater message, what was found is the first of all
+pub returns-then-is_newest-clause-first : goal.returns-then-is_newest-clause-first
+returns-then-is_newest-clause-first c =
     let g = c.args.gains.now in
     let s = c.args.strikes.now in
     let owes = owes_at g s c.args.account in
     let key = c.args.key in
     let pairs = c.args.index.now in
     let message = c.in-Some.message in
-    let after = left-next g s c.args.account pairs key c.args.moment c.loop.from c.loop.first c.loop.invariant message c.in-Some.ensures.found
+    let after = left-next g s c.args.account pairs key c.args.moment c.loop-step.from c.loop-step.first c.loop-step.invariant.0 message c.in-Some.ensures.found
     c.in-Some-message_from.left c.in-Some-message_from.ensures.found.0 c.in-Some-message_from.ensures.found.1 in
-    let here = subst (λ n. IsFirstOf (entries_of g) owes (below pairs key n) c.args.moment c.loop.first) c.if-left-message.true after in
-    let more = one-more g s c.args.account pairs key c.args.moment message c.loop.first c.find-place.result c.in-Some.ensures.found.is here c.find-place.ensures.found c.find-place.ensures.none in
-    rw c.sooner-first.ensures (newest-first g s c.args.account pairs key c.args.moment message c.requires.gained c.loop.first c.find-place.result c.find-place.ensures.found
+    let here = subst (λ n. IsFirstOf (entries_of g) owes (below pairs key n) c.args.moment c.loop-step.first) c.if-left-message.true after in
+    let more = one-more g s c.args.account pairs key c.args.moment message c.loop-step.first c.find-place.result c.in-Some.ensures.found.is here c.find-place.ensures.found c.find-place.ensures.none in
+    rw c.sooner-first.ensures (newest-first g s c.args.account pairs key c.args.moment message c.requires.gained c.loop-step.first c.find-place.result c.find-place.ensures.found
     (rw c.if-is_newest.true at c.is_newest.ensures) more)
 
-pub loop-preserved : goal.loop-preserved
-loop-preserved c =
+pub returns-then-gains-message-clause-first : goal.returns-then-gains-message-clause-first
+returns-then-gains-message-clause-first c =
     let g = c.args.gains.now in
     let s = c.args.strikes.now in
     let owes = owes_at g s c.args.account in
     let key = c.args.key in
     let pairs = c.args.index.now in
     let message = c.in-Some.message in
-    let after = left-next g s c.args.account pairs key c.args.moment c.loop.from c.loop.first c.loop.invariant message c.in-Some.ensures.found
+    let after = left-next g s c.args.account pairs key c.args.moment c.loop-step.from c.loop-step.first c.loop-step.invariant.0 message c.in-Some.ensures.found
     c.in-Some-message_from.left c.in-Some-message_from.ensures.found.0 c.in-Some-message_from.ensures.found.1 in
+    let here = subst (λ n. IsFirstOf (entries_of g) owes (below pairs key n) c.args.moment c.loop-step.first) c.if-left-message.true after in
+    let more = one-more g s c.args.account pairs key c.args.moment message c.loop-step.first c.find-place.result c.in-Some.ensures.found.is here c.find-place.ensures.found c.find-place.ensures.none in
+    rw c.sooner-first.ensures (highest-first g s c.args.account pairs key c.args.moment message c.requires.gained (sooner c.loop-step.first c.find-place.result) c.if-gains-message.true more)
+
+-- what was found so far is the first debt of the messages under the key that are below the next one
+pub loop-step-preserved : goal.loop-step-preserved
+loop-step-preserved c =
+    let g = c.args.gains.now in
+    let s = c.args.strikes.now in
+    let owes = owes_at g s c.args.account in
+    let key = c.args.key in
+    let pairs = c.args.index.now in
+    let message = c.in-Some.message in
+    let next = c.in-Some.ensures.found in
+    let count = c.loop-step.invariant.1 in
+    let found = c.in-Some-message_from.ensures.found.1 in
+    let after = left-next g s c.args.account pairs key c.args.moment c.loop-step.from c.loop-step.first c.loop-step.invariant.0 message next
+    c.in-Some-message_from.left c.in-Some-message_from.ensures.found.0 found in
     elim c.if-left-message.branch [
-      | then-left-message+else-is_newest+in_ok-from w ↦
-          let here = subst (λ n. IsFirstOf (entries_of g) owes (below pairs key n) c.args.moment c.loop.first) w.if-left-message.true after in
-          let more = one-more g s c.args.account pairs key c.args.moment message c.loop.first w.find-place.result c.in-Some.ensures.found.is here w.find-place.ensures.found w.find-place.ensures.none in
-          rw (w.first-is, w.sooner-first.ensures, w.from-is, w.in_ok-from.ensures.1) more
-      | else-left-message w ↦ rw (w.first-is, w.from-is) after
+      | then-left-message+else-is_newest+else-gains-message w ↦
+          let here = subst (λ n. IsFirstOf (entries_of g) owes (below pairs key n) c.args.moment c.loop-step.first) w.if-left-message.true after in
+          let more = one-more g s c.args.account pairs key c.args.moment message c.loop-step.first w.find-place.result next.is here w.find-place.ensures.found w.find-place.ensures.none in
+          let fewer = count_passed key c.loop-step.from (message + 1) message next.after (omega arith) pairs next.is in
+          rw (w.first-is, w.sooner-first.ensures, w.from-is) (more, omega (arith, count, fewer))
+      | else-left-message w ↦
+          let order = found.after.keys in
+          let other = w.if-left-message.false in
+          let fewer = count_passed key c.loop-step.from c.in-Some-message_from.left message next.after (omega (arith, order, other)) pairs next.is in
+          rw (w.first-is, w.from-is) (after, omega (arith, count, fewer))
     ]
+
+pub returns-clause-told : goal.returns-clause-told
+returns-clause-told c = let count = c.loop-step.invariant.1 in omega (arith, count)

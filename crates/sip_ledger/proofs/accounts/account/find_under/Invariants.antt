@@ -1,7 +1,13 @@
+use Rattle.std.proofs.Common.{◌≤◌, ◌+◌}
+use Rattle.sip_ledger.specs.Indexes.{count_under}
 use Rattle.sip_ledger.specs.inner.Accounts.{IsFirstOf, entries_of, owes_at}
 use Rattle.sip_ledger.proofs.account.FirstLemmas.{below}
+use Rattle.sip_ledger.proofs.lists.CountLemmas.{count_from}
 use Rattle.sip_ledger.proofs.accounts.account.find_under.Given as goal
 
--- `first` is the first place that a message pays that stands under the key and is below `from`, if there is one
-abbrev pub invariant-loop : goal.invariant-loop
-invariant-loop l = IsFirstOf (entries_of l.gains) (owes_at l.gains l.strikes l.account) (below l.index l.key l.from) l.moment l.first
+-- `first` is the first place that a message pays that stands under the key and is below `from`, if there is one; each step passed a number
+-- under the key
+abbrev pub invariant-loop-step : goal.invariant-loop-step
+invariant-loop-step l =
+    IsFirstOf (entries_of l.gains) (owes_at l.gains l.strikes l.account) (below l.index l.key l.from) l.moment l.first ×
+    (l._step + count_from l.index l.key l.from ≤ count_under l.index l.key)

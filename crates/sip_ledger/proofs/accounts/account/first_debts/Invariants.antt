@@ -1,4 +1,4 @@
-use Rattle.std.proofs.Common.{◌≤◌, ◌-◌, length}
+use Rattle.sip_ledger.proofs.Words.{◌≤◌, ◌-◌, length}
 use Rattle.sip_ledger.proofs.account.ToldLemmas.{IsToldTo}
 use Rattle.sip_ledger.proofs.accounts.account.first_debts.Given as goal
 

@@ -1,31 +1,30 @@
-use Rattle.std.proofs.Common.{◌<◌, inl, inr, length, sym, ◌∙◌, arith}
-use Rattle.std.proofs.lemmas.Bool.{cases_lt}
-use Rattle.sip_ledger.specs.inner.Accounts.{entries_of}
+use Rattle.sip_ledger.proofs.Words.{◌<◌, length, sym, ◌∙◌, arith, entries_of}
 use Rattle.sip_ledger.proofs.gains.LeftLemmas.{entries_long, left-kept, owed-left}
 use Rattle.sip_ledger.proofs.account.ToldLemmas.{least-first, least-first_due, least-found, least-last, least-passed}
 use Rattle.sip_ledger.proofs.accounts.account.least_must.Goals.{then-owes+else-gains, else-owes}
 use Rattle.sip_ledger.proofs.accounts.account.least_must.Goals as goal
 
+-- before the first place there is no least deadline, or it is that of the first debt
 pub loop-place-init : goal.loop-place-init
 loop-place-init c =
-    let start = c.args.account.start in
     let from = c.max-from.ensures in
-    least-first c.args.gains.now c.args.strikes.now c.args.account c.max-from.result c.requires.account (omega (arith, from)) (omega (arith, from)) (elim (cases_lt start c.args.account.soft) [
-      | inl below ↦ inr (omega (arith, from, below))
-      | inr above ↦ inl (omega (arith, from, above))
-    ])
+    least-first c.args.gains.now c.args.strikes.now c.args.account c.max-from.result c.requires.account (omega (arith, from)) (omega (arith, from)) (omega (arith, from))
 
+-- where the place is past the account's end, the least so far is the least of all
 pub returns-then-account-place : goal.returns-then-account-place
 returns-then-account-place c =
     least-last c.args.gains.now c.args.strikes.now c.args.account c.loop-place.from c.in-Some.place c.loop-place.least c.loop-place.invariant c.in-Some.ensures.before c.if-account-place.true
 
+-- the first gain that must be sent has the least deadline, where deadlines rise
 pub returns-then-gains : goal.returns-then-gains
 returns-then-gains c = grind (arith, least-first_due, entries_long)
 
+-- what the account owes is kept
 pub entry-requires-clause-kept : goal.entry-requires-clause-kept
 entry-requires-clause-kept c =
     left-kept c.args.gains.now c.in-Some.place c.requires.gained (owed-left c.args.gains.now c.args.strikes.now c.args.account c.in-Some.place (sym c.owes.ensures ∙ c.if-owes.true))
 
+-- the least deadline so far is that of the debts up to here that must be sent
 pub loop-place-preserved : goal.loop-place-preserved
 loop-place-preserved c =
     let found = c.in-Some.ensures in
@@ -39,5 +38,6 @@ loop-place-preserved c =
           (sym c.owes.ensures ∙ w.if-owes.false))
     ]
 
+-- all places were looked at
 pub returns : goal.returns
 returns c = grind (arith, least-last)

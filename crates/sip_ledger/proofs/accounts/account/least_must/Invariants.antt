@@ -1,5 +1,4 @@
-use Rattle.std.proofs.Common.{◌-◌, length}
-use Rattle.sip_ledger.specs.inner.Accounts.{entries_of}
+use Rattle.sip_ledger.proofs.Words.{◌-◌, length, entries_of}
 use Rattle.sip_ledger.proofs.account.ToldLemmas.{IsLeastTo}
 use Rattle.sip_ledger.proofs.accounts.account.least_must.Given as goal
 

@@ -1,5 +1,4 @@
-use Rattle.std.proofs.Common.{◌≡◌, ◌<◌, ◌≤◌, ◌-◌, ℕ, false}
-use Rattle.sip_ledger.specs.inner.Accounts.{owes_at}
+use Rattle.sip_ledger.proofs.Words.{◌≡◌, ◌<◌, ◌≤◌, ◌-◌, ℕ, false, owes_at}
 use Rattle.sip_ledger.proofs.accounts.account.next.Given as goal
 
 -- the account owes nothing from the first place up to this one

@@ -1,7 +1,7 @@
-use Rattle.std.proofs.Common.{◌≡◌, ◌+◌, ◌-◌, ◌∙◌, drop, take, sym, ap, arith}
-use Rattle.std.proofs.lemmas.List.{drop-take}
+use Rattle.sip_ledger.proofs.Words.{◌≡◌, ◌+◌, ◌-◌, ◌∙◌, drop, take, sym, ap, arith, drop-take}
 use Rattle.sip_ledger.proofs.accounts.account.own.Goals as goal
 
+-- the slice between two places is what is left of the front up to the second one
 pub returns : goal.returns
 returns c =
     let a = c.args.account in

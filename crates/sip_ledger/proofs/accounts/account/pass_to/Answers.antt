@@ -1,7 +1,8 @@
-use Rattle.std.proofs.Common.{arith}
+use Rattle.sip_ledger.proofs.Words.{arith}
 use Rattle.sip_ledger.proofs.account.AccountLemmas.{kept-passed}
 use Rattle.sip_ledger.proofs.accounts.account.pass_to.Goals as goal
 
+-- the places between are kept, since the account owes something that was gained before them
 pub put-requires-clause-kept : goal.put-requires-clause-kept
 put-requires-clause-kept c = λ k low high.
     let some = c.requires.some in

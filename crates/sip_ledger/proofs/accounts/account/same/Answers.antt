@@ -1,22 +1,26 @@
-use Rattle.std.proofs.Common.{refl, rules, ◌≡◌, ◌≢◌, ◌∙◌, sym, arith}
-use Rattle.std.proofs.lemmas.Bool.{false≢true}
+use Rattle.sip_ledger.proofs.Words.{refl, rules, ◌≡◌, ◌≢◌, ◌∙◌, sym, arith, false≢true}
 use Rattle.sip_ledger.proofs.account.AccountLemmas.{kept-from}
 use Rattle.sip_ledger.proofs.account.ToldLemmas.{alike-debts, at-apart, at-more, at-start, end-other, end-same, rest-same}
 use Rattle.sip_ledger.proofs.accounts.account.same.Goals.{then-loop-at-test+else-beside-other, else-loop-at-test}
 use Rattle.sip_ledger.proofs.accounts.account.same.Goals as goal
 
+-- both owe the same before their first places
 pub loop-at-init : goal.loop-at-init
 loop-at-init c = at-start c.requires.one c.requires.other
 
+-- each place of the one account is kept
 pub debt_for-requires-clause-kept : goal.debt_for-requires-clause-kept
 debt_for-requires-clause-kept c = kept-from c.loop-at.at c.requires.gained c.requires.one c.loop-at.invariant.told.low c.loop-at-test.true
 
+-- each place of the other account is kept
 pub debt_for-requires-in-loop-at-clause-kept : goal.debt_for-requires-in-loop-at-clause-kept
 debt_for-requires-in-loop-at-clause-kept c = kept-from c.loop-at.beside c.requires.gained c.requires.other c.loop-at.invariant.told_beside.low c.if-beside-other.true
 
+-- accounts that are alike owe the same
 pub returns-then-is_alike : goal.returns-then-is_alike
 returns-then-is_alike c = (λ _. alike-debts c.args.gains.now c.args.strikes.now c.args.one c.args.other c.if-is_alike.ensures, λ _. refl)
 
+-- both owe one debt more that is the same
 pub loop-at-preserved : goal.loop-at-preserved
 loop-at-preserved c =
     let same : c.debt_for.result ≡ c.debt_for-in-loop-at.result = search rules in
@@ -25,9 +29,11 @@ loop-at-preserved c =
     at-more c.requires.one c.requires.other c.debt_for.result c.loop-at.invariant c.loop-at-test.true c.if-beside-other.true c.debt_for.ensures (same ∙ c.debt_for-in-loop-at.ensures)
     (record { within = one.within; before = one.before; is = one.is }) (record { within = other.within; before = other.before; is = other.is })
 
+-- accounts that share the rest of their places owe the same
 pub returns-then-shares_rest : goal.returns-then-shares_rest
 returns-then-shares_rest c = (λ _. rest-same c.requires.one c.requires.other c.loop-at.invariant c.if-at-beside.true c.if-shares_rest.ensures, λ _. refl)
 
+-- the next debts of the two differ, so the two owe not the same
 pub returns-then-ne : goal.returns-then-ne
 returns-then-ne c =
     let apart : c.debt_for.result ≢ c.debt_for-in-loop-at.result = search rules in (
@@ -36,9 +42,11 @@ returns-then-ne c =
           (λ is. apart (c.debt_for.ensures ∙ is ∙ sym c.debt_for-in-loop-at.ensures)) same),
     )
 
+-- both accounts end here, so they owe the same
 pub returns-then-at-one : goal.returns-then-at-one
 returns-then-at-one c = end-same c.requires.one c.requires.other c.loop-at.invariant c.if-at-one.true
 
+-- one account ends here and the other goes on, so they owe different things
 pub returns-else-at-one : goal.returns-else-at-one
 returns-else-at-one c =
     let was = c.loop-at.invariant in

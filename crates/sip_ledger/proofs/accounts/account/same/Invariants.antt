@@ -1,4 +1,4 @@
-use Rattle.std.proofs.Common.{◌-◌}
+use Rattle.sip_ledger.proofs.Words.{◌-◌}
 use Rattle.sip_ledger.proofs.account.ToldLemmas.{AreAt}
 use Rattle.sip_ledger.proofs.accounts.account.same.Given as goal
 

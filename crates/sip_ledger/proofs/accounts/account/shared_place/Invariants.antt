@@ -1,5 +1,4 @@
-use Rattle.std.proofs.Common.{◌≤◌, ◌-◌, length}
-use Rattle.sip_ledger.specs.inner.Accounts.{entries_of}
+use Rattle.sip_ledger.proofs.Words.{◌≤◌, ◌-◌, length, entries_of}
 use Rattle.sip_ledger.proofs.accounts.account.shared_place.Given as goal
 
 -- the place that is looked for stands after what the account owes

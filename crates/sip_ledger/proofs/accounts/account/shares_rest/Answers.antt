@@ -1,6 +1,7 @@
 use Rattle.sip_ledger.proofs.account.ToldLemmas.{on-true, shares-rest}
 use Rattle.sip_ledger.proofs.accounts.account.shares_rest.Goals as goal
 
+-- no strike of either account goes past the place, so both owe all that comes after it
 pub returns-then-end_by : goal.returns-then-end_by
 returns-then-end_by c =
     on-true c.end_by-then-end_by.result (rw c.own-then-end_by.ensures at c.end_by-then-end_by.ensures)

@@ -1,23 +1,18 @@
-use Rattle.std.proofs.Common.{◌∙◌, arith}
-use Rattle.sip_ledger.proofs.lists.EachLemmas.{changing-all}
-use Rattle.sip_ledger.proofs.rows.GainEachLemmas.{debts-count, gained-front, gained-grown, gained-more, gained-over, with_debt}
-use Rattle.sip_ledger.proofs.rows.SeenLemmas.{on-error}
+use Rattle.sip_ledger.proofs.Words.{◌∙◌, arith}
+use Rattle.sip_ledger.proofs.rows.GainEachLemmas.{debts-count, gained-grown, gained-more, gained-over}
 use Rattle.sip_ledger.proofs.accounts.each.gain_some.Goals as goal
 
+-- where memory was refused for a gain, the rows are accounts still
 pub returns-in_err-place-clause-accounts : goal.returns-in_err-place-clause-accounts
 returns-in_err-place-clause-accounts c =
     (gained-over c.place_near.new.gains c.place_near.ensures.kept c.place_near.ensures.gained c.loop-row.invariant.gained).accounts
 
-pub returns-in_err-place-clause-err : goal.returns-in_err-place-clause-err
-returns-in_err-place-clause-err c = grind (arith, changing-all, debts-count, gained-front, gained-grown, gained-more, gained-over, with_debt, on-error)
-
+-- where memory is refused, the accounts are as right as before
 pub returns-in_err-grown-clause-accounts : goal.returns-in_err-grown-clause-accounts
 returns-in_err-grown-clause-accounts c =
     (gained-grown c.gained.new.strikes.items c.gained.ensures.kept (gained-over c.place_near.new.gains c.place_near.ensures.kept c.place_near.ensures.gained c.loop-row.invariant.gained)).accounts
 
-pub returns-in_err-grown-clause-err : goal.returns-in_err-grown-clause-err
-returns-in_err-grown-clause-err c = grind (arith, changing-all, debts-count, gained-front, gained-grown, gained-more, gained-over, with_debt, on-error)
-
+-- after one row more, the rows up to it have gained the debt
 pub loop-row-preserved : goal.loop-row-preserved
 loop-row-preserved c =
     let was = c.loop-row.invariant in
@@ -29,6 +24,3 @@ loop-row-preserved c =
       gained = gained-more c.gained.new.strikes.items c.index-account.result.now c.in_ok-grown.grown c.gained.ensures.kept
           (gained-over c.place_near.new.gains c.place_near.ensures.kept c.place_near.ensures.gained was.gained) was.low (omega (arith, all)) c.index-account.ensures c.in_ok-grown.ensures.account c.in_ok-grown.ensures.debts;
     }
-
-pub returns-clause-ok : goal.returns-clause-ok
-returns-clause-ok c = grind (arith, changing-all, debts-count, gained-front, gained-grown, gained-more, gained-over, with_debt, on-error)

@@ -1,6 +1,4 @@
-use Rattle.std.proofs.Common.{◌≤◌}
-use Rattle.std.specs.Prelude.{IfSome}
-use Rattle.sip_ledger.specs.inner.Accounts.{IsGainAt, accounts_debts}
+use Rattle.sip_ledger.proofs.Words.{◌≤◌, IfSome, IsGainAt, accounts_debts}
 use Rattle.sip_ledger.proofs.rows.GainEachLemmas.{HaveGained}
 use Rattle.sip_ledger.proofs.accounts.each.gain_some.Given as goal
 

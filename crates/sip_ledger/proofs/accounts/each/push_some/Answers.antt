@@ -1,33 +1,25 @@
-use Rattle.std.proofs.Common.{◌+◌, inl, sym, subst, arith}
-use Rattle.sip_ledger.specs.inner.Accounts.{AreAccounts, account_debts, accounts_debts}
-use Rattle.sip_ledger.proofs.lists.EachLemmas.{from_to-end}
+use Rattle.sip_ledger.proofs.Words.{◌+◌, inl, sym, subst, arith, AreAccounts, account_debts, accounts_debts}
 use Rattle.sip_ledger.proofs.account.AccountLemmas.{debts_length}
-use Rattle.sip_ledger.proofs.rows.PaidLemmas.{ArePaidTo, account-there, paid-front, paid-grown, paid-next, row-there}
-use Rattle.sip_ledger.proofs.rows.SeenLemmas.{on-error}
+use Rattle.sip_ledger.proofs.rows.PaidLemmas.{ArePaidTo, account-there, paid-grown, paid-next}
 use Rattle.sip_ledger.proofs.accounts.each.push_some.Goals as goal
 
-pub index-requires : goal.index-requires
-index-requires c = grind (arith, from_to-end, debts_length, account-there, paid-front, paid-grown, paid-next, row-there, on-error)
-
+-- the row is an account
 pub paid-requires-clause-account : goal.paid-requires-clause-account
 paid-requires-clause-account c =
     let long = debts_length c.args.gains.now c.args.strikes.now.items c.args.rows.now.items in
     (account-there c.loop-row.row c.index.result.now c.loop-row.invariant.3 (omega (arith, long, c.requires.to)) c.index.ensures).0
 
+-- where memory is refused, the accounts are as right as before
 pub returns-in_err-left-clause-accounts : goal.returns-in_err-left-clause-accounts
 returns-in_err-left-clause-accounts c = (paid-grown c.paid.new.strikes.items c.paid.ensures.kept c.loop-row.invariant.3).accounts
 
-pub returns-in_err-left-clause-err : goal.returns-in_err-left-clause-err
-returns-in_err-left-clause-err c = grind (arith, from_to-end, debts_length, account-there, paid-front, paid-grown, paid-next, row-there, on-error)
-
+-- where memory was refused, the rows are accounts over the strikes that were put besides
 pub returns-in_err-push_left-clause-accounts : goal.returns-in_err-push_left-clause-accounts
 returns-in_err-push_left-clause-accounts c =
     let grown = paid-grown c.paid.new.strikes.items c.paid.ensures.kept c.loop-row.invariant.3 in
     subst (AreAccounts c.args.gains.now c.paid.new.strikes.items) (sym c.in_err-push_left.ensures.err) grown.accounts
 
-pub returns-in_err-push_left-clause-err : goal.returns-in_err-push_left-clause-err
-returns-in_err-push_left-clause-err c = grind (arith, from_to-end, debts_length, account-there, paid-front, paid-grown, paid-next, row-there, on-error)
-
+-- after one row more, the rows up to it that can pay the message are pushed with it paid
 pub loop-row-preserved : goal.loop-row-preserved
 loop-row-preserved c =
     let g = c.args.gains.now in
@@ -45,6 +37,3 @@ loop-row-preserved c =
       c.paid.ensures.seek,
       subst (λ r. ArePaidTo g c.args.message c.args.moment c.args.from (k + 1) seen new r) (sym c.in_ok-push_left.ensures.ok) next,
     )
-
-pub returns-clause-ok : goal.returns-clause-ok
-returns-clause-ok c = grind (arith, from_to-end)

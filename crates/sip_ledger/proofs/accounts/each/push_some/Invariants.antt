@@ -1,6 +1,4 @@
-use Rattle.std.proofs.Common.{◌≤◌}
-use Rattle.std.specs.Prelude.{◌⊎◌}
-use Rattle.sip_ledger.specs.inner.Accounts.{IsSeek, accounts_debts}
+use Rattle.sip_ledger.proofs.Words.{◌≤◌, ◌⊎◌, IsSeek, accounts_debts}
 use Rattle.sip_ledger.proofs.rows.PaidLemmas.{ArePaidTo}
 use Rattle.sip_ledger.proofs.accounts.each.push_some.Given as goal
 

@@ -1,4 +1,4 @@
-use Rattle.sip_ledger.specs.inner.Accounts.{IsClearedTo}
+use Rattle.sip_ledger.proofs.Words.{IsClearedTo}
 use Rattle.sip_ledger.proofs.accounts.left.clear_to.Given as goal
 
 -- no gain before the place is left

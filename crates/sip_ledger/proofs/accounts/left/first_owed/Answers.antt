@@ -1,16 +1,15 @@
-use Rattle.std.proofs.Common.{◌≡◌, ◌<◌, ◌∙◌, length, take, ap, subst, arith}
-use Rattle.std.proofs.Math.Seq.{take-length}
-use Rattle.sip_ledger.specs.declared.accounts.account.Account.{Account}
-use Rattle.sip_ledger.specs.inner.Accounts.{StartFrom}
+use Rattle.sip_ledger.proofs.Words.{◌≡◌, ◌<◌, ◌∙◌, length, take, ap, subst, arith, take-length, Account, StartFrom}
 use Rattle.sip_ledger.proofs.gains.LetGoLemmas.{start-more}
 use Rattle.sip_ledger.proofs.accounts.left.first_owed.Goals as goal
 use Rattle.sip_ledger.proofs.accounts.left.first_owed.Goals.{then-row, else-row}
 
+-- all rows were looked at
 pub returns-clause-start : goal.returns-clause-start
 returns-clause-start c =
     let full : c.loop-at.at ≡ length c.args.rows.now = omega arith in
     subst (StartFrom c.loop-at.first) (ap (λ n. take n c.args.rows.now) full ∙ take-length c.args.rows.now) c.loop-at.invariant.1
 
+-- of the rows up to here that owe something, none starts before the least start so far
 pub loop-at-preserved : goal.loop-at-preserved
 loop-at-preserved c =
     let none : Account = record { start = 0; end = 0; soft = 0; first = 0; last = 0; print = 0 } in

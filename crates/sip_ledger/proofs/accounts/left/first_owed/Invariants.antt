@@ -1,5 +1,4 @@
-use Rattle.std.proofs.Common.{◌≤◌, take}
-use Rattle.sip_ledger.specs.inner.Accounts.{StartFrom}
+use Rattle.sip_ledger.proofs.Words.{◌≤◌, take, StartFrom}
 use Rattle.sip_ledger.proofs.accounts.left.first_owed.Given as goal
 
 -- none of the rows before the index owes anything before the place

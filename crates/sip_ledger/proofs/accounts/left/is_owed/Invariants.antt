@@ -1,6 +1,4 @@
-use Rattle.std.proofs.Common.{◌≡◌, false, take}
-use Rattle.std.specs.Prelude.{All}
-use Rattle.sip_ledger.specs.inner.Accounts.{owes_at}
+use Rattle.sip_ledger.proofs.Words.{◌≡◌, false, take, All, owes_at}
 use Rattle.sip_ledger.proofs.accounts.left.is_owed.Given as goal
 
 -- none of the rows before the index owes the gain at the place

@@ -1,5 +1,4 @@
-use Rattle.std.proofs.Common.{◌-◌}
-use Rattle.sip_ledger.specs.inner.Accounts.{AreKept}
+use Rattle.sip_ledger.proofs.Words.{◌-◌, AreKept}
 use Rattle.sip_ledger.proofs.accounts.left.let_go.Given as goal
 
 -- the gains that were let go are owed by no account

@@ -1,9 +1,9 @@
-use Rattle.std.proofs.Common.{◌<◌, length, arith}
-use Rattle.sip_ledger.specs.declared.accounts.strikes.Strike.{Strike}
+use Rattle.sip_ledger.proofs.Words.{◌<◌, length, arith, Strike}
 use Rattle.sip_ledger.proofs.strikes.MovedLemmas.{appended-fewer, appended-more}
 use Rattle.sip_ledger.proofs.accounts.moved.append_some.Goals as goal
 use Rattle.sip_ledger.proofs.accounts.moved.append_some.Goals.{then-strikes_some+in_ok-push, else-strikes_some}
 
+-- of the strikes up to here, those that strike some place from this one on are kept
 pub loop-at-preserved : goal.loop-at-preserved
 loop-at-preserved c =
     let s : Strike = record { message = 0; from = 0; to = 0 } in

@@ -1,5 +1,4 @@
-use Rattle.std.proofs.Common.{take}
-use Rattle.sip_ledger.specs.inner.Accounts.{AreAppended}
+use Rattle.sip_ledger.proofs.Words.{take, AreAppended}
 use Rattle.sip_ledger.proofs.accounts.moved.append_some.Given as goal
 
 -- the strikes before the index are written, but for those that strike nothing that is left

@@ -1,11 +1,12 @@
-use Rattle.std.proofs.Common.{◌<◌, length, arith}
-use Rattle.sip_ledger.specs.declared.accounts.account.Account.{Account}
+use Rattle.sip_ledger.proofs.Words.{◌<◌, length, arith, Account}
 use Rattle.sip_ledger.proofs.strikes.MovedLemmas.{moved-more, moved-none}
 use Rattle.sip_ledger.proofs.accounts.moved.move_all.Goals as goal
 
+-- no account is moved yet
 pub loop-at-init : goal.loop-at-init
 loop-at-init c = rw (c.new-kept.ensures.items, c.new-moved.ensures.items) (moved-none c.args.gains.now c.args.strikes.now c.args.rows.now)
 
+-- one account more is moved
 pub loop-at-preserved : goal.loop-at-preserved
 loop-at-preserved c =
     let none : Account = record { start = 0; end = 0; soft = 0; first = 0; last = 0; print = 0 } in

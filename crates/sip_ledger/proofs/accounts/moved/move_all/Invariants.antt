@@ -1,5 +1,4 @@
-use Rattle.std.proofs.Common.{take}
-use Rattle.sip_ledger.specs.inner.Accounts.{AreMoved}
+use Rattle.sip_ledger.proofs.Words.{take, AreMoved}
 use Rattle.sip_ledger.proofs.accounts.moved.move_all.Given as goal
 
 -- the rows before the index are moved

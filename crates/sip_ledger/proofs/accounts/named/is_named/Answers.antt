@@ -1,17 +1,11 @@
-use Rattle.std.proofs.Common.{◌≡◌, ◌<◌, ◌∙◌, false, length, take, get_or, ap, subst, sym, arith}
-use Rattle.std.specs.Prelude.{All}
-use Rattle.std.proofs.Math.Seq.{take-length}
-use Rattle.std.proofs.lemmas.List.{take_more}
-use Rattle.std.proofs.lemmas.List.Elements.{All-push}
-use Rattle.sip_ledger.specs.declared.accounts.account.Account.{Account}
-use Rattle.sip_ledger.specs.Accounts.{owes_message}
-use Rattle.sip_ledger.specs.inner.Accounts.{account_debts}
+use Rattle.sip_ledger.proofs.Words.{◌≡◌, ◌<◌, ◌∙◌, false, length, take, get_or, ap, subst, sym, arith, All, take-length, take_more, All-push, Account, owes_message, account_debts}
 use Rattle.sip_ledger.proofs.rows.NamedLemmas.{named-here, named-nowhere}
 use Rattle.sip_ledger.proofs.accounts.named.is_named.Goals as goal
 
 pub returns-then-names : goal.returns-then-names
 returns-then-names c = grind (arith, take-length, take_more, named-here, named-nowhere)
 
+-- none of the rows up to here owes the message
 pub loop-at-preserved : goal.loop-at-preserved
 loop-at-preserved c =
     let none : Account = record { start = 0; end = 0; soft = 0; first = 0; last = 0; print = 0 } in
@@ -22,6 +16,7 @@ loop-at-preserved c =
           (All-push P (take c.loop-at.at c.args.rows.now) (get_or c.args.rows.now c.loop-at.at none) c.loop-at.invariant.1 (sym c.names.ensures.is ∙ c.if-names.false)),
     )
 
+-- at the end of the loop no row was found that owes the message
 pub returns : goal.returns
 returns c =
     let full : c.loop-at.at ≡ length c.args.rows.now = omega arith in

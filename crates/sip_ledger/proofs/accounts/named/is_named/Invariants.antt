@@ -1,7 +1,4 @@
-use Rattle.std.proofs.Common.{◌≡◌, false, take}
-use Rattle.std.specs.Prelude.{All}
-use Rattle.sip_ledger.specs.Accounts.{owes_message}
-use Rattle.sip_ledger.specs.inner.Accounts.{IsSeek, account_debts}
+use Rattle.sip_ledger.proofs.Words.{◌≡◌, false, take, All, owes_message, IsSeek, account_debts}
 use Rattle.sip_ledger.proofs.accounts.named.is_named.Given as goal
 
 -- none of those so far owes it

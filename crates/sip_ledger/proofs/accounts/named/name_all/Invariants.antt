@@ -1,5 +1,4 @@
-use Rattle.std.proofs.Common.{◌-◌, ◌^◌}
-use Rattle.sip_ledger.specs.inner.Accounts.{accounts_debts, first_after}
+use Rattle.sip_ledger.proofs.Words.{◌-◌, ◌^◌, accounts_debts, first_after}
 use Rattle.sip_ledger.proofs.rows.NamedLemmas.{AreNamedTo}
 use Rattle.sip_ledger.proofs.accounts.named.name_all.Given as goal
 

@@ -1,5 +1,4 @@
-use Rattle.std.proofs.Common.{◌≡◌, ◌<◌, ◌≤◌, ℕ, false}
-use Rattle.sip_ledger.specs.Indexes.{holds}
+use Rattle.sip_ledger.proofs.Words.{◌≡◌, ◌<◌, ◌≤◌, ℕ, false, holds}
 use Rattle.sip_ledger.proofs.accounts.strikes.are_others.Given as goal
 
 -- none of the gains looked at so far is of the message

@@ -1,11 +1,12 @@
-use Rattle.std.proofs.Common.{arith}
-use Rattle.sip_ledger.specs.declared.accounts.strikes.Strike.{Strike}
+use Rattle.sip_ledger.proofs.Words.{arith, Strike}
 use Rattle.sip_ledger.proofs.strikes.StrikeLemmas.{none-struck, struck-by_end, struck-more}
 use Rattle.sip_ledger.proofs.accounts.strikes.end_by.Goals as goal
 
+-- no strike strikes nothing
 pub loop-strike-init : goal.loop-strike-init
 loop-strike-init c = λ m k _. none-struck m k
 
+-- one strike more does not go past the place either
 pub loop-strike-preserved : goal.loop-strike-preserved
 loop-strike-preserved c = λ m k past.
     let s : Strike = record { message = 0; from = 0; to = 0 } in

@@ -1,5 +1,4 @@
-use Rattle.std.proofs.Common.{◌≡◌, ◌≤◌, ℕ, false, take}
-use Rattle.sip_ledger.specs.inner.Accounts.{is_struck}
+use Rattle.sip_ledger.proofs.Words.{◌≡◌, ◌≤◌, ℕ, false, take, is_struck}
 use Rattle.sip_ledger.proofs.accounts.strikes.end_by.Given as goal
 
 -- none of the strikes before the index goes past the place

@@ -1,8 +1,8 @@
-use Rattle.std.proofs.Common.{◌∙◌, arith}
-use Rattle.std.proofs.lemmas.List.{with_items_is}
+use Rattle.sip_ledger.proofs.Words.{◌∙◌, arith, with_items_is}
 use Rattle.sip_ledger.proofs.strikes.StrikeLemmas.{longer-too, more-too}
 use Rattle.sip_ledger.proofs.accounts.strikes.strike_too.Goals as goal
 
+-- a new strike strikes the place alone
 pub returns-in_ok-push-clause-ok : goal.returns-in_ok-push-clause-ok
 returns-in_ok-push-clause-ok c =
     let v = c.args.strikes.now in
@@ -11,5 +11,6 @@ returns-in_ok-push-clause-ok c =
     let more = rw (same, c.entry.ensures) at c.in_ok-push.ensures.items in
     more-too c.args.gains.now c.args.place c.args.first v.items c.push.new.self.items c.requires.first more
 
+-- the last strike was made longer by the place
 pub returns-else-not-lengthen-clause-ok : goal.returns-else-not-lengthen-clause-ok
 returns-else-not-lengthen-clause-ok c = grind (arith, with_items_is, longer-too, more-too)

@@ -1,5 +1,4 @@
-use Rattle.std.proofs.Common.{◌≡◌, false, take}
-use Rattle.sip_ledger.specs.inner.Accounts.{is_struck}
+use Rattle.sip_ledger.proofs.Words.{◌≡◌, false, take, is_struck}
 use Rattle.sip_ledger.proofs.accounts.strikes.struck_to.Given as goal
 
 -- none of the strikes before the index strikes the message at the place

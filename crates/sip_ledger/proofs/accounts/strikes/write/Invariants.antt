@@ -1,4 +1,4 @@
-use Rattle.sip_ledger.specs.inner.Accounts.{IsWritten}
+use Rattle.sip_ledger.proofs.Words.{IsWritten}
 use Rattle.sip_ledger.proofs.accounts.strikes.write.Given as goal
 
 -- the gains before the place are struck too

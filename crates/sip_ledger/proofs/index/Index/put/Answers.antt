@@ -1,8 +1,8 @@
-use Rattle.std.proofs.Common.{◌≡◌, ◌==◌, ◌&&◌, cond, true, ◌∙◌, subst}
-use Rattle.sip_ledger.specs.Indexes.{holds}
+use Rattle.sip_ledger.proofs.Words.{◌≡◌, ◌==◌, ◌&&◌, cond, true, ◌∙◌, subst, holds}
 use Rattle.sip_ledger.proofs.lists.IndexLemmas.{at-pair}
 use Rattle.sip_ledger.proofs.index.Index.put.Goals as goal
 
+-- of all pairs of a key and a number this one alone comes in
 pub returns-clause-ok : goal.returns-clause-ok
 unfolding holds
 returns-clause-ok c k n =

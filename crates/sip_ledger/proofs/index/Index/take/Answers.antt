@@ -1,8 +1,8 @@
-use Rattle.std.proofs.Common.{◌≡◌, ◌==◌, ◌&&◌, cond, false, ◌∙◌, subst}
-use Rattle.sip_ledger.specs.Indexes.{holds}
+use Rattle.sip_ledger.proofs.Words.{◌≡◌, ◌==◌, ◌&&◌, cond, false, ◌∙◌, subst, holds}
 use Rattle.sip_ledger.proofs.lists.IndexLemmas.{at-pair}
 use Rattle.sip_ledger.proofs.index.Index.take.Goals as goal
 
+-- of all pairs of a key and a number this one alone is gone
 pub returns : goal.returns
 unfolding holds
 returns c k n =

@@ -5,6 +5,7 @@ use Rattle.sip_log.specs.inner.Place.{stage_of, held_at, FitsStage}
 use Rattle.sip_log.proofs.answers.ReadingLemmas.{entries-step, fresh-step, fault-step}
 use Rattle.sip_log.proofs.progress.Progress.next_into.Goals as goal
 
+-- where the header was to be read, and it was read, the first entry comes after it
 pub returns-in-Ok : goal.returns-in-Ok
 returns-in-Ok g c =
     let inside = c.self.inside in
@@ -19,6 +20,7 @@ returns-in-Ok g c =
     (fresh-step old c.entry.new.self left left2 failed failed2 c.in_ok-window-in-Fresh.window (ap held_at stage ∙ sym c.in_ok-window-in-Fresh.ensures) _ _ c.in-Ok.header.0 c.in-Ok.header.1 c.entry.result
     (ap stage_of stage) fits.0 fits.1 fits.2 c.entry.ensures.moves c.entry.ensures.format c.entry.ensures.times c.in-Ok.ensures c.entry.ensures.says)
 
+-- where the header was to be read, and it has a fault, this fault is what comes
 pub returns-in-Err : goal.returns-in-Err
 returns-in-Err g c =
     let inside = c.self.inside in
@@ -34,6 +36,7 @@ returns-in-Err g c =
     (fault-step old new left left2 failed failed2 c.in_ok-window-in-Fresh.window (ap held_at stage ∙ sym c.in_ok-window-in-Fresh.ensures) c.in-Err.error
     (ap stage_of stage) fits.0 (ap stage_of c.replace.ensures.after) refl refl fits.0 c.in-Err.ensures)
 
+-- where the header was read before, the next entry comes
 pub returns-in-Entries : goal.returns-in-Entries
 returns-in-Entries g c =
     let inside = c.self.inside in

@@ -10,6 +10,7 @@ use Rattle.sip_log.proofs.answers.ReadingLemmas.{headed, unheaded}
 use Rattle.sip_log.proofs.answers.ToldLemmas.{unread-fresh}
 use Rattle.sip_log.proofs.progress.Progress.open.Goals as goal
 
+-- where the header was read, its format and its times are those of what came
 pub returns-in-Ok : goal.returns-in-Ok
 returns-in-Ok g c =
     let window = c.in_ok-window.window in
@@ -24,6 +25,7 @@ returns-in-Ok g c =
           (headed (unread window left) left2 before after format p c.in-Ok.ensures),
     )
 
+-- where the header has a fault, this fault is what came
 pub returns-in-Err : goal.returns-in-Err
 returns-in-Err g c =
     let window = c.in_ok-window.window in

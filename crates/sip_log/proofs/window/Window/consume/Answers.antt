@@ -3,6 +3,7 @@ use Rattle.std.proofs.lemmas.List.{length-take, length-drop}
 use Rattle.sip_log.proofs.lines.WindowLemmas.{consumed}
 use Rattle.sip_log.proofs.window.Window.consume.Goals as goal
 
+-- what is left is what was unread but for its first bytes
 pub returns : goal.returns
 returns c =
     let w = c.args.self.now in

@@ -5,6 +5,7 @@ use Rattle.sip_log.specs.inner.Window.{items}
 use Rattle.sip_log.proofs.lines.WindowLemmas.{grown}
 use Rattle.sip_log.proofs.window.Window.read_from.Goals as goal
 
+-- the bytes that came stand in the window after those that were held
 pub returns-clause-reads : goal.returns-clause-reads
 returns-clause-reads g c =
     let w = c.args.self.now in
@@ -24,6 +25,7 @@ returns-clause-reads g c =
       fine = c.in_ok-count.ensures.ok;
     }
 
+-- where there was room and no byte came, the source is at its end
 pub returns-clause-end : goal.returns-clause-end
 unfolding returns-clause-reads
 returns-clause-end g c = λ none room.

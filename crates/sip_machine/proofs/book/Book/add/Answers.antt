@@ -7,6 +7,7 @@ use Rattle.sip_machine.proofs.texts.OrderLaws.{bytes_at-kept}
 use Rattle.sip_machine.proofs.texts.NewestLaws.{texts_split, kept_newest}
 use Rattle.sip_machine.proofs.book.Book.add.Goals as goal
 
+-- a message that the book lacked is its newest one now: it has its gap among the places, and gets its place when the next one comes
 pub invariant_of-self-in-Err : goal.invariant_of-self-in-Err
 invariant_of-self-in-Err c =
     let kept = c.self.inside.kept.items in
@@ -20,6 +21,7 @@ invariant_of-self-in-Err c =
     kept_newest (texts_of kept) (texts_of c.push.new.self.items) runs c.self.inside.tos c.args.entry c.args.bytes.now newest c.self.invariant.0 order c.self.invariant.2 (rw c.self.view_is c.requires)
     c.hash-hash.ensures gap inside added
 
+-- where the book has the bytes, the number is that under which it has them
 pub returns-in-Ok-clause-ok : goal.returns-in-Ok-clause-ok
 returns-in-Ok-clause-ok c =
     let kept = c.self.inside.kept.items in
@@ -27,6 +29,7 @@ returns-in-Ok-clause-ok c =
     let here = text_of-kept (λ k. (k.number, k.bytes.items)) kept c.in-Ok.position c.index.result.now c.self.invariant.0.rising at.0 c.index.ensures in
     (here.0, here.1 ∙ sym (bytes_at-kept kept c.in-Ok.position c.index.result.now at.0 c.index.ensures) ∙ at.1)
 
+-- where the book lacked the bytes, it has them now under the new number
 pub returns-in_ok-push-in-Err-clause-ok : goal.returns-in_ok-push-in-Err-clause-ok
 returns-in_ok-push-in-Err-clause-ok c =
     let kept = c.self.inside.kept.items in

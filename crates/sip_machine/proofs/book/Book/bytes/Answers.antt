@@ -7,6 +7,7 @@ use Rattle.sip_machine.proofs.texts.TextLaws.{text_of-kept, Keeps-none}
 use Rattle.sip_machine.proofs.texts.OrderLaws.{numbers_searchable, no_number}
 use Rattle.sip_machine.proofs.book.Book.bytes.Goals as goal
 
+-- the binary search has found the message with this number
 pub returns-in-Ok : goal.returns-in-Ok
 returns-in-Ok c =
     let at = c.in-Ok.ensures.position (λ k. k.number) (answers_always _ _ _ (λ f a r g called. search rules)) in
@@ -16,6 +17,7 @@ returns-in-Ok c =
     let here = rw same at found in
     rw (← c.self.view_is) (here.0, c.as_slice.ensures.value ∙ sym here.1)
 
+-- where the binary search finds nothing, no message has this number
 pub returns-in-Err : goal.returns-in-Err
 returns-in-Err c =
     let number = c.args.number in

@@ -6,11 +6,13 @@ use Rattle.sip_machine.proofs.acks.ToLemmas.{AreTos-some}
 use Rattle.sip_machine.proofs.texts.NewestLaws.{texts_split, kept_front}
 use Rattle.sip_machine.proofs.book.Book.forget_newest.Goals as goal
 
+-- without the To of the newest message, each To is still that of a kept message
 pub invariant_of-self : goal.invariant_of-self
 invariant_of-self c =
     let texts = texts_of c.self.inside.kept.items in
     (c.self.invariant.0, c.self.invariant.1, AreTos-some texts c.self.inside.tos c.drop_newest.new.self c.self.invariant.2 c.drop_newest.ensures)
 
+-- where no message was forgotten, the book is right as before
 pub invariant_of-self-in_default : goal.invariant_of-self-in_default
 invariant_of-self-in_default c =
     let texts = texts_of c.self.inside.kept.items in
@@ -22,6 +24,7 @@ invariant_of-self-in_default c =
       subst (λ ts. AreTos ts tos) same beside,
     )
 
+-- without the newest message, which had no place yet, the places of the others are as they were
 pub invariant_of-self-in-Some : goal.invariant_of-self-in-Some
 invariant_of-self-in-Some c =
     let old = c.self.inside.kept.items in

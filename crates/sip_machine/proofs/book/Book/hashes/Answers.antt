@@ -3,6 +3,7 @@ use Rattle.sip_machine.specs.inner.Order.{texts_of}
 use Rattle.sip_machine.proofs.acks.ToLemmas.{stand_told}
 use Rattle.sip_machine.proofs.book.Book.hashes.Goals as goal
 
+-- each message between the two numbers has its To here, since there are as many of both
 pub returns : goal.returns
 returns c =
     let texts = texts_of c.self.inside.kept.items in

@@ -7,6 +7,7 @@ use Rattle.sip_machine.proofs.acks.AckLemmas.{Reads-fault}
 use Rattle.sip_machine.proofs.acks.ToLemmas.{IsToOf-same}
 use Rattle.sip_machine.proofs.book.Book.is_read_with.Goals as goal
 
+-- the message is read, and its To is compared
 pub returns-in_ok-solid_of-in-Some : goal.returns-in_ok-solid_of-in-Some
 returns-in_ok-solid_of-in-Some c =
     let bytes = text_of c.args.self.now c.args.number in
@@ -15,6 +16,7 @@ returns-in_ok-solid_of-in-Some c =
     record { message = c.in-Some.message; reads = reads; is = c.as_slice.ensures.value ∙ c.in_ok-solid_of-in-Some.ensures ∙ ap (λ a. solid a.0) c.to.ensures } in
     rw (c.eq.ensures, c.text.ensures) (IsToOf-same bytes c.args.to.now c.as_slice.result.now its)
 
+-- bytes that are no message have no To
 pub returns-in-None : goal.returns-in-None
 returns-in-None c =
     let fault = rw c.in-None.is at c.in_ok-message.ensures in

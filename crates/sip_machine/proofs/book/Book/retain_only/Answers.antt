@@ -10,6 +10,7 @@ use Rattle.sip_machine.proofs.texts.RetainLemmas.{merged_is, IsBook-only}
 use Rattle.sip_machine.proofs.texts.NewestLaws.{placed_texts, stand_placed, retained_order}
 use Rattle.sip_machine.proofs.book.Book.retain_only.Goals as goal
 
+-- the messages that are kept are a book
 pub loosened-self-inside-requires-clause-book : goal.loosened-self-inside-requires-clause-book
 loosened-self-inside-requires-clause-book c =
     let texts = texts_of c.self.inside.kept.items in
@@ -19,6 +20,7 @@ loosened-self-inside-requires-clause-book c =
     let is = c.keep_only.ensures ∙ merged_is numbers texts c.requires.rising book.rising kept in
     rw c.deref-2.ensures.value (subst IsBook (sym is) (IsBook-only texts numbers book c.requires.rising kept))
 
+-- the places of the messages that are kept stand in order, in runs that tell their first message and are short enough
 pub loosened-self-inside-requires-clause-order : goal.loosened-self-inside-requires-clause-order
 loosened-self-inside-requires-clause-order c =
     let texts = texts_of c.self.inside.kept.items in
@@ -40,6 +42,7 @@ loosened-self-inside-requires-clause-order c =
       short = c.move_all.ensures.short;
     })
 
+-- the messages that are kept, their places and their Tos fit each other
 pub invariant_of-self : goal.invariant_of-self
 invariant_of-self c =
     let texts = texts_of c.self.inside.kept.items in
@@ -52,6 +55,7 @@ invariant_of-self c =
       subst (λ ts. AreTos ts c.retain.new.self) (sym is) (AreTos-only texts numbers book c.requires.rising kept c.self.inside.tos c.retain.new.self c.self.invariant.2 c.retain.ensures),
     )
 
+-- the messages that are kept are those with the numbers
 pub returns : goal.returns
 returns c =
     let texts = texts_of c.self.inside.kept.items in

@@ -4,9 +4,11 @@ use Rattle.sip_machine.proofs.texts.RetainLemmas.{keeps_more, keeps_less, keeps_
 use Rattle.sip_machine.proofs.book.retain.keep_only.Goals as goal
 use Rattle.sip_machine.proofs.book.retain.keep_only.Goals.{then-left-numbers+then-index-numbers, else-left-numbers, else-left-numbers-via-then-left-numbers+else-index-numbers, else-left-numbers-via-else-left-numbers}
 
+-- a kept message as the book has it: its number and its bytes
 abbrev text : KeptMessage → ℕ × List ℕ
 text k = (k.number, k.bytes.items)
 
+-- of the messages up to here, those that are among the numbers are kept, in their order
 pub loop-i-preserved : goal.loop-i-preserved
 loop-i-preserved c =
     let old = c.args.kept.now.items in

@@ -10,6 +10,7 @@ use Rattle.sip_machine.proofs.book.retain.moved.Goals as goal
 pub returns-in-Ok : goal.returns-in-Ok
 returns-in-Ok c = grind (arith, searched, never_falls, place_at)
 
+-- where the binary search finds nothing, the number of this place is not among those that are kept
 pub returns-in-Err : goal.returns-in-Err
 returns-in-Err c =
     let numbers = c.args.numbers.now in

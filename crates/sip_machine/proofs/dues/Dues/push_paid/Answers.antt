@@ -1,5 +1,4 @@
-use Rattle.std.specs.Prelude.{length}
-use Rattle.std.proofs.Common.{◌∙◌, ap, arith}
+use Rattle.std.proofs.Common.{arith}
 use Rattle.std.proofs.lemmas.List.{length-replicate}
 use Rattle.sip_machine.proofs.debts.DuesEachLemmas.{paid-none}
 use Rattle.sip_machine.proofs.dues.Dues.push_paid.Goals as goal

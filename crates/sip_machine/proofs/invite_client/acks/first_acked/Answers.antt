@@ -9,21 +9,25 @@ use Rattle.sip_machine.proofs.acks.AckLemmas.{AckOf-by_to, AckOf-none}
 use Rattle.sip_machine.proofs.acks.HolderLemmas.{FindsFirst-same}
 use Rattle.sip_machine.proofs.invite_client.acks.first_acked.Goals as goal
 
+-- the bytes of the event are no message, so they are the ACK for nothing
 pub returns-in_default-clause-finds : goal.returns-in_default-clause-finds
 returns-in_default-clause-finds c =
     let fault = rw (c.in_default.is, c.number.ensures) at c.in_ok-ack.ensures in
     λ k d low pays. says-no_fault (text_of c.args.book.now c.args.event.now.number) pays.0.0 fault.0 pays.0.3 fault.1
 
+-- the bytes of the request are no message, so nothing acknowledges it
 pub returns-in_default-2-clause-finds : goal.returns-in_default-2-clause-finds
 returns-in_default-2-clause-finds c =
     let fault = rw c.in_default-2.is at c.in_ok-invite.ensures in
     λ k d low pays. says-no_fault (text_of c.args.book.now c.args.request) pays.0.1 fault.0 pays.0.4 fault.1
 
+-- an ACK that is none for the INVITE pays no debt
 pub returns-then-not-is_ack_for-clause-finds : goal.returns-then-not-is_ack_for-clause-finds
 returns-then-not-is_ack_for-clause-finds c =
     λ k d low pays. AckOf-none _ _ _ c.in-Some.ack c.in-Some-2.invite c.is_ack_for.result
     (rw (c.in-Some.is, c.number.ensures) at c.in_ok-ack.ensures) (rw c.in-Some-2.is at c.in_ok-invite.ensures) c.is_ack_for.ensures c.if-not-is_ack_for.true pays.0
 
+-- an ACK pays the debts whose response has its To and belongs to the INVITE, so the first with that To is the first that it pays
 pub returns-clause-finds : goal.returns-clause-finds
 returns-clause-finds c =
     let texts = c.args.book.now in

@@ -7,6 +7,7 @@ use Rattle.sip_machine.proofs.debts.LookLemmas.{no_debt, first-at, payable-now, 
 use Rattle.sip_machine.proofs.invite_client.acks.first_of.Goals as goal
 use Rattle.sip_machine.proofs.invite_client.acks.first_of.Goals.{else-moment-debt-via-then-moment-debt+in_ok-has_to+else-branch, else-moment-debt-via-else-moment-debt}
 
+-- this debt is the first with the To: those before it have another one or are past their deadline
 pub returns-then-branch : goal.returns-then-branch
 returns-then-branch c =
     let texts = c.args.book.now in
@@ -19,6 +20,7 @@ returns-then-branch c =
     first-at (HasTo texts to t) debt.message t (pays-to texts to t debt.message has.0) debts at no_debt c.loop-debt-test.true c.loop-debt.invariant has
     (payable-now debt.message t debt refl has.1)
 
+-- none of the debts up to here has the To and is in time
 pub loop-debt-preserved : goal.loop-debt-preserved
 loop-debt-preserved c =
     let P = HasTo c.args.book.now c.args.to.now c.args.moment in

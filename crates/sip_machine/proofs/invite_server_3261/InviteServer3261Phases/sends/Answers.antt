@@ -8,6 +8,7 @@ use Rattle.sip_machine.specs.inner.Single.{AnswersOne}
 use Rattle.sip_machine.proofs.rules.Rows3261.{sent-within}
 use Rattle.sip_machine.proofs.invite_server_3261.InviteServer3261Phases.sends.Goals as goal
 
+-- a 2xx is sent, which ends the transaction by RFC 3261
 pub returns-then-is_success : goal.returns-then-is_success
 returns-then-is_success c =
     let texts = c.args.book.now in
@@ -16,6 +17,7 @@ returns-then-is_success c =
     (Sends c.args.self.now (invite_server_3261_seen texts c.args.phase.now) k e) c.succeeds.result) c.in-Response.ensures
     (c.succeeds.ensures c.args.self.now texts c.in-Response.code e (c.is_success.ensures.0 c.if-is_success.true))
 
+-- a response that is no success is sent as the corrected machine sends it
 pub returns-in_ok-sent-in-In : goal.returns-in_ok-sent-in-In
 returns-in_ok-sent-in-In c =
     let texts = c.args.book.now in

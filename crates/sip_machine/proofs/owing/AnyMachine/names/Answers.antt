@@ -6,13 +6,16 @@ use Rattle.sip_machine.proofs.pools.PoolLemmas.{in-phases, in-rows, state-here}
 use Rattle.sip_machine.proofs.acks.ToLemmas.{on_ok}
 use Rattle.sip_machine.proofs.owing.AnyMachine.names.Goals as goal
 
+-- the index is one of the phases
 pub index-requires : goal.index-requires
 index-requires g c =
     subst (λ n. c.args.at < n) (sym c.pool.inside.phases.ok.0) (in-phases c.pool.inside.phases.items c.pool.inside.dues c.args.pool.now c.args.at c.pool.view_is c.requires)
 
+-- the index is one of the rows that owe
 pub names-requires : goal.names-requires
 names-requires g c = in-rows c.pool.inside.phases.items c.pool.inside.dues c.args.pool.now c.args.at c.pool.view_is c.pool.invariant c.requires
 
+-- the numbers that were appended are those that the phase names and then those of what is owed
 pub returns-clause-ok : goal.returns-clause-ok
 returns-clause-ok g c = λ d.
     let names = g.M.Phases.names in

@@ -3,6 +3,7 @@ use Rattle.sip_machine.specs.inner.Effects.{given_by}
 use Rattle.std.proofs.lemmas.Result.{on_ok_weaker}
 use Rattle.sip_machine.proofs.owing.AnyMachine.successors.Goals as goal
 
+-- the effect gives at most two states, and these are put after the others
 pub returns-clause-ok : goal.returns-clause-ok
 returns-clause-ok g c = λ d.
     let p = g.M.Phases.times c.args.self.now in

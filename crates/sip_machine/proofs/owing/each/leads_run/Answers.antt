@@ -10,29 +10,34 @@ use Rattle.sip_machine.proofs.pools.PoolLemmas.{in-phases}
 use Rattle.sip_machine.proofs.steps.OwingEachLemmas.{closed-none, in-run, leads-none, leads-some}
 use Rattle.sip_machine.proofs.owing.each.leads_run.Goals as goal
 
+-- the run begins at an index of the phases
 pub index-requires : goal.index-requires
 index-requires g c =
     subst (λ n. c.args.from < n) (sym c.pool.inside.phases.ok.0)
     (in-phases c.pool.inside.phases.items c.pool.inside.dues c.args.pool.now c.args.from c.pool.view_is (omega (arith, c.requires.from, c.requires.to)))
 
+-- the phase of the run is in range
 pub closes-requires : goal.closes-requires
 closes-requires g c =
     let m = g.M.Phases in
     (in-run m.names m.in_range c.args.book.now c.pool.inside.phases.items c.pool.inside.dues c.args.pool.now c.args.from c.args.to c.index.result.now c.pool.view_is c.index.ensures
     c.requires.from c.requires.to c.requires.known c.requires.in_range c.requires.same).in_range
 
+-- the book has all that the phase of the run names
 pub turn_of-requires-clause-known : goal.turn_of-requires-clause-known
 turn_of-requires-clause-known g c =
     let m = g.M.Phases in
     (in-run m.names m.in_range c.args.book.now c.pool.inside.phases.items c.pool.inside.dues c.args.pool.now c.args.from c.args.to c.index.result.now c.pool.view_is c.index.ensures
     c.requires.from c.requires.to c.requires.known c.requires.in_range c.requires.same).known
 
+-- the moments of the phase of the run are in range
 pub turn_of-requires-clause-in_range : goal.turn_of-requires-clause-in_range
 turn_of-requires-clause-in_range g c =
     let m = g.M.Phases in
     (in-run m.names m.in_range c.args.book.now c.pool.inside.phases.items c.pool.inside.dues c.args.pool.now c.args.from c.args.to c.index.result.now c.pool.view_is c.index.ensures
     c.requires.from c.requires.to c.requires.known c.requires.in_range c.requires.same).in_range
 
+-- where the phase has closed before the moment, no row leads on, and the pool is as before
 pub returns-then-is_past-clause-gives : goal.returns-then-is_past-clause-gives
 returns-then-is_past-clause-gives g c =
     let m = g.M.Phases in
@@ -50,6 +55,7 @@ returns-then-is_past-clause-gives g c =
           (λ x. Leads m.figure p e.action e (owing_seen m.seen texts (unexpired_at e.moment x))) closed,
     )
 
+-- where the phase has no row for the event, no state is led on
 pub returns-in-None-clause-gives : goal.returns-in-None-clause-gives
 returns-in-None-clause-gives g c =
     let m = g.M.Phases in
@@ -62,6 +68,7 @@ returns-in-None-clause-gives g c =
     c.requires.from c.requires.to c.requires.known c.requires.in_range c.requires.same in
     ([], sym (append-nil xs), leads-none m.figure p m.seen m.names m.in_range texts e c.index.result.now some run.same c.requires.known c.requires.in_range (rw c.in-None.is at c.in_ok-turn.ensures))
 
+-- where a row of the phase takes the event, each state whose debts are in time is pushed as the row leads it
 pub returns-in-Some-clause-gives : goal.returns-in-Some-clause-gives
 returns-in-Some-clause-gives g c =
     let m = g.M.Phases in

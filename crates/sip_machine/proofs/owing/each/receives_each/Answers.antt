@@ -9,6 +9,7 @@ use Rattle.sip_machine.proofs.pools.CoversLemmas.{HasFound, FromSome-same, Cover
 use Rattle.sip_machine.proofs.steps.OwingEachLemmas.{takes-received}
 use Rattle.sip_machine.proofs.owing.each.receives_each.Goals as goal
 
+-- what the states take of a received message is what the rows lead to, since receiving pays nothing
 pub returns-clause-gives : goal.returns-clause-gives
 returns-clause-gives g c =
     let m = g.M.Phases in

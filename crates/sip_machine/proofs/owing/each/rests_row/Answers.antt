@@ -14,28 +14,35 @@ use Rattle.sip_machine.proofs.pools.CoversLemmas.{Covers-none, Covers-one, befor
 use Rattle.sip_machine.proofs.steps.OwingEachLemmas.{lasting-answers}
 use Rattle.sip_machine.proofs.owing.each.rests_row.Goals as goal
 
+-- the index is one of the phases
 pub index-requires : goal.index-requires
 index-requires g c =
     subst (λ n. c.args.at < n) (sym c.pool.inside.phases.ok.0) (in-phases c.pool.inside.phases.items c.pool.inside.dues c.args.pool.now c.args.at c.pool.view_is c.requires.at)
 
+-- the index is one of the rows that owe
 pub until-requires-clause-row : goal.until-requires-clause-row
 until-requires-clause-row g c = in-rows c.pool.inside.phases.items c.pool.inside.dues c.args.pool.now c.args.at c.pool.view_is c.pool.invariant c.requires.at
 
+-- the moments of the state are in range
 pub until-requires-clause-in_range : goal.until-requires-clause-in_range
 until-requires-clause-in_range g c =
     holds-here (OwingInRange g.M.Phases.in_range) c.pool.inside.phases.items c.pool.inside.dues c.args.pool.now c.args.at c.index.result.now c.pool.view_is c.requires.at c.index.ensures c.requires.in_range
 
+-- the index is one of the rows that owe
 pub rests-requires-clause-row : goal.rests-requires-clause-row
 rests-requires-clause-row g c = in-rows c.pool.inside.phases.items c.pool.inside.dues c.args.pool.now c.args.at c.pool.view_is c.pool.invariant c.requires.at
 
+-- the book has what the state names
 pub rests-requires-clause-known : goal.rests-requires-clause-known
 rests-requires-clause-known g c =
     holds-here (Knows (owing_names g.M.Phases.names) c.args.book.now) c.pool.inside.phases.items c.pool.inside.dues c.args.pool.now c.args.at c.index.result.now c.pool.view_is c.requires.at c.index.ensures c.requires.known
 
+-- the moments of the state are in range
 pub rests-requires-clause-in_range : goal.rests-requires-clause-in_range
 rests-requires-clause-in_range g c =
     holds-here (OwingInRange g.M.Phases.in_range) c.pool.inside.phases.items c.pool.inside.dues c.args.pool.now c.args.at c.index.result.now c.pool.view_is c.requires.at c.index.ensures c.requires.in_range
 
+-- where the state cannot wait until the moment, it gives nothing
 pub returns-then-is_past-clause-gives : goal.returns-then-is_past-clause-gives
 returns-then-is_past-clause-gives g c = λ d.
     let m = g.M.Phases in
@@ -47,6 +54,7 @@ returns-then-is_past-clause-gives g c = λ d.
     let past = subst (λ x. ¬ (IsWithin e.moment (until_of m.figure p (owing_seen m.seen texts x)))) here (rw (c.moment.ensures, c.until.ensures texts) at c.if-is_past.ensures) in
     ([], sym (append-nil c.args.pool.now), Covers-none (owing_names m.names) (OwingInRange m.in_range) (owing_seen m.seen) texts (RestsFrom m.figure p m.seen texts e x) (λ y h. past h.0))
 
+-- what the state gives without a row is found, if it can wait until the moment
 pub returns-clause-gives : goal.returns-clause-gives
 returns-clause-gives g c = λ d.
     let m = g.M.Phases in
@@ -64,6 +72,7 @@ returns-clause-gives g c = λ d.
     on_ok_weaker c.push_rested.result (λ (is : c.push_rested.new.self ≡ c.args.pool.now ++ option_to_list rested). (option_to_list rested, is, covers))
     (rw (c.in_ok-rest.ensures.same, c.pool.view_is, c.moment-2.ensures) at c.push_rested.ensures.ok d)
 
+-- the old states are as they were
 pub returns-clause-before : goal.returns-clause-before
 returns-clause-before g c =
     let d = at_rest c.index.result.now in

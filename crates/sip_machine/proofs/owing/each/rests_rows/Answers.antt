@@ -12,6 +12,7 @@ use Rattle.sip_machine.proofs.pools.PoolLemmas.{some-at}
 use Rattle.sip_machine.proofs.pools.PoolEachLemmas.{from_to-more}
 use Rattle.sip_machine.proofs.owing.each.rests_rows.Goals as goal
 
+-- before the first state nothing was found
 pub loop-at-init : goal.loop-at-init
 loop-at-init g c =
     let m = g.M.Phases in
@@ -24,22 +25,26 @@ loop-at-init g c =
           (found-none (owing_names m.names) (OwingInRange m.in_range) (owing_seen m.seen) texts P c.args.pool.now),
     )
 
+-- the book has all that the next state names, since it is an old one
 pub rests_row-requires-clause-known : goal.rests_row-requires-clause-known
 rests_row-requires-clause-known g c = λ d.
     let (from_le, to_le, (found, is, covers)) = c.loop-at.invariant in
     let below = c.loop-at-test.true in
     slice-at (Knows (owing_names g.M.Phases.names) c.args.book.now) c.args.from c.args.to c.loop-at.at c.args.pool.now found c.loop-at.pool d is from_le below c.requires.to c.requires.known
 
+-- the moments of the state are in range
 pub rests_row-requires-clause-in_range : goal.rests_row-requires-clause-in_range
 rests_row-requires-clause-in_range g c = λ d.
     let (from_le, to_le, (found, is, covers)) = c.loop-at.invariant in
     slice-at (OwingInRange g.M.Phases.in_range) c.args.from c.args.to c.loop-at.at c.args.pool.now found c.loop-at.pool d is from_le c.loop-at-test.true c.requires.to c.requires.in_range
 
+-- where memory is refused, the old states are as they were
 pub returns-in_err-rests_row-clause-before : goal.returns-in_err-rests_row-clause-before
 returns-in_err-rests_row-clause-before g c =
     let (from_le, to_le, (found, is, covers)) = c.loop-at.invariant in
     before-more c.args.pool.now c.loop-at.pool c.rests_row.new.pool found is c.rests_row.ensures.before
 
+-- after one state more, what the states up to it give without a row is found
 pub loop-at-preserved : goal.loop-at-preserved
 loop-at-preserved g c =
     let m = g.M.Phases in

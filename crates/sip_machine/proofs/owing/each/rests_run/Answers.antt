@@ -11,23 +11,27 @@ use Rattle.sip_machine.proofs.pools.PoolLemmas.{in-phases}
 use Rattle.sip_machine.proofs.steps.OwingEachLemmas.{closed-none, in-run, rests-paid}
 use Rattle.sip_machine.proofs.owing.each.rests_run.Goals as goal
 
+-- the run begins at an index of the phases
 pub index-requires : goal.index-requires
 index-requires g c =
     subst (λ n. c.args.from < n) (sym c.pool.inside.phases.ok.0)
     (in-phases c.pool.inside.phases.items c.pool.inside.dues c.args.pool.now c.args.from c.pool.view_is (omega (arith, c.requires.from, c.requires.to)))
 
+-- the phase of the run is in range
 pub closes-requires : goal.closes-requires
 closes-requires g c =
     let m = g.M.Phases in
     (in-run m.names m.in_range c.args.book.now c.pool.inside.phases.items c.pool.inside.dues c.args.pool.now c.args.from c.args.to c.index.result.now c.pool.view_is c.index.ensures
     c.requires.from c.requires.to c.requires.known c.requires.in_range c.requires.same).in_range
 
+-- the book keeps what the phase of the run names
 pub pays-requires-clause-known : goal.pays-requires-clause-known
 pays-requires-clause-known g c =
     let m = g.M.Phases in
     (in-run m.names m.in_range c.args.book.now c.pool.inside.phases.items c.pool.inside.dues c.args.pool.now c.args.from c.args.to c.index.result.now c.pool.view_is c.index.ensures
     c.requires.from c.requires.to c.requires.known c.requires.in_range c.requires.same).known
 
+-- where the phase has closed before the moment, no state is left, and the pool is as before
 pub returns-then-is_past-clause-gives : goal.returns-then-is_past-clause-gives
 returns-then-is_past-clause-gives g c =
     let m = g.M.Phases in
@@ -45,6 +49,7 @@ returns-then-is_past-clause-gives g c =
           (λ x. Rests m.figure e (owing_seen m.seen texts (unexpired_at e.moment x))) closed,
     )
 
+-- each state that can pay the message and is in time is pushed with that debt paid
 pub returns-in-Some-clause-gives : goal.returns-in-Some-clause-gives
 returns-in-Some-clause-gives g c =
     let m = g.M.Phases in

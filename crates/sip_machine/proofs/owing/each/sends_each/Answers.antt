@@ -7,6 +7,7 @@ use Rattle.sip_machine.specs.FigureRules.{TakeOf}
 use Rattle.sip_machine.proofs.pools.CoversLemmas.{HasFound, found-none, found-run, slice-kept, before-more}
 use Rattle.sip_machine.proofs.owing.each.sends_each.Goals as goal
 
+-- of no state nothing was found yet
 pub loop-at-init : goal.loop-at-init
 loop-at-init g c =
     let m = g.M.Phases in
@@ -14,21 +15,25 @@ loop-at-init g c =
     let e = event_in texts c.args.event.now in
     (omega arith, found-none (owing_names m.names) (OwingInRange m.in_range) (owing_seen m.seen) texts (λ x. TakeOf m.figure (m.times c.args.machine.now) (owing_seen m.seen texts x) e) c.args.pool.now)
 
+-- the book has all that the states of the next run name, since they are old ones
 pub sends_run-requires-clause-known : goal.sends_run-requires-clause-known
 sends_run-requires-clause-known g c =
     let (at_le, (found, is, covers)) = c.loop-at.invariant in
     slice-kept (Knows (owing_names g.M.Phases.names) c.args.book.now) c.loop-at.at c.run_end-end.result c.args.count c.args.pool.now found c.loop-at.pool is c.run_end-end.ensures.order.1 c.requires.count c.requires.known
 
+-- the moments of the states of the run are in range
 pub sends_run-requires-clause-in_range : goal.sends_run-requires-clause-in_range
 sends_run-requires-clause-in_range g c =
     let (at_le, (found, is, covers)) = c.loop-at.invariant in
     slice-kept (OwingInRange g.M.Phases.in_range) c.loop-at.at c.run_end-end.result c.args.count c.args.pool.now found c.loop-at.pool is c.run_end-end.ensures.order.1 c.requires.count c.requires.in_range
 
+-- where memory is refused, the old states are as they were
 pub returns-in_err-sends_run-clause-before : goal.returns-in_err-sends_run-clause-before
 returns-in_err-sends_run-clause-before g c =
     let (at_le, (found, is, covers)) = c.loop-at.invariant in
     before-more c.args.pool.now c.loop-at.pool c.sends_run.new.pool found is c.sends_run.ensures.before
 
+-- after one more run of states of one phase, what the states up to its end take is found
 pub loop-at-preserved : goal.loop-at-preserved
 loop-at-preserved g c =
     let m = g.M.Phases in
@@ -43,6 +48,7 @@ loop-at-preserved g c =
           (omega (arith, order.1, le)) has c.in_ok-sends_run.ensures.gives,
     )
 
+-- at the end of the loop all states that were to be asked have been asked
 pub returns-clause-gives : goal.returns-clause-gives
 returns-clause-gives g c =
     let m = g.M.Phases in

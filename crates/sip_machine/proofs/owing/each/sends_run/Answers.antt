@@ -11,16 +11,19 @@ use Rattle.sip_machine.proofs.pools.CoversLemmas.{HasFound, FromSome-same, FromS
 use Rattle.sip_machine.proofs.steps.OwingEachLemmas.{takes-sent}
 use Rattle.sip_machine.proofs.owing.each.sends_run.Goals as goal
 
+-- the states of the run are as before, and the book has what they name
 pub rests_run-requires-clause-known : goal.rests_run-requires-clause-known
 rests_run-requires-clause-known g c =
     let (added, is, covers) = c.in_ok-leads_run.ensures.gives in
     subst (All (Knows (owing_names g.M.Phases.names) c.args.book.now)) (sym (slice-old c.args.from c.args.to c.args.pool.now added c.leads_run.new.pool is c.requires.to)) c.requires.known
 
+-- the states of the run are as before, and so are their moments
 pub rests_run-requires-clause-in_range : goal.rests_run-requires-clause-in_range
 rests_run-requires-clause-in_range g c =
     let (added, is, covers) = c.in_ok-leads_run.ensures.gives in
     subst (All (OwingInRange g.M.Phases.in_range)) (sym (slice-old c.args.from c.args.to c.args.pool.now added c.leads_run.new.pool is c.requires.to)) c.requires.in_range
 
+-- what the states take of a sent message is what the rows lead to, and what they give without a row
 pub returns-clause-gives : goal.returns-clause-gives
 returns-clause-gives g c =
     let m = g.M.Phases in

@@ -9,6 +9,7 @@ use Rattle.sip_machine.proofs.pools.CoversLemmas.{HasFound, found-none, found-mo
 use Rattle.sip_machine.proofs.pools.PoolLemmas.{some-at}
 use Rattle.sip_machine.proofs.owing.each.steps_each.Goals as goal
 
+-- of no state nothing was found yet
 pub loop-at-init : goal.loop-at-init
 loop-at-init g c =
     let m = g.M.Phases in
@@ -16,16 +17,19 @@ loop-at-init g c =
     found-none (owing_names m.names) (OwingInRange m.in_range) (owing_seen m.seen) texts
     (λ x. TakeOf m.figure (m.times c.args.machine.now) (owing_seen m.seen texts x) (event_in texts c.args.event.now)) c.args.pool.now
 
+-- the book has all that the next state names, since it is an old one
 pub successors-requires-clause-known : goal.successors-requires-clause-known
 successors-requires-clause-known g c = λ d.
     let (found, is, covers) = c.loop-at.invariant in
     slice-at (Knows (owing_names g.M.Phases.names) c.args.book.now) 0 c.args.count c.loop-at.at c.args.pool.now found c.loop-at.pool d is (omega arith) c.loop-at-test.true c.requires.count c.requires.known
 
+-- the moments of the state are in range
 pub successors-requires-clause-in_range : goal.successors-requires-clause-in_range
 successors-requires-clause-in_range g c = λ d.
     let (found, is, covers) = c.loop-at.invariant in
     slice-at (OwingInRange g.M.Phases.in_range) 0 c.args.count c.loop-at.at c.args.pool.now found c.loop-at.pool d is (omega arith) c.loop-at-test.true c.requires.count c.requires.in_range
 
+-- after one state more, what the states up to it take is found
 pub loop-at-preserved : goal.loop-at-preserved
 loop-at-preserved g c =
     let m = g.M.Phases in
@@ -47,6 +51,7 @@ loop-at-preserved g c =
     (take_more old at d low) (found, is, covers) new_is
     (Covers-alone (owing_names m.names) (OwingInRange m.in_range) (owing_seen m.seen) texts P x added (Covers-stood (owing_names m.names) (OwingInRange m.in_range) (owing_seen m.seen) texts (P x) added stands))
 
+-- at the end of the loop all states that were to be asked have been asked
 pub returns-clause-gives : goal.returns-clause-gives
 returns-clause-gives g c =
     let m = g.M.Phases in

@@ -3,6 +3,7 @@ use Rattle.sip_machine.specs.NumberedEvent.{event_in}
 use Rattle.sip_machine.proofs.steps.OwingEachLemmas.{leads-received, leads-sent}
 use Rattle.sip_machine.proofs.owing.each.turn_of.Goals as goal
 
+-- for a received message the turn is that of the machine's row for what it receives
 pub returns-in_ok-turn-in-Received : goal.returns-in_ok-turn-in-Received
 returns-in_ok-turn-in-Received g c = λ owes known fits.
     let m = g.M.Phases in
@@ -12,6 +13,7 @@ returns-in_ok-turn-in-Received g c = λ owes known fits.
     (record { phase = c.args.phase.now; owes = owes }) c.in_ok-turn-in-Received.turn c.in-Received.ensures c.in_ok-turn-in-Received.ensures known fits
     (rw (c.params.ensures, c.moment.ensures) at c.due_within_limits.ensures))
 
+-- for a sent message the turn is that of the machine's row for what it sends
 pub returns-in-Sent : goal.returns-in-Sent
 returns-in-Sent g c =
     let m = g.M.Phases in

@@ -4,12 +4,10 @@ use Rattle.sip_machine.specs.Owes.{owed_in}
 use Rattle.sip_machine.specs.Owing.{state_in}
 use Rattle.sip_machine.specs.inner.Effects.{rested_debts, rests_at}
 use Rattle.sip_machine.specs.inner.Pools.{beside}
-use Rattle.sip_machine.proofs.pools.PoolLemmas.{beside-owes, in-phases, in-rows, state-at, rests-owes}
+use Rattle.sip_machine.proofs.pools.PoolLemmas.{beside-owes, in-phases, state-at, rests-owes}
 use Rattle.sip_machine.proofs.pool.Pool.come_to_rest.Goals as goal
 
-pub come_to_rest-requires : goal.come_to_rest-requires
-come_to_rest-requires g c = in-rows c.self.inside.phases.items c.self.inside.dues c.args.self.now c.args.at c.self.view_is c.self.invariant c.requires
-
+-- the state at `at` has come to rest as told, and the others are as they were
 pub returns-clause-ok : goal.returns-clause-ok
 returns-clause-ok g c = λ d.
     let phases = c.self.inside.phases.items in

@@ -3,6 +3,7 @@ use Rattle.sip_machine.proofs.pools.FirstLemmas.{first-more, first-again, Any-he
 use Rattle.sip_machine.proofs.pool.Pool.first_of_few.Goals as goal
 use Rattle.sip_machine.proofs.pool.Pool.first_of_few.Goals.{then-not-is_among+in_ok-push, else-not-is_among}
 
+-- the rows are those up to here whose state has no equal before it
 pub loop-at-preserved : goal.loop-at-preserved
 loop-at-preserved g c =
     let xs = c.args.self.now in

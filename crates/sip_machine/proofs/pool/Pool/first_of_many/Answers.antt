@@ -7,6 +7,7 @@ use Rattle.sip_machine.proofs.pools.FirstLemmas.{first-more, first-again, Any-he
 use Rattle.sip_machine.proofs.pool.Pool.first_of_many.Goals as goal
 use Rattle.sip_machine.proofs.pool.Pool.first_of_many.Goals.{then-not-is_repeat+in_ok-push+in_ok-push-2, else-not-is_repeat}
 
+-- the rows are those up to here whose state has no equal before it, and the slots have the print of each
 pub loop-at-preserved : goal.loop-at-preserved
 loop-at-preserved g c =
     let xs = c.args.self.now in
@@ -20,6 +21,7 @@ loop-at-preserved g c =
     let (first, long, told) = c.loop-at.invariant in
     let repeats = rw c.deref.ensures.value at c.is_repeat.ensures in
     elim c.if-not-is_repeat.branch [
+      -- no state before it is equal, so its row is one of the first ones
       | then-not-is_repeat+in_ok-push+in_ok-push-2 w ↦
           let within : at < length xs = omega arith in
           let low_at : at - from < length prints = omega (arith, within, c.in_ok-prints.ensures.long, at_from) in
@@ -39,9 +41,11 @@ loop-at-preserved g c =
                   ∙ ap (λ r. get_or prints (r - from) 0) (sym (get_or_push rows at 0 k (omega (arith, behind, low, more_rows))))
             ]),
           )
+      -- a state before it is equal, so the rows stay
       | else-not-is_repeat w ↦ rw (w.rows-is, w.slots-is) (first-again xs from at rows first (λ x. (repeats x).0 w.if-not-is_repeat.false), long, told)
     ]
 
+-- at the end of the loop the rows are those of all states that have no equal before them
 pub returns : goal.returns
 returns g c =
     let end : c.loop-at.at ≡ length c.args.self.now = omega arith in

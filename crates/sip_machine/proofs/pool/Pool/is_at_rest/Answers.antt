@@ -1,17 +1,9 @@
-use Rattle.std.specs.Prelude.{◌<◌, ◌≡◌, get_or}
-use Rattle.std.proofs.Common.{subst, ◌∙◌, sym, ap, true≢false, arith}
-use Rattle.sip_machine.proofs.pools.PoolLemmas.{in-phases, in-rows, state-at, same-state}
+use Rattle.std.specs.Prelude.{◌≡◌, get_or}
+use Rattle.std.proofs.Common.{◌∙◌, sym, ap, true≢false}
+use Rattle.sip_machine.proofs.pools.PoolLemmas.{state-at}
 use Rattle.sip_machine.proofs.pool.Pool.is_at_rest.Goals as goal
 
-pub index-requires : goal.index-requires
-index-requires g c = subst (λ n. c.args.at < n) (sym c.self.inside.phases.ok.0) (in-phases c.self.inside.phases.items c.self.inside.dues c.args.self.now c.args.at c.self.view_is c.requires)
-
-pub owes_nothing-requires : goal.owes_nothing-requires
-owes_nothing-requires g c = in-rows c.self.inside.phases.items c.self.inside.dues c.args.self.now c.args.at c.self.view_is c.self.invariant c.requires
-
-pub returns-then-eq : goal.returns-then-eq
-returns-then-eq g c = grind (arith, state-at, same-state)
-
+-- where the phases differ, the state is not the one at rest in the phase
 pub returns-else-eq : goal.returns-else-eq
 returns-else-eq g c = λ d.
     let p = c.index.result.now in

@@ -1,23 +1,9 @@
-use Rattle.std.specs.Prelude.{◌<◌, ◌≡◌}
-use Rattle.std.proofs.Common.{subst, ◌∙◌, sym, ap, true≢false, arith}
-use Rattle.sip_machine.proofs.pools.PoolLemmas.{in-phases, in-rows, state-at, same-state}
+use Rattle.std.specs.Prelude.{◌≡◌}
+use Rattle.std.proofs.Common.{◌∙◌, sym, ap, true≢false}
+use Rattle.sip_machine.proofs.pools.PoolLemmas.{state-at}
 use Rattle.sip_machine.proofs.pool.Pool.is_same.Goals as goal
 
-pub index-requires : goal.index-requires
-index-requires g c = subst (λ n. c.args.at < n) (sym c.self.inside.phases.ok.0) (in-phases c.self.inside.phases.items c.self.inside.dues c.args.self.now c.args.at c.self.view_is c.requires.at)
-
-pub index-requires-2 : goal.index-requires-2
-index-requires-2 g c = subst (λ n. c.args.other < n) (sym c.self.inside.phases.ok.0) (in-phases c.self.inside.phases.items c.self.inside.dues c.args.self.now c.args.other c.self.view_is c.requires.other)
-
-pub same-requires-clause-row : goal.same-requires-clause-row
-same-requires-clause-row g c = in-rows c.self.inside.phases.items c.self.inside.dues c.args.self.now c.args.at c.self.view_is c.self.invariant c.requires.at
-
-pub same-requires-clause-other : goal.same-requires-clause-other
-same-requires-clause-other g c = in-rows c.self.inside.phases.items c.self.inside.dues c.args.self.now c.args.other c.self.view_is c.self.invariant c.requires.other
-
-pub returns-then-eq : goal.returns-then-eq
-returns-then-eq g c = grind (arith, state-at, same-state)
-
+-- where the phases differ, the states differ
 pub returns-else-eq : goal.returns-else-eq
 returns-else-eq g c = λ d.
     let p = c.index.result.now in

@@ -6,12 +6,7 @@ use Rattle.sip_machine.proofs.pools.PoolLemmas.{beside-length}
 use Rattle.sip_machine.proofs.pools.PoolEachLemmas.{beside-picked}
 use Rattle.sip_machine.proofs.pool.Pool.keep_each.Goals as goal
 
-pub keep_phases-requires-clause-within : goal.keep_phases-requires-clause-within
-keep_phases-requires-clause-within g c = grind (arith, beside-length)
-
-pub keep-requires-clause-within : goal.keep-requires-clause-within
-keep-requires-clause-within g c = grind (arith, beside-length)
-
+-- the phases and the debts are those of the rows that are kept, in their order
 pub returns : goal.returns
 returns g c = λ x.
     let phases = c.self.inside.phases.items in

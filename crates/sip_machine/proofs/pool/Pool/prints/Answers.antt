@@ -1,23 +1,13 @@
 use Rattle.std.specs.Prelude.{◌≡◌, ◌<◌, ◌≤◌, ◌+◌, ◌-◌, [], get_or, length}
-use Rattle.std.proofs.Common.{ap, arith, sym, subst, ◌∙◌}
+use Rattle.std.proofs.Common.{ap, arith, sym, ◌∙◌}
 use Rattle.std.proofs.lemmas.List.{with_items_is}
 use Rattle.sip_machine.specs.Owing.{CodeOwing}
 use Rattle.sip_machine.proofs.pools.FirstLemmas.{mixed-run, mixed-all}
-use Rattle.sip_machine.proofs.pools.PoolLemmas.{beside-length, in-phases, state-at}
+use Rattle.sip_machine.proofs.pools.PoolLemmas.{beside-length, state-at}
 use Rattle.sip_machine.proofs.pools.PoolEachLemmas.{some-at}
 use Rattle.sip_machine.proofs.pool.Pool.prints.Goals as goal
 
-pub prints-requires : goal.prints-requires
-prints-requires g c = grind (arith, beside-length)
-
-pub index-requires : goal.index-requires
-index-requires g c =
-    subst (λ n. c.loop-at.at < n) (sym c.self.inside.phases.ok.0)
-    (in-phases c.self.inside.phases.items c.self.inside.dues c.args.self.now c.loop-at.at c.self.view_is (omega arith))
-
-pub mix-requires-clause-within : goal.mix-requires-clause-within
-mix-requires-clause-within g c = grind (arith, beside-length)
-
+-- after one more run of states of one phase, the hash of the phase is mixed into the prints up to its end
 pub loop-at-preserved : goal.loop-at-preserved
 loop-at-preserved g c =
     let phases = c.self.inside.phases.items in
@@ -44,6 +34,7 @@ loop-at-preserved g c =
           ∙ ap (λ z. z.phase) (state-at phases rows xs at p x c.self.view_is here) ∙ sym c.index.ensures)),
     )
 
+-- at the end of the loop each print has the hash of its state's phase and debts
 pub returns : goal.returns
 returns g c =
     let phases = c.self.inside.phases.items in

@@ -7,6 +7,7 @@ use Rattle.sip_machine.proofs.pools.PoolLemmas.{some-at, in-longer, take-old, on
 use Rattle.sip_machine.proofs.acks.ToLemmas.{on_ok}
 use Rattle.sip_machine.proofs.pool.Pool.push_given.Goals as goal
 
+-- the state is still at its index
 pub push_rested-requires : goal.push_rested-requires
 push_rested-requires g c =
     let xs = c.args.self.now in
@@ -14,6 +15,7 @@ push_rested-requires g c =
     in-longer xs (option_to_list (option_map (λ turn. led_by c.args.params.now c.args.moment turn (get_or xs c.args.at d)) c.args.effect.turn)) c.push_led.new.self c.args.at
     (c.in_ok-push_led.ensures.ok d) c.requires.at
 
+-- where memory is refused, the pool is as it was
 pub returns-then-is_err-clause-err : goal.returns-then-is_err-clause-err
 returns-then-is_err-clause-err g c =
     let xs = c.args.self.now in
@@ -23,6 +25,7 @@ returns-then-is_err-clause-err g c =
     ∙ take-old xs (option_to_list (option_map (λ turn. led_by c.args.params.now c.args.moment turn (get_or xs c.args.at d)) c.args.effect.turn)) c.push_rested.new.self c.len-before.result
     (as_before ∙ c.in_ok-push_led.ensures.ok d) c.len-before.ensures
 
+-- first the state as the row leads it is pushed, then the state as it rests
 pub returns-clause-ok : goal.returns-clause-ok
 returns-clause-ok g c = λ d.
     let xs = c.args.self.now in

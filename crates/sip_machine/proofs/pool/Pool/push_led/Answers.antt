@@ -5,12 +5,14 @@ use Rattle.sip_machine.proofs.pools.PoolLemmas.{some-at, last-in, set-last, take
 use Rattle.sip_machine.proofs.acks.ToLemmas.{on_ok}
 use Rattle.sip_machine.proofs.pool.Pool.push_led.Goals as goal
 
+-- the copy is the last state
 pub lead-requires-clause-at : goal.lead-requires-clause-at
 lead-requires-clause-at g c =
     let xs = c.args.self.now in
     let d = some-at xs c.args.at c.requires.at in
     last-in xs c.push_copy.new.self (get_or xs c.args.at d) c.len-last.result (c.in_ok-push_copy.ensures.ok d) c.len-last.ensures
 
+-- where memory is refused, the pool is as it was
 pub returns-then-is_err-clause-err : goal.returns-then-is_err-clause-err
 returns-then-is_err-clause-err g c =
     let xs = c.args.self.now in
@@ -18,6 +20,7 @@ returns-then-is_err-clause-err g c =
     let as_before = on_err c.lead.result _ (rw c.is_err.ensures.value at c.if-is_err.true) c.lead.ensures.err in
     c.truncate.ensures ∙ take-old xs (get_or xs c.args.at d ∷ []) c.lead.new.self c.len-last.result (as_before ∙ c.in_ok-push_copy.ensures.ok d) c.len-last.ensures
 
+-- the state is pushed once more, and is led by its row there
 pub returns-clause-ok : goal.returns-clause-ok
 returns-clause-ok g c = λ d.
     let xs = c.args.self.now in

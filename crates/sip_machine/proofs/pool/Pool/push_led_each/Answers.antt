@@ -14,6 +14,7 @@ use Rattle.sip_machine.proofs.pool.Pool.push_led_each.Goals as goal
 pub push_timely-requires : goal.push_timely-requires
 push_timely-requires g c = grind (arith, beside-length)
 
+-- the states between the indices whose debts are in time are pushed once more, as the turn leads them
 pub returns-clause-ok : goal.returns-clause-ok
 returns-clause-ok g c =
     let rows = c.self.inside.dues in

@@ -13,6 +13,7 @@ use Rattle.sip_machine.proofs.pools.PoolLemmas.{beside-length, in-phases, some-a
 use Rattle.sip_machine.proofs.pools.PoolEachLemmas.{pushed-is, behind-size, map-same}
 use Rattle.sip_machine.proofs.pool.Pool.push_paid_each.Goals as goal
 
+-- the index is one of the phases
 pub index-phase-requires : goal.index-phase-requires
 index-phase-requires g c =
     subst (λ n. c.args.from < n) (sym c.self.inside.phases.ok.0)
@@ -21,6 +22,7 @@ index-phase-requires g c =
 pub push_paid-requires : goal.push_paid-requires
 push_paid-requires g c = grind (arith, beside-length)
 
+-- the states between the indices that can pay the message and are in time are pushed once more, with it paid
 pub returns-clause-ok : goal.returns-clause-ok
 returns-clause-ok g c =
     let phases = c.self.inside.phases.items in

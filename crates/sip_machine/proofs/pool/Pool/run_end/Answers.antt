@@ -4,16 +4,19 @@ use Rattle.sip_machine.proofs.pools.PoolLemmas.{in-phases, state-at}
 use Rattle.sip_machine.proofs.pools.PoolEachLemmas.{some-more}
 use Rattle.sip_machine.proofs.pool.Pool.run_end.Goals as goal
 
+-- the index is one of the phases
 pub index-requires : goal.index-requires
 index-requires g c =
     subst (λ n. c.args.at < n) (sym c.self.inside.phases.ok.0)
     (in-phases c.self.inside.phases.items c.self.inside.dues c.args.self.now c.args.at c.self.view_is (omega (arith, c.requires.at, c.requires.limit)))
 
+-- the place that is looked at is one of the phases
 pub index-requires-in-loop-end : goal.index-requires-in-loop-end
 index-requires-in-loop-end g c =
     subst (λ n. c.loop-end.end < n) (sym c.self.inside.phases.ok.0)
     (in-phases c.self.inside.phases.items c.self.inside.dues c.args.self.now c.loop-end.end c.self.view_is (omega (arith, c.loop-end-test.true, c.requires.limit)))
 
+-- one more state has the phase of the first one
 pub loop-end-preserved : goal.loop-end-preserved
 loop-end-preserved g c =
     let xs = c.args.self.now in

@@ -1,12 +1,10 @@
 use Rattle.std.specs.Prelude.{IfOk}
 use Rattle.std.proofs.Common.{sym, ap, subst}
 use Rattle.sip_ledger.specs.Runs.{AreRuns}
-use Rattle.sip_machine.proofs.pools.PoolLemmas.{in-rows, state-at}
+use Rattle.sip_machine.proofs.pools.PoolLemmas.{state-at}
 use Rattle.sip_machine.proofs.pool.Pool.runs.Goals as goal
 
-pub runs-requires : goal.runs-requires
-runs-requires g c = in-rows c.self.inside.phases.items c.self.inside.dues c.args.self.now c.args.at c.self.view_is c.self.invariant c.requires
-
+-- the runs of the row are those of what the state owes
 pub returns : goal.returns
 returns g c =
     λ d.

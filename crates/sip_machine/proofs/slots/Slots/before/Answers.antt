@@ -3,6 +3,7 @@ use Rattle.sip_machine.specs.inner.Slots.{AreSlots}
 use Rattle.sip_machine.proofs.pools.SlotsLemmas.{pair-print, pair-older}
 use Rattle.sip_machine.proofs.slots.Slots.before.Goals as goal
 
+-- the last print of the slot before this one stands among the prints
 pub last_from-requires : goal.last_from-requires
 last_from-requires c =
     let s = c.args.self.now in
@@ -12,6 +13,7 @@ last_from-requires c =
     let within = (are.older_is c.args.at low).within in
     omega (arith, older, within, low)
 
+-- the newest row of the slot before this one with the same print is the last such row of all
 pub returns : goal.returns
 returns c =
     let s = c.args.self.now in

@@ -3,6 +3,7 @@ use Rattle.sip_machine.specs.inner.Slots.{AreSlots}
 use Rattle.sip_machine.proofs.pools.SlotsLemmas.{pair-print, pair-older, reached-more}
 use Rattle.sip_machine.proofs.slots.Slots.last_from.Goals as goal
 
+-- no row between this one and the older one of its slot has the print
 pub loop-next-preserved : goal.loop-next-preserved
 loop-next-preserved c =
     let s = c.args.self.now in
@@ -22,6 +23,7 @@ loop-next-preserved c =
           (reached-more s c.args.print limit c.loop-next.next at are low_limit (c.loop-next.invariant.1 limit low_limit is) (omega (arith, some)) (λ same. c.if-kept-print.false (sym print ∙ same))),
     )
 
+-- at the end of the loop no row has the print
 pub returns : goal.returns
 returns c = λ limit low is.
     let reached = c.loop-next.invariant.1 limit low is in

@@ -5,6 +5,7 @@ use Rattle.sip_machine.specs.inner.Slots.{slot_of}
 use Rattle.sip_machine.proofs.pools.SlotsLemmas.{slots-more}
 use Rattle.sip_machine.proofs.slots.Slots.push.Goals as goal
 
+-- the new print is the newest of its slot, and leads to the one that was the newest
 pub invariant_of-self-2 : goal.invariant_of-self-2
 invariant_of-self-2 c =
     let inside = c.self.inside in

@@ -3,6 +3,7 @@ use Rattle.sip_machine.proofs.steps.PayableLemmas.{lower}
 use Rattle.sip_machine.proofs.acks.ToLemmas.{below_last}
 use Rattle.sip_machine.proofs.tos.Tos.are_below.Goals as goal
 
+-- the last number is the greatest, so all are below where it is
 pub returns-in-Some : goal.returns-in-Some
 returns-in-Some c lt =
     let low : c.in-Some.last.now.number < c.args.number = lower c.in-Some.last.now.number c.args.number lt in

@@ -4,6 +4,7 @@ use Rattle.std.proofs.lemmas.List.Sorted.{IsPartitionedBy-leb, IsPartitionedBy-l
 use Rattle.sip_machine.proofs.texts.BesideLemmas.{rises_weakly, count_between-parted}
 use Rattle.sip_machine.proofs.tos.Tos.between.Goals as goal
 
+-- the two searches bound the Tos with numbers from `low` to `high`, so their distance is the count
 pub returns-clause-count : goal.returns-clause-count
 returns-clause-count c =
     let tos = c.self.inside.list.items in

@@ -2,14 +2,16 @@ use Rattle.std.proofs.Common.{◌≡◌, ◌<◌, ◌-◌, All, AllPairs, Contai
 use Rattle.std.specs.Vec.{vec_len}
 use Rattle.std.proofs.lemmas.List.Elements.{All-take, Contains-get_or}
 use Rattle.sip_machine.specs.declared.tos.To.{To}
-use Rattle.sip_machine.specs.inner.Order.{hash_of}
+use Rattle.sip_machine.specs.inner.Order.{full_hash}
 use Rattle.sip_machine.specs.inner.Tos.{AreUnder, IsUnder}
 use Rattle.sip_machine.proofs.acks.ToLemmas.{AllPairs-take, front_below, taken-keeps}
 use Rattle.sip_machine.proofs.tos.Tos.drop_newest.Goals as goal
 
+-- the order of Tos: by the numbers of their messages
 abbrev below : To → To → Type 0
 below a b = a.number < b.number
 
+-- without the newest To the others are in order, and each stands under its hash
 pub invariant_of-self : goal.invariant_of-self
 invariant_of-self c =
     let tos = c.self.inside.list.items in
@@ -20,15 +22,16 @@ invariant_of-self c =
     let at = rw (c.in-Some.is, c.deref.ensures.value) at c.last.ensures.value in
     let same : last.number ≡ c.args.number = omega arith in
     let lower = subst (λ n. All (λ to. to.number < c.args.number) (take (n - 1) tos)) (sym c.self.inside.list.ok.0) (front_below tos c.args.number last c.self.invariant.0 at same) in
-    let stood = All-take (λ to. IsUnder old (hash_of to.text) to.number) left tos c.self.invariant.1 in
+    let stood = All-take (λ to. IsUnder old (full_hash to.text) to.number) left tos c.self.invariant.1 in
     let under : AreUnder new (take left tos) = λ k d low.
     let to = get_or (take left tos) k d in
     let less = lower k d low in
-    taken-keeps c.hash.result c.args.number old new c.drop_note.ensures (hash_of to.text) to.number (omega (arith, less)) (stood k d low) in (
+    taken-keeps c.hash.result c.args.number old new c.drop_note.ensures (full_hash to.text) to.number (omega (arith, less)) (stood k d low) in (
       subst (AllPairs below) (sym c.pop.ensures.rest) (AllPairs-take below left tos c.self.invariant.0),
       subst (AreUnder new) (sym c.pop.ensures.rest) under,
     )
 
+-- the Tos that are left were there before
 pub returns-in-Some : goal.returns-in-Some
 returns-in-Some c =
     let tos = c.self.inside.list.items in

@@ -4,15 +4,18 @@ use Rattle.sip_machine.specs.declared.tos.To.{To}
 use Rattle.sip_machine.proofs.acks.ToLemmas.{AllPairs-picked, left_over, none-under}
 use Rattle.sip_machine.proofs.tos.Tos.retain.Goals as goal
 
+-- the order of Tos: by the numbers of their messages
 abbrev below : To → To → Type 0
 below a b = a.number < b.number
 
+-- the To values that are left are still in order, and no hashes are kept
 pub invariant_of-self : goal.invariant_of-self
 invariant_of-self c =
     let kept = c.retain.ensures.filtered in
     let none : is_some c.self.inside.hashes ≡ false = search rules in
     (subst (AllPairs below) (sym kept.4) (AllPairs-picked below kept.0 c.self.inside.list.items c.self.invariant.0), none-under c.self.inside.hashes c.retain.new.self.items none)
 
+-- the Tos that are left are those of the numbers
 pub returns-then-is_none : goal.returns-then-is_none
 returns-then-is_none c =
     let numbers = c.args.numbers.now in
@@ -20,11 +23,13 @@ returns-then-is_none c =
     let among = All-from_retain _ (λ to. Contains numbers to.number) _ (λ x b f' k. search rules) _ _ kept in
     rw (← c.self.view_is) (left_over kept.0 c.self.inside.list.items c.retain.new.self.items numbers kept.4 among)
 
+-- the Tos that are left are in order, and each stands under its hash anew
 pub invariant_of-self-2 : goal.invariant_of-self-2
 invariant_of-self-2 c =
     let kept = c.retain.ensures.filtered in
     (subst (AllPairs below) (sym kept.4) (AllPairs-picked below kept.0 c.self.inside.list.items c.self.invariant.0), rw c.deref.ensures.value at c.hashes_of.ensures)
 
+-- the To values that are left are those with these numbers
 pub returns : goal.returns
 returns c =
     let numbers = c.args.numbers.now in

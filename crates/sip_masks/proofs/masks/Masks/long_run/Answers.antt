@@ -5,6 +5,7 @@ use Rattle.sip_masks.specs.Marks.{is_plain, is_other}
 use Rattle.sip_masks.proofs.RunLemmas.{stops-at, goes-on}
 use Rattle.sip_masks.proofs.masks.Masks.long_run.Goals as goal
 
+-- the first bit of the word is the first byte that is not plain, so the run ends there
 pub returns-then-word-ne0 : goal.returns-then-word-ne0
 returns-then-word-ne0 c =
     let text = c.self.inside.text.now in
@@ -14,6 +15,7 @@ returns-then-word-ne0 c =
     (λ j h. c.word_at-word.ensures j h ∙ c.self.invariant.others_mark (l.q + j) (omega (arith, h, l.invariant.1))) (λ j from below. absurd (omega (arith, from, below))) l.invariant.0 l.invariant.2 l.invariant.1 in
     subst (λ t. l.q - c.args.p + trailing_zeros w64 word ≡ prefix_len is_plain (drop c.args.p t)) c.self.view_is (omega (arith, found, l.invariant.0))
 
+-- the next word lies further on
 pub loop-self-smaller : goal.loop-self-smaller
 loop-self-smaller c =
     let l = c.loop-self in
@@ -21,6 +23,7 @@ loop-self-smaller c =
     (λ j h. c.word_at-word.ensures j h ∙ c.self.invariant.others_mark (l.q + j) (omega (arith, h, l.invariant.1))) l.invariant.2 l.invariant.1 in
     omega (arith, more.1)
 
+-- the word has no bit, so all bytes up to its end are plain
 pub loop-self-preserved : goal.loop-self-preserved
 loop-self-preserved c =
     let l = c.loop-self in

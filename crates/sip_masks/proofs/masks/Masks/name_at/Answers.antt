@@ -7,6 +7,7 @@ use Rattle.sip_masks.specs.Marks.{is_plain}
 use Rattle.sip_masks.specs.Names.{OrdinaryName}
 use Rattle.sip_masks.proofs.masks.Masks.name_at.Goals as goal
 
+-- the bytes that are looked at are plain
 pub is_ordinary_name-requires : goal.is_ordinary_name-requires
 is_ordinary_name-requires c =
     let p = c.args.p in
@@ -14,6 +15,7 @@ is_ordinary_name-requires c =
     let all = ap (prefix_len is_plain) (take_rest text p) ∙ ap (λ t. prefix_len is_plain (drop p t)) c.text.ensures in
     omega (arith, all, c.in_ok-len.ensures.0)
 
+-- the plain bytes at p are an ordinary name
 pub returns-then-is_ordinary_name : goal.returns-then-is_ordinary_name
 returns-then-is_ordinary_name c =
     let len = c.in_ok-len.len in
@@ -23,6 +25,7 @@ returns-then-is_ordinary_name c =
     (subst (λ w. OrdinaryName (take len w) × (32 ≤ length w)) (take_rest c.text.result.now p) (c.is_ordinary_name.ensures.0 c.if-is_ordinary_name.true)) in
     (c.in_ok-len.ensures.0, name.0, name.1)
 
+-- no ordinary name stands at p, since the plain bytes there are none
 pub returns-else-is_ordinary_name : goal.returns-else-is_ordinary_name
 returns-else-is_ordinary_name c len begins =
     let p = c.args.p in
@@ -32,6 +35,7 @@ returns-else-is_ordinary_name c len begins =
     (c.is_ordinary_name.ensures.1 (subst (λ w. OrdinaryName (take n w) × (32 ≤ length w)) (sym (take_rest c.text.result.now p))
     (subst (λ t. OrdinaryName (take n (drop p t)) × (32 ≤ length (drop p t))) (sym c.text.ensures) (name, begins.2))))
 
+-- a run of 64 bytes or more is longer than an ordinary name
 pub returns-in_err-len : goal.returns-in_err-len
 returns-in_err-len c =
     rw c.from_residual.ensures

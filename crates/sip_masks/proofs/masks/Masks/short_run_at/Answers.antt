@@ -6,6 +6,7 @@ use Rattle.sip_masks.specs.Marks.{is_plain, is_other}
 use Rattle.sip_masks.proofs.RunLemmas.{stops-at, goes-on, run-from}
 use Rattle.sip_masks.proofs.masks.Masks.short_run_at.Goals as goal
 
+-- the first bit of the word is the first byte that is not plain, so the run ends there
 pub returns : goal.returns
 returns c =
     let text = c.self.inside.text.now in
@@ -18,6 +19,7 @@ returns c =
       (bit_at-trailing_zeros w64 word (omega (arith, c.if-word-eq0.false)) c.word_at-word.type_inv).0,
     )
 
+-- where the word has no bit, the run is 64 bytes or longer
 pub returns-then-word-eq0 : goal.returns-then-word-eq0
 returns-then-word-eq0 c =
     let text = c.self.inside.text.now in

@@ -8,6 +8,7 @@ use Rattle.sip_message.proofs.lemmas.message.Ordinary.{ordinary-whole}
 use Rattle.sip_message.proofs.lemmas.message.Stages.{found-keeps, found-reads}
 use Rattle.sip_message.proofs.message.Message.read.Goals as goal
 
+-- what is kept of Content-Length is digits
 pub body_len-requires : goal.body_len-requires
 body_len-requires c =
     let h = rw c.in-Some.is at c.in_ok-start.ensures.head in
@@ -15,6 +16,7 @@ body_len-requires c =
     let fields = fields_parts c.read_ordinary.new.fields in
     said-digits fields (option_copied c.read_ordinary.new.asked.content_length) (fields-rows h.others fields h.are_fields) of.content_length
 
+-- where the head and the body are ordinary, the parts that were found are those of the bytes
 pub new-requires : goal.new-requires
 new-requires c =
     let h = rw c.in-Some.is at c.in_ok-start.ensures.head in
@@ -23,6 +25,7 @@ new-requires c =
     c.unwrap-via.ensures c.unwrap-from.ensures c.unwrap-to.ensures c.unwrap-call_id.ensures c.unwrap-cseq.ensures c.in-Some-body_len.ensures.1 in
     found-keeps (element c.unwrap-via.result) (cseq_parts c.unwrap-cseq.result) whole.found whole.says_via whole.says_cseq
 
+-- where the head and the body are ordinary, the message is what the bytes are read as
 pub returns : goal.returns
 returns c =
     let h = rw c.in-Some.is at c.in_ok-start.ensures.head in

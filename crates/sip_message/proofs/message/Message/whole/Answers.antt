@@ -27,17 +27,20 @@ returns-in_default c = fault-says _ _ (stopped _ (c.in_default.ensures, refl) re
 pub returns-then-not-is_clean : goal.returns-then-not-is_clean
 returns-then-not-is_clean c = fault-says _ _ (passes _ c.in-Some.ensures.0 (stopped _ ((λ _ clean. absurd (search rules)), refl) refl))
 
+-- where the start line is none, this is the fault of the bytes
 pub returns-in_default-read_start : goal.returns-in_default-read_start
 returns-in_default-read_start c =
     let b = begins c.in-Some.ensures.0 (c.is_clean.ensures.0 c.if-not-is_clean.false) c.cut_first.ensures in
     fault-says _ _ (begun b.1 (stopped _ (c.in_default-read_start.ensures, refl) refl))
 
+-- a line of the head is at fault
 pub returns-in_err-fields : goal.returns-in_err-fields
 returns-in_err-fields c =
     let b = begins c.in-Some.ensures.0 (c.is_clean.ensures.0 c.if-not-is_clean.false) c.cut_first.ensures in
     settled (λ (read : Vec Code × Kept). fields_parts read.0) (FieldsOf 1 b.0) c.args.bytes.now c.in_err-fields.field-0.0 c.from_residual.result c.from_residual.ensures.0 c.from_residual.ensures.1 (c.in_err-fields.ensures.fields b.0 b.2)
     (λ fault stop. begun b.1 (passes _ c.in-Some-read_start.ensures.0 (stopped fault stop refl)))
 
+-- where a named field is missing or stands twice, this is the fault of the bytes
 pub returns-in_err-named : goal.returns-in_err-named
 returns-in_err-named c =
     let b = begins c.in-Some.ensures.0 (c.is_clean.ensures.0 c.if-not-is_clean.false) c.cut_first.ensures in
@@ -46,6 +49,7 @@ returns-in_err-named c =
     (begun b.1 (passes _ c.in-Some-read_start.ensures.0 (passes _ (c.in_ok-fields.ensures.fields b.0 b.2)
     (stopped fault (subst (λ xs. NamesOf (map field_parts xs) (stops fault)) c.deref.ensures.value c.in_err-named.ensures.names) refl))))
 
+-- where the body has a fault, and nothing before it has, this is the fault of the bytes
 pub returns-in_err-body : goal.returns-in_err-body
 returns-in_err-body c =
     let b = begins c.in-Some.ensures.0 (c.is_clean.ensures.0 c.if-not-is_clean.false) c.cut_first.ensures in
@@ -55,6 +59,7 @@ returns-in_err-body c =
     (passes (names_parts c.in_ok-named.named) (subst (λ xs. NamesOf (map field_parts xs) (gives (names_parts c.in_ok-named.named))) c.deref.ensures.value c.in_ok-named.ensures.names)
     (stopped fault (subst (λ xs. BodyOf (start_parts c.in-Some-read_start.start) ((names_parts c.in_ok-named.named).1) ((names_parts c.in_ok-named.named).0.1) (content_length (map field_parts xs)) c.in-Some.rest.now (stops fault)) c.deref-2.ensures.value c.in_err-body.ensures) refl)))))
 
+-- each field has a value that its row allows
 pub read_body-requires-clause-rows : goal.read_body-requires-clause-rows
 read_body-requires-clause-rows c =
     let b = begins c.in-Some.ensures.0 (c.is_clean.ensures.0 c.if-not-is_clean.false) c.cut_first.ensures in
@@ -64,6 +69,7 @@ pub unwrap-via-requires : goal.unwrap-via-requires
 unwrap-via-requires c =
     via-some (fields_parts c.in_ok-fields.fields) c.in_ok-fields.kept c.in_ok-named.named.via.now c.in_ok-fields.ensures.kept (subst (λ xs. IsFirstOf (values known_name.Via (map field_parts xs)) c.in_ok-named.named.via.now) c.deref.ensures.value c.in_ok-named.ensures.stand.via)
 
+-- the CSeq was kept when its field was read
 pub unwrap-cseq-requires : goal.unwrap-cseq-requires
 unwrap-cseq-requires c =
     cseq-some (fields_parts c.in_ok-fields.fields) c.in_ok-fields.kept c.in_ok-named.named.cseq.now c.in_ok-fields.ensures.kept (subst (λ xs. IsFirstOf (values known_name.CSeq (map field_parts xs)) c.in_ok-named.named.cseq.now) c.deref.ensures.value c.in_ok-named.ensures.stand.cseq)
@@ -72,6 +78,7 @@ pub read_body-requires-clause-via : goal.read_body-requires-clause-via
 read_body-requires-clause-via c =
     via-is (fields_parts c.in_ok-fields.fields) c.in_ok-fields.kept c.in_ok-named.named.via.now c.unwrap-via.result c.in_ok-fields.ensures.kept (subst (λ xs. IsFirstOf (values known_name.Via (map field_parts xs)) c.in_ok-named.named.via.now) c.deref.ensures.value c.in_ok-named.ensures.stand.via) c.unwrap-via.ensures
 
+-- what was found are the parts of the bytes, so a message can be made of them
 pub new-requires : goal.new-requires
 new-requires c =
     let b = begins c.in-Some.ensures.0 (c.is_clean.ensures.0 c.if-not-is_clean.false) c.cut_first.ensures in
@@ -89,6 +96,7 @@ new-requires c =
     (via-is (fields_parts c.in_ok-fields.fields) c.in_ok-fields.kept c.in_ok-named.named.via.now c.unwrap-via.result c.in_ok-fields.ensures.kept (subst (λ xs. IsFirstOf (values known_name.Via (map field_parts xs)) c.in_ok-named.named.via.now) c.deref.ensures.value c.in_ok-named.ensures.stand.via) c.unwrap-via.ensures)
     (cseq-is (fields_parts c.in_ok-fields.fields) c.in_ok-fields.kept c.in_ok-named.named.cseq.now c.unwrap-cseq.result c.in_ok-fields.ensures.kept (subst (λ xs. IsFirstOf (values known_name.CSeq (map field_parts xs)) c.in_ok-named.named.cseq.now) c.deref.ensures.value c.in_ok-named.ensures.stand.cseq) c.unwrap-cseq.ensures)
 
+-- what was found are the parts of the bytes, so the message is what the bytes are read as
 pub returns : goal.returns
 returns c =
     let b = begins c.in-Some.ensures.0 (c.is_clean.ensures.0 c.if-not-is_clean.false) c.cut_first.ensures in

@@ -3,6 +3,7 @@ use Rattle.sip_states.proofs.lists.Kept.{appends_more, appends_not, some_at}
 use Rattle.sip_states.proofs.agenda.Agenda.kept.Goals.{then-flags-at+in_ok-push_record, else-flags-at}
 use Rattle.sip_states.proofs.agenda.Agenda.kept.Goals as goal
 
+-- of the records up to here, the new agenda has those whose flag is set, in their order
 pub loop-at-preserved : goal.loop-at-preserved
 loop-at-preserved c =
     let flags = c.args.flags.now in

@@ -4,6 +4,8 @@ use Rattle.sip_states.proofs.marks.Marks.all.Given as goal
 abbrev pub invariant-loop-index : goal.invariant-loop-index
 invariant-loop-index l =
     record {
-      long : length l.marks ≡ l.index;
-      all : All (λ is_marked. is_marked ≡ true) l.marks;
+      long : length l.marks.named ≡ l.index;
+      as_long : length l.marks.moved ≡ l.index;
+      named : All (λ is_marked. is_marked ≡ true) l.marks.named;
+      moved : All (λ is_marked. is_marked ≡ true) l.marks.moved;
     }

@@ -2,6 +2,7 @@ use Rattle.sip_states.proofs.sets.Following.{Follows, advances_stand}
 use Rattle.sip_states.proofs.sets.Taking.{advanced_kept}
 use Rattle.sip_states.proofs.state_set.StateSet.advance.Goals as goal
 
+-- the advanced states are kept as all states of a set are
 pub invariant_of-self-2 : goal.invariant_of-self-2
 invariant_of-self-2 g c =
     let m = c.self.inside.machine in
@@ -10,6 +11,7 @@ invariant_of-self-2 g c =
     advanced_kept g.M.Machine.names g.M.Machine.in_range g.M.Machine.seen g.M.Machine.rules g.M.Machine.ended g.M.Machine.end_window g.M.Machine.until m follows
     c.self.inside.moment c.args.moment c.self.inside.states c.advance_states.new.pool c.self.invariant c.in_ok-advance_states.ensures.advances
 
+-- the states of the set are exactly those in which one can stand at the new moment
 pub returns-clause-states : goal.returns-clause-states
 returns-clause-states g c =
     let m = c.self.inside.machine in

@@ -1,6 +1,7 @@
 use Rattle.sip_states.proofs.sets.Following.{Follows, reach_seen}
 use Rattle.sip_states.proofs.state_set.StateSet.last_moment.Goals as goal
 
+-- the moment told is the last one to which some state of the set can wait
 pub returns : goal.returns
 returns g c =
     let m = c.self.inside.machine in

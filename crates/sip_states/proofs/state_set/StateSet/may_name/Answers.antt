@@ -11,6 +11,7 @@ use Rattle.sip_states.proofs.state_set.StateSet.may_name.Goals as goal
 pub loop-at-init : goal.loop-at-init
 loop-at-init g c any = omega (arith, any.2)
 
+-- no state up to here names the message
 pub loop-at-preserved : goal.loop-at-preserved
 loop-at-preserved g c =
     let xs = c.args.self.now.states in
@@ -21,6 +22,7 @@ loop-at-preserved g c =
     none_more (MayName g.M.Phases.names c.args.number) xs c.loop-at.at d low c.loop-at.invariant
     (λ may. false≢true (sym c.if-state_may_name.false ∙ tells.1 may))
 
+-- the state that was found is a state of the set that names the message
 pub returns-then-state_may_name-clause-may : goal.returns-then-state_may_name-clause-may
 returns-then-state_may_name-clause-may g c =
     let xs = c.args.self.now.states in
@@ -30,6 +32,7 @@ returns-then-state_may_name-clause-may g c =
     let tells = rw (ap (λ h. h.states) c.self.view_is) at c.state_may_name.ensures d in
     (λ _. (c.loop-at.at, get_or xs c.loop-at.at d, low, get_or_default xs c.loop-at.at (get_or xs c.loop-at.at d) d low, tells.0 c.if-state_may_name.true), λ _. refl)
 
+-- at the end of the loop no state was found that names the message
 pub returns-clause-may : goal.returns-clause-may
 returns-clause-may g c =
     let xs = c.args.self.now.states in
@@ -38,6 +41,7 @@ returns-clause-may g c =
     let none = subst (λ ss. ¬ Any (MayName g.M.Phases.names c.args.number) ss) all c.loop-at.invariant in
     (λ yes. absurd (false≢true yes), λ any. absurd (none any))
 
+-- at the end of the loop no state was found, so no number is that of the message
 pub returns-clause-none : goal.returns-clause-none
 returns-clause-none g c =
     let xs = c.args.self.now.states in

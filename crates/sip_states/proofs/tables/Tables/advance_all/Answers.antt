@@ -9,12 +9,13 @@ use Rattle.sip_states.specs.inner.Marks.{IsMarked}
 use Rattle.sip_states.proofs.due.AdvanceLemmas.{place_among, marked_advance, some_advance, marked_still, always_ok, always_err}
 use Rattle.sip_states.proofs.tables.Tables.advance_all.Goals as goal
 
+-- each marked index is one of the sets
 pub advance_each-requires-clause-inside : goal.advance_each-requires-clause-inside
 advance_each-requires-clause-inside g c =
     λ k d low.
-    let marks = c.self.inside.marks in
-    let index = get_or c.marked.result.now k d in
-    let mark : IsMarked marks index = (c.marked.ensures.members index).0 (place_among c.marked.result.now k d low) in
+    let marks = c.self.inside.marks.named in
+    let index = get_or c.named.result.now k d in
+    let mark : IsMarked marks index = (c.named.ensures.members index).0 (place_among c.named.result.now k d low) in
     let within = slice_get_within marks index true mark in
     omega (arith, within, c.self.invariant.2)
 
@@ -27,11 +28,11 @@ invariant_of-self g c =
       subst (λ n. n ≤ most_keys) (sym size) inv.0,
       inv.1 ∙ sym size,
       inv.2 ∙ sym size,
-      marked_still (λ s. numbers_of s ≡ []) c.args.moment some.0 c.self.inside.marks (values c.self.inside.sets) (values c.advance_each.new.sets) inv.3 (λ n has. (c.marked.ensures.members n).0 (some.1 n has)) some.2,
+      marked_still (λ s. numbers_of s ≡ []) c.args.moment some.0 c.self.inside.marks.named (values c.self.inside.sets) (values c.advance_each.new.sets) inv.3 (λ n has. (c.named.ensures.members n).0 (some.1 n has)) some.2,
       inv.4 ∙ sym size,
       record {
-        quiet = marked_still IsQuietSet c.args.moment some.0 c.self.inside.moved (values c.self.inside.sets) (values c.advance_each.new.sets) inv.5.quiet
-            (λ n has. inv.5.within n ((c.marked.ensures.members n).0 (some.1 n has))) some.2;
+        quiet = marked_still IsQuietSet c.args.moment some.0 c.self.inside.marks.moved (values c.self.inside.sets) (values c.advance_each.new.sets) inv.5.quiet
+            (λ n has. inv.5.within n ((c.named.ensures.members n).0 (some.1 n has))) some.2;
         within = inv.5.within;
       },
     )
@@ -46,14 +47,15 @@ invariant_of-self-2 g c =
       rw c.unmark_silent.ensures.same (inv.1 ∙ sym size),
       rw c.unmark_silent.ensures.same (c.unmark_silent.ensures.long ∙ inv.2 ∙ sym size),
       rw c.unmark_silent.ensures.same c.unmark_silent.ensures.marked,
-      rw c.unmark_silent.ensures.same (inv.4 ∙ sym size),
-      rw c.unmark_silent.ensures.same (record {
-        quiet = marked_still IsQuietSet c.args.moment c.marked.result.now c.self.inside.moved (values c.self.inside.sets) (values c.advance_each.new.sets) inv.5.quiet
-            (λ n has. inv.5.within n ((c.marked.ensures.members n).0 has)) up;
+      rw (c.unmark_silent.ensures.same, c.unmark_silent.ensures.moved) (inv.4 ∙ sym size),
+      rw (c.unmark_silent.ensures.same, c.unmark_silent.ensures.moved) (record {
+        quiet = marked_still IsQuietSet c.args.moment c.named.result.now c.self.inside.marks.moved (values c.self.inside.sets) (values c.advance_each.new.sets) inv.5.quiet
+            (λ n has. inv.5.within n ((c.named.ensures.members n).0 has)) up;
         within = λ n mark. inv.5.within n (c.unmark_silent.ensures.fewer n mark);
       }),
     )
 
+-- where memory is refused, some marked sets have waited, and the others are as they were
 pub returns-in_err-advance_each-clause-err : goal.returns-in_err-advance_each-clause-err
 returns-in_err-advance_each-clause-err g c =
     let some = c.in_err-advance_each.ensures.err in
@@ -65,10 +67,12 @@ returns-in_err-advance_each-clause-err g c =
       each = some_advance c.args.moment some.0 (values c.self.inside.sets) (values c.advance_each.new.sets) some.2;
     }))
 
+-- the sets without a mark name nothing, also after the wait
 pub unmark_silent-requires-clause-marked : goal.unmark_silent-requires-clause-marked
 unmark_silent-requires-clause-marked g c =
-    marked_still (λ s. numbers_of s ≡ []) c.args.moment c.marked.result.now c.self.inside.marks (values c.self.inside.sets) (values c.advance_each.new.sets) c.self.invariant.3 (λ n has. (c.marked.ensures.members n).0 has) c.in_ok-advance_each.ensures.ok
+    marked_still (λ s. numbers_of s ≡ []) c.args.moment c.named.result.now c.self.inside.marks.named (values c.self.inside.sets) (values c.advance_each.new.sets) c.self.invariant.3 (λ n has. (c.named.ensures.members n).0 has) c.in_ok-advance_each.ensures.ok
 
+-- all sets have waited: the marked ones were advanced, and waiting does not change the others
 pub returns-clause-ok : goal.returns-clause-ok
 returns-clause-ok g c =
     let up = c.in_ok-advance_each.ensures.ok in
@@ -78,10 +82,11 @@ returns-clause-ok g c =
       keys = c.in_ok-advance_each.ensures.keys;
       records = refl;
       long = up.long;
-      each = marked_advance c.args.moment c.marked.result.now c.self.inside.marks (values sets) (values c.advance_each.new.sets)
-          (c.self.invariant.2 ∙ sym (length-values_of sets.entries)) c.self.invariant.3 c.marked.ensures.members up;
+      each = marked_advance c.args.moment c.named.result.now c.self.inside.marks.named (values sets) (values c.advance_each.new.sets)
+          (c.self.invariant.2 ∙ sym (length-values_of sets.entries)) c.self.invariant.3 c.named.ensures.members up;
     }))
 
+-- where memory is refused, each set has waited or is as it was
 pub returns-clause-err : goal.returns-clause-err
 returns-clause-err g c =
     let up = c.in_ok-advance_each.ensures.ok in
@@ -91,6 +96,6 @@ returns-clause-err g c =
       keys = c.in_ok-advance_each.ensures.keys;
       records = refl;
       long = up.long;
-      each = λ n a b was is. inl (marked_advance c.args.moment c.marked.result.now c.self.inside.marks (values sets) (values c.advance_each.new.sets)
-          (c.self.invariant.2 ∙ sym (length-values_of sets.entries)) c.self.invariant.3 c.marked.ensures.members up n a b was is);
+      each = λ n a b was is. inl (marked_advance c.args.moment c.named.result.now c.self.inside.marks.named (values sets) (values c.advance_each.new.sets)
+          (c.self.invariant.2 ∙ sym (length-values_of sets.entries)) c.self.invariant.3 c.named.ensures.members up n a b was is);
     }))

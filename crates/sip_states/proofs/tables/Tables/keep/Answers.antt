@@ -8,43 +8,40 @@ use Rattle.sip_states.specs.inner.Marks.{IsMarked}
 use Rattle.sip_states.proofs.lists.Kept.{all_marked, kept_few, kept_keys, kept_long, kept_values}
 use Rattle.sip_states.proofs.tables.Tables.keep.Goals as goal
 
+-- no more places are kept in the agenda than flags are true
 pub all-requires : goal.all-requires
 all-requires g c =
     let few = kept_few c.args.flags.now c.self.inside.agenda in
     let is = c.len.ensures ∙ ap length c.in_ok-agenda.ensures in
     omega (arith, few, is, c.self.invariant.1, c.self.invariant.0)
 
-pub all-requires-2 : goal.all-requires-2
-all-requires-2 g c =
-    let few = kept_few c.args.flags.now c.self.inside.agenda in
-    let is = c.len-2.ensures ∙ ap length c.in_ok-agenda.ensures in
-    omega (arith, few, is, c.self.invariant.1, c.self.invariant.0)
-
+-- all marks of what is kept are set, so they are right whatever the sets are, and all lists are of one length
 pub invariant_of-self : goal.invariant_of-self
 invariant_of-self g c =
     let flags = c.args.flags.now in
     let es = c.self.inside.sets.entries in
-    let marks = c.in_ok-marks.marks in
-    let moved = c.in_ok-moved.moved in
+    let marks = c.in_ok-marks.marks.named in
+    let moved = c.in_ok-marks.marks.moved in
     let size : index_map_len c.keep_entries.new.map ≡ length (kept_of flags es) = ap length c.keep_entries.ensures in
     let few = kept_few flags es in
     let long : length c.in_ok-agenda.agenda ≡ index_map_len c.keep_entries.new.map =
     ap length c.in_ok-agenda.ensures ∙ kept_long flags c.self.inside.agenda es c.self.invariant.1 ∙ sym size in
-    let marks_long = c.in_ok-marks.ensures.long ∙ c.len.ensures ∙ long in
-    let moved_long = c.in_ok-moved.ensures.long ∙ c.len-2.ensures ∙ long in (
+    let marks_long = c.in_ok-marks.ensures.long.0 ∙ c.len.ensures ∙ long in
+    let moved_long = c.in_ok-marks.ensures.long.1 ∙ c.len.ensures ∙ long in (
       omega (arith, size, few, c.self.invariant.0),
       long,
       marks_long,
-      λ index set at unmarked. absurd (false≢true (all_marked marks c.in_ok-marks.ensures.marked index false unmarked)),
+      λ index set at unmarked. absurd (false≢true (all_marked marks c.in_ok-marks.ensures.named index false unmarked)),
       moved_long,
       record {
-        quiet = λ index set at unmarked. absurd (false≢true (all_marked moved c.in_ok-moved.ensures.marked index false unmarked));
+        quiet = λ index set at unmarked. absurd (false≢true (all_marked moved c.in_ok-marks.ensures.moved index false unmarked));
         within = λ index marked.
             let low : index < length moved = (let inside = slice_get_within marks index true marked in omega (arith, inside, marks_long, moved_long)) in
-            slice_get-get_or moved index true low ∙ ap Some (c.in_ok-moved.ensures.marked index true low);
+            slice_get-get_or moved index true low ∙ ap Some (c.in_ok-marks.ensures.moved index true low);
       },
     )
 
+-- the keys, the sets and the records are those whose flag is set, in their order
 pub returns-clause-ok : goal.returns-clause-ok
 returns-clause-ok g c =
     let flags = c.args.flags.now in

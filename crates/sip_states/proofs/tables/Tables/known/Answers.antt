@@ -5,13 +5,16 @@ use Rattle.indexmap.specs.IndexMap.{keys}
 use Rattle.sip_key.specs.inner.KeyLaws.{same_key-decides}
 use Rattle.sip_states.proofs.tables.Tables.known.Goals as goal
 
+-- the map keeps no key twice
 pub returns-clause-unique : goal.returns-clause-unique
 returns-clause-unique g c = rw (← c.self.view_is) (AllPairs-from_IsDistinct same_key-decides (keys c.self.inside.sets) c.len.ensures.unique)
 
+-- the map has a set for each key
 pub returns-clause-sets : goal.returns-clause-sets
 returns-clause-sets g c =
     rw (← c.self.view_is) (length-values_of c.self.inside.sets.entries ∙ sym (length-keys_of c.self.inside.sets.entries))
 
+-- the agenda has a place for each key
 pub returns-clause-records : goal.returns-clause-records
 returns-clause-records g c =
     rw (← c.self.view_is) (c.self.invariant.1 ∙ sym (length-keys_of c.self.inside.sets.entries))

@@ -13,20 +13,22 @@ use Rattle.sip_states.proofs.keyed.ByMachine.{numbers_appended}
 use Rattle.sip_states.proofs.due.AdvanceLemmas.{place_among, numbers_at, numbers_at-is, marked_names, named_if}
 use Rattle.sip_states.proofs.tables.Tables.named.Goals as goal
 
+-- an index that is marked is one of the sets
 pub index-requires : goal.index-requires
 index-requires g c =
-    let marks = c.self.inside.marks in
-    let items = c.marked-index-items.result.now in
+    let marks = c.self.inside.marks.named in
+    let items = c.named-index-items.result.now in
     let index = get_or items c.loop-index.index-index 0 in
-    let mark : IsMarked marks index = (c.marked-index-items.ensures.members index).0 (place_among items c.loop-index.index-index 0 (omega arith)) in
+    let mark : IsMarked marks index = (c.named-index-items.ensures.members index).0 (place_among items c.loop-index.index-index 0 (omega arith)) in
     let within = slice_get_within marks index true mark in
     omega (arith, within, c.self.invariant.2)
 
+-- after one set more, the numbers found are those of the sets up to it
 pub loop-index-preserved : goal.loop-index-preserved
 loop-index-preserved g c =
     let t = c.args.self.now in
     let i = c.loop-index.index-index in
-    let items = c.marked-index-items.result.now in
+    let items = c.named-index-items.result.now in
     let index = get_or items i 0 in
     let low : i < length items = omega arith in
     let at : slice_get t.sets index ≡ Some c.index.result.now = ap (λ (u : Tabled). slice_get u.sets index) (sym c.self.view_is) ∙ c.index.ensures in
@@ -34,15 +36,16 @@ loop-index-preserved g c =
     (subst (λ ns. AppendsAll ns c.loop-index.found.items c.names.new.out.items) (sym (numbers_at-is t.sets index c.index.result.now at))
     (numbers_appended c.index.result.now c.loop-index.found.items c.names.new.out.items c.in_ok-names.ensures))
 
+-- the numbers of the marked sets are the numbers of all sets, since the others name none
 pub returns-clause-ok : goal.returns-clause-ok
 returns-clause-ok g c =
     let t = c.args.self.now in
     let sets = c.self.inside.sets in
-    let items = c.marked-index-items.result.now in
+    let items = c.named-index-items.result.now in
     let all = take_all c.loop-index.index-index items (omega arith) in
     let found = subst (λ indices. AppendsAll (flat_map (numbers_at t.sets) indices) [] c.loop-index.found.items) all c.loop-index.invariant in
     let named : (n : ℕ) → Contains (flat_map (numbers_at t.sets) items) n ↔ Contains (flat_map numbers_of t.sets) n
     = subst (λ (u : Tabled). (n : ℕ) → Contains (flat_map (numbers_at u.sets) items) n ↔ Contains (flat_map numbers_of u.sets) n) c.self.view_is
-    (marked_names items c.self.inside.marks (values sets) (c.self.invariant.2 ∙ sym (length-values_of sets.entries)) c.self.invariant.3 c.marked-index-items.ensures.members) in
+    (marked_names items c.self.inside.marks.named (values sets) (c.self.invariant.2 ∙ sym (length-values_of sets.entries)) c.self.invariant.3 c.named-index-items.ensures.members) in
     named_if c.extend_from_slice.result t c.args.out.now.items c.extend_from_slice.new.self.items c.keep_ascending.new.numbers.items (rw c.deref.ensures.value at c.extend_from_slice.ensures.items) c.keep_ascending.ensures.rising
     (λ n. let kept = rw found.1 at (c.keep_ascending.ensures.members n) in (λ h. (named n).0 ((found.2 n).0 (kept.0 h)), λ h. kept.1 ((found.2 n).1 ((named n).1 h))))

@@ -11,12 +11,13 @@ use Rattle.sip_states.proofs.due.AdvanceLemmas.{start_names, start_quiet}
 use Rattle.sip_states.proofs.keyed.StartLemmas.{start_endless, else_set}
 use Rattle.sip_states.proofs.tables.Tables.restart_key.Goals as goal
 
+-- the set that begins anew names nothing and is quiet, so the marks are right with it
 pub invariant_of-self-2 : goal.invariant_of-self-2
 invariant_of-self-2 g c =
     let inv = c.self.invariant in
     let sets = c.self.inside.sets in
-    let marks = c.self.inside.marks in
-    let moved = c.self.inside.moved in
+    let marks = c.self.inside.marks.named in
+    let moved = c.self.inside.marks.moved in
     let index = c.args.number - 1 in
     let set = c.in_ok-set.set in
     let now = c.put_at.ensures in
@@ -28,6 +29,7 @@ invariant_of-self-2 g c =
     let moves : AreMoved moved marks (values c.put_at.new.sets) = subst (AreMoved moved marks) (sym are) (record { quiet = else_set IsQuietSet moved (values sets) index set still inv.5.quiet; within = inv.5.within }) in
     (subst (λ n. n ≤ most_keys) (sym size) inv.0, ap length c.in_ok-set-2.ensures.ok ∙ length-set c.self.inside.agenda index (Some None) ∙ inv.1 ∙ sym size, inv.2 ∙ sym size, marked, inv.4 ∙ sym size, moves)
 
+-- the key's set is the one that it starts with, and its record says that it can wait without end
 pub returns-clause-ok : goal.returns-clause-ok
 returns-clause-ok g c =
     let p = c.self.inside.params in

@@ -7,14 +7,15 @@ use Rattle.sip_states.specs.Restarting.{AreToRestart}
 use Rattle.sip_states.proofs.due.AdvanceLemmas.{restart_numbers}
 use Rattle.sip_states.proofs.tables.Tables.to_restart.Goals as goal
 
+-- the numbers are those of the sets that have their second mark; all others are quiet, so that a restart changes none of them
 pub returns : goal.returns
 returns g c =
     let sets = c.self.inside.sets in
-    let items = c.marked-index-items.result.now in
+    let items = c.moved-index-items.result.now in
     let all = take_all c.loop-index.index-index items (omega arith) in
     let numbers = c.loop-index.invariant ∙ ap (map (λ index. index + 1)) all in
     let inv = c.self.invariant in
     let t : Tabled = record { times = c.self.inside.params; keys = keys sets; sets = values sets; records = c.self.inside.agenda } in
     subst (λ u. AreToRestart u c.loop-index.numbers.items) c.self.view_is
-    (restart_numbers t c.self.inside.moved items c.loop-index.numbers.items numbers (inv.4 ∙ sym (length-keys_of sets.entries)) (length-values_of sets.entries ∙ sym (length-keys_of sets.entries))
-    inv.5.quiet c.marked-index-items.ensures.members c.marked-index-items.ensures.once)
+    (restart_numbers t c.self.inside.marks.moved items c.loop-index.numbers.items numbers (inv.4 ∙ sym (length-keys_of sets.entries)) (length-values_of sets.entries ∙ sym (length-keys_of sets.entries))
+    inv.5.quiet c.moved-index-items.ensures.members c.moved-index-items.ensures.once)

@@ -12,6 +12,7 @@ use Rattle.sip_states.proofs.due.AdvanceLemmas.{marked_push, within_push, start_
 use Rattle.sip_states.proofs.keyed.TablesLemmas.{fresh-index}
 use Rattle.sip_states.proofs.tables.Tables.touch.Goals as goal
 
+-- with a new key each list is longer by one, and its mark need not be set, since a new set names nothing and is quiet
 pub invariant_of-self-2 : goal.invariant_of-self-2
 invariant_of-self-2 g c =
     let inv = c.self.invariant in
@@ -25,17 +26,18 @@ invariant_of-self-2 g c =
     let room : length (keys sets) < most_keys = subst (λ (t : Tabled). length t.keys < most_keys) (sym c.self.view_is) c.requires in
     let many = length-keys_of sets.entries in
     let agenda : length c.push_index.new.agenda ≡ length t.agenda + 1 = ap length c.in_default.ensures.agenda ∙ length-append t.agenda (None ∷ []) in
-    let marks : length c.push_index.new.marks ≡ length t.marks + 1 = ap length c.in_default.ensures.marks ∙ length-append t.marks (false ∷ []) in
+    let marks : length c.push_index.new.marks.named ≡ length t.marks.named + 1 = ap length c.in_default.ensures.marks ∙ length-append t.marks.named (false ∷ []) in
     let after : values new ≡ values sets ++ set ∷ [] = ap values_of entries ∙ map-append (λ e. e.1) sets.entries ((c.args.key, set) ∷ []) in
-    let marked : AreMarked c.push_index.new.marks (values new)
-    = rw (c.in_default.ensures.marks, after) (marked_push (λ s. numbers_of s ≡ []) t.marks (values sets) set (inv.2 ∙ sym (length-values_of sets.entries)) inv.3 (start_names t.params c.args.key)) in
-    let moved : length c.push_index.new.moved ≡ length t.moved + 1 = ap length c.in_default.ensures.moved ∙ length-append t.moved (false ∷ []) in
-    let moves : AreMoved c.push_index.new.moved c.push_index.new.marks (values new) = rw (c.in_default.ensures.marks, c.in_default.ensures.moved, after) (record {
-      quiet = marked_push IsQuietSet t.moved (values sets) set (inv.4 ∙ sym (length-values_of sets.entries)) inv.5.quiet (start_quiet t.params c.args.key);
-      within = within_push t.marks t.moved (inv.2 ∙ sym inv.4) inv.5.within;
+    let marked : AreMarked c.push_index.new.marks.named (values new)
+    = rw (c.in_default.ensures.marks, after) (marked_push (λ s. numbers_of s ≡ []) t.marks.named (values sets) set (inv.2 ∙ sym (length-values_of sets.entries)) inv.3 (start_names t.params c.args.key)) in
+    let moved : length c.push_index.new.marks.moved ≡ length t.marks.moved + 1 = ap length c.in_default.ensures.moved ∙ length-append t.marks.moved (false ∷ []) in
+    let moves : AreMoved c.push_index.new.marks.moved c.push_index.new.marks.named (values new) = rw (c.in_default.ensures.marks, c.in_default.ensures.moved, after) (record {
+      quiet = marked_push IsQuietSet t.marks.moved (values sets) set (inv.4 ∙ sym (length-values_of sets.entries)) inv.5.quiet (start_quiet t.params c.args.key);
+      within = within_push t.marks.named t.marks.moved (inv.2 ∙ sym inv.4) inv.5.within;
     }) in
     (omega (arith, size, room, many), omega (arith, size, agenda, inv.1), omega (arith, size, marks, inv.2), marked, omega (arith, size, moved, inv.4), moves)
 
+-- where memory is refused, the new key goes again, and all is as before
 pub invariant_of-self-in-Err : goal.invariant_of-self-in-Err
 invariant_of-self-in-Err g c =
     let t = c.self.inside in
@@ -47,4 +49,4 @@ invariant_of-self-in-Err g c =
     = c.truncate.ensures.entries ∙ ap (λ n. take n c.find_or_start.new.sets.entries) c.len-count.ensures.len ∙ ap (take (length sets.entries)) entries ∙ take-append_seam sets.entries ((c.args.key, set) ∷ []) in
     let size : index_map_len c.truncate.new.self ≡ index_map_len sets = ap length back in
     let after : values c.truncate.new.self ≡ values sets = ap values_of back in
-    rw (c.in-Err.ensures.err.0, c.in-Err.ensures.err.1, c.in-Err.ensures.err.2, size, after) c.self.invariant
+    rw (c.in-Err.ensures.err.0, c.in-Err.ensures.err.1, size, after) c.self.invariant

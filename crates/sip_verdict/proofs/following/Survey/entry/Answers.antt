@@ -7,6 +7,7 @@ use Rattle.sip_verdict.proofs.sweeps.FollowedLemmas.{observed_moment}
 use Rattle.sip_verdict.proofs.tables.JudgeTables.{next_may}
 use Rattle.sip_verdict.proofs.following.Survey.entry.Goals as goal
 
+-- the entry may come next
 pub find_next-taken-requires-clause-may : goal.find_next-taken-requires-clause-may
 find_next-taken-requires-clause-may g c =
     let s = c.self.inside in
@@ -15,6 +16,7 @@ find_next-taken-requires-clause-may g c =
     let next = subst (λ j. MayFollow j.number j.moment (length j.tables.keys) e.number e.moment) (sym is) (c.requires (ap (λ j. j.failed) (sym is) ∙ c.if-self.false)) in
     next_may s.standing.book s.standing.tables s.number s.moment e.number e.moment next.next next.order (c.self.invariant c.if-self.false).0
 
+-- the entry's number is within the most entries
 pub find_next-taken-requires-clause-count : goal.find_next-taken-requires-clause-count
 find_next-taken-requires-clause-count g c =
     let is = c.self.view_is in
@@ -23,6 +25,7 @@ find_next-taken-requires-clause-count g c =
     let low = comes.room.0 in
     omega arith
 
+-- there is room for two keys more
 pub find_next-taken-requires-clause-room : goal.find_next-taken-requires-clause-room
 find_next-taken-requires-clause-room g c =
     let is = c.self.view_is in
@@ -31,6 +34,7 @@ find_next-taken-requires-clause-room g c =
     let few = comes.room.1 in
     omega arith
 
+-- where the survey stands after the entries, what was found at the next one is right, and it stands after that one too
 pub returns-in-Ok-clause-found : goal.returns-in-Ok-clause-found
 returns-in-Ok-clause-found g c = λ es surveys.
     let e = c.args.entry.now in

@@ -5,6 +5,7 @@ use Rattle.sip_verdict.specs.Surveys.{AreHistories, AreSurveyed, IsStillNamed}
 use Rattle.sip_verdict.proofs.surveys.forgetting.Forgotten.{newest_kept, long_kept}
 use Rattle.sip_verdict.proofs.following.Survey.forget.Goals as goal
 
+-- where the survey stands after the entries, it now stands after what is remembered of them
 pub returns-in-Ok-clause-forgets : goal.returns-in-Ok-clause-forgets
 returns-in-Ok-clause-forgets g c = λ es surveys.
     let is = c.self.view_is in

@@ -3,6 +3,7 @@ use Rattle.sip_verdict.proofs.surveys.kept.Kept.{surveyed_begun}
 use Rattle.sip_verdict.proofs.surveys.kept.Histories.{none_yet}
 use Rattle.sip_verdict.proofs.following.Survey.new.Goals as goal
 
+-- a new survey stands after no entry
 pub returns-clause-stands : goal.returns-clause-stands
 returns-clause-stands g c = record {
   goes_on = refl;

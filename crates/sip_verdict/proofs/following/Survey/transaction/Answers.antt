@@ -4,6 +4,7 @@ use Rattle.sip_verdict.specs.Surveys.{AreHistories}
 use Rattle.sip_verdict.proofs.surveys.kept.Histories.{IfSome-at, history_at}
 use Rattle.sip_verdict.proofs.following.Survey.transaction.Goals as goal
 
+-- the key and the history that stand under a number are those of the transaction with that number
 pub returns : goal.returns
 returns g c = λ es surveys low.
     let s = c.self.inside in

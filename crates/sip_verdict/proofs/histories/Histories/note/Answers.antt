@@ -3,6 +3,7 @@ use Rattle.std.proofs.lemmas.Option.{slice_get-get_or}
 use Rattle.sip_verdict.specs.inner.Histories.{SpellsBranch}
 use Rattle.sip_verdict.proofs.histories.Histories.note.Goals as goal
 
+-- where the transaction has a history, the entry becomes its last one, and its first one and its branch stay
 pub returns-then-index-len-clause-noted : goal.returns-then-index-len-clause-noted
 returns-then-index-len-clause-noted c =
     let before = c.index_mut.result.now in
@@ -18,6 +19,7 @@ returns-then-index-len-clause-noted c =
       last = refl;
     })
 
+-- where the transaction has no history yet, the entry becomes its first one and its last one, with the branch as the message spells it
 pub returns-clause-noted : goal.returns-clause-noted
 returns-clause-noted c =
     let number = c.args.entry.now.number in

@@ -3,6 +3,7 @@ use Rattle.std.proofs.lemmas.Bool.{false≢true}
 use Rattle.sip_verdict.proofs.sweeps.NewestLemmas.{all_unnamed}
 use Rattle.sip_verdict.proofs.standing.Standing.drop_unnamed.Goals as goal
 
+-- where no set names the newest message, the book is without it, or as it was
 pub returns-then-not-may_name-clause-book : goal.returns-then-not-may_name-clause-book
 returns-then-not-may_name-clause-book g c =
     let t = c.args.self.now.tables in

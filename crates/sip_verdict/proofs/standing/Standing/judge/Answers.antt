@@ -9,6 +9,7 @@ pub drop_unnamed-requires-clause-others : goal.drop_unnamed-requires-clause-othe
 drop_unnamed-requires-clause-others g c some n set among at =
     known_unnamed c.args.self.now.book c.args.entry.now.number c.requires.may.numbered set (c.in_ok-taken.ensures.others some n set among at)
 
+-- the next entry may be taken, also where the newest message was dropped
 pub returns-clause-may : goal.returns-clause-may
 returns-clause-may g c =
     let e = c.args.entry.now in
@@ -17,6 +18,7 @@ returns-clause-may g c =
     subst (λ t. MayTake new.book t (e.number + 1) e.moment) (sym c.drop_unnamed.ensures.tables)
     (dropped_take e.number mid.book new.book mid.tables (e.number + 1) e.moment c.drop_unnamed.ensures.book (rw c.in_default.is at c.in_ok-taken.ensures.may))
 
+-- where the entry concerns no key, the book has no message more
 pub returns-clause-keyless : goal.returns-clause-keyless
 returns-clause-keyless g c none =
     let mid = c.take.new.self in
@@ -26,6 +28,7 @@ returns-clause-keyless g c none =
 pub returns-in-Some-clause-keyless : goal.returns-in-Some-clause-keyless
 returns-in-Some-clause-keyless g c none = same_within c.args.self.now.book c.take.new.self.book (c.in_ok-taken.ensures.keyless none)
 
+-- what was judged at the entry holds after the newest message was dropped, since no state names it
 pub returns-clause-judged : goal.returns-clause-judged
 returns-clause-judged g c = λ es tracks counts newest.
     let number = c.args.entry.now.number in

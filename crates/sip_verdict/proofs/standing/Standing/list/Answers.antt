@@ -6,6 +6,7 @@ use Rattle.sip_verdict.proofs.listings.NumberingLemmas.{stay_numbered}
 use Rattle.sip_verdict.proofs.listings.EntryText.{observed_ascii, entry_text}
 use Rattle.sip_verdict.proofs.standing.Standing.list.Goals as goal
 
+-- where no transaction is in trouble, what is listed is the text of the entry's transactions
 pub returns-in_ok-text-in-None : goal.returns-in_ok-text-in-None
 returns-in_ok-text-in-None g c = record {
   listed = λ es items more tracks numbered observed long counts order.

@@ -5,6 +5,7 @@ use Rattle.sip_verdict.proofs.tables.TablesPassing.{keys_are}
 use Rattle.sip_verdict.proofs.tables.TrackingLemmas.{judged_fine, judged_breach, judged_undecided}
 use Rattle.sip_verdict.proofs.standing.Standing.pass.Goals as goal
 
+-- where the outcome is fine, no transaction is in trouble after the entry
 pub returns-in-Fine-clause-judged : goal.returns-in-Fine-clause-judged
 returns-in-Fine-clause-judged g c = λ es e formed newest told before counts.
     let s = c.args.self.now in
@@ -16,6 +17,7 @@ returns-in-Fine-clause-judged g c = λ es e formed newest told before counts.
     judged_fine p k es e k (transactions_of s.tables) (transactions_of new) before same formed
     (subst (IsOutcome p k es e (transactions_of new)) c.in-Fine.is (c.in_ok-outcome.ensures.outcome s.tables.times es e newest told before.ready))
 
+-- where a transaction has no state left, the verdict is a breach of the first such transaction
 pub returns-in-NoRun-clause-judged : goal.returns-in-NoRun-clause-judged
 returns-in-NoRun-clause-judged g c = λ es e formed newest told before counts.
     let s = c.args.self.now in
@@ -27,6 +29,7 @@ returns-in-NoRun-clause-judged g c = λ es e formed newest told before counts.
     judged_breach p k es e k (transactions_of s.tables) (transactions_of new) before same c.args.number c.in-NoRun.transaction counts formed
     (subst (IsOutcome p k es e (transactions_of new)) c.in-NoRun.is (c.in_ok-outcome.ensures.outcome s.tables.times es e newest told before.ready))
 
+-- where a transaction has too many states, the verdict is that it is undecided
 pub returns-in-TooWide-clause-judged : goal.returns-in-TooWide-clause-judged
 returns-in-TooWide-clause-judged g c = λ es e formed newest told before counts.
     let s = c.args.self.now in

@@ -9,6 +9,7 @@ use Rattle.sip_verdict.proofs.sweeps.SweptTables.{named_is, swept_may, swept_tra
 use Rattle.sip_verdict.proofs.surveys.kept.Swept.{swept_survey, swept_many}
 use Rattle.sip_verdict.proofs.standing.Standing.sweep.Goals as goal
 
+-- the numbers that the sets name stand in ascending order
 pub retain_only-requires-clause-rising : goal.retain_only-requires-clause-rising
 retain_only-requires-clause-rising g c =
     let s = c.args.self.now in
@@ -18,6 +19,7 @@ retain_only-requires-clause-rising g c =
     let advances = c.in_ok-advance_all.ensures.ok in
     named.0
 
+-- the book has a message under each number that the sets name
 pub retain_only-requires-clause-kept : goal.retain_only-requires-clause-kept
 retain_only-requires-clause-kept g c =
     let s = c.args.self.now in
@@ -27,6 +29,7 @@ retain_only-requires-clause-kept g c =
     let advances = c.in_ok-advance_all.ensures.ok in
     swept_kept s.book c.known.ensures s.tables u c.args.moment advances c.requires.may numbers named.0 named.1
 
+-- after the sweep the tables may still pass the moment
 pub returns-clause-may : goal.returns-clause-may
 returns-clause-may g c =
     let s = c.args.self.now in
@@ -37,6 +40,7 @@ returns-clause-may g c =
     let kept = swept_kept s.book c.known.ensures s.tables u c.args.moment advances c.requires.may numbers named.0 named.1 in
     subst (λ b. MayPass b u c.args.moment) (sym c.retain_only.ensures) (swept_may s.book c.known.ensures s.tables u c.args.moment advances c.requires.may numbers named.0 named.1 kept)
 
+-- after the sweep the records still tell until when each set can wait
 pub returns-clause-recorded : goal.returns-clause-recorded
 returns-clause-recorded g c =
     let s = c.args.self.now in
@@ -46,6 +50,7 @@ returns-clause-recorded g c =
     let advances = c.in_ok-advance_all.ensures.ok in
     swept_recorded s.book c.known.ensures s.tables u c.args.moment advances c.requires.may numbers named.0 named.1 c.requires.recorded
 
+-- after the sweep the book has no message that it did not have
 pub returns-clause-fewer : goal.returns-clause-fewer
 returns-clause-fewer g c =
     let s = c.args.self.now in
@@ -56,6 +61,7 @@ returns-clause-fewer g c =
     let kept = swept_kept s.book c.known.ensures s.tables u c.args.moment advances c.requires.may numbers named.0 named.1 in
     subst (λ b. All (Contains s.book) b) (sym c.retain_only.ensures) (only_within s.book c.known.ensures numbers kept)
 
+-- after the sweep the tables track the same entries
 pub returns-clause-tracks : goal.returns-clause-tracks
 returns-clause-tracks g c =
     let s = c.args.self.now in
@@ -66,6 +72,7 @@ returns-clause-tracks g c =
     let kept = swept_kept s.book c.known.ensures s.tables u c.args.moment advances c.requires.may numbers named.0 named.1 in
     λ es tracks. subst (λ b. TablesTrack b es u) (sym c.retain_only.ensures) (swept_track s.book c.known.ensures s.tables u c.args.moment advances c.requires.may numbers named.0 named.1 kept es tracks)
 
+-- each message that is left is named by some set
 pub returns-clause-named : goal.returns-clause-named
 returns-clause-named g c =
     let s = c.args.self.now in
@@ -77,6 +84,7 @@ returns-clause-named g c =
     λ es tracks newest. subst (λ b. AreMany (IsNamed s.tables.times es) (length b)) (sym c.retain_only.ensures)
     (many_named s.book c.known.ensures s.tables.times c.args.moment es s.tables u refl tracks c.requires.may.long newest c.requires.may.order advances.long advances.each numbers named.0 named.1 kept)
 
+-- after the sweep the tables track the same entries, and the book has as many messages as states still name
 pub returns-clause-surveyed : goal.returns-clause-surveyed
 returns-clause-surveyed g c =
     let s = c.args.self.now in

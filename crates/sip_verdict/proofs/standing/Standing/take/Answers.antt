@@ -15,12 +15,14 @@ use Rattle.sip_verdict.specs.declared.concerned.Concerned.TheVariants as concern
 use Rattle.sip_verdict.proofs.sweeps.NewestLemmas.{others_known}
 use Rattle.sip_verdict.proofs.standing.Standing.take.Goals as goal
 
+-- the book has not lost what the tables name
 pub pass-requires-in-Restart-clause-may : goal.pass-requires-in-Restart-clause-may
 pass-requires-in-Restart-clause-may g c =
     let s = c.args.self.now in
     let e = c.args.entry.now in
     grown_may s.book c.observe.new.book e.number e.bytes.items (inl (rw c.in-Restart.is at c.in_ok-told.ensures.kept).0) s.tables e.moment c.requires.may.passes
 
+-- at a restart each transaction may hear the event
 pub pass-requires-in-Restart-clause-hear : goal.pass-requires-in-Restart-clause-hear
 pass-requires-in-Restart-clause-hear g c =
     let e = c.args.entry.now in
@@ -30,6 +32,7 @@ pass-requires-in-Restart-clause-hear g c =
 pub pass-requires-in-Restart-clause-recorded : goal.pass-requires-in-Restart-clause-recorded
 pass-requires-in-Restart-clause-recorded g c = c.requires.may.recorded
 
+-- after a restart the next entry may be taken
 pub returns-in_ok-verdict-in-Restart-clause-may : goal.returns-in_ok-verdict-in-Restart-clause-may
 returns-in_ok-verdict-in-Restart-clause-may g c =
     let s = c.args.self.now in
@@ -38,6 +41,7 @@ returns-in_ok-verdict-in-Restart-clause-may g c =
     may_next passed.verdict s.book c.observe.new.book c.pass-in-Restart.new.self.book s.tables s.tables c.pass-in-Restart.new.self.tables e.number e.moment e.bytes.items c.requires.may
     (inl (rw c.in-Restart.is at c.in_ok-told.ensures.kept).0) (omega arith) passed.ensures.keys passed.ensures.book passed.ensures.may passed.ensures.recorded
 
+-- a restart has no message, so the numbers of the book stay those of the entries
 pub returns-in_ok-verdict-in-Restart-clause-numbered : goal.returns-in_ok-verdict-in-Restart-clause-numbered
 returns-in_ok-verdict-in-Restart-clause-numbered g c =
     let s = c.args.self.now in
@@ -47,6 +51,7 @@ returns-in_ok-verdict-in-Restart-clause-numbered g c =
     unless_trouble (StaysNumbered (item e) e.number s.book new) c.in_ok-verdict-in-Restart.verdict
     (numbered_none (item e) e.number s.book new kept.1 (c.in_ok-verdict-in-Restart.ensures.book ∙ kept.0))
 
+-- the verdict after a restart is that of what is observed of the entry
 pub returns-in_ok-verdict-in-Restart-clause-judged : goal.returns-in_ok-verdict-in-Restart-clause-judged
 returns-in_ok-verdict-in-Restart-clause-judged g c =
     let s = c.args.self.now in
@@ -56,6 +61,7 @@ returns-in_ok-verdict-in-Restart-clause-judged g c =
     c.restart-event.result s.tables c.pass-in-Restart.new.self.tables c.requires.may.passes.long c.known-in-Restart.ensures.unique c.in_ok-verdict-in-Restart.ensures.keys c.restart-event.ensures
     (λ n keeps. c.requires.may.some n (subst (λ b. Keeps b n) same keeps)) refl (rw c.in-Restart.is at c.in_ok-told.ensures.observed) c.in_ok-verdict-in-Restart.ensures.judged
 
+-- after the keys were looked up, the tables may pass the moment
 pub pass-requires-in-Heard-clause-may : goal.pass-requires-in-Heard-clause-may
 pass-requires-in-Heard-clause-may g c =
     let s = c.args.self.now in
@@ -63,6 +69,7 @@ pass-requires-in-Heard-clause-may g c =
     touches_may c.observe.new.book e.moment (each c.in-Heard.concerned) (each c.in_ok-concerned-in-Heard.concerned) s.tables c.touch_each.new.tables
     (grown_may s.book c.observe.new.book e.number e.bytes.items (rw c.in-Heard.is at c.in_ok-told.ensures.kept).4 s.tables e.moment c.requires.may.passes) c.in_ok-concerned-in-Heard.ensures.touched
 
+-- the transactions that are to hear the event have their sets, at its moment
 pub pass-requires-in-Heard-clause-hear : goal.pass-requires-in-Heard-clause-hear
 pass-requires-in-Heard-clause-hear g c =
     let e = c.args.entry.now in
@@ -71,11 +78,13 @@ pass-requires-in-Heard-clause-hear g c =
     (may_hear c.observe.new.book e.moment c.in-Heard.event c.in-Heard.concerned c.in_ok-concerned-in-Heard.concerned c.args.self.now.tables c.touch_each.new.tables c.in_ok-concerned-in-Heard.ensures.touched
     is_heard.0 is_heard.1 is_heard.2 (c.in_ok-concerned-in-Heard.ensures.same ∙ is_heard.3))
 
+-- the new keys have a place in the agenda
 pub pass-requires-in-Heard-clause-recorded : goal.pass-requires-in-Heard-clause-recorded
 pass-requires-in-Heard-clause-recorded g c =
     touched_recorded (each c.in-Heard.concerned) (each c.in_ok-concerned-in-Heard.concerned) c.args.self.now.tables c.touch_each.new.tables c.in_ok-concerned-in-Heard.ensures.touched
     c.requires.may.passes.long c.requires.may.recorded
 
+-- after an entry that no transaction hears, the next entry may come
 pub returns-in_ok-verdict-in-Unheard-clause-may : goal.returns-in_ok-verdict-in-Unheard-clause-may
 returns-in_ok-verdict-in-Unheard-clause-may g c =
     let s = c.args.self.now in
@@ -84,6 +93,7 @@ returns-in_ok-verdict-in-Unheard-clause-may g c =
     may_next passed.verdict s.book c.observe.new.book c.pass.new.self.book s.tables s.tables c.pass.new.self.tables e.number e.moment e.bytes.items c.requires.may
     (inl (rw c.in-Unheard.is at c.in_ok-told.ensures.kept)) (omega arith) passed.ensures.keys passed.ensures.book passed.ensures.may passed.ensures.recorded
 
+-- where no transaction hears the entry, the book is as it was, and its numbers stay those of the entries
 pub returns-in_ok-verdict-in-Unheard-clause-numbered : goal.returns-in_ok-verdict-in-Unheard-clause-numbered
 returns-in_ok-verdict-in-Unheard-clause-numbered g c =
     let s = c.args.self.now in
@@ -94,6 +104,7 @@ returns-in_ok-verdict-in-Unheard-clause-numbered g c =
     unless_trouble (StaysNumbered (item e) e.number s.book new) c.in_ok-verdict-in-Unheard.verdict
     (numbered_none (item e) e.number s.book new (told.0, told.1, told.2.2) (c.in_ok-verdict-in-Unheard.ensures.book ∙ kept))
 
+-- an entry that no transaction hears is judged by those that are overdue
 pub returns-in_ok-verdict-in-Unheard-clause-judged : goal.returns-in_ok-verdict-in-Unheard-clause-judged
 returns-in_ok-verdict-in-Unheard-clause-judged g c =
     let s = c.args.self.now in
@@ -101,6 +112,7 @@ returns-in_ok-verdict-in-Unheard-clause-judged g c =
     unheard_judged c.in_ok-verdict-in-Unheard.verdict s.book c.observe.new.book c.pass.new.self.book e.number e.bytes.items (inl (rw c.in-Unheard.is at c.in_ok-told.ensures.kept)) (item e) e.moment e.number
     s.tables c.pass.new.self.tables refl (rw c.in-Unheard.is at c.in_ok-told.ensures.observed) c.in_ok-verdict-in-Unheard.ensures.judged
 
+-- where the message has a fault, the verdict is that it is malformed
 pub returns-in-Fault-clause-judged : goal.returns-in-Fault-clause-judged
 returns-in-Fault-clause-judged g c = λ es tracks counts newest.
     let (e, seen, is) = (rw c.in-Fault.is at c.in_ok-told.ensures.observed) es in (
@@ -110,6 +122,7 @@ returns-in-Fault-clause-judged g c = λ es tracks counts newest.
       tt,
     )
 
+-- after transactions heard the message, the next entry may be taken
 pub returns-in_ok-verdict-in-Heard-clause-may : goal.returns-in_ok-verdict-in-Heard-clause-may
 returns-in_ok-verdict-in-Heard-clause-may g c =
     let s = c.args.self.now in
@@ -120,6 +133,7 @@ returns-in_ok-verdict-in-Heard-clause-may g c =
     (few_keys c.in-Heard.concerned (each c.in_ok-concerned-in-Heard.concerned) s.tables c.touch_each.new.tables c.in_ok-concerned-in-Heard.ensures.touched)
     passed.ensures.keys passed.ensures.book passed.ensures.may passed.ensures.recorded
 
+-- the message that was kept has the number of the first entry with its bytes
 pub returns-in_ok-verdict-in-Heard-clause-numbered : goal.returns-in_ok-verdict-in-Heard-clause-numbered
 returns-in_ok-verdict-in-Heard-clause-numbered g c =
     let s = c.args.self.now in
@@ -131,6 +145,7 @@ returns-in_ok-verdict-in-Heard-clause-numbered g c =
     (subst (StaysNumbered (item e) e.number s.book) (sym c.in_ok-verdict-in-Heard.ensures.book)
     (numbered_heard (item e) e.number c.in-Heard.event.number s.book mid kept.0 kept.1 kept.2 kept.3 c.requires.may.numbered c.known.ensures kept.4))
 
+-- the tables have the numbers of the keys that the entry concerns
 pub returns-in_ok-verdict-in-Heard-clause-given : goal.returns-in_ok-verdict-in-Heard-clause-given
 returns-in_ok-verdict-in-Heard-clause-given g c =
     let keys = each c.in-Heard.concerned in
@@ -139,6 +154,7 @@ returns-in_ok-verdict-in-Heard-clause-given g c =
     (subst (λ all. HaveNumbers all numbers keys) (sym c.in_ok-verdict-in-Heard.ensures.keys)
     (have_numbers keys numbers c.args.self.now.tables c.touch_each.new.tables c.in_ok-concerned-in-Heard.ensures.touched))
 
+-- where transactions hear the message, the verdict is that of what is observed of the entry
 pub returns-in_ok-verdict-in-Heard-clause-judged : goal.returns-in_ok-verdict-in-Heard-clause-judged
 returns-in_ok-verdict-in-Heard-clause-judged g c = λ es tracks counts newest.
     let s = c.args.self.now in
@@ -155,11 +171,13 @@ returns-in_ok-verdict-in-Heard-clause-judged g c = λ es tracks counts newest.
       subst (λ ns. HaveNumbers new.tables.keys ns h.0.keys) (sym (listed_each (length new.tables.keys) c.in_ok-concerned-in-Heard.concerned some)) h.3,
     )
 
+-- no transaction hears the entry, so the others are all
 pub returns-in_ok-verdict-in-Unheard-clause-others : goal.returns-in_ok-verdict-in-Unheard-clause-others
 returns-in_ok-verdict-in-Unheard-clause-others g c =
     let s = c.args.self.now in
     others_known s.book concerned.None None s.tables c.pass.new.self.tables c.requires.may.passes.known c.in_ok-verdict-in-Unheard.ensures.others (λ n some among. refl)
 
+-- the tables are as before
 pub returns-in-Fault-clause-others : goal.returns-in-Fault-clause-others
 returns-in-Fault-clause-others g c =
     let s = c.args.self.now in
@@ -168,6 +186,7 @@ returns-in-Fault-clause-others g c =
 pub returns-in_ok-verdict-in-Restart-clause-others : goal.returns-in_ok-verdict-in-Restart-clause-others
 returns-in_ok-verdict-in-Restart-clause-others g c some = absurd (false≢true (sym some))
 
+-- the keys that the entry does not concern keep what is known of them
 pub returns-in_ok-verdict-in-Heard-clause-others : goal.returns-in_ok-verdict-in-Heard-clause-others
 returns-in_ok-verdict-in-Heard-clause-others g c =
     let s = c.args.self.now in

@@ -11,10 +11,12 @@ up_to-more : (n : ℕ) → 0 < n → up_to n ≡ up_to (n - 1) ++ n ∷ []
 up_to-more zero low = absurd (omega arith)
 up_to-more (suc n) low = let before : n ≡ suc n - 1 = omega arith in ap (λ k. up_to k ++ suc n ∷ []) before
 
+-- there are numbers up to n, where n is not 0
 up_to-some : (n : ℕ) → 0 < n → up_to n ≢ []
 up_to-some zero low none = omega arith
 up_to-some (suc n) low none = omega (arith, ap length none, length-append (up_to n) (suc n ∷ []))
 
+-- the text of one transaction more is appended
 pub loop-number-preserved : goal.loop-number-preserved
 loop-number-preserved g c =
     let t = c.args.self.now.tables in
@@ -25,6 +27,7 @@ loop-number-preserved g c =
     subst (λ ns. AppendsEach t ns old new) (sym (up_to-more n (omega arith)) ∙ ap up_to same)
     (appends_more t (up_to (n - 1)) n old (string_bytes c.loop-number.text) new c.loop-number.invariant c.in_ok-push_one.ensures)
 
+-- the text is that of all transactions, in the order of their numbers
 pub returns : goal.returns
 returns g c =
     let t = c.args.self.now.tables in

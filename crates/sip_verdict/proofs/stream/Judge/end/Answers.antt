@@ -2,6 +2,7 @@ use Rattle.std.proofs.Common.{◌≡◌, ◌∙◌, length, ap, subst}
 use Rattle.sip_verdict.proofs.judges.JudgeLemmas.{legal_is}
 use Rattle.sip_verdict.proofs.stream.Judge.end.Goals as goal
 
+-- no entry is in trouble, so the log is legal
 pub returns-in-Open-clause-legal : goal.returns-in-Open-clause-legal
 returns-in-Open-clause-legal g c es stands =
     let is = c.self.view_is in

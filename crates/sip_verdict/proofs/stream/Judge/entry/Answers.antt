@@ -4,6 +4,7 @@ use Rattle.sip_verdict.proofs.judges.JudgeLemmas.{may_take_next, stands_on}
 use Rattle.sip_verdict.proofs.sweeps.SweptBook.{same_within}
 use Rattle.sip_verdict.proofs.stream.Judge.entry.Goals as goal
 
+-- the entry may come next
 pub judge_next-requires-clause-may : goal.judge_next-requires-clause-may
 judge_next-requires-clause-may g c =
     let s = c.self.inside in
@@ -12,6 +13,7 @@ judge_next-requires-clause-may g c =
     let next = subst (λ j. MayComeNext j.number j.moment e.number e.moment) (sym is) (c.requires (ap (λ j. j.stage) (sym is) ∙ c.in-Open.is)) in
     may_take_next s.standing.book s.standing.tables s.number s.moment e.number e.moment next (c.self.invariant c.in-Open.is).0
 
+-- where the entry brings no verdict, the judge stands after it
 pub returns-in-Ok-None-clause-judged : goal.returns-in-Ok-None-clause-judged
 returns-in-Ok-None-clause-judged g c es stands =
     let e = c.args.entry.now in
@@ -23,9 +25,11 @@ returns-in-Ok-None-clause-judged g c es stands =
     stands_on c.args.self.now now e next refl refl c.in-Open.is es stands
     ((rw c.in-Ok-None.field-0-is at c.in-Ok-None.ensures.judged) es (subst (λ j. AreFollowed j.texts j.tables j.left es) (sym is) stands.follows) (next ∙ ap (λ n. n + 1) stands.number) (omega (arith, comes.order, stands.moment)))
 
+-- an entry without keys leaves the book no more than it had
 pub returns-in-Ok-None-clause-keyless : goal.returns-in-Ok-None-clause-keyless
 returns-in-Ok-None-clause-keyless g c none = subst (λ j. All (Contains j.texts) c.judge_next.new.standing.book) c.self.view_is (c.in-Ok-None.ensures.keyless none)
 
+-- the entry is in trouble, and the verdict is on the entries up to it
 pub returns-in-Ok-Some-clause-judged : goal.returns-in-Ok-Some-clause-judged
 returns-in-Ok-Some-clause-judged g c es stands =
     let is = c.self.view_is in
@@ -34,8 +38,10 @@ returns-in-Ok-Some-clause-judged g c es stands =
     (omega (arith, comes.order, stands.moment)) in
     (h.0, h.1, h.2)
 
+-- an entry without keys leaves the book no more than it had
 pub returns-in-Ok-Some-clause-keyless : goal.returns-in-Ok-Some-clause-keyless
 returns-in-Ok-Some-clause-keyless g c none = subst (λ j. All (Contains j.texts) c.judge_next.new.standing.book) c.self.view_is (c.in-Ok-Some.ensures.keyless none)
 
+-- the judge has told its verdict, and its book stays
 pub returns-in-Told-clause-keyless : goal.returns-in-Told-clause-keyless
 returns-in-Told-clause-keyless g c none = same_within c.args.self.now.texts c.args.self.now.texts refl

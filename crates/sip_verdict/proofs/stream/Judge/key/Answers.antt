@@ -3,6 +3,7 @@ use Rattle.sip_states.specs.Tables.{HasNumber, IsGiven}
 use Rattle.sip_verdict.proofs.judges.JudgeLemmas.{key_named}
 use Rattle.sip_verdict.proofs.stream.Judge.key.Goals as goal
 
+-- the tables give the key of the transaction, or have none with the number
 pub returns-clause-named : goal.returns-clause-named
 returns-clause-named g c es stands =
     let is = c.self.view_is in

@@ -2,6 +2,7 @@ use Rattle.std.proofs.Common.{refl}
 use Rattle.sip_verdict.proofs.sweeps.FollowedLemmas.{followed_none}
 use Rattle.sip_verdict.proofs.stream.Judge.new.Goals as goal
 
+-- over no entries the judge stands where it begins
 pub returns-clause-stands : goal.returns-clause-stands
 returns-clause-stands g c = record {
   goes_on = refl;

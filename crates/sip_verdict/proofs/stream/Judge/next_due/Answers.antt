@@ -4,6 +4,7 @@ use Rattle.sip_verdict.specs.inner.TablesTracking.{MayTake}
 use Rattle.sip_verdict.proofs.judges.DueLemmas.{judge_waits}
 use Rattle.sip_verdict.proofs.stream.Judge.next_due.Goals as goal
 
+-- some transaction is due at a moment exactly if its last moment is below it
 pub returns-in-Open-clause-waits : goal.returns-in-Open-clause-waits
 returns-in-Open-clause-waits g c es stands moment later =
     let is = c.self.view_is in

@@ -5,6 +5,7 @@ use Rattle.sip_verdict.proofs.troubled.Troubled.grow.Goals as goal
 pub loop-init : goal.loop-init
 loop-init c = record { long = sym (c.len-counter.ensures ∙ c.args.self.now.deaf.ok.0); deaf = ([], sym (append-nil c.args.self.now.deaf.items), All-nil (λ d. d ≡ false)); broken = refl; wide = refl }
 
+-- one flag more was added: a new transaction is in no trouble
 pub loop-preserved : goal.loop-preserved
 loop-preserved c =
     let old = c.loop.invariant in

@@ -4,6 +4,7 @@ use Rattle.sip_verdict.specs.inner.Surveying.{AreAscending}
 use Rattle.sip_verdict.specs.declared.finding.Finding.TheVariants.{Breach, Undecided}
 use Rattle.sip_verdict.proofs.troubled.Troubled.tell.Goals as goal
 
+-- nothing is in trouble at the entry, so nothing is told
 pub returns-then-is_fresh-clause-told : goal.returns-then-is_fresh-clause-told
 returns-then-is_fresh-clause-told c =
     let fresh = c.if-is_fresh.ensures.0 refl in
@@ -15,6 +16,7 @@ returns-then-is_fresh-clause-told c =
       sym (append-nil c.args.found.now.items),
     )
 
+-- the breaches are found first and then what is undecided, each in the order of their numbers
 pub returns-clause-told : goal.returns-clause-told
 returns-clause-told c =
     let entry = c.args.entry in

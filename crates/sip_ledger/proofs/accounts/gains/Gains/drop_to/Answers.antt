@@ -1,9 +1,9 @@
-use Rattle.std.proofs.Common.{◌≡◌, ◌-◌, ◌+◌, length, refl, ◌∙◌, arith}
-use Rattle.sip_ledger.specs.declared.accounts.gains.Gains.{Gains}
+use Rattle.sip_ledger.proofs.Words.{◌≡◌, ◌-◌, ◌+◌, length, refl, ◌∙◌, arith, Gains}
 use Rattle.sip_ledger.proofs.gains.FlagLemmas.{flags-dropped}
 use Rattle.sip_ledger.proofs.gains.LeftLemmas.{gains-dropped}
 use Rattle.sip_ledger.proofs.accounts.gains.Gains.drop_to.Goals as goal
 
+-- without the gains before the place, those from it on are as they were
 pub returns : goal.returns
 returns c =
     let g = c.args.self.now in

@@ -1,11 +1,9 @@
-use Rattle.std.proofs.Common.{◌≡◌, ◌-◌, ◌==◌, ◌&&◌, ℕ, false, cond, length, set, refl, ap, ◌∙◌}
-use Rattle.std.proofs.lemmas.Bool.{eq-eqb}
-use Rattle.sip_ledger.specs.inner.Accounts.{no_flags}
-use Rattle.sip_ledger.specs.Indexes.{holds}
+use Rattle.sip_ledger.proofs.Words.{◌≡◌, ◌-◌, ◌==◌, ◌&&◌, ℕ, false, cond, length, set, refl, ap, ◌∙◌, eq-eqb, no_flags, holds}
 use Rattle.sip_ledger.proofs.gains.FlagLemmas.{flags-let_go}
 use Rattle.sip_ledger.proofs.gains.LeftLemmas.{gains-let_go}
 use Rattle.sip_ledger.proofs.accounts.gains.Gains.let_go.Goals as goal
 
+-- without the gain at the place, the indexes lack it, and the others are as they were
 pub returns : goal.returns
 returns c =
     let g = c.args.self.now in

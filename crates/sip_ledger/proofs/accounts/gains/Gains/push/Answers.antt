@@ -1,16 +1,10 @@
-use Rattle.std.specs.Prelude.{nat_le}
-use Rattle.std.proofs.lemmas.Bool.{leb-true}
-use Rattle.std.proofs.Common.{◌≡◌, ◌+◌, ◌++◌, ◌∷◌, [], ap, refl, rules, true, ◌∙◌, arith}
-use Rattle.std.proofs.lemmas.Grind.{common_steps}
-use Rattle.sip_ledger.specs.declared.accounts.gains.Flags.{Flags}
-use Rattle.sip_ledger.specs.declared.accounts.gains.Gains.{Gains}
-use Rattle.sip_ledger.specs.declared.debt.Entry.{Entry}
-use Rattle.sip_ledger.specs.Indexes.{holds}
+use Rattle.sip_ledger.proofs.Words.{nat_le, leb-true, ◌≡◌, ◌+◌, ◌++◌, ◌∷◌, [], ap, refl, rules, true, ◌∙◌, arith, common_steps, Flags, Gains, Entry, holds}
 use Rattle.sip_ledger.proofs.gains.FlagLemmas.{flags-more, flags-same}
 use Rattle.sip_ledger.proofs.gains.LeftLemmas.{entries_long, gains-more, gains-same}
 use Rattle.sip_ledger.proofs.rows.SeenLemmas.{on-error}
 use Rattle.sip_ledger.proofs.accounts.gains.Gains.push.Goals as goal
 
+-- more room for entries leaves the gains as they are
 pub returns-in_err-reserve : goal.returns-in_err-reserve
 returns-in_err-reserve c =
     let g = c.args.self.now in
@@ -18,6 +12,7 @@ returns-in_err-reserve c =
     let all = gains-same g new c.requires c.reserve.ensures.items refl (λ m k. refl) (λ k. refl) refl refl (flags-same g new c.requires.flags c.reserve.ensures.items refl refl) in
     record { gained = all.0; ok = first_of (search rules, grind (arith, common_steps)); err = on-error c.from_residual.result c.from_residual.ensures.0 all.1 }
 
+-- where memory is refused, the gains are the same
 pub returns-in_err-reserve-2 : goal.returns-in_err-reserve-2
 returns-in_err-reserve-2 c =
     let g = c.args.self.now in
@@ -26,6 +21,7 @@ returns-in_err-reserve-2 c =
     (flags-same g new c.requires.flags c.reserve.ensures.items c.reserve-2.ensures.items refl) in
     record { gained = all.0; ok = first_of (search rules, grind (arith, common_steps)); err = on-error c.from_residual-in_err-reserve-2.result c.from_residual-in_err-reserve-2.ensures.0 all.1 }
 
+-- where memory is refused, the gains are the same
 pub returns-in_err-note : goal.returns-in_err-note
 returns-in_err-note c =
     let g = c.args.self.now in
@@ -34,6 +30,7 @@ returns-in_err-note c =
     (flags-same g new c.requires.flags c.reserve.ensures.items c.reserve-2.ensures.items refl) in
     record { gained = all.0; ok = first_of (search rules, grind (arith, common_steps)); err = on-error c.from_residual-in_err-note.result c.from_residual-in_err-note.ensures.0 all.1 }
 
+-- with the new gain, its entry, its flags and its places in the indexes are right
 pub returns : goal.returns
 returns c =
     let g = c.args.self.now in

@@ -1,0 +1,11 @@
+use Rattle.sip_states.proofs.due.MarksLemmas.{front_marked, front_once}
+use Rattle.sip_states.proofs.marks.Marks.moved.Goals as goal
+
+-- the first indices in the order are those that are marked
+pub returns-clause-members : goal.returns-clause-members
+returns-clause-members c =
+    λ index. rw (c.deref.ensures.value, ← c.self.view_is) (front_marked c.self.inside.order.items c.self.inside.places.items c.self.inside.moved c.self.invariant.0 index)
+
+-- no index stands twice in the order
+pub returns-clause-once : goal.returns-clause-once
+returns-clause-once c = rw c.deref.ensures.value (front_once c.self.inside.order.items c.self.inside.places.items c.self.inside.moved c.self.invariant.0)

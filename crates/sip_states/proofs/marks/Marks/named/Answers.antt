@@ -1,0 +1,16 @@
+use Rattle.sip_states.proofs.due.MarksLemmas.{front_marked, front_once, narrower}
+use Rattle.sip_states.proofs.marks.Marks.named.Goals as goal
+
+pub returns-clause-members : goal.returns-clause-members
+returns-clause-members c =
+    let order = c.self.inside.order.items in
+    let places = c.self.inside.places.items in
+    let named = c.self.inside.named in
+    λ index. rw (c.deref.ensures.value, ← c.self.view_is) (front_marked order places named (narrower order places c.self.inside.moved named c.self.invariant.0 c.self.invariant.1) index)
+
+pub returns-clause-once : goal.returns-clause-once
+returns-clause-once c =
+    let order = c.self.inside.order.items in
+    let places = c.self.inside.places.items in
+    let named = c.self.inside.named in
+    rw c.deref.ensures.value (front_once order places named (narrower order places c.self.inside.moved named c.self.invariant.0 c.self.invariant.1))

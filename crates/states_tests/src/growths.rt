@@ -82,14 +82,32 @@ fn take_again(
     let alloc = rt.alloc();
     if let Err(error) = take(alloc, set, book, entry)? {
         is(rt, error, TakeError::Memory, "a refused growth");
-        are_alike(rt, set, twin, "the set is as it was")?;
-        take(alloc, set, book, entry)??;
-        take(alloc, twin, book, entry)??;
-        are_alike(rt, set, twin, "both took it")?;
+        take_both(rt, set, twin, book, entry)?;
         return Err(error.into());
     }
     take(alloc, twin, book, entry)??;
     Ok(())
+}
+
+/// Lets the set, which a refused growth has left as its twin is, take the entry, and then the twin. It asserts that both have the same states
+/// before and after it.
+fn take_both(
+    rt: &(impl Abort + AllocGlobal),
+    set: &mut StateSet<InviteServer>,
+    twin: &mut StateSet<InviteServer>,
+    book: &Book,
+    entry: Entry,
+) -> Result<(), Fail>
+    requires order { set.old.moment ≤ entry.0 }
+    requires order_of_twin { twin.old.moment ≤ entry.0 }
+    requires known { All (Knows (owing_names invite_server_names) book.now) set.old.states }
+    requires known_of_twin { All (Knows (owing_names invite_server_names) book.now) twin.old.states }
+{
+    let alloc = rt.alloc();
+    are_alike(rt, set, twin, "the set is as it was")?;
+    take(alloc, set, book, entry)??;
+    take(alloc, twin, book, entry)??;
+    are_alike(rt, set, twin, "both took it")
 }
 
 /// Lets the set and its twin take each of the entries, with `take_again`. Returns the moment of the last one.

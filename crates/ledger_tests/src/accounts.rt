@@ -557,7 +557,7 @@ fn step(
     played.agree(rt)
 }
 
-/// So many steps from this number on.
+/// This many steps from this number on.
 fn steps(
     rt: &(impl Abort + AllocGlobal),
     played: &mut Played,
@@ -626,7 +626,7 @@ fn rows_gain_and_pay_and_lose_what_is_past(rt: HostRuntime) -> Result<(), Fail> 
     Ok(())
 }
 
-/// The first row gains so many equal debts, and pays them and one more.
+/// The first row gains this many equal debts, and pays them and one more.
 fn gains_and_pays(
     rt: &(impl Abort + AllocGlobal),
     played: &mut Played,

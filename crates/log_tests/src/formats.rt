@@ -50,7 +50,7 @@ fn restarts_in_any_pieces(rt: HostRuntime) -> Result<(), Fail> {
     Ok(())
 }
 
-/// Entries that begin as a restart, and are none.
+/// Entries that begin like a restart and are none.
 static NO_RESTARTS: &[Row] = &[
     (b"Z 0 5\nhello\n", 0, Some(LogError::EntryLine)),
     (b"Z 00\n", 0, Some(LogError::EntryLine)),

@@ -139,7 +139,7 @@ fn nine(alloc: Global) -> Result<Book, Fail> {
     book_of(alloc, &NINE, "INVITE", "UDP")
 }
 
-/// How many refusals there are in the next tests: with so many of one call, the book puts the To of each message beside it.
+/// How many refusals there are in the next tests: with that many of one call, the book puts the To of each message beside it.
 const MANY: u64 = 256;
 
 /// The number of the 486 with this tag.

@@ -132,21 +132,21 @@ const ACCEPTED_AT_100: InviteClientPhase = InviteClientPhase::Accepted { set: 10
 /// A 2xx came at 300.
 const ACCEPTED_AT_300: InviteClientPhase = InviteClientPhase::Accepted { set: 300 };
 
-/// A final response but a 2xx came at 550.
+/// A final response other than a 2xx came at 550.
 const COMPLETED_AT_550: InviteClientPhase = InviteClientPhase::Completed {
     reliable: false,
     request: INVITE,
     set: 550,
 };
 
-/// A final response but a 2xx came at 1,000.
+/// A final response other than a 2xx came at 1,000.
 const COMPLETED_AT_1_000: InviteClientPhase = InviteClientPhase::Completed {
     reliable: false,
     request: INVITE,
     set: 1_000,
 };
 
-/// A final response but a 2xx came at 0, over TCP.
+/// A final response other than a 2xx came at 0, over TCP.
 const COMPLETED_OVER_TCP: InviteClientPhase = InviteClientPhase::Completed {
     reliable: true,
     request: INVITE,

@@ -306,7 +306,7 @@ const PROCEEDS: InviteClientPhase = InviteClientPhase::Proceeding {
     cancel: None,
 };
 
-/// A final response but a 2xx came at 100.
+/// A final response other than a 2xx came at 100.
 const IS_BUSY: InviteClientPhase = InviteClientPhase::Completed {
     reliable: false,
     request: INVITE,

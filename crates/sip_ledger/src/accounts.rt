@@ -335,7 +335,7 @@ impl Accounts {
         )
     }
 
-    /// What the row owes first: so many debts, or all where it owes fewer.
+    /// What the row owes first: this many debts, or all where it owes fewer.
     pub fn first_debts(
         &self,
         alloc: Global,

@@ -19,7 +19,7 @@ use std::marker::Model;
 /// Rows of what states owe.
 #[derive(Debug, Drop)]
 pub(crate) enum Rows {
-    /// So many rows, none of which owes anything.
+    /// This many rows, none of which owes anything.
     Blank(usize),
     /// The accounts of the rows.
     WithAccounts(Box<Accounts>),
@@ -287,7 +287,7 @@ impl Dues {
         }
     }
 
-    /// What the row owes first: so many debts, or all where it owes fewer.
+    /// What the row owes first: this many debts, or all where it owes fewer.
     pub(crate) fn first_debts(
         &self,
         alloc: Global,

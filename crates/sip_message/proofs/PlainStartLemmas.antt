@@ -22,7 +22,7 @@ reason-byte b clear =
       | inr high ↦ over (is_in_range 0x20 0x7E b) (b == tab) (nat_le 128 b) (le-leb 128 b (omega (arith, high)))
     ]
   where
-    -- the third test is enough
+    -- one of several tests passes, the third
     over : (x y z : Bool) → z ≡ true → (x || y || z) ≡ true
     over true y true is = refl
     over false true true is = refl

@@ -61,7 +61,7 @@ quoted-byte b is =
       | inr high ↦ over (b == 0x21) (is_in_range 0x23 0x5B b) (is_in_range 0x5D 0x7E b) (nat_le 128 b) (le-leb 128 b (omega (arith, high)))
     ]
   where
-    -- the fourth test is enough
+    -- one of four tests passes, the fourth
     over : (x y z w : Bool) → w ≡ true → (x || y || z || w) ≡ true
     over true y z true is = refl
     over false true z true is = refl

@@ -63,7 +63,7 @@ via-plain text at end name first version second transport sent_by behind params 
     let t = segment second transport text in
     let tail = segment params end text in
     let own = host-own (segment sent_by behind text) host host_is.2 in
-    -- the parts fit
+    -- the parts are those of a Via
     let fits : ViaFits (record { protocol = p; version = v; transport = t; host = host; port = port; params = tail; branch = branch }) =
     record { protocol = run-token p protocol_is.2; version = run-token v version_is.2; transport = run-token t transport_is.2; host = own.0; port = port_is.2.1; params = params_is } in
     -- T1 to T8 are the texts of the last part, of the last two, and so on up to all but the first
@@ -75,7 +75,7 @@ via-plain text at end name first version second transport sent_by behind params 
     let T6 = Mark slash then T5 in
     let T7 = Exactly v then T6 in
     let T8 = Mark slash then T7 in
-    -- each of them stands from the beginning of its first part to the end
+    -- s1 to s8 say that each of these texts stands from the beginning of its first part to the end
     let s1 : LiesWithin T1 text params end end = whole-stands T1 text params end port_is.1 (behind-self tail) in
     let s2 : LiesWithin T2 text behind end end = then-stands (ColonPort port) T1 text behind end params end (port_is.0, port_is.1, port_is.2.0) s1 in
     let s3 : LiesWithin T3 text sent_by end end = then-stands (Exactly (host_text host)) T2 text sent_by end behind end (host_is.0, host_is.1, own.1) s2 in

@@ -70,7 +70,7 @@ open-byte b clear =
       | inr high ↦ over (nat_le 128 b) _ (is_wsp b) (le-leb 128 b (omega (arith, high)))
     ]
   where
-    -- the second test is enough
+    -- one of three tests passes, the second
     over : (x y z : Bool) → x ≡ true → ((y || x) || z) ≡ true
     over true true z is = refl
     over true false z is = refl

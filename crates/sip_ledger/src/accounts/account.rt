@@ -706,7 +706,7 @@ pub(crate) fn same(gains: &Gains, strikes: &[Strike], one: Account, other: Accou
     at == one.end && beside == other.end
 }
 
-/// What the account owes first: so many debts, or all where it owes fewer.
+/// What the account owes first: this many debts, or all where it owes fewer.
 pub(crate) fn first_debts(
     alloc: Global,
     gains: &Gains,

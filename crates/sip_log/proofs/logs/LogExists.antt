@@ -36,7 +36,7 @@ use Rattle.sip_log.proofs.headers.HeaderLemmas.{NumberAfter-one, NumberAfter-par
 abbrev pub Settled : Type 0 → Type 0
 Settled P = P ⊎ ¬ P
 
--- where each of two facts holds or not, both together hold or not
+-- where each of two facts is decided, so is that both hold
 both : (P Q : Type 0) → Settled P → Settled Q → Settled (P × Q)
 both P Q (inl p) (inl q) = inl (p, q)
 both P Q (inl p) (inr q) = inr (λ x. q x.1)
@@ -80,7 +80,7 @@ digits-or-not : (text : List ℕ) → Settled (AllDigits 10 text)
 digits-or-not [] = inl tt
 digits-or-not (c ∷ cs) = both (digit_value c < 10) (AllDigits 10 cs) (at_most (suc (digit_value c)) 10) (digits-or-not cs)
 
--- a text begins with 0 only where that is all of it, or not
+-- either a text begins with 0 only where that is all of it, or it does not
 plain-or-not : (text : List ℕ) → Settled (get_or text 0 0 ≡ digit_zero → length text ≡ 1)
 plain-or-not text = elim (cases_eq (length text) 1) as (λ _. Settled (get_or text 0 0 ≡ digit_zero → length text ≡ 1)) [
   | inl one ↦ inl (λ none. one)

@@ -91,7 +91,7 @@ run_size runs r d low =
     ∙ ap length (flat_map-append items (take r runs) (get_or runs r d ∷ []) ∙ ap (λ run. places_of (take r runs) ++ run) (append-nil (items (get_or runs r d))))
     ∙ length-append (places_of (take r runs)) (items (get_or runs r d))
 
--- any place, for indexes past the end of a list
+-- the place that is read past the end of a list, where any one will do
 abbrev first : Place
 first = record { hash = 0; position = 0 }
 

@@ -111,7 +111,7 @@ single-double (b ∷ u) v single =
       ap (rest_onto (u ++ (double_colon ++ v))) here ∙ rest.1,
     )
   where
-    -- a byte that is no colon is none with "::" after it either
+    -- the text begins with no colon, and so it does with "::" after it
     next : (t : List ℕ) → nat_eq (slice_index_or t 0 colon) colon ≡ false → nat_eq (slice_index (t ++ (double_colon ++ v)) 0) colon ≡ false
     next [] other = cc
     next (a ∷ t) other = other

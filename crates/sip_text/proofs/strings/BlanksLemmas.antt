@@ -117,7 +117,7 @@ blanks-longest text n run = (units, stops (blank_len (drop n text)) refl)
       | inr front ↦ (front.0, front.1, units-blanks front.0 front.2, front.3, front.4)
     ]
 
-    -- no longer blank run stands at the front
+    -- each blank run at the front is at most as long
     longer : (k : ℕ) → HasFront (Many Blank) text (n + suc k) → ⊥
     longer k front = elim (blanks-units front.0 front.2) [
       | inl none ↦ absurd (omega (arith, front.4, ap length none))

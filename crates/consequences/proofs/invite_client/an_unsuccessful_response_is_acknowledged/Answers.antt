@@ -41,7 +41,7 @@ module _ (p : Times) (before between after : List MachineEvent) (invite response
       waiting (inr (inl over)) = absurd (omega (arith, over, early))
       waiting (inr (inr again)) = not_again again
 
-      -- by which of the rules the element keeps
+      -- the two rules, by one of which the element was built
       by_rules : (rules : Rules) (y : StateOf rules Client true) → Stands (figure_of rules Client true) p (before ++ invite ∷ (between ++ response ∷ after)) m y
           → Any (Acknowledges p invite response) after ⊎ Any (λ f. IsRefused f ⊎ IsRestart f) after
       by_rules R6026 y stands = acknowledged corrected.Receives receives_6026 p invite response (what_stands_lasts OfInviteClient p) before between after m y none sent waiting gets stands late

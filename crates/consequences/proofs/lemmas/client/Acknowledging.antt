@@ -102,7 +102,7 @@ module _ (R : Receiving) (is : IsReceiving R) (p : Times) (invite : MachineEvent
         by (inr leads) = rw leads waits
     waits-sent (Proceeding reliable request (Some first)) row low waits h = by (sends-proceeding p reliable request (Some first) e.kind e row h).1
       where
-        -- a CANCEL after the first one changes its moment or not
+        -- a CANCEL after the first one may count as the first, or leave that as it was
         by : (row ≡ (Proceeding reliable request (Some e.moment), keeps)) ⊎ (row ≡ (Proceeding reliable request (Some first), keeps)) → Waits Now row.0
         by (inl leads) = rw leads (waits.0, waits.1, low)
         by (inr leads) = rw leads waits

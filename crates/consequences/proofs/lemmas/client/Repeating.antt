@@ -158,7 +158,7 @@ module _ (R : Receiving) (is : IsReceiving R) (p : Times) where
       same : now ≡ ms
       same = other (λ is_invite. no-invite (sym (sends-proceeding p reliable request cancel e.kind e row h).0 ∙ is_invite))
 
-      -- a CANCEL is the first one or not
+      -- whether the CANCEL counts as the first one
       by : (row ≡ (invite.Proceeding reliable request (Some e.moment), keeps)) ⊎ (row ≡ (invite.Proceeding reliable request cancel, keeps)) → Invited now row.0
       by (inl leads) = rw (leads, same) invited
       by (inr leads) = rw (leads, same) invited

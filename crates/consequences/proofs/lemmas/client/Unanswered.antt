@@ -257,7 +257,7 @@ module _ (R : Receiving) (is : IsReceiving R) (p : Times) where
   sent-began (Calling w) k e row began h = rw (sends-calling p w k e row h).2 began
   sent-began (Proceeding reliable request cancel) k e row began h = by (sends-proceeding p reliable request cancel k e row h).1
     where
-      -- a CANCEL is the first one or not
+      -- whether the CANCEL counts as the first one
       by : (row ≡ (Proceeding reliable request (Some e.moment), keeps)) ⊎ (row ≡ (Proceeding reliable request cancel, keeps)) → BeganBy e.moment row.0
       by (inl leads) = rw leads tt
       by (inr leads) = rw leads tt

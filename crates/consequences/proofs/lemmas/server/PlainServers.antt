@@ -238,12 +238,12 @@ module _ (p : Times) where
         as_it_waits es h m x (inl done) low lasts = inl done
         as_it_waits es h m x (inr past) low lasts = inr (subst (λ fs. Past fs m) (append-nil es) (past-later es [] h m low past))
 
-        -- an end keeps it
+        -- after an end the server is completed still, or the deadline is past
         as_it_ends : (es : List MachineEvent) (h : ℕ) (x : Owing PlainServerPhase) → IsCompleted x.phase ⊎ Past es h → MayEnd f p x h → IsCompleted Idle ⊎ Past es h
         as_it_ends es h x (inl done) may = inr (inl (completed-ends x.phase x.owes h done may))
         as_it_ends es h x (inr past) may = inr past
 
-        -- an event keeps it
+        -- after an event the server is completed still, or the deadline is past
         as_it_takes : (es : List MachineEvent) (e : MachineEvent) (x y : Owing PlainServerPhase) → IsCompleted x.phase ⊎ Past es e.moment → Takes f p x e y → IsCompleted y.phase ⊎ Past (es ++ e ∷ []) e.moment
         as_it_takes es e x y (inl done) take = completed-steps e.action es x.phase (left_at e x) e y refl done take
         as_it_takes es e x y (inr past) take = inr (past-later es (e ∷ []) e.moment e.moment (omega arith) past)

@@ -82,7 +82,7 @@ later-left t _ _ (both o n os ns message must deadline rest) = by (keep_at t o) 
     by false is false same later = later
 later-left t _ _ (extra n os ns may rest) = by (keep_at t n) (later-left t os ns rest)
   where
-    -- whether the debt that the second list has more is kept
+    -- whether the debt that only the second list has is kept
     by : (b : Bool) → Later (filter (keep_at t) os) (filter (keep_at t) ns) → Later (filter (keep_at t) os) (if b then n ∷ filter (keep_at t) ns else filter (keep_at t) ns)
     by true later = extra n (filter (keep_at t) os) (filter (keep_at t) ns) may later
     by false later = later
@@ -166,7 +166,7 @@ module _ (S : List ℕ → Type 0) (t : ℕ) where
       (All-tail (λ n. t ≤ n.deadline) n ns opens) (All-tail (λ n. n.must ≡ false → Dec (S n.message)) n ns tell)
       (λ k among may pays. All-tail (λ j. S j.message → j.must ≡ false) n ns (apart k (Contains-there n ns k among) may pays)))
     where
-      -- whether the send satisfies the debt that the second list has more
+      -- whether the send satisfies the debt that only the second list has
       by : Dec (S n.message) → (others : List Owed) × Without Pays ns others × Later left others → (others : List Owed) × Without Pays (n ∷ ns) others × Later left others
       by (yes pays) more = (
         ns,

@@ -28,7 +28,7 @@ returns-in_default-clause-says g c =
     Says-fault line.reads (LineComes c.args.format c.args.last) faults.EntryLine
     (λ ys left. AtLine-long c.args.format c.args.last held ys (rw c.in_default.is at line.first) many)
 
--- where the line is of no form, the fault is that of an entry's line
+-- where the line has the form of no entry, the fault is that of an entry's line
 pub returns-in_default-read_head-clause-says : goal.returns-in_default-read_head-clause-says
 returns-in_default-read_head-clause-says g c =
     let line = c.in_ok-len.ensures in

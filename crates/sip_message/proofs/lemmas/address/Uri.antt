@@ -152,7 +152,7 @@ uri-lacks text u is = subst (Lacks right_angle) (sym has.3) (lacks-append right_
     rest (sip p) w = sip-lacks p w.2
     rest (other scheme more) w = lack-some right_angle _ (lack-char right_angle is_reserved refl) more w.2
 
--- a text is a port, or not
+-- a text is a port, or it is none
 decide-port : (v : List ℕ) → Port v ⊎ (Port v → ⊥)
 decide-port v = at (nat_le 1 (length v)) (nat_le (length v) 5) (list_all is_ascii_digit v) (nat_le (digits_value 10 v) 65535) refl refl refl refl
   where

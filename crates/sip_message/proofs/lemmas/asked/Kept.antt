@@ -93,7 +93,7 @@ named-keeps k f kept named other = other-keeps f kept (ap (is_name_of known_name
 says-some : {A X : Type 0} (R : List ℕ → X → Type 0) (parts : A → X) (vs more : List (List ℕ)) (text : List ℕ) (o : Option A) → SaysFirst R vs (option_map parts o) → vs ≡ text ∷ more → (x : X) × R text x × (option_map parts o ≡ Some x)
 says-some R parts vs more text o says is = subst (λ l. SaysFirst R l (option_map parts o)) is says
 
--- where there are parts, there is what they are of
+-- where parts were read, the value of which they are was there
 is-some : {A X : Type 0} (parts : A → X) (o : Option A) (x : X) → option_map parts o ≡ Some x → IsSome o
 is-some parts None x is = absurd (false≢true (ap is_some is))
 is-some parts (Some a) x is = refl

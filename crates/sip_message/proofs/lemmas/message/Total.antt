@@ -26,7 +26,7 @@ Comes {X = X} S = ¬ ((out : Outcome X) → ¬ (S out))
 comes-demand : {X : Type 0} (R : X → Type 0) (fault : Fault) → Comes (Demand R fault)
 comes-demand R fault never = never (stops fault) ((λ x is. never (gives x) is), refl)
 
--- what only gives a value comes to that value
+-- a step that only gives a value comes to that value
 comes-gives : {X : Type 0} (x : X) → Comes (Gives x)
 comes-gives x never = never (gives x) refl
 

@@ -116,7 +116,7 @@ times-many P [] text is = subst (Many P) (sym is) (many-nil P)
 times-many P (x ∷ xs) text is =
     subst (Many P) (sym is.4) (many-cons P is.0 is.1 is.2 (times-many P xs is.1 is.3))
 
--- texts of P, joined, are P as many times
+-- n texts of P, joined, are n times P
 many-times : (P : List ℕ → Type 0) (us : List (List ℕ)) → AllByRecursion P us → Times P us (concat us)
 many-times P [] all = refl
 many-times P (u ∷ us) all = (u, concat us, all.0, many-times P us all.1, refl)

@@ -6,7 +6,7 @@ use Rattle.sip_message.proofs.quick.front.Goals as goal
 pub slice_bounds-result-end : goal.slice_bounds-result-end
 slice_bounds-result-end c = sym (length-take-le 2047 c.args.bytes.now (omega (arith, c.if-bytes-gt-LONGEST.true)))
 
--- no more bytes are looked at than may be
+-- at most as many bytes are looked at as may be
 pub returns-then-bytes-gt-LONGEST-clause-within : goal.returns-then-bytes-gt-LONGEST-clause-within
 returns-then-bytes-gt-LONGEST-clause-within c = omega (arith, length-take-le 2047 c.args.bytes.now (omega (arith, c.if-bytes-gt-LONGEST.true)))
 

@@ -32,7 +32,7 @@ returns-in_ok-entry-in-len3 c = (
   c.in_ok-entry-in-len3.ensures.0,
 )
 
--- words of no form that is told ask for nothing
+-- words in none of these forms ask for nothing
 pub returns-in_default : goal.returns-in_default
 returns-in_default c = λ asked meant same.
     elim c.in_default.branch [

@@ -28,7 +28,7 @@ copy-requires-clause-to g c =
     let behind = c.loop-at.invariant.filters.behind in
     omega (arith, long, behind)
 
--- no more states are kept than were looked at
+-- at most as many states are kept as were looked at
 pub overflow_add-kept : goal.overflow_add-kept
 overflow_add-kept g c = let behind = c.loop-at.invariant.filters.behind in omega (arith, behind)
 

@@ -9,7 +9,7 @@ returns-then-summary c = λ found sums.
     subst (λ end. 3 ≡ status_of found end) (sym c.in-Clean.is)
     (undecided-alone found c.in-Clean.entries c.in-Clean.transactions (λ none. search rules) (sym sums.undecided ∙ search rules ∙ sums.findings))
 
--- something is found but transactions that are followed no further
+-- something is found besides transactions that are followed no further
 pub returns-else-summary : goal.returns-else-summary
 returns-else-summary c = λ found sums.
     subst (λ end. 1 ≡ status_of found end) (sym c.in-Clean.is)

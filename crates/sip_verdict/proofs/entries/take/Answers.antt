@@ -51,7 +51,7 @@ drop_unnamed-requires-clause-given g c =
     (subst (λ all. HaveNumbers all numbers keys) (sym c.in_ok-pass_each-in-Heard.ensures.keys)
     (have_numbers keys numbers c.args.standing.now.tables c.touch_each.new.tables c.in_ok-concerned-in-Heard.ensures.touched))
 
--- no set but those of the hearers names the newest message
+-- only sets of the hearers may name the newest message
 pub drop_unnamed-requires-clause-others : goal.drop_unnamed-requires-clause-others
 drop_unnamed-requires-clause-others g c some n set among at =
     let s = c.args.standing.now in
@@ -192,19 +192,19 @@ returns-in_ok-pass_each-in-Heard-clause-taken g c = λ es fresh tracks late.
       subst (λ x. ArePassing new.book s.tables.times es f (is_among []) x b) (sym dropped.tables) (dropped_passing e.number mid new.book s.tables.times es f t b dropped.book passing),
     )
 
--- no key more is known
+-- the entry brings no new key
 pub returns-in_ok-pass_each-in-Unheard-clause-keys : goal.returns-in_ok-pass_each-in-Unheard-clause-keys
 returns-in_ok-pass_each-in-Unheard-clause-keys g c = let same = ap length c.in_ok-pass_each-in-Unheard.ensures.keys in omega arith
 
--- there are as many keys as before
+-- the entry brings no new key
 pub returns-in_ok-pass_each-in-Fault-clause-keys : goal.returns-in_ok-pass_each-in-Fault-clause-keys
 returns-in_ok-pass_each-in-Fault-clause-keys g c = let same = ap length c.in_ok-pass_each-in-Fault.ensures.keys in omega arith
 
--- there are as many keys as before
+-- the entry brings no new key
 pub returns-in_ok-pass_each-in-Restart-clause-keys : goal.returns-in_ok-pass_each-in-Restart-clause-keys
 returns-in_ok-pass_each-in-Restart-clause-keys g c = let same = ap length c.in_ok-pass_each-in-Restart.ensures.keys in omega arith
 
--- at most two keys more are known
+-- the entry brings at most two new keys
 pub returns-in_ok-pass_each-in-Heard-clause-keys : goal.returns-in_ok-pass_each-in-Heard-clause-keys
 returns-in_ok-pass_each-in-Heard-clause-keys g c =
     let few = few_keys c.in-Heard.concerned (each c.in_ok-concerned-in-Heard.concerned) c.args.standing.now.tables c.touch_each.new.tables c.in_ok-concerned-in-Heard.ensures.touched in

@@ -65,7 +65,7 @@ returns-clause-watched g c =
 pub returns-clause-fresh : goal.returns-clause-fresh
 returns-clause-fresh g c = record { broken = c.keep-2.ensures.broken ∙ c.requires.fresh.broken; wide = c.keep-2.ensures.wide ∙ c.requires.fresh.wide }
 
--- no more messages are left than there are entries
+-- the book keeps at most as many messages as there were entries
 pub returns-clause-left : goal.returns-clause-left
 returns-clause-left g c =
     let old = c.args.standing.now in

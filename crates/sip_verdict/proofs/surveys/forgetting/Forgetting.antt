@@ -70,12 +70,12 @@ module _ (p : Times) (key : KeyParts) (old : List (Observation KeyParts)) (again
       let one : (old ++ front) ++ e ∷ [] ≡ old ++ (front ++ e ∷ []) = append_assoc old front (e ∷ []) in
       let whole = newest_moment-push (old ++ front) e in
       let new = newest_moment-push front e in (
-        -- from all entries to the later ones
+        -- a run over all entries is one over the later ones
         λ runs.
             let at : Stands f p (events_for key (old ++ (front ++ e ∷ []))) e.event.moment runs.0 =
             subst (λ es. Stands f p (events_for key es) e.event.moment runs.0) one (subst (λ m. Stands f p (events_for key ((old ++ front) ++ e ∷ [])) m runs.0) whole runs.1) in
             (runs.0, subst (λ m. Stands f p (events_for key (front ++ e ∷ [])) m runs.0) (sym new) ((stands_new (front ++ e ∷ []) order e.event.moment late runs.0).0 at)),
-        -- from the later entries to all of them
+        -- a run over the later entries is one over all of them
         λ runs.
             let at : Stands f p (events_for key (old ++ (front ++ e ∷ []))) e.event.moment runs.0 =
             (stands_new (front ++ e ∷ []) order e.event.moment late runs.0).1 (subst (λ m. Stands f p (events_for key (front ++ e ∷ [])) m runs.0) new runs.1) in

@@ -187,7 +187,7 @@ log_streams input p items (Stops fault) says other = by (cases_lt (length items)
         let limit = cut_off says.format (length items) (last_of 0 items) says.rest fault many says.next in
         absurd (other (ap Stops limit) (omega (arith, few, many)))
 
--- how a survey of so many entries ends
+-- how a survey of this many entries ends
 survey_stops : (p : Times) (es : Entries) (items : List Item) (close : LogEnd) (found : List Finding) (end : SurveyEnd) → IsSurveyAfter p es items close found end → close ≡ Stops Limit → end ≡ LogFault (length es + length items + 1) Limit
 survey_stops p es [] Clean found end is same = cc
 survey_stops p es [] (Stops fault) found end is same =

@@ -53,7 +53,7 @@ module _ (chosen : KeyParts → Bool) where
       by false true e f = refl
       by false false e f = one false e ∙ append-nil (filter chosen keys)
 
-      -- with the tests themselves in place of what they say
+      -- the same of the tests themselves, whose answers are b and t
       go : (b : Bool) → chosen k ≡ b → (t : Bool) → list_any (same_key k) keys ≡ t → OneMore keys k (chosen k) (list_any (same_key k) keys)
       go b e t f = subst (λ c. OneMore keys k c (list_any (same_key k) keys)) (sym e) (subst (λ c. OneMore keys k b c) (sym f) (by b t e f))
 
@@ -102,7 +102,7 @@ module _ (chosen : KeyParts → Bool) where
     concerns_cut : (e c : Observation KeyParts) → IsCutOf chosen e c → concerns key c ≡ concerns key e
     concerns_cut e c cut = ap (list_any (same_key key)) cut.1 ∙ among_chosen key is e.keys
 
-    -- keys among which one is are not none
+    -- a list of keys in which the key stands is not empty
     not_nil : (keys : List KeyParts) → list_any (same_key key) keys ≡ true → keys ≢ []
     not_nil keys any none = false≢true (sym (ap (list_any (same_key key)) none) ∙ any)
 
@@ -125,7 +125,7 @@ module _ (chosen : KeyParts → Bool) where
         by true any same = ap₂ (λ f fs. f ∷ fs) (event_cut e c here any) same
         by false any same = same
 
-        -- with the test itself in place of what it says
+        -- the same of the test itself, whose answer is b
         go : (b : Bool) → concerns key c ≡ b → events_for key cs ≡ events_for key es → events_with (concerns key c) c cs ≡ events_with (concerns key e) e es
         go b any same = ap (λ t. events_with t c cs) any ∙ by b any same ∙ ap (λ t. events_with t e es) (sym any ∙ concerns_cut e c here)
 

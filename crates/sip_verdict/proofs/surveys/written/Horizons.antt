@@ -46,7 +46,7 @@ horizon_kept kept m es are =
       long_ago = by are.long_ago;
     }
   where
-    -- the first entries are as new, however their keys are forgotten
+    -- the newest moment of the first entries is the same, whichever keys are remembered
     same : (n : ℕ) → newest_moment (take n (remembered kept es)) ≡ newest_moment (take n es)
     same n = ap newest_moment (take-map (λ e. record { fault = e.fault; event = e.event; keys = filter kept e.keys }) n es) ∙ newest_kept kept (take n es)
 

@@ -24,7 +24,7 @@ returns-clause-may g c =
     let swept = c.in_ok-sweep.ensures in
     swept_take mid.book new.book mid.tables new.tables (e.number + 1) e.moment (rw c.in_default.is at c.in_ok-verdict.ensures.may) swept.may swept.recorded (within_keeps mid.book new.book swept.fewer) swept.keys
 
--- no more messages are left than there are entries
+-- the book keeps at most as many messages as there were entries
 pub returns-clause-left : goal.returns-clause-left
 returns-clause-left g c =
     let may = rw c.in_default.is at c.in_ok-verdict.ensures.may in
@@ -32,7 +32,7 @@ returns-clause-left g c =
     let high = c.kept-2.ensures.few (c.args.entry.now.number + 1) (λ n keeps. may.numbered n (fewer n keeps)) in
     omega (arith, high, c.requires.count)
 
--- an entry without keys leaves the book no more than it had
+-- after an entry without keys the book has no message that is new
 pub returns-clause-keyless : goal.returns-clause-keyless
 returns-clause-keyless g c none =
     let old = c.args.standing.now.book in

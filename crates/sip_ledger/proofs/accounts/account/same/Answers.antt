@@ -33,7 +33,7 @@ loop-at-preserved c =
 pub returns-then-shares_rest : goal.returns-then-shares_rest
 returns-then-shares_rest c = (λ _. rest-same c.requires.one c.requires.other c.loop-at.invariant c.if-at-beside.true c.if-shares_rest.ensures, λ _. refl)
 
--- the next debts of the two differ, so the two owe not the same
+-- the next debts of the two differ, so the two do not owe the same
 pub returns-then-ne : goal.returns-then-ne
 returns-then-ne c =
     let apart : c.debt_for.result ≢ c.debt_for-in-loop-at.result = search rules in (

@@ -2,7 +2,7 @@ use Rattle.sip_ledger.proofs.Words.{arith, Strike}
 use Rattle.sip_ledger.proofs.strikes.StrikeLemmas.{none-struck, struck-by_end, struck-more}
 use Rattle.sip_ledger.proofs.accounts.strikes.end_by.Goals as goal
 
--- no strike strikes nothing
+-- without a strike no place is struck
 pub loop-strike-init : goal.loop-strike-init
 loop-strike-init c = λ m k _. none-struck m k
 

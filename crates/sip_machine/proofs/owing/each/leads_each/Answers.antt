@@ -6,7 +6,7 @@ use Rattle.sip_machine.specs.inner.Effects.{LeadsFrom}
 use Rattle.sip_machine.proofs.pools.CoversLemmas.{found-none, found-run, slice-kept, before-more}
 use Rattle.sip_machine.proofs.owing.each.leads_each.Goals as goal
 
--- of no state nothing was found yet
+-- before the loop no state was asked, and nothing was found
 pub loop-at-init : goal.loop-at-init
 loop-at-init g c =
     let m = g.M.Phases in

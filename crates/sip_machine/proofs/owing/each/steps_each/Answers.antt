@@ -9,7 +9,7 @@ use Rattle.sip_machine.proofs.pools.CoversLemmas.{HasFound, found-none, found-mo
 use Rattle.sip_machine.proofs.pools.PoolLemmas.{some-at}
 use Rattle.sip_machine.proofs.owing.each.steps_each.Goals as goal
 
--- of no state nothing was found yet
+-- before the loop no state was asked, and nothing was found
 pub loop-at-init : goal.loop-at-init
 loop-at-init g c =
     let m = g.M.Phases in

@@ -5,11 +5,11 @@ use Rattle.sip_ledger.proofs.lists.FrontLemmas.{dropped-first}
 use Rattle.sip_machine.proofs.pools.PoolLemmas.{beside-drop, beside-length}
 use Rattle.sip_machine.proofs.pool.Pool.drop_first.Goals as goal
 
--- no more states are dropped than there are
+-- there are at least as many states as are dropped
 pub copy_within-requires-clause-start_le_end : goal.copy_within-requires-clause-start_le_end
 copy_within-requires-clause-start_le_end g c = grind (arith, beside-length)
 
--- no more rows are dropped than there are
+-- there are at least as many rows as are dropped
 pub drop_first-requires : goal.drop_first-requires
 drop_first-requires g c = grind (arith, beside-length)
 

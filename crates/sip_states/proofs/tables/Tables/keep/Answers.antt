@@ -8,7 +8,7 @@ use Rattle.sip_states.specs.inner.Marks.{IsMarked}
 use Rattle.sip_states.proofs.lists.Kept.{all_marked, kept_few, kept_keys, kept_long, kept_values}
 use Rattle.sip_states.proofs.tables.Tables.keep.Goals as goal
 
--- no more places are kept in the agenda than flags are true
+-- the agenda keeps at most as many places as flags are true
 pub all-requires : goal.all-requires
 all-requires g c =
     let few = kept_few c.args.flags.now c.self.inside.agenda in

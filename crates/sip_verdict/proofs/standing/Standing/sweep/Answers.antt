@@ -50,7 +50,7 @@ returns-clause-recorded g c =
     let advances = c.in_ok-advance_all.ensures.ok in
     swept_recorded s.book c.known.ensures s.tables u c.args.moment advances c.requires.may numbers named.0 named.1 c.requires.recorded
 
--- after the sweep the book has no message that it did not have
+-- after the sweep the book has no message that is new
 pub returns-clause-fewer : goal.returns-clause-fewer
 returns-clause-fewer g c =
     let s = c.args.self.now in

@@ -4,6 +4,7 @@ use Rattle.sip_log.specs.Reading.{beside_source}
 use Rattle.sip_verdict.specs.inner.SurveyingLogs.{IsSurveyAt, SurveysRead}
 use Rattle.sip_verdict.proofs.gathering.gather_entries.Given as goal
 
+-- the survey stands after the entries that were read, and what was found is what it finds at them
 abbrev pub invariant-loop-found : goal.invariant-loop-found
 invariant-loop-found g l =
     record {
@@ -14,5 +15,6 @@ invariant-loop-found g l =
           → SurveysRead None l.survey l.found.items start (beside_source l.progress (g.R.Source.left l.reader) (g.R.Source.has_failed l.reader));
     }
 
+-- each turn of the loop reads one entry, and a log has at most `most_entries`
 abbrev pub decreases-loop-found : goal.decreases-loop-found
 decreases-loop-found g l = most_entries - l.progress.count

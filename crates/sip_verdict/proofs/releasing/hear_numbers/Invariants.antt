@@ -7,6 +7,7 @@ use Rattle.sip_verdict.specs.inner.TablesTracking.{MayPass, is_among}
 use Rattle.sip_verdict.specs.inner.Surveying.{AreWatched, ArePassing, AreConcerned}
 use Rattle.sip_verdict.proofs.releasing.hear_numbers.Given as goal
 
+-- the transactions so far have heard the event or were released; those that are left in the list can still hear it
 abbrev pub invariant-loop-number : goal.invariant-loop-number
 invariant-loop-number g l =
     record {

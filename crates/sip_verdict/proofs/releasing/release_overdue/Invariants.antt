@@ -9,6 +9,7 @@ use Rattle.sip_verdict.specs.inner.Surveying.{AreWatched, ArePassing, any}
 use Rattle.sip_verdict.proofs.surveys.passing.Lasts.{lasts}
 use Rattle.sip_verdict.proofs.releasing.release_overdue.Given as goal
 
+-- the transactions that were released so far are in trouble; all may still pass the moment, and are watched and passing as before
 abbrev pub invariant-loop-number : goal.invariant-loop-number
 invariant-loop-number g l =
     record {
@@ -22,5 +23,6 @@ invariant-loop-number g l =
           → ArePassing texts p es e any l.initial.tables l.initial.troubled → ArePassing texts p es e any l.tables l.troubled;
     }
 
+-- each turn of the loop releases a transaction, whose last moment is then no longer on record
 abbrev pub decreases-loop-number : goal.decreases-loop-number
 decreases-loop-number g l = lasts l.tables.records

@@ -7,6 +7,7 @@ use Rattle.sip_verdict.specs.inner.SurveyingLogs.{AreTold}
 use Rattle.sip_verdict.specs.Room.{most_surveyed}
 use Rattle.sip_verdict.proofs.remembering.write_on.Given as goal
 
+-- the survey stands after what is remembered of the entries, the lines written are those of its findings, and its horizon is theirs
 abbrev pub invariant-loop-found : goal.invariant-loop-found
 invariant-loop-found g l =
     let part = option_copied l.fn.part in
@@ -23,5 +24,6 @@ invariant-loop-found g l =
           → (so : RemembersRead l.fn.age part p l.survey found lines start (beside_source l.progress (g.R.Source.left l.reader) (g.R.Source.has_failed l.reader))) × IsHorizonOf l.horizon so.es);
     }
 
+-- each turn of the loop reads one entry, and a survey takes at most `most_surveyed`
 abbrev pub decreases-loop-found : goal.decreases-loop-found
 decreases-loop-found g l = most_surveyed - l.count

@@ -4,6 +4,7 @@ use Rattle.sip_log.specs.Reading.{beside_source}
 use Rattle.sip_verdict.proofs.shows.ShowingLemmas.{Showed}
 use Rattle.sip_verdict.proofs.showing.show.Given as goal
 
+-- the entries that were read so far were shown, and nothing else was written
 abbrev pub invariant-loop-entry : goal.invariant-loop-entry
 invariant-loop-entry g l =
     record {
@@ -14,5 +15,6 @@ invariant-loop-entry g l =
       showed : Showed (g.R.Source.left l.fn.reader) (beside_source l.progress (g.R.Source.left l.reader) (g.R.Source.has_failed l.reader)) (g.W.Sink.written l.fn.writer) (g.W.Sink.written l.writer);
     }
 
+-- each turn of the loop reads one entry, and a log has at most `most_entries`
 abbrev pub decreases-loop-entry : goal.decreases-loop-entry
 decreases-loop-entry g l = most_entries - l.progress.count

@@ -6,6 +6,7 @@ use Rattle.sip_verdict.specs.inner.TablesTracking.{MayTake}
 use Rattle.sip_verdict.specs.inner.Walking.{Walks}
 use Rattle.sip_verdict.proofs.walking.walk.Given as goal
 
+-- the walk has judged `count` entries without a verdict, its aim comes later, and the next entry may be taken
 abbrev pub invariant-loop-standing : goal.invariant-loop-standing
 invariant-loop-standing g l =
     record {
@@ -19,5 +20,6 @@ invariant-loop-standing g l =
       walks : Walks l.fn.aim (g.R.Source.left l.fn.reader) (beside_source l.progress (g.R.Source.left l.reader) (g.R.Source.has_failed l.reader)) l.count l.left l.standing.book l.standing.tables;
     }
 
+-- each turn of the loop reads one entry, and a log has at most `most_entries`
 abbrev pub decreases-loop-standing : goal.decreases-loop-standing
 decreases-loop-standing g l = most_entries - l.progress.count

@@ -6,5 +6,6 @@ abbrev pub invariant-loop-place : goal.invariant-loop-place
 invariant-loop-place l = (l.from ≤ l.place) × (l.place ≤ l.account.end)
     × ((k : ℕ) → l.from ≤ k → k < l.place → owes_at l.gains l.strikes l.account k ≡ false)
 
+-- each turn of the loop goes to a later place, up to the end of the account
 abbrev pub decreases-loop-place : goal.decreases-loop-place
 decreases-loop-place l = l.account.end - l.place

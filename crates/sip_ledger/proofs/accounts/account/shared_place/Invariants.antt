@@ -5,5 +5,6 @@ use Rattle.sip_ledger.proofs.accounts.account.shared_place.Given as goal
 abbrev pub invariant-loop-place : goal.invariant-loop-place
 invariant-loop-place l = (l.account.end ≤ l.from) × (l.account.soft ≤ l.from)
 
+-- each turn of the loop goes to a later place, and the gains end
 abbrev pub decreases-loop-place : goal.decreases-loop-place
 decreases-loop-place l = length (entries_of l.gains) - l.from

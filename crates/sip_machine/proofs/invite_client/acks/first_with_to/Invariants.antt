@@ -5,5 +5,6 @@ use Rattle.sip_machine.proofs.invite_client.acks.first_with_to.Given as goal
 abbrev pub invariant-loop-debts : goal.invariant-loop-debts
 invariant-loop-debts l = (0 < l.most) × (l.most < 2 ^ 64)
 
+-- each turn of the loop asks for more debts, and their count has 64 bits
 abbrev pub decreases-loop-debts : goal.decreases-loop-debts
 decreases-loop-debts l = 2 ^ 64 - l.most

@@ -86,6 +86,7 @@ pub returns-clause-first : goal.returns-clause-first
 returns-clause-first c = λ p rules before between after invite response m y none sent quiet gets early stands late.
     first p before between after invite response m none sent gets early late rules y quiet stands
 
+-- the law is what was shown above of a response that comes again
 pub returns-clause-again : goal.returns-clause-again
 returns-clause-again c = λ p rules before between after invite response m y none sent unreliable quiet gets early in_time stands late.
     again p before between after invite response m none sent gets early late rules y unreliable quiet in_time stands

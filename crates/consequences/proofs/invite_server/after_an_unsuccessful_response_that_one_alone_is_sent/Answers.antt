@@ -57,5 +57,6 @@ module _ (p : Times) (before after : List MachineEvent) (final e : MachineEvent)
   by R3261 y first one_kind anew sent stands =
       only (sent-after-final invite_server_3261 p first_in (is-server-3261 p) before final is_final one_kind row-3261 after e y first anew sent stands)
 
+-- the law is what was shown above of each of the rules
 pub returns : goal.returns
 returns c = λ p rules before after final e y first one_kind sends anew sent stands. by p before after final e sends rules y first one_kind anew sent stands

@@ -28,9 +28,11 @@ invited p R3261 before between after invite restart e y sends restarts sent stan
     restart-silences (client without.Receives) p IsInvited (λ k. k ≡ Request Invite) (λ k. k ≡ Request Cancel) (invites-once without.Receives receives_3261 p)
     before between after invite restart e y sends.0 sends.1 restarts sent stands
 
+-- an INVITE client sends only a CANCEL after the restart, as was shown above
 pub returns-clause-invite : goal.returns-clause-invite
 returns-clause-invite c = invited
 
+-- a client of another method sends nothing after the restart
 pub returns-clause-plain : goal.returns-clause-plain
 returns-clause-plain c = λ p rules before between after request restart e y sends restarts sent stands.
     restart-silences plain_client p IsAsked IsAnyRequest (λ k. ⊥) (asks-once p) before between after request restart e y sends.1.0 (sends.0, sends.1.1) restarts sent stands

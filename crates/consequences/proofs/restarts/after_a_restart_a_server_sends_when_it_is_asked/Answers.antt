@@ -41,5 +41,6 @@ by p R6026 true before after restart e y restarts none sent stands = silent invi
 by p R3261 true before after restart e y restarts none sent stands = silent invite_server_3261 p IsInvite (without-asleep p) (λ k is. (Invite, is)) before after restart e y restarts none sent stands
 by p rules false before after restart e y restarts none sent stands = silent plain_server p IsAnyRequest (plain-asleep p) (λ k is. is) before after restart e y restarts none sent stands
 
+-- the law is what was shown above of each of the rules
 pub returns : goal.returns
 returns c = by

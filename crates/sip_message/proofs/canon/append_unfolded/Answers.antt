@@ -6,9 +6,11 @@ use Rattle.sip_message.proofs.lemmas.lines.HeadEnd.{inner-none}
 use Rattle.sip_message.proofs.lemmas.canon.Unfolding.{unfold-blank, unfold-solid, unfold-part, part-more}
 use Rattle.sip_message.proofs.canon.append_unfolded.Goals as goal
 
+-- a text without line ends is the same unfolded
 pub returns-in_default : goal.returns-in_default
 returns-in_default c = subst (λ t. Appends c.args.out.now.items c.append.new.out.items t c.append.result) (sym (unfolded-same c.args.text.now (inner-none c.args.text.now c.in_default.ensures))) c.append.ensures
 
+-- one blank more is read, and nothing is appended yet
 pub bytes-preserved-then-is_blank : goal.bytes-preserved-then-is_blank
 bytes-preserved-then-is_blank c =
     unfold-blank c.args.out.now.items c.args.text.now c.bytes.out.items c.bytes.from c.bytes.at c.bytes-test.true (sym c.is_blank.ensures ∙ c.if-is_blank.true) c.bytes.invariant

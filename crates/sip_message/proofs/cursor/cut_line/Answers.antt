@@ -7,6 +7,7 @@ use Rattle.sip_message.specs.inner.Fronts.{LineFront, pair_parts}
 use Rattle.sip_message.proofs.lemmas.lines.Scan.{scan-nothing, cut-none, line-found, line-on, lf-within}
 use Rattle.sip_message.proofs.cursor.cut_line.Goals as goal
 
+-- no line feed was looked at yet
 pub ends-init : goal.ends-init
 ends-init c = record { within = omega arith; scanned = scan-nothing c.args.text.now }
 

@@ -6,6 +6,7 @@ use Rattle.sip_message.specs.inner.Fronts.{TokenFront}
 use Rattle.sip_message.proofs.lemmas.front.Cuts.{token-cut, no-token, same-token}
 use Rattle.sip_message.proofs.cursor.cut_token.Goals as goal
 
+-- the longest front of token bytes is empty, so no token stands there
 pub returns-then-len-eq0 : goal.returns-then-len-eq0
 returns-then-len-eq0 c (t, r) =
     no-token c.args.text.now (subst (IsLongestFront Token c.args.text.now) c.if-len-eq0.true c.token_len-len.ensures.reads) t r

@@ -33,5 +33,6 @@ lines-preserved c =
       subst (λ fs. KeptOf fs c.read_field.new.kept) more (c.in_ok-field.ensures.kept (fields_parts c.lines.fields) c.lines.invariant.1),
     )
 
+-- all lines were read, so the fields are those of all lines
 pub returns-clause-fields : goal.returns-clause-fields
 returns-clause-fields c lines are = so_far-all lines c.lines.rest.now (fields_parts c.lines.fields) (c.lines.invariant.0 lines are) c.in_default.ensures

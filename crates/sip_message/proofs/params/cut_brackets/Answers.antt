@@ -11,6 +11,7 @@ returns-in_err-rest c =
     subst (IsOnlyValue BracketFront pair_parts c.args.text.now) (sym c.from_residual-in_err-rest.ensures)
     (no-close c.args.text.now c.in_ok-past.field-0.now (sym c.in_ok-past.ensures) (sym c.cut.ensures.rest ∙ ap option_copied c.in_err-rest.was))
 
+-- what stands in brackets lies within the text
 pub slice_bounds-result-count : goal.slice_bounds-result-count
 slice_bounds-result-count c =
     closed-short c.args.text.now c.in_ok-past.field-0.now c.in_ok-rest.rest.now (sym c.in_ok-past.ensures) (sym c.cut.ensures.rest ∙ ap option_copied c.in_ok-rest.was)

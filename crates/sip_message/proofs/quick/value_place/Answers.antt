@@ -15,5 +15,6 @@ returns-then-is_solid_at-clause-value c =
     let led = segment-space text at end c.if-at-end.true c.requires.1 (omega (arith, c.if-text-at-eq32.true)) in
     subst (λ t. ValueText t value) (sym led) (one-space value (c.is_solid_at.ensures c.if-is_solid_at.true))
 
+-- a text without a blank at its ends is a value by itself
 pub returns-then-is_solid_at-2-clause-value : goal.returns-then-is_solid_at-2-clause-value
 returns-then-is_solid_at-2-clause-value c = no-space (segment c.args.at c.args.end c.args.text.now) (c.is_solid_at-2.ensures c.if-is_solid_at-2.true)

@@ -9,9 +9,11 @@ use Rattle.sip_message.specs.ViaParts.{element}
 use Rattle.sip_message.proofs.lemmas.message.Body.{stream-first, body-method, body-no_length, body-all, body-short, body-long, body-cut, body-whole}
 use Rattle.sip_message.proofs.stages.body_by_length.Goals as goal
 
+-- where the method of CSeq is not that of the request line, this is the fault of the bytes
 pub returns-then-not-fits_method : goal.returns-then-not-fits_method
 returns-then-not-fits_method c = body-method (start_parts c.args.start) (c.args.named.cseq_line, c.args.named.cseq.now) c.args.named.via.now (option_map (digits_value 10) (option_copied c.args.length)) c.args.rest.now (λ fits. both_ways false refl ((c.if-not-fits_method.ensures c.args.named.cseq.now c.requires.cseq).1 fits))
 
+-- over a stream a message without Content-Length has that fault
 pub returns-then-is_stream : goal.returns-then-is_stream
 returns-then-is_stream c =
     body-no_length (start_parts c.args.start) (c.args.named.cseq_line, c.args.named.cseq.now) c.args.named.via.now (option_map (digits_value 10) (option_copied c.args.length)) c.args.rest.now ((c.if-not-fits_method.ensures c.args.named.cseq.now c.requires.cseq).0 refl) (ap (λ o. option_map (digits_value 10) (option_copied o)) c.in_default.is) ((stream-first c.args.named.via.now (element c.args.via.now) _ c.requires.via c.if-is_stream.ensures).0 refl)

@@ -50,6 +50,7 @@ returns-in_err-check_not_twice-clause-names c =
     stops-there names_parts (NamesOf (slice_fields c.args.fields)) c.from_residual-in_err-check_not_twice.result fault c.from_residual-in_err-check_not_twice.ensures.0 c.from_residual-in_err-check_not_twice.ensures.1
     (passes _ c.in_ok-via.ensures.present (passes _ c.in_ok-from.ensures (passes _ c.in_ok-to.ensures (passes _ c.in_ok-call_id.ensures (passes _ c.in_ok-cseq.ensures (stopped fault c.in_err-check_not_twice.ensures refl))))))
 
+-- each named field was found, so there is no fault
 pub returns-clause-names : goal.returns-clause-names
 returns-clause-names c = passes _ c.in_ok-via.ensures.present (passes _ c.in_ok-from.ensures (passes _ c.in_ok-to.ensures (passes _ c.in_ok-call_id.ensures (passes _ c.in_ok-cseq.ensures (passes _ c.in_ok-check_not_twice.ensures refl)))))
 

@@ -9,6 +9,7 @@ use Rattle.sip_message.specs.inner.StartLine.{CodeFront, status_parts}
 use Rattle.sip_message.proofs.lemmas.start_line.Reading.{code-short, code-no_space, code-no_digits, code-high, code-low, code-read}
 use Rattle.sip_message.proofs.start_line.cut_code.Goals as goal
 
+-- a text of less than three bytes has no code
 pub returns-then-text-lt3 : goal.returns-then-text-lt3
 returns-then-text-lt3 c = code-short c.args.text.now c.if-text-lt3.true
 

@@ -10,6 +10,7 @@ use Rattle.sip_message.proofs.lemmas.front.Cuts.{ReadAs, NotRead}
 use Rattle.sip_message.proofs.lemmas.start_line.Reading.{request-no_token, request-no_space, request-short, request-no_version, request-no_uri, request-read}
 use Rattle.sip_message.proofs.start_line.read_request.Goals as goal
 
+-- no token stands at the front, so the line has no method
 pub returns-in_err-method : goal.returns-in_err-method
 returns-in_err-method c = subst (IsOnlyValue RequestLine pair_parts c.args.line.now) (sym c.from_residual.ensures) (request-no_token c.args.line.now c.in_err-method.ensures)
 

@@ -48,5 +48,6 @@ returns-then-len-gt-WIDEST-clause-too_many g c = λ _.
     let many : widest < length states = omega (arith, size, len, ok) in
     many_wide g.M.Machine.names g.M.Machine.in_range g.M.Machine.seen c.args.book.now _ states (found_stand g at x) many
 
+-- the states that were found, each once, are those that the event gives
 pub returns-clause-gives : goal.returns-clause-gives
 returns-clause-gives g c = λ x. found_stand g (goal.at.returns-clause-gives g c).After-len x

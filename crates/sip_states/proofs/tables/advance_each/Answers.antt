@@ -19,6 +19,7 @@ pub returns-in_err-advance-clause-keys : goal.returns-in_err-advance-clause-keys
 returns-in_err-advance-clause-keys g c =
     keys-with_value_at c.loop-index.sets (get_or c.args.indices.now c.loop-index.index-index 0) c.advance.new.self ∙ c.loop-index.invariant.keys_are
 
+-- the map is as big as it was
 pub returns-in_err-advance-clause-size : goal.returns-in_err-advance-clause-size
 returns-in_err-advance-clause-size g c =
     index_map_len-with_value_at c.loop-index.sets (get_or c.args.indices.now c.loop-index.index-index 0) c.advance.new.self ∙ c.loop-index.invariant.size

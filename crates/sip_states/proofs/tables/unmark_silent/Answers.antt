@@ -19,6 +19,7 @@ index-requires g c =
     let low = slice_get_within marks index true mark in
     rw c.loop-place.invariant.same (omega (arith, low, c.loop-place.invariant.long, c.requires.long))
 
+-- the index is one of the marked ones
 pub unmark_named-requires : goal.unmark_named-requires
 unmark_named-requires g c =
     let marks = c.loop-place.marks.named in

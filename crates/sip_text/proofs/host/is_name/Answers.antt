@@ -6,6 +6,7 @@ use Rattle.sip_text.proofs.cuts.CutLemmas.{behind-shorter}
 use Rattle.sip_text.proofs.hosts.LabelLemmas.{labels-fail, labels-last_run, labels-more, labels-other}
 use Rattle.sip_text.proofs.host.is_name.Goals as goal
 
+-- where a byte that a label may not have stands before the next dot, the text is no hostname
 pub returns-in_default : goal.returns-in_default
 returns-in_default c = sym (labels-other c.labels.rest.now (sym c.in_default.ensures.run)) ∙ c.labels.invariant
 

@@ -7,6 +7,7 @@ use Rattle.sip_text.proofs.texts.RunLemmas.{longest-run}
 use Rattle.sip_text.proofs.texts.BlockLemmas.{block-passes, block-stops}
 use Rattle.sip_text.proofs.token.token_len.Goals as goal
 
+-- a text that is shorter than a block is looked at byte by byte
 pub returns-then-text-lt-BLOCK-clause-reads : goal.returns-then-text-lt-BLOCK-clause-reads
 returns-then-text-lt-BLOCK-clause-reads c =
     subst (IsLongestFront Token c.args.text.now) (sym c.run_len.ensures.run) (longest-run is_token_byte c.args.text.now)

@@ -4,6 +4,7 @@ use Rattle.sip_text.specs.Bytes.{semicolon, is_token_byte}
 use Rattle.sip_text.proofs.uris.UriSipLemmas.{before-within, host-cut, sip-cut}
 use Rattle.sip_text.proofs.uri.cut_sip.Goals as goal
 
+-- the parameters end within the text
 pub slice_bounds-params-count : goal.slice_bounds-params-count
 slice_bounds-params-count c = before-within semicolon c.cut.result.0.now c.cut-2.result.0.now c.cut-2.ensures.front
 

@@ -179,6 +179,8 @@ returns-in_ok-pass_each-in-Heard-clause-taken g c = λ es fresh tracks late.
     let dropped = c.drop_unnamed.ensures in
     let grown = c.in_ok-grow-in-Heard.ensures in
     let is_heard = rw c.in-Heard.is at c.in_ok-told.ensures.heard in
+    -- f is what is observed of the entry, and `seen` says that it is seen so. It has no fault and its moment is `now`; the keys are those so far
+    -- and its own, and each transaction is passing it.
     let (f, seen, fine, now, keys, passing) =
     heard_taken s.book mid e.number e.bytes.items (rw c.in-Heard.is at c.in_ok-told.ensures.kept).4 (item e) e.moment refl c.in-Heard.event c.in-Heard.concerned c.in_ok-concerned-in-Heard.concerned
     s.tables c.touch_each.new.tables t c.args.troubled.now c.grow.new.self b grown.deaf.0

@@ -13,9 +13,11 @@ use Rattle.sip_verdict.proofs.sweeps.FollowedLemmas.{swept_take}
 use Rattle.sip_verdict.proofs.sweeps.SweptBook.{within_keeps}
 use Rattle.sip_verdict.proofs.forgetting.forget.Goals as goal
 
+-- there is a flag for each transaction
 pub keep-requires : goal.keep-requires
 keep-requires g c = ap length c.as_slice-flags.ensures.value ∙ c.in_ok-flags.ensures.long
 
+-- there is a flag for each history
 pub keep-requires-2 : goal.keep-requires-2
 keep-requires-2 g c = ap length c.as_slice-flags.ensures.value ∙ c.in_ok-flags.ensures.long ∙ ap length c.in_ok-wait.ensures.keys ∙ sym c.requires.watched.long
 
@@ -62,6 +64,7 @@ returns-clause-watched g c =
     let swept = c.in_ok-sweep.ensures in
     record { long = h.long ∙ ap length (sym swept.keys); recorded = swept.recorded; silent = λ n is. ap (λ rs. slice_get rs n) swept.records ∙ h.silent n is }
 
+-- no transaction has come into trouble by this
 pub returns-clause-fresh : goal.returns-clause-fresh
 returns-clause-fresh g c = record { broken = c.keep-2.ensures.broken ∙ c.requires.fresh.broken; wide = c.keep-2.ensures.wide ∙ c.requires.fresh.wide }
 
@@ -74,6 +77,7 @@ returns-clause-left g c =
     let high = c.kept.ensures.few (c.args.newest.number + 1) (λ n keeps. c.requires.may.numbered n (within_keeps old.book c.sweep.new.self.book fewer n keeps)) in
     omega (arith, high, c.requires.count)
 
+-- the book has no message that is new
 pub returns-clause-fewer : goal.returns-clause-fewer
 returns-clause-fewer g c = subst (λ b. All (Contains b) c.sweep.new.self.book) c.in_ok-wait.ensures.book c.in_ok-sweep.ensures.fewer
 

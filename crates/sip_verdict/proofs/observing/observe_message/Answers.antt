@@ -37,12 +37,15 @@ returns-in-Err-NoCookie-clause-observed c es =
       refl,
     )
 
+-- the entry is no mark, since its message went some way
 pub of-event-requires-clause-action : goal.of-event-requires-clause-action
 of-event-requires-clause-action c = going c.args.entry.now.action c.args.direction c.requires.direction
 
+-- the entry is no restart, since its message went some way
 pub of-event-requires-clause-message : goal.of-event-requires-clause-message
 of-event-requires-clause-message c = going_on c.args.entry.now.action c.args.direction c.requires.direction
 
+-- the bytes that were kept are those that were read
 pub keep_to-requires-clause-read : goal.keep_to-requires-clause-read
 keep_to-requires-clause-read c = rw (c.in_ok-number.ensures.ok.1, c.as_slice-2.ensures.value, ← c.as_slice.ensures.value) c.in-Ok.ensures
 

@@ -8,6 +8,7 @@ use Rattle.sip_verdict.proofs.tables.Halfway.{mark_outcome, heard_outcome, quiet
 use Rattle.sip_verdict.proofs.tables.TablesPassing.{on_record_if, heard_recorded, recorded_more, hears_others, others_left}
 use Rattle.sip_verdict.proofs.passing.pass_all.Goals as goal
 
+-- nothing was heard, so each last moment is on record as before
 pub returns-in_default-clause-recorded : goal.returns-in_default-clause-recorded
 returns-in_default-clause-recorded g c = on_record_if _ c.args.tables.now (λ fine. rw c.in_default.is at c.requires.recorded)
 
@@ -24,6 +25,7 @@ hear_each-requires-clause-hear g c =
     let hear = c.requires.hear c.in-Some.hearing c.in-Some.is in
     subst (λ m. MayHear c.args.book.now c.args.tables.now m c.in-Some.hearing.now) (sym hear.at) hear
 
+-- the tables may pass the moment of the event, which is that of the entry
 pub hear_each-requires-clause-may : goal.hear_each-requires-clause-may
 hear_each-requires-clause-may g c =
     subst (MayPass c.args.book.now c.args.tables.now) (sym (c.requires.hear c.in-Some.hearing c.in-Some.is).at) c.requires.may

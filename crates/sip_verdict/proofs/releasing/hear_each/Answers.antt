@@ -8,6 +8,7 @@ use Rattle.sip_verdict.proofs.tables.TablesPassing.{given_still, named_hearers, 
 use Rattle.sip_verdict.proofs.surveys.found.Numbered.{hears_none, hears_one, hears_two}
 use Rattle.sip_verdict.proofs.releasing.hear_each.Goals as goal
 
+-- no transaction was to hear the event, so all are watched as before
 pub returns-in-None-clause-watched : goal.returns-in-None-clause-watched
 returns-in-None-clause-watched g c = λ h. rw c.in-None.is at h
 
@@ -34,6 +35,7 @@ returns-in_ok-hear_or_release-in-OwnAndCancelled-clause-others g c =
     let apart = among_none (n + 1) own (cancelled ∷ []) (subst (λ x. (is_all x || is_among (each x) (n + 1)) ≡ false) c.in-OwnAndCancelled.is none) in
     still n (among_none (n + 1) cancelled [] apart.1).0 ∙ c.in_ok-hear_or_release-in-OwnAndCancelled.ensures.others n apart.0) c.hear_or_release-in-OwnAndCancelled-2.ensures.others
 
+-- at a restart all transactions hear the event, so there are no others
 pub returns-in-All-clause-others : goal.returns-in-All-clause-others
 returns-in-All-clause-others g c = on_ok_weaker c.restart.result (λ keys n none. absurd (false≢true (sym (subst (λ x. (is_all x || is_among (each x) (n + 1)) ≡ false) c.in-All.is none)))) c.restart.ensures.keys
 
@@ -42,6 +44,7 @@ pub hear_or_release-requires-in-OwnAndCancelled-2-clause-given : goal.hear_or_re
 hear_or_release-requires-in-OwnAndCancelled-2-clause-given g c =
     given_still c.in-OwnAndCancelled.cancelled c.args.tables.now c.hear_or_release-in-OwnAndCancelled.new.tables c.in_ok-hear_or_release-in-OwnAndCancelled.ensures.keys ((rw c.in-OwnAndCancelled.is at c.requires.hear.given) 1 0 (omega arith))
 
+-- after the own transaction has heard the event, all are watched
 pub returns-in-Own-clause-watched : goal.returns-in-Own-clause-watched
 returns-in-Own-clause-watched g c = on_ok_weaker c.hear_or_release.result (λ watched h. watched [] (rw c.in-Own.is at h)) c.hear_or_release.ensures.watched
 

@@ -24,6 +24,7 @@ returns-in-Ok-clause-surveyed g c =
     (remembers_none c.args.age part p c.new-survey.result start (state c.in-Ok.progress) refl c.new-survey.ensures.stands
     (stands_streamed start p [] (state c.in-Ok.progress) read.on (read.times_are ∙ ap Some (sym times)) read.stands)))
 
+-- no read has failed, neither of the header nor in the loop
 pub returns-in-Ok-clause-fine : goal.returns-in-Ok-clause-fine
 returns-in-Ok-clause-fine g c =
     still_fine _ c.write_on.result (g.R.Source.has_failed c.read_header.new.reader) (g.R.Source.has_failed c.write_on.new.reader) c.write_on.ensures.fine (c.in_ok-params.ensures.ok ∙ c.requires)

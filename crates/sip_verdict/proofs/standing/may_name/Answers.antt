@@ -49,6 +49,7 @@ returns-then-may_name-clause-may g c =
     let named = first_may t number two.own two.cancelled c.set-in-OwnAndCancelled.result.now c.set-in-OwnAndCancelled.ensures its in
     subst (λ x. IsTrue c.may_name-in-OwnAndCancelled.result ↔ MayBeNamed t number x) (sym two.is) (λ _. named, λ _. c.if-may_name.true)
 
+-- the tables have the cancelled transaction
 pub set-requires-else-may_name : goal.set-requires-else-may_name
 set-requires-else-may_name g c = (rw c.in-OwnAndCancelled.is at c.requires) 1 0 (omega arith)
 
@@ -68,6 +69,7 @@ returns-else-may_name-clause-may g c =
       λ named. elim (tells.1 named) [ inl its ↦ absurd (false≢true (sym c.if-may_name.false ∙ first.1 its)) | inr also ↦ second.1 also ],
     )
 
+-- where all transactions are concerned, the message is taken to be named
 pub returns-in-All-clause-may : goal.returns-in-All-clause-may
 returns-in-All-clause-may g c =
     subst (λ x. IsTrue true ↔ MayBeNamed c.args.tables.now c.args.number x) (sym c.in-All.is) (λ _. inl refl, λ _. refl)

@@ -19,8 +19,10 @@ made c =
     (built Client branch [] [] c.args.method.now begun c.extend_from_slice.new.self.items begun_is
     (c.in_ok-extend_from_slice.ensures.items ∙ ap (λ text. text ++ c.args.method.now) (sym (append-nil begun))))
 
+-- the text that was made keeps what is always true of a key
 pub invariant_of-result : goal.invariant_of-result
 invariant_of-result c = (made (goal.at.invariant_of-result c).In_ok-extend_from_slice).1
 
+-- the key is that of the client with this branch and method
 pub returns : goal.returns
 returns c = (made (goal.at.returns c).In_ok-extend_from_slice).0

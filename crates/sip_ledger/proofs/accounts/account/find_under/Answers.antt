@@ -49,6 +49,7 @@ returns-then-is_newest-clause-first c =
     rw c.sooner-first.ensures (newest-first g s c.args.account pairs key c.args.moment message c.requires.gained c.loop-step.first c.find-place.result c.find-place.ensures.found
     (rw c.if-is_newest.true at c.is_newest.ensures) more)
 
+-- where the message found so far is less than the next one that is owed, it is the first of all
 pub returns-then-gains-message-clause-first : goal.returns-then-gains-message-clause-first
 returns-then-gains-message-clause-first c =
     let g = c.args.gains.now in
@@ -90,5 +91,6 @@ loop-step-preserved c =
           rw (w.first-is, w.from-is) (after, omega (arith, count, fewer))
     ]
 
+-- where the search ends without an answer, at least `most` messages stand under the key
 pub returns-clause-told : goal.returns-clause-told
 returns-clause-told c = let count = c.loop-step.invariant.1 in omega (arith, count)

@@ -2,6 +2,7 @@ use Rattle.sip_ledger.proofs.Words.{◌≡◌, ◌<◌, ◌∙◌, false, length
 use Rattle.sip_ledger.proofs.rows.NamedLemmas.{named-here, named-nowhere}
 use Rattle.sip_ledger.proofs.accounts.named.is_named.Goals as goal
 
+-- the row that was found owes the message
 pub returns-then-names : goal.returns-then-names
 returns-then-names c = grind (arith, take-length, take_more, named-here, named-nowhere)
 

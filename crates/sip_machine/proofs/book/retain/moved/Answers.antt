@@ -7,6 +7,7 @@ use Rattle.sip_machine.specs.inner.Retain.{place_among}
 use Rattle.sip_machine.proofs.texts.RetainLemmas.{place_at, place_none, never_falls}
 use Rattle.sip_machine.proofs.book.retain.moved.Goals as goal
 
+-- the binary search found the number, so its place among those that are kept is the new one
 pub returns-in-Ok : goal.returns-in-Ok
 returns-in-Ok c = grind (arith, searched, never_falls, place_at)
 

@@ -30,5 +30,6 @@ loop-debt-preserved c =
       | else-moment-debt-via-else-moment-debt w ↦ omega (arith, w.if-moment-debt.false, holds.1)
     ])
 
+-- at the end of the loop no debt was found with the To
 pub returns : goal.returns
 returns c = rw (take_all c.loop-debt.debt-index c.args.debts.now c.loop-debt-test.false) at c.loop-debt.invariant

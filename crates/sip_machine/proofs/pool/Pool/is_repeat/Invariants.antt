@@ -1,7 +1,7 @@
 use Rattle.sip_machine.specs.inner.Pools.{IsSought, one_past}
 use Rattle.sip_machine.proofs.pool.Pool.is_repeat.Given as goal
 
--- if an earlier row has an equal state, it stands at `next` or before that in its slot
+-- no row from some limit on has an equal state, and `next` is the last row before it with the print of the state
 abbrev pub invariant-loop-next : goal.invariant-loop-next
 invariant-loop-next g l = IsSought l.self l.rows l.slots.prints l.print l.at l.next
 

@@ -11,6 +11,7 @@ use Rattle.sip_machine.proofs.pools.PoolLemmas.{beside-length}
 use Rattle.sip_machine.proofs.pools.PoolEachLemmas.{pushed-is, mapped-behind, behind-size}
 use Rattle.sip_machine.proofs.pool.Pool.push_led_each.Goals as goal
 
+-- there are as many rows as phases, so the indices are those of rows
 pub push_timely-requires : goal.push_timely-requires
 push_timely-requires g c = grind (arith, beside-length)
 

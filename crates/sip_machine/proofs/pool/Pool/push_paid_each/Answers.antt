@@ -19,6 +19,7 @@ index-phase-requires g c =
     subst (λ n. c.args.from < n) (sym c.self.inside.phases.ok.0)
     (in-phases c.self.inside.phases.items c.self.inside.dues c.args.self.now c.args.from c.self.view_is c.requires.from)
 
+-- there are as many rows as phases, so the indices are those of rows
 pub push_paid-requires : goal.push_paid-requires
 push_paid-requires g c = grind (arith, beside-length)
 

@@ -21,9 +21,11 @@ use Rattle.sip_message.proofs.lemmas.message.Stages.{begun, begins, settled, fau
 use Rattle.sip_message.proofs.lemmas.says.Reading.{fault-says}
 use Rattle.sip_message.proofs.message.Message.whole.Goals as goal
 
+-- without an empty line the bytes have no head, and this is their fault
 pub returns-in_default : goal.returns-in_default
 returns-in_default c = fault-says _ _ (stopped _ (c.in_default.ensures, refl) refl)
 
+-- where the head has a line end of one byte, this is the fault of the bytes
 pub returns-then-not-is_clean : goal.returns-then-not-is_clean
 returns-then-not-is_clean c = fault-says _ _ (passes _ c.in-Some.ensures.0 (stopped _ ((λ _ clean. absurd (search rules)), refl) refl))
 
@@ -65,6 +67,7 @@ read_body-requires-clause-rows c =
     let b = begins c.in-Some.ensures.0 (c.is_clean.ensures.0 c.if-not-is_clean.false) c.cut_first.ensures in
     subst (λ xs. AllByRecursion (λ f. Row f.name f.value) (map field_parts xs)) (sym c.deref-2.ensures.value) (fields-rows b.0 (fields_parts c.in_ok-fields.fields) (read-fields 1 b.0 (fields_parts c.in_ok-fields.fields) (c.in_ok-fields.ensures.fields b.0 b.2)))
 
+-- the head has a Via, so its value was kept when its field was read
 pub unwrap-via-requires : goal.unwrap-via-requires
 unwrap-via-requires c =
     via-some (fields_parts c.in_ok-fields.fields) c.in_ok-fields.kept c.in_ok-named.named.via.now c.in_ok-fields.ensures.kept (subst (λ xs. IsFirstOf (values known_name.Via (map field_parts xs)) c.in_ok-named.named.via.now) c.deref.ensures.value c.in_ok-named.ensures.stand.via)
@@ -74,6 +77,7 @@ pub unwrap-cseq-requires : goal.unwrap-cseq-requires
 unwrap-cseq-requires c =
     cseq-some (fields_parts c.in_ok-fields.fields) c.in_ok-fields.kept c.in_ok-named.named.cseq.now c.in_ok-fields.ensures.kept (subst (λ xs. IsFirstOf (values known_name.CSeq (map field_parts xs)) c.in_ok-named.named.cseq.now) c.deref.ensures.value c.in_ok-named.ensures.stand.cseq)
 
+-- what was kept of the Via is what its field says
 pub read_body-requires-clause-via : goal.read_body-requires-clause-via
 read_body-requires-clause-via c =
     via-is (fields_parts c.in_ok-fields.fields) c.in_ok-fields.kept c.in_ok-named.named.via.now c.unwrap-via.result c.in_ok-fields.ensures.kept (subst (λ xs. IsFirstOf (values known_name.Via (map field_parts xs)) c.in_ok-named.named.via.now) c.deref.ensures.value c.in_ok-named.ensures.stand.via) c.unwrap-via.ensures

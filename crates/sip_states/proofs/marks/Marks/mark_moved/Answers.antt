@@ -5,6 +5,7 @@ use Rattle.sip_states.specs.inner.Marks.{Marked, marks}
 use Rattle.sip_states.proofs.due.MarksLemmas.{exchanged, marked_beside, marked_more, marked_still, place_low}
 use Rattle.sip_states.proofs.marks.Marks.mark_moved.Goals as goal
 
+-- with one mark more the marks fit the order: the named ones stand first, and then the other moved ones
 pub invariant_of-self : goal.invariant_of-self
 invariant_of-self c =
     let order = c.self.inside.order.items in
@@ -18,6 +19,7 @@ invariant_of-self c =
     let from = c.if-place-self.true in
     rw (c.exchange.ensures.order, c.exchange.ensures.places) (exchanged order places moved is p moved p_low (omega (arith, from, p_low)) (moved + 1) (omega (arith, from, p_low)), omega (arith, c.self.invariant.1))
 
+-- neither of the two indices that change places is named, so the marks of the named ones stay
 pub returns-then-place-self-clause-named : goal.returns-then-place-self-clause-named
 returns-then-place-self-clause-named c =
     let order = c.self.inside.order.items in
@@ -35,6 +37,7 @@ returns-then-place-self-clause-named c =
     ∙ marked_beside order places moved named p moved is p_low (omega (arith, from, p_low)) (le-ltb p named (omega (arith, from, few)) ∙ sym (le-ltb moved named few))
     ∙ ap (λ (m : Marked). m.named) c.self.view_is
 
+-- the index was not moved: it changes places with the first one that is not, and it alone is moved besides
 pub returns-then-place-self-clause-moved : goal.returns-then-place-self-clause-moved
 returns-then-place-self-clause-moved c =
     let order = c.self.inside.order.items in
@@ -46,6 +49,7 @@ returns-then-place-self-clause-moved c =
     ap (λ ps. marks ps (moved + 1)) c.exchange.ensures.places ∙ marked_more order places moved c.self.invariant.0 c.args.index p low at c.if-place-self.true
     ∙ ap (λ (m : Marked). set m.moved c.args.index true) c.self.view_is
 
+-- the index was moved before, so the marks of the moved ones stay
 pub returns-else-place-self-clause-moved : goal.returns-else-place-self-clause-moved
 returns-else-place-self-clause-moved c =
     let places = c.self.inside.places.items in

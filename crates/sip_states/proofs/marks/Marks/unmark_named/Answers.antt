@@ -5,6 +5,7 @@ use Rattle.sip_states.specs.inner.Marks.{Marked, marks}
 use Rattle.sip_states.proofs.due.MarksLemmas.{exchanged, marked_beside, marked_less, marked_still, narrower, place_low}
 use Rattle.sip_states.proofs.marks.Marks.unmark_named.Goals as goal
 
+-- with one mark less the marks fit the order: the named ones stand first, and then the other moved ones
 pub invariant_of-self : goal.invariant_of-self
 invariant_of-self c =
     let order = c.self.inside.order.items in
@@ -20,6 +21,7 @@ invariant_of-self c =
     let less = c.self.invariant.1 in
     rw (c.exchange.ensures.order, c.exchange.ensures.places) (exchanged order places moved is p (named - 1) p_low (omega (arith, c.if-place-self.true, few, less)) moved few, omega (arith, less))
 
+-- the index was named: it changes places with the last one that is, and it alone is named no more
 pub returns-then-place-self-clause-named : goal.returns-then-place-self-clause-named
 returns-then-place-self-clause-named c =
     let order = c.self.inside.order.items in
@@ -33,6 +35,7 @@ returns-then-place-self-clause-named c =
     ∙ marked_less order places named (narrower order places moved named c.self.invariant.0 c.self.invariant.1) c.args.index p low at c.if-place-self.true
     ∙ ap (λ (m : Marked). set m.named c.args.index false) c.self.view_is
 
+-- the two indices that change places are both moved, so the marks of the moved ones stay
 pub returns-then-place-self-clause-moved : goal.returns-then-place-self-clause-moved
 returns-then-place-self-clause-moved c =
     let order = c.self.inside.order.items in
@@ -51,6 +54,7 @@ returns-then-place-self-clause-moved c =
     ∙ marked_beside order places moved moved p (named - 1) is p_low (omega (arith, under, few, less)) (lt-ltb p moved (omega (arith, under, less)) ∙ sym (lt-ltb (named - 1) moved (omega (arith, under, less))))
     ∙ ap (λ (m : Marked). m.moved) c.self.view_is
 
+-- the index was not named before, so the marks of the named ones stay
 pub returns-else-place-self-clause-named : goal.returns-else-place-self-clause-named
 returns-else-place-self-clause-named c =
     let places = c.self.inside.places.items in

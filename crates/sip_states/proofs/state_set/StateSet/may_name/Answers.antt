@@ -8,6 +8,7 @@ use Rattle.sip_states.specs.Naming.{MayName}
 use Rattle.sip_states.proofs.keyed.NamesLemmas.{none_more, may_not_name}
 use Rattle.sip_states.proofs.state_set.StateSet.may_name.Goals as goal
 
+-- no state was looked at yet
 pub loop-at-init : goal.loop-at-init
 loop-at-init g c any = omega (arith, any.2)
 

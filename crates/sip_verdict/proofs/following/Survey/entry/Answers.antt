@@ -57,8 +57,10 @@ returns-in-Ok-clause-found g c = λ es surveys.
       },
     )
 
+-- the entry brings at most two new keys
 pub returns-in-Ok-clause-keys : goal.returns-in-Ok-clause-keys
 returns-in-Ok-clause-keys g c = subst (λ j. length c.find_next-taken.new.standing.tables.keys ≤ length j.tables.keys + 2) c.self.view_is c.in-Ok.ensures.keys
 
+-- after an entry without keys the book has no message that is new
 pub returns-in-Ok-clause-keyless : goal.returns-in-Ok-clause-keyless
 returns-in-Ok-clause-keyless g c none = subst (λ j. All (Contains j.texts) c.find_next-taken.new.standing.book) c.self.view_is (c.in-Ok.ensures.keyless none)

@@ -24,5 +24,6 @@ returns-in-Ok-clause-forgets g c = λ es surveys.
       subst (λ j. AreMany (IsStillNamed j.tables.times (remembered kept es)) (length c.forget-forgotten.new.standing.book)) is many,
     )
 
+-- the book has no message that is new
 pub returns-in-Ok-clause-fewer : goal.returns-in-Ok-clause-fewer
 returns-in-Ok-clause-fewer g c = subst (λ j. All (Contains j.texts) c.forget-forgotten.new.standing.book) c.self.view_is c.in-Ok.ensures.fewer

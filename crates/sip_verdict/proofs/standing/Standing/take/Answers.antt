@@ -29,6 +29,7 @@ pass-requires-in-Restart-clause-hear g c =
     λ h is. subst (MayHear c.observe.new.book c.args.self.now.tables e.moment) (ap (λ b. b.now) (same_Some _ h is))
     (may_restart c.observe.new.book e.moment c.restart-event.result c.args.self.now.tables c.restart-event.ensures c.requires.limit)
 
+-- each last moment is on record as before
 pub pass-requires-in-Restart-clause-recorded : goal.pass-requires-in-Restart-clause-recorded
 pass-requires-in-Restart-clause-recorded g c = c.requires.may.recorded
 
@@ -183,6 +184,7 @@ returns-in-Fault-clause-others g c =
     let s = c.args.self.now in
     others_known s.book concerned.None None s.tables s.tables c.requires.may.passes.known (λ n none. refl) (λ n some among. refl)
 
+-- a restart concerns all transactions, so there are no others
 pub returns-in_ok-verdict-in-Restart-clause-others : goal.returns-in_ok-verdict-in-Restart-clause-others
 returns-in_ok-verdict-in-Restart-clause-others g c some = absurd (false≢true (sym some))
 

@@ -13,6 +13,7 @@ module _ {A B : Type 0} (f : A → B) (xs : List A) (room : List B) where
       let front = map f (take i xs) in
       let rest = drop (i + 1) room in
       let size : length front ≡ i = length-map (take i xs) f ∙ length-take-le i xs (omega arith) in
+      -- the place i stands right after the elements before it, so writing there appends
       let place : drop i room ≡ get_or room i (f x) ∷ rest = rw (add-one, drop-cons room i (f x)) in
       let put : set (front ++ get_or room i (f x) ∷ rest) i (f x) ≡ front ++ f x ∷ rest =
       subst (λ k. set (front ++ get_or room i (f x) ∷ rest) k (f x) ≡ front ++ f x ∷ rest) size (set-append_seam front (get_or room i (f x)) rest (f x)) in

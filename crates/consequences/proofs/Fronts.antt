@@ -31,6 +31,7 @@ pub record Ends (p : Times) (es : Entries) (items : List Item) (end : LogEnd) (v
 ends : (p : Times) (es : Entries) (items : List Item) (end : LogEnd) (v : Verdict) → IsVerdictAfter p es items end v → Ends p es items end v
 ends p es [] end v is =
     record { before = []; front = []; rest = []; whole = refl; well = tt; last = inl (refl, subst (λ fs. IsVerdictAfter p fs [] end v) (sym (append-nil es)) is) }
+-- the first item is in trouble, so the front is empty and this item follows it
 ends p es (item ∷ items) end v (e, sees, inl trouble) =
     record {
       before = [];
@@ -40,6 +41,7 @@ ends p es (item ∷ items) end v (e, sees, inl trouble) =
       well = tt;
       last = inr (item, items, e, refl, subst (λ fs. Sees fs item e) (sym (append-nil es)) sees, subst (λ fs. HasTrouble p fs e v) (sym (append-nil es)) trouble);
     }
+-- the first item goes well, so it stands before the front of the later items
 ends p es (item ∷ items) end v (e, sees, inr (formed, runs, narrow, more)) =
     let later = ends p (es ++ e ∷ []) items end v more in
     let same : (es ++ e ∷ []) ++ later.front ≡ es ++ e ∷ later.front = append_assoc es (e ∷ []) later.front in
@@ -65,6 +67,7 @@ module _ (input : List ℕ) where
         item = item;
         after = after;
         end = end;
+        -- the log begins with the items that go well, and then this one
         says = subst (λ xs. LogSays input p xs end) (found.whole ∙ ap (λ xs. found.before ++ xs) is) says;
         well = found.well;
         sees = sees;

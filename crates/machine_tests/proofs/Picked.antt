@@ -22,6 +22,7 @@ behind_picked P old added new x rows is within all =
     let inside = within k d low in
     let above = inside.0 in
     let below = inside.1 in
+    -- the element at the row is one of those that were added
     let size : length new ≡ length old + length added = ap length is ∙ length-append old added in
     let here : get_or new row x ≡ get_or added (row - length old) x = ap (λ xs. get_or xs row x) is ∙ get_or-append_right old added row x above in
     subst P (sym here) (all (row - length old) x (omega (arith, above, below, size))))

@@ -40,6 +40,7 @@ pub own-is : (r : Said) (d : Direction) (role : Role) (branch sent_by method : L
     → method ≡ method_of r.start r.cseq.1
     → (Some k ≡ own_key r d) × (lacks_cookie r d ≡ false)
 own-is r d role branch sent_by method key by_role by_branch by_sent_by by_method =
+    -- the key's parts are those that the message gives, one by one
     let sent_by_is : sent_by ≡ sent_by_of (role_of r.start d) r.via =
     by_sent_by ∙ ap (λ s. sent_by_of s r.via) by_role in
     let f : List ℕ → KeyParts =

@@ -47,11 +47,13 @@ key-by_its_text a b same =
     let role : a.role ≡ b.role = role-by_its_byte a.role b.role (ap (λ bytes. get_or bytes 0 0) same) in
     let texts_a = (a.branch ++ a.sent_by) ++ a.method in
     let texts_b = (b.branch ++ b.sent_by) ++ b.method in
+    -- both texts begin with the same lengths of the branch and of the method
     let lengths = length-by_its_bytes (length a.branch) (length b.branch) (length_bytes (length a.method) ++ texts_a) (length_bytes (length b.method) ++ texts_b)
     (sym (append_assoc (length_bytes (length a.branch)) (length_bytes (length a.method)) texts_a) ∙ ap (drop 1) same ∙ append_assoc (length_bytes (length b.branch)) (length_bytes (length b.method)) texts_b) in
     let texts = length-by_its_bytes (length a.method) (length b.method) texts_a texts_b lengths.1 in
     let long : length (a.branch ++ a.sent_by) ≡ length (b.branch ++ b.sent_by) =
     omega (arith, ap length texts.1, length-append (a.branch ++ a.sent_by) a.method, length-append (b.branch ++ b.sent_by) b.method, texts.0) in
+    -- texts of these lengths are the same part by part
     let fronts = alike (a.branch ++ a.sent_by) (b.branch ++ b.sent_by) a.method b.method long texts.1 in
     let parts = alike a.branch b.branch a.sent_by b.sent_by lengths.0 fronts.0 in
     λ i. record { role = role i; branch = parts.0 i; sent_by = parts.1 i; method = fronts.1 i }

@@ -78,6 +78,7 @@ pub built : (role : Role) (branch host port method begun text : List ℕ)
     → text ≡ (begun ++ port) ++ method
     → text ≡ key_text (record { role = role; branch = folded branch; sent_by = folded host ++ port; method = method })
 built role branch host port method begun text begun_is whole =
+    -- the head has the length of the branch, which folding does not change
     let head = key_head role (length branch) (length method) in
     let texts = folded branch ++ (folded host ++ port) in
     let head_is : head ≡ key_head role (length (folded branch)) (length method) = ap (λ n. key_head role n (length method)) (sym (length-map branch to_ascii_lowercase)) in
@@ -125,6 +126,7 @@ tells k text is =
     let texts = (k.branch ++ k.sent_by) ++ k.method in
     let lengths = length_bytes (length k.branch) in
     let methods = length_bytes (length k.method) in
+    -- after the role come the length of the branch and the length of the method, and then the texts
     let rest : drop 1 text ≡ lengths ++ (methods ++ texts) = ap (drop 1) is ∙ append_assoc lengths methods texts in
     let first = length-read (length k.branch) (methods ++ texts) in
     let second = length-read (length k.method) texts in
@@ -133,6 +135,7 @@ tells k text is =
     let both = length-append k.branch k.sent_by in
     let end = length-append methods texts in
     let whole = length-append lengths (methods ++ texts) in
+    -- what is read at these places are the parts, and each length is at most what follows it
     record {
       some = omega (arith, ap length is);
       role = ap role_in is ∙ role-read k.role ((lengths ++ methods) ++ texts);
@@ -169,6 +172,7 @@ pub tells-read : (k : KeyParts) (text read rest : List ℕ) (branch : ℕ) → t
     rest ≡ after_length (take (length read - 1) (drop 1 read)) →
     (branch ≡ length k.branch) × (length_in rest ≡ length k.method) × (after_length rest ≡ (k.branch ++ k.sent_by) ++ k.method) × (length k.method ≤ length rest)
 tells-read k text read rest branch is same branch_is rest_is =
+    -- without its last byte the front is what follows the role
     let t = tells k text is in
     let front : take (length read - 1) (drop 1 read) ≡ drop 1 text = past-first read ∙ ap (drop 1) same in
     let left : rest ≡ after_length (drop 1 text) = rest_is ∙ ap after_length front in (

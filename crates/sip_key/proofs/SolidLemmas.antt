@@ -38,6 +38,7 @@ last-same true None None t u w v a b h = (λ _. a.0 ∙ sym b.0, λ _. refl)
 last-same false None None t u w v a b h = cc
 last-same true None (Some y) t u w v a b h = cc
 last-same false None (Some y) t u w v a b h = (λ never. absurd (no never), λ e. absurd (not-cons y v t a.0 (e ∙ b)))
+-- one of them ended and the other did not, or both gave a byte: then the answer is false, and what they had left differs
 last-same true (Some x) None t u w v a b h = cc
 last-same false (Some x) None t u w v a b h = (λ never. absurd (no never), λ e. absurd (not-cons x u w b.0 (sym e ∙ a)))
 last-same true (Some x) (Some y) t u w v a b h = let none : true ≡ false = h.0 in cc

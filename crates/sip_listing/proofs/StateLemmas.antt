@@ -78,6 +78,7 @@ listed set states lines are in_order = λ number texts tells.
     let (machine, s, is) = some_machine set in
     let c = coded_of machine in
     let words = words_of machine in
+    -- the states of the set's machine are told one by one
     let told = of_machine (λ kind held. AreToldAs (words_of kind) (coded_of kind).seen (coded_of kind).names held.states states) machine s
     (subst (λ x. AreTold x states) is are) in
     let known = of_set (λ X M S m s. All (λ x. Tells number texts (m.names x)) s.states) machine s (subst (TellsSet number texts) is tells) in

@@ -191,6 +191,7 @@ module _ (window : List ℕ) (len bs ds hs : ℕ) (room : 32 ≤ length window) 
     | inr none ↦ omega (arith, none)
     | inl some_bad ↦
         let found = lowest-set bad_word some_bad word_fits in
+        -- the lowest bad bit would show a fault of the name
         absurd (false≢true (sym (unset (trailing_zeros w64 bad_word) found.0) ∙ found.1))
   ]
     where
@@ -226,12 +227,14 @@ module _ (window : List ℕ) (len bs ds hs : ℕ) (room : 32 ≤ length window) 
   name-from top none set above =
       let within = top-within top set in
       let front : (prev_is top == dot) ≡ true = sym (begins-is top (omega (arith, within))) ∙ sym (masked begin_word top within) ∙ set in
+      -- no dot stands from that place on
       let no_dots : (i : ℕ) → top ≤ i → i < length text → (get_or text i 0 == dot) ≡ false = λ i from h. elim (cases_lt (suc i) len) [
         | inl inner ↦ sym (begins-is (suc i) (omega (arith, inner))) ∙ sym (masked begin_word (suc i) inner) ∙ above (suc i) (omega (arith, from))
         | inr last ↦
             let is : len ≡ suc i = omega (arith, last, h, long) in
             subst (λ n. (prev_is n == dot) ≡ false) is (end_dot (prev_is len == dot) (prev_is len == hyphen) (sym end-is ∙ none-set bad_word len none))
       ] in
+      -- so the last label begins at that place
       ap (λ g. g && is_ascii_alphabetic (top_of dot dot text)) (good none)
       ∙ ap is_ascii_alphabetic (top-at dot dot text top (omega (arith, within, long)) front no_dots ∙ here top within)
     where

@@ -64,6 +64,7 @@ module _ (f q : ℕ → Bool) (opposite : (x : ℕ) → q x ≡ not (f x)) (nul 
   pub goes-on : (text : List ℕ) (n s p word : ℕ) → word ≡ 0 → Shows n q text p word → Passes f text s p → p ≤ length text → Passes f text s (p + n) × (p + n ≤ length text)
   goes-on text n s p word none shows before within =
       let unset = λ (j : ℕ) (h : j < n). sym (shows j h) ∙ none-set word j none in (
+        -- a byte from p on passes, since its bit is not set
         (λ k from below. elim (cases_lt k p) [
           | inl low ↦ before k from low
           | inr high ↦
@@ -71,6 +72,7 @@ module _ (f q : ℕ → Bool) (opposite : (x : ℕ) → q x ≡ not (f x)) (nul 
               let small : k - p < n = omega (arith, high, below) in
               subst (λ m. f (get_or text m 0) ≡ true) is (flipped (q (get_or text (p + (k - p)) 0)) (f (get_or text (p + (k - p)) 0)) (opposite _) (unset (k - p) small))
         ]),
+        -- the bytes lie within the text, since past its end the bits are set
         elim (cases_lt (length text) (p + n)) [
           | inl short ↦
               let is : p + (length text - p) ≡ length text = omega (arith, within) in
@@ -90,6 +92,7 @@ module _ (f q : ℕ → Bool) (opposite : (x : ℕ) → q x ≡ not (f x)) (nul 
         | inl less ↦ less
         | inr more ↦ absurd (false≢true (sym (none n more found.0) ∙ found.1))
       ] in
+      -- the byte at the lowest bit fails, or the text ends there
       let at : q (get_or text (p + n) 0) ≡ true = sym (shows n fits) ∙ found.1 in
       let low = λ (j : ℕ) (h : j < n). sym (shows j (omega (arith, h, fits))) ∙ found.2 j h in
       let inside : p + n ≤ length text = elim (cases_lt (length text) (p + n)) [
@@ -99,6 +102,7 @@ module _ (f q : ℕ → Bool) (opposite : (x : ℕ) → q x ≡ not (f x)) (nul 
             absurd (false≢true (sym (low (length text - p) (omega (arith, short, within))) ∙ set_there))
         | inr room ↦ room
       ] in
+      -- the bytes up to it pass, those before p as was known
       run-is f text s (p + n) (omega (arith, order)) inside
       (λ k from below. elim (cases_lt k p) [
         | inl early ↦ before k from early

@@ -42,6 +42,7 @@ looked_up t g v js four fits e small =
     let within : i < length v = omega (arith, fits.0) in
     let is : get_or js i 0 ≡ g (get_or v i 0) = ap (λ l. get_or l i 0) e ∙ get_or-map g v i 0 0 within in
     let below : get_or js i 0 < 16 = omega (arith, small (get_or v i 0) (Each1-get_or (Fits w8) v i 0 within fits.1).fits) in
+    -- the byte is looked up at its index within its own sixteen entries
     let at = 16 * ((0 + i) / 16) + get_or js i 0 in
     let same = eqb-true _ _ (agree_below_at (repeats t) always 64 at four (omega (arith, below))) in
     let low : at % 16 ≡ g (get_or v i 0) = omega (arith, below, is) in

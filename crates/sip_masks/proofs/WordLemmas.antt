@@ -52,6 +52,7 @@ from_place words p j small jl =
     let y = get_or words (p / 64 + 1) 0 in
     let r = p % 64 in
     let rl : r < 64 = omega arith in
+    -- the bit lies in the word of the place, or in the next one
     elim (cases_lt (r + j) 64) [
       | inl low ↦
           let word : p / 64 ≡ (p + j) / 64 = omega (arith, low) in
@@ -70,6 +71,7 @@ marks-more p text words k w within before now i below =
       | inl low ↦
           ap (λ x. test x (i % 64)) (get_or-set_other words k (i / 64) w 0 (λ same. omega (arith, same, low))) ∙ before i low
       | inr high ↦
+          -- the bit is one of the word that was put there
           let place : i / 64 ≡ k = omega (arith, high, below) in
           let at : 64 * k + i % 64 ≡ i = omega (arith, high, below) in
           ap (λ n. test (get_or (set words k w) n 0) (i % 64)) place

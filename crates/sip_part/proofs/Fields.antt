@@ -124,6 +124,7 @@ other_name name compact full = by (bytes_eq name (codes "v")) (bytes_eq name (co
   where
     by : (v f t i l : Bool) → v ≡ false
         → bytes_eq (if v then codes "via" else if f then codes "from" else if t then codes "to" else if i then codes "call-id" else if l then codes "content-length" else name) (codes "via") ≡ false
+    -- a name is spelled by one letter at most, and where it is by none it stands as it is
     by true f t i l is = absurd (cc)
     by false true t i l is = refl
     by false false true i l is = refl
@@ -206,6 +207,7 @@ lines_found : (n : ℕ) (others : List (List ℕ)) (rest b : List ℕ) (fields :
 lines_found n [] rest b fields via vias clean folds says found tells =
     let list : fields ≡ [] = cc in
     let none : via ∷ vias ≡ [] = subst (λ fs. ViasTell (said_values "via" fs) (via ∷ vias)) list tells in absurd (cc)
+-- the first line has the branch, or it is passed over and a later one has it
 lines_found n (line ∷ more) rest b fields via vias clean (fold, folds) (passes f f_is (passes fs fs_is e)) found tells =
     let list : fields ≡ f ∷ fs = cc in
     let on = passed line more clean fold in
@@ -221,10 +223,12 @@ told_found : (bytes rest first : List ℕ) (others : List (List ℕ)) (b : List 
 told_found bytes rest first others b told s clean (fold, folds) whole behind (passes start starts (passes fields fields_is (passes names names_is (passes body body_is given)))) found tell =
     let tail = Ended others ++ (13 ∷ rest) in
     let on = passed first others clean fold in
+    -- after the start line the search goes on with the fields
     let at : via_line bytes ≡ line_from tail = ap via_line (whole ∙ ended_on first others (13 ∷ rest)) ∙ on.over tail in
     let e : told ≡ (start, fields, body) = cc in
     let same : told.1 ≡ fields = ap (λ t. t.1) e in
     lines_found 1 others rest b (told.1) s.via s.others on.clean folds (subst (λ fs. FieldsSay 1 others (gives fs)) (sym same) fields_is) (sym (ap branch_at at) ∙ found) tell.vias
+-- a head with a fault has no fields
 told_found bytes rest first others b told s clean folds whole behind (passes start starts (passes fields fields_is (passes names names_is (stopped fault stops_at e)))) found tell = absurd (cc)
 told_found bytes rest first others b told s clean folds whole behind (passes start starts (passes fields fields_is (stopped fault stops_at e))) found tell = absurd (cc)
 told_found bytes rest first others b told s clean folds whole behind (passes start starts (stopped fault stops_at e)) found tell = absurd (cc)

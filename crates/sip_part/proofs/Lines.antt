@@ -73,6 +73,7 @@ OnFrom us more = (line : List ℕ) → concat us ≡ line ++ (13 ∷ (10 ∷ mor
 pass_end : (us : List (List ℕ)) (line more : List ℕ) → AllByRecursion Unit us → 13 ∷ (10 ∷ concat us) ≡ line ++ (13 ∷ (10 ∷ more)) → Folded line → OnFrom us more → Passed line more
 pass_end us [] more all same folded on = let rest : concat us ≡ more = cc in record { over = λ tail. refl; clean = (us, all, sym rest) }
 pass_end us (x ∷ []) more all same folded on = let odd : ◌≡◌ {A = ℕ} 10 13 = cc in absurd (omega (arith, odd))
+-- the line goes on after the CRLF with what follows it
 pass_end us (x ∷ y ∷ line) more all same folded on =
     let rest : concat us ≡ line ++ (13 ∷ (10 ∷ more)) = cc in
     let whole : x ∷ y ∷ line ≡ 13 ∷ (10 ∷ line) = cc in
@@ -97,6 +98,7 @@ no_end b plain = by (nat_eq b 13) (nat_eq b 10) plain
 pass_byte : (b : ℕ) (us : List (List ℕ)) (line more : List ℕ) → (not (nat_eq b 13) && not (nat_eq b 10)) ≡ true → b ∷ concat us ≡ line ++ (13 ∷ (10 ∷ more)) → Folded line → OnFrom us more → Passed line more
 pass_byte b us [] more plain same folded on =
     let odd : b ≡ 13 = cc in let e : false ≡ true = ap (λ x. not (nat_eq x 13) && not (nat_eq x 10)) (sym odd) ∙ plain in absurd (cc)
+-- the line goes on after the byte with what follows it
 pass_byte b us (x ∷ line) more plain same folded on =
     let first : x ≡ b = cc in
     let rest : concat us ≡ line ++ (13 ∷ (10 ∷ more)) = cc in

@@ -384,8 +384,10 @@ params_found find [] text tail b search ends none never is found = absurd (none 
 params_found find (p ∷ ps) text tail b search ends none never (u, v, (m, param, mark, says, u_is), more, whole) found =
     let l = mark_led ";" 59 m refl mark in
     let rest = v ++ tail in
+    -- the text begins with a semicolon, blanks and the first parameter
     let flat : text ++ tail ≡ l.before ++ (59 ∷ (l.after ++ (param ++ rest))) =
     ap (λ t. t ++ tail) (whole ∙ ap (λ t. t ++ v) u_is) ∙ append_assoc (m ++ param) v tail ∙ append_assoc m param rest ∙ led_rest 59 m (param ++ rest) l in
+    -- the search passes over the blanks and comes to this parameter
     let at = search.pass l.before (59 ∷ (l.after ++ (param ++ rest))) (lack-sws l.before l.blanks) (subst (λ t. find t ≡ Some b) flat found) in
     let seen = seen_after l.after (param ++ rest) b l.more (param_seen (l.after ++ (param ++ rest)) b (sym (search.at_semicolon (l.after ++ (param ++ rest))) ∙ at)) in
     first_more p ps b (branch_in rest ≡ Some b) (param_step p param rest b says (params_no_token ps v tail more ends) seen) (λ f. params_found branch_in ps v tail b (among b) ends never never more f)

@@ -31,6 +31,7 @@ pub same_run : (u v rest more : List ℕ) → list_all is_token_byte u ≡ true 
 same_run [] [] rest more left right ends stops same = (refl, same)
 same_run [] (y ∷ v) rest more left right ends stops same = absurd (no_front y (v ++ more) (and_parts (is_token_byte y) (list_all is_token_byte v) right).0 (ap (prefix_len is_token_byte) (sym same) ∙ ends))
 same_run (x ∷ u) [] rest more left right ends stops same = absurd (no_front x (u ++ rest) (and_parts (is_token_byte x) (list_all is_token_byte u) left).0 (ap (prefix_len is_token_byte) same ∙ stops))
+-- both begin with the same byte, and what follows it is the same
 same_run (x ∷ u) (y ∷ v) rest more left right ends stops same =
     let heads : x ≡ y = cc in
     let tails : u ++ rest ≡ v ++ more = cc in

@@ -30,6 +30,7 @@ without_forget words (Some asked) other (is, part, none) =
 without_forget words None other never = λ asked can same. by asked can same asked.forget refl
   where
     by : (asked : Asked) → CanBeNamed asked → words ≡ words_for asked → (forget : Option ℕ) → asked.forget ≡ forget → ⊥
+    -- what is asked for forgets nothing, since the words would else begin with `--forget`
     by asked can same None is = never asked can.0 (same ∙ ap (Forgetting asked) is)
     by asked can same (Some age) is =
         let whole : words ≡ codes "--forget" ∷ decimal age ∷ (part_words asked.part ++ log_words asked.log) = same ∙ ap (Forgetting asked) is in
@@ -51,9 +52,11 @@ forgets asked second more same =
   where
     by : (forget : Option ℕ) (part : Option PartOf) (log : Log) → asked.forget ≡ forget → codes "--forget" ∷ second ∷ more ≡ forget_words forget ++ part_words part ++ log_words log
         → (age : ℕ) × (asked.forget ≡ Some age) × (second ≡ decimal age) × (more ≡ part_words part ++ log_words log)
+    -- without an age the words would begin with something else
     by None None Input is words = absurd (cc)
     by None None (File file) is words = absurd (cc)
     by None (Some part) log is words = absurd (false≢true (ap (begin_with (codes "--part")) words))
+    -- with an age it stands after `--forget`
     by (Some age) part log is words =
         let next : second ≡ decimal age = cc in
         let rest : more ≡ part_words part ++ log_words log = cc in

@@ -38,6 +38,7 @@ some_early moment old new some early n d low =
     let long = some.long in
     let before = get_or old.sets n d in
     let after = get_or new.sets n d in
+    -- the set has waited until the moment, or is as it was
     elim (some.each n before after (slice_get-get_or old.sets n d (omega arith)) (slice_get-get_or new.sets n d low)) [
       | inl advanced ↦ elim advanced [
         | inl waits ↦ (let at = waits_moment moment before after waits in omega arith)

@@ -133,12 +133,14 @@ module _ (gains : Gains) (strikes : List Strike) (a : Account) (test : ℕ → B
       let entries = entries_of gains in
       let must = must_at gains a in
       let message = (entry_at entries place).message in
+      -- without the place the account owes the other places
       let less : ℕ → Bool = λ k. owed k && not (k == place) in
       let inside : place < length entries = omega (arith, owed-within gains strikes a place found.0, is.end) in
       let without : IsWithout place owed less = grind (arith, nat_tests) in
       let one = removed (PaysSome test t) entries owed must less must place inside found.0 without (λ k. refl) found.1 found.2 in
       let only = removed (λ debt. IsTrue (is_payable message t debt)) entries owed must less must place inside found.0 without (λ k. refl)
       (named-pays entries message t place refl found.1.1)
+      -- a send of that message pays none of the debts before it
       (λ k early here pays.
       let parts = pays-parts message t (entry_at entries k) pays in
       found.2 k early here (subst (λ m. test m ≡ true) (sym parts.0) found.1.0, parts.1)) in (

@@ -20,6 +20,7 @@ pub gained-account : (gains : Gains) (old new : List Strike) (a b : Account) (de
 unfolding account_debts must_at
 gained-account gains old new a b debt place is next here others soft low end first last bound begins print =
     let entries = (entries_of gains) in
+    -- the debt at the place is the one that was gained
     let due : must_at gains b place ≡ debt.must = grind (arith, nat_tests) in
     let same : debt_of (entry_at entries place) (must_at gains b place) ≡ debt = grind arith in
     let debts : account_debts gains new b ≡ account_debts gains old a ++ debt ∷ [] =
@@ -27,6 +28,7 @@ gained-account gains old new a b debt place is next here others soft low end fir
     (λ k past. past-end gains old a k (omega (arith, past, next.end))) here others
     (λ k other. ap (λ s. holds gains.musts 0 k && nat_le s k) soft)
     ∙ ap (λ d. account_debts gains old a ++ d ∷ []) same in
+    -- it stands after all others, and the account is right with it
     let account : IsAccount gains new b = grind (arith, print-more) in
     (account, debts)
 
@@ -54,10 +56,12 @@ pub more-gain : (gains : Gains) (old new : List Strike) (a p b : Account) (debt 
     IsAccount gains new b × (account_debts gains new b ≡ account_debts gains old a ++ debt ∷ [])
 unfolding owes_at
 more-gain gains old new a p b debt place is next some passed same print =
+    -- the account begins where it did and ends with the place
     let order = is.order in
     let start : b.start ≡ a.start = ap (λ (x : Account). x.start) same ∙ passed.start in
     let end : b.end ≡ place + 1 = ap (λ (x : Account). x.end) same in
     let own : strikes_of new b ≡ strikes_of new p = grind arith in
+    -- the account owes the place, and of the other places those that it owed
     let left : is_left gains place ≡ true = sym (held_left gains debt.message place next.gain.message) ∙ next.gain.left in
     let free : is_struck (strikes_of new b) (entry_at (entries_of gains) place).message place ≡ false = grind (arith, nat_tests) in
     let here : owes_at gains new b place ≡ true = grind (arith, nat_tests, gone-left) in

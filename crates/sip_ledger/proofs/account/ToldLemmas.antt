@@ -174,6 +174,7 @@ pub least-rising : (entries : List Entry) (m : ℕ → Bool) (at : ℕ) → ((k 
     at < length entries → ((k : ℕ) → k < at → m k ≡ false) → m at ≡ true → Some (entry_at entries at).deadline ≡ earliest (map (λ d. d.deadline) (debts_from m m 0 entries))
 least-rising entries m at rising inside none is =
     let later = back m m entries (at + 1) in
+    -- nothing is due before the place, so its debt comes first
     let nothing : front m m entries at ≡ [] = grind (arith, listed-none, length-take-le) in
     let whole : debts_from m m 0 entries ≡ debt_of (entry_at entries at) (m at) ∷ later =
     parts m m entries at (omega (arith, inside)) ∙ ap₂ (λ a b. a ++ b) nothing (back-set m m entries at no_entry inside is) in

@@ -58,6 +58,7 @@ pub without-account : (gains : Gains) (old new : List Strike) (a b : Account) (p
     w < 2 ^ 64 → IsAccount gains new b
 unfolding account_debts
 without-account gains old new a b place w is owed without soft order end first last bound begins worth print less =
+    -- the debts are those of before without one, and the number made of them is without its share
     let cut = cut-at (entries_of gains) (owes_at gains old a) (must_at gains a) (owes_at gains new b) (must_at gains b) place (omega (arith, owed-within gains old a place owed, is.end)) owed without
     (λ k. soft-must gains a b k soft) in
     let printed = print ∙ ap (λ n. (n + (2 ^ 64 - w)) % 2 ^ 64) (is.print ∙ sym (cut-print (debt_of (entry_at (entries_of gains) place) (must_at gains a place)) (account_debts gains old a) (account_debts gains new b) cut w worth))
@@ -81,6 +82,7 @@ pub without-first : (gains : Gains) (strikes : List Strike) (a : Account) (place
     IsAccount gains strikes (record a { start = next; print = print }) ×
     IsWithout place (owes_at gains strikes a) (owes_at gains strikes (record a { start = next; print = print }))
 without-first gains strikes a place w next print is owed here worth printed order none begins =
+    -- the account that begins later does not owe the place, and owes all others
     let b : Account = record a { start = next; print = print } in
     let without : IsWithout place (owes_at gains strikes a) (owes_at gains strikes b) =
     later-start gains strikes a b place (sym here) (omega (arith, order.0)) refl refl refl (λ k above below. none k (omega (arith, above)) below) in
@@ -94,6 +96,7 @@ pub without-last : (gains : Gains) (strikes : List Strike) (a : Account) (place 
     IsAccount gains strikes (record a { end = place; print = print }) ×
     IsWithout place (owes_at gains strikes a) (owes_at gains strikes (record a { end = place; print = print }))
 without-last gains strikes a place w print is owed later last worth printed =
+    -- the account that ends earlier does not owe the place, and owes all others
     let b : Account = record a { end = place; print = print } in
     let from = owed-from gains strikes a place owed in
     let without : IsWithout place (owes_at gains strikes a) (owes_at gains strikes b) = earlier-end gains strikes a b place last refl refl refl refl in
@@ -107,6 +110,7 @@ pub without-middle : (gains : Gains) (old new : List Strike) (a b : Account) (pl
     IsAccount gains new (record b { print = print }) ×
     IsWithout place (owes_at gains old a) (owes_at gains new (record b { print = print }))
 without-middle gains old new a b place w print is owed later struck worth printed =
+    -- the account with one strike more does not owe the place, and owes all others
     let c : Account = record b { print = print } in
     let from = owed-from gains old a place owed in
     let without : IsWithout place (owes_at gains old a) (owes_at gains new c) = struck-without gains old new a b c place struck from refl refl refl refl in

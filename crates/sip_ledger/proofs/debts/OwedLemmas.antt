@@ -14,6 +14,7 @@ cut-at entries o m o' m' at within is without must =
     let less : at ≤ length entries = omega (arith, within) in
     record {
       whole = parts o m entries at less ∙ ap (λ l. front o m entries at ++ l) (back-set o m entries at no_entry within is);
+      -- the debts before the place and after it are the same
       rest = parts o' m' entries at less
           ∙ ap₂ (λ a b. a ++ b)
           (front-same o' m' o m entries at less (λ j below. let other : j ≢ at = omega (arith, below) in (without.others j other, must j)))
@@ -28,6 +29,7 @@ abbrev pub removed : (P : Debt → Type 0) (entries : List Entry) (o m o' m' : �
 removed P entries o m o' m' at within is without must holds none =
     let cut = cut-at entries o m o' m' at within is without must in
     record {
+      -- the debts before the place, its debt and the debts after it are those of before
       before = front o m entries at;
       first = debt_of (get_or entries at no_entry) (m at);
       after = back o m entries (at + 1);
@@ -46,6 +48,7 @@ pub gained-debts : (entries : List Entry) (o m o' m' : ℕ → Bool) (at : ℕ) 
 gained-debts entries o m o' m' at inside last here others must_others =
     let debt = debt_of (get_or entries at no_entry) (m' at) in
     let less : at ≤ length entries = omega (arith, inside) in
+    -- before the place was owed, it had nothing after it
     let old : debts_from o m 0 entries ≡ front o m entries at =
     parts o m entries at less ∙ ap (λ l. front o m entries at ++ l) (back-none o m entries at last) ∙ append-nil (front o m entries at) in
     parts o' m' entries at less

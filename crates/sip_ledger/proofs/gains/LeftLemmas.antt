@@ -90,6 +90,7 @@ pub gains-more : (old new : Gains) (debt : Debt) → AreGains old → new.entrie
     (new.rises ≡ true → AreRising (old.entries.items ++ (record { message = debt.message; deadline = debt.deadline }) ∷ [])) → old.highest ≤ new.highest → debt.message ≤ new.highest →
     (IsGain debt old new → AreFlags new) → AreGains new × IsGain debt old new
 gains-more old new debt are entries end small noted rises higher own flags =
+    -- all entries are the old ones and the new one
     let all : entries_of new ≡ entries_of old ++ (record { message = debt.message; deadline = debt.deadline }) ∷ [] = more-entries old new (record { message = debt.message; deadline = debt.deadline }) are.long entries end in
     let count = entries_long old are.long in
     let longer = length-append old.entries.items ((record { message = debt.message; deadline = debt.deadline }) ∷ []) in

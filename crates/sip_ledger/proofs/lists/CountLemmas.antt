@@ -55,12 +55,14 @@ module _ (key from to : ℕ) where
         (holds pairs key number ≡ true → count_from pairs key to < count_from pairs key from) → (b || holds pairs key number) ≡ true →
         count_from (pair ∷ pairs) key to < count_from (pair ∷ pairs) key from
     unfolding count_from
+    -- the first pair is the passed one: it counts from its number on, and not after it
     passed-one pair pairs true is fewer any =
         let one = counts-one pair (sym (is_pair key number pair.0 pair.1) ∙ is) in
         let rest = count_less pairs (omega (arith, after, before)) in
         let left = sum_by-cons (λ p. cond (is_from key to p) 1 0) pair pairs in
         let right = sum_by-cons (λ p. cond (is_from key from p) 1 0) pair pairs in
         omega (arith, one, rest, left, right)
+    -- the first pair is another one, and the passed one is among the rest
     passed-one pair pairs false is fewer any =
         let one = counts-less pair (omega (arith, after, before)) in
         let rest = fewer any in

@@ -69,6 +69,7 @@ named-more rows low message old new now are order between some is = record {
   rise = rise-more are.names low message are.rise are.below order;
   below = λ m there. grind (arith, Contains-push_cases are.names message m there, are.below m);
   owed = λ m there. grind (arith, Contains-push_cases are.names message m there, are.owed m);
+  -- what is owed below the message was told before, what is owed of it is told now, and between the two nothing is owed
   all = λ m early owed. elim (cases_lt m low) [
     | inl first ↦ Contains-append_left are.names (message ∷ []) m (are.all m first owed)
     | inr later ↦ elim (cases_eq m message) [

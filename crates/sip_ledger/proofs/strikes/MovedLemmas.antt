@@ -48,6 +48,7 @@ unfolding accounts_debts
 moved-more gains strikes old new rows rows' at d b within was moved each =
     let is = All-get_or (IsAccount gains strikes) rows at d within each in
     let kept = kept-all gains old new rows' moved.kept was.each in
+    -- the account that was moved is right and owes the same, and so do those before it
     record {
       each = All-push (IsAccount gains new) rows' b kept.0 (moved-account gains strikes old new (get_or rows at d) b moved is);
       debts = map-append (account_debts gains new) rows' (b ∷ [])

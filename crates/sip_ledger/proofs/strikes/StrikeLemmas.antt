@@ -47,6 +47,7 @@ lengthened gains place k old at s within reaches left =
     let m = (entry_at (entries_of gains) k).message in
     let mp = (entry_at (entries_of gains) place).message in
     let was = get_or old at s in
+    -- the strike that is one longer covers what it did, and the place that it reached
     let longer : Strike = record { message = was.message; from = was.from; to = place + 1 } in
     any-set (is_out m k) (k == place) old at longer within
     (longer-out m mp was.message was.from was.to place k reaches.message reaches.from reaches.to (λ above below same. true≢false (sym (held_left gains mp k same ∙ left) ∙ reaches.between k above below))
@@ -87,11 +88,13 @@ longer-too gains place first old new l =
     let i = l.at - first in
     let was = get_or own i s in
     let longer : Strike = record { message = was.message; from = was.from; to = place + 1 } in
+    -- from `first` on the strikes are those of before, but for the longer one
     let here : l.at ≡ first + i = omega arith in
     let same : get_or old l.at s ≡ was = ap (λ n. get_or old n s) here ∙ sym (get_or-drop first old i s) in
     let low : i < length own = omega (arith, length-drop first old) in
     let whole : new ≡ set old (first + i) longer = grind (arith, l.longer s) in
     let rest : drop first new ≡ set own i longer = ap (drop first) whole ∙ drop-set-add first old i longer in
+    -- the strikes before `first` are as they were
     record {
       before = ap (take first) whole ∙ take-set-le first old (first + i) longer (omega arith);
       struck = λ k left. ap (λ x. is_struck x (entry_at (entries_of gains) k).message k) rest ∙ lengthened gains place k own i s low (subst (Reaches gains place) same (l.reaches s)) left;

@@ -195,6 +195,7 @@ module _ (R : Receiving) (is : IsReceiving R) (p : Times) (invite : MachineEvent
         has (Calling w) k code (Completed w.reliable w.request response.moment, gains true response.text) kind (is.takes_calling p w code response bad)
     opens es (Proceeding reliable request None) k code kind bad waits =
         has (Proceeding reliable request None) k code (Completed reliable request response.moment, gains true response.text) kind (is.takes_proceeding p reliable request None code response bad)
+    -- in proceeding, and in completed, the row leads to completed too
     opens es (Proceeding reliable request (Some first)) k code kind bad waits =
         has (Proceeding reliable request (Some first)) k code (Completed reliable request response.moment, gains true response.text) kind
         (is.takes_proceeding p reliable request (Some first) code response bad)

@@ -81,6 +81,7 @@ receives_6026 = record {
   idle = λ p k e y h. h;
   ended = λ p k e y h. h;
   accepted = λ p set k e y h. h;
+  -- before the end each row is that of the table, and a response of 300 to 699 has its row
   calling = calling_6026;
   proceeding = proceeding_6026;
   completed = completed_6026;
@@ -109,6 +110,7 @@ receives_3261 = record {
   idle = λ p k e y h. h;
   ended = λ p k e y h. h;
   accepted = λ p set k e y h. h;
+  -- before the end each row is that of the table, and a response of 300 to 699 has its row
   calling = calling_3261;
   proceeding = proceeding_3261;
   completed = completed_6026;

@@ -157,6 +157,7 @@ module _ (R : Receiving) (is : IsReceiving R) (p : Times) where
       by : (row ≡ (invite.Proceeding reliable request (Some e.moment), keeps)) ⊎ (row ≡ (invite.Proceeding reliable request cancel, keeps)) → IsInvited row.0
       by (inl leads) = rw leads tt
       by (inr leads) = rw leads tt
+  -- accepted, completed and ended stay as they are
   sent (invite.Accepted set) k e row asked h = rw (sends-accepted p set k e row h).1 tt
   sent (invite.Completed reliable request set) k e row asked h = rw (sends-completed p reliable request set k e row h).1 tt
   sent invite.Ended k e row asked h = rw (sends-ended p k e row h).1 tt
@@ -169,6 +170,7 @@ module _ (R : Receiving) (is : IsReceiving R) (p : Times) where
           ⊎ (¬ (k ≡ Request Invite) × (row ≡ (invite.Idle, keeps))) → IsInvited row.0
       by (inl leads) = rw leads.1 tt
       by (inr leads) = absurd (leads.0 asks)
+  -- in any other phase the INVITE was sent before, and each sent message keeps that
   sent-invite (invite.Calling w) k e row asks h = sent (invite.Calling w) k e row tt h
   sent-invite (invite.Proceeding reliable request cancel) k e row asks h = sent (invite.Proceeding reliable request cancel) k e row tt h
   sent-invite (invite.Accepted set) k e row asks h = sent (invite.Accepted set) k e row tt h
@@ -225,6 +227,7 @@ pub asks-once : (p : Times) → IsOnce plain.plain_client p IsAsked IsAnyRequest
 asks-once p = record {
   idle = λ h. h;
   ended = tt;
+  -- a row of a received or sent message keeps that the request was sent, and a request that is sent makes it so
   received = plain-received p;
   sent = λ x k e row asked h. plain-sent p x k e row h;
   asks = λ e x y asks h. plain-asks p e x y h;

@@ -198,12 +198,14 @@ module _ (R : Receiving) (is : IsReceiving R) (p : Times) where
   invited-steps Received es e x y was invited (inl (row, is_row, to)) =
       rw (to, passed-same test es e (ap (λ a. sends_invite a e.kind) was)) (invited-received (passed test es) x.phase e row invited is_row)
   invited-steps Received es e x y was invited (inr (none, same)) = rw (same, passed-same test es e (ap (λ a. sends_invite a e.kind) was)) invited
+  -- a sent INVITE adds its moment, and any other sent message none
   invited-steps Sent es e x y was invited emits =
       invited-emits (passed test es) (passed test (es ++ e ∷ [])) e x y
       (λ is_invite. passed-more test es e (ap (λ a. sends_invite a e.kind) was ∙ ap (sends_invite Sent) is_invite))
       (λ other. passed-same test es e (ap (λ a. sends_invite a e.kind) was ∙ not-an-invite e.kind other)) invited emits
   invited-steps Failed es e x y was invited fails =
       rw (passed-same test es e (ap (λ a. sends_invite a e.kind) was)) (invited-fails (invite.ends_refused x.phase e.kind) (passed test es) e x y refl invited fails)
+  -- a mark is no event, and a restart adds no moment
   invited-steps Mark es e x y was invited h = absurd h
   invited-steps Restart es e x y was invited (inl (idle, to)) =
       rw (to, passed-same test es e (ap (λ a. sends_invite a e.kind) was)) (subst (Invited (passed test es)) idle invited)
@@ -280,6 +282,7 @@ module _ (p : Times) where
   asked-steps Received es e x y was asked (inl (row, is_row, to)) =
       rw (to, passed-same test-plain es e (ap (λ a. sends_request a e.kind) was)) (asked-received (passed test-plain es) x.phase e.kind e row asked is_row)
   asked-steps Received es e x y was asked (inr (none, same)) = rw (same, passed-same test-plain es e (ap (λ a. sends_request a e.kind) was)) asked
+  -- a sent request adds its moment, and nothing else is sent
   asked-steps Sent es e x y was asked (inl (row, is_row, to)) =
       let sent = asked-sent (passed test-plain es) x.phase e.kind e row asked is_row in
       rw (to, passed-more test-plain es e (ap (λ a. sends_request a e.kind) was ∙ sent.0)) sent.1
@@ -287,6 +290,7 @@ module _ (p : Times) where
   asked-steps Sent es e x y was asked (inr (inr (stays, same))) = absurd stays
   asked-steps Failed es e x y was asked fails =
       rw (fails.1, passed-same test-plain es e (ap (λ a. sends_request a e.kind) was)) (asked-spaced (passed test-plain es) x.phase asked)
+  -- a mark is no event, and a restart adds no moment
   asked-steps Mark es e x y was asked h = absurd h
   asked-steps Restart es e x y was asked (inl (idle, to)) =
       rw (to, passed-same test-plain es e (ap (λ a. sends_request a e.kind) was)) (subst (Asked (passed test-plain es)) idle asked)

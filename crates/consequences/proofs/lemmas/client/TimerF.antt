@@ -126,10 +126,12 @@ module _ (p : Times) where
         by : WaitsBy moment row.0 ⊎ (IsSilent row.0 × Any (GetsResponse IsFinal) (es ++ e ∷ [])) → Asks (es ++ e ∷ []) e.moment y
         by (inl still) = inl (rw to still)
         by (inr done) = inr (rw to done.0, inr done.1)
+    -- a message without a row, and one that is sent, leave the client waiting
     waits-steps Received es e x y was waits (inr (none, same)) = inl (rw same waits)
     waits-steps Sent es e x y was waits (inl (row, is_row, to)) = inl (rw to (sent-still x.phase e.kind e row waits is_row))
     waits-steps Sent es e x y was waits (inr (inl (left, pays, to))) = absurd pays.holds.0
     waits-steps Sent es e x y was waits (inr (inr (stays, same))) = absurd stays
+    -- a refusal or a restart ends it
     waits-steps Failed es e x y was waits fails = inr (rw fails.1 tt, inl fails.1)
     waits-steps Mark es e x y was waits h = absurd h
     waits-steps Restart es e x y was waits (inl (idle, to)) = absurd (not-idle x.phase waits idle)

@@ -58,6 +58,7 @@ module _ (R : Receiving) (is : IsReceiving R) (p : Times) where
   unasked-emits e x owes y from never (inr (inr (stays, same))) = absurd stays
   unasked-emits e Idle owes y from never (inl (row, is_row, to)) = by (sends-idle p e.kind e row is_row)
     where
+      -- in idle an INVITE has a row, but none is sent here
       by : ((e.kind ≡ Request Invite) × (row ≡ (Calling (record { reliable = e.reliable; request = e.text; start = e.moment; set = e.moment; interval = p.t1 }), keeps)))
           ⊎ (¬ (e.kind ≡ Request Invite) × (row ≡ (Idle, keeps))) → IsUnasked y.phase
       by (inl (invite, leads)) = absurd (never invite)
@@ -81,6 +82,7 @@ module _ (R : Receiving) (is : IsReceiving R) (p : Times) where
   unasked-steps Received e Ended owes y was from never (inl (row, is_row, to)) = absurd (is.ended p e.kind e row is_row)
   unasked-steps Received e x owes y was from never (inl row) = absurd from
   unasked-steps Received e x owes y was from never (inr (none, same)) = rw same from
+  -- what is sent or refused leads to idle or ended, and so does a restart
   unasked-steps Sent e x owes y was from never emits = unasked-emits e x owes y from (λ invite. never (was, invite)) emits
   unasked-steps Failed e x owes y was from never fails = unasked-fails (ends_refused x e.kind) e x owes y refl from fails
   unasked-steps Mark e x owes y was from never h = absurd h
@@ -307,12 +309,14 @@ module _ (R : Receiving) (is : IsReceiving R) (p : Times) where
       no-ack : ¬ (Request Invite ≡ Request Ack)
       no-ack is = cc
   invite-calls e x owes y invite began (inr (inr (stays, same))) = absurd stays
+  -- in idle the INVITE begins calling at its moment
   invite-calls e Idle owes y invite began (inl (row, is_row, to)) = by (sends-idle p e.kind e row is_row)
     where
       by : ((e.kind ≡ Request Invite) × (row ≡ (Calling (record { reliable = e.reliable; request = e.text; start = e.moment; set = e.moment; interval = p.t1 }), keeps)))
           ⊎ (¬ (e.kind ≡ Request Invite) × (row ≡ (Idle, keeps))) → CallsBy e.moment y.phase
       by (inl leads) = rw (to, leads.1) (omega arith)
       by (inr leads) = absurd (leads.0 invite)
+  -- in calling it is sent again, and in no other phase is an INVITE sent
   invite-calls e (Calling w) owes y invite began (inl (row, is_row, to)) = rw (to, (sends-calling p w e.kind e row is_row).2) began
   invite-calls e (Proceeding reliable request cancel) owes y invite began (inl (row, is_row, to)) = absurd (no-cancel (sym invite ∙ (sends-proceeding p reliable request cancel e.kind e row is_row).0))
   invite-calls e (Accepted set) owes y invite began (inl (row, is_row, to)) = absurd (no-cancel (sym invite ∙ (sends-accepted p set e.kind e row is_row).0))
@@ -344,6 +348,7 @@ module _ (R : Receiving) (is : IsReceiving R) (p : Times) where
     waits-steps Received es e (Calling w) owes y was calls (inl (row, is_row, to)) = inr (inr (response-came es e w row was is_row))
     waits-steps Received es e x owes y was calls (inl row) = absurd calls
     waits-steps Received es e x owes y was calls (inr (none, same)) = inl (rw same calls)
+    -- what is sent leaves the client calling, and a refusal or a restart ends it
     waits-steps Sent es e x owes y was calls emits = inl (waits-emits e x owes y calls emits)
     waits-steps Failed es e x owes y was calls fails = waits-fails (ends_refused x e.kind) (es ++ e ∷ []) e x owes y calls fails
     waits-steps Mark es e x owes y was calls h = absurd h

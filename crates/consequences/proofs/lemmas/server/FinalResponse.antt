@@ -132,9 +132,11 @@ module _ {X : Type 0} (f : Figure X) (p : Times) (held : InviteServerPhase → X
         let (r, is_r, leads) = is.received x e.kind e row is_row in
         (r.0, changed p e.moment r.1 owes, led e owes row r y leads to, opens-received x e.kind r owes opens (received-row p x e.kind e r is_r))
     opens-steps Received x owes y was never opens (inr (none, same)) = (x, owes, same, opens-later es (e ∷ []) e.moment e.moment x owes (omega arith) opens)
+    -- what is sent or refused is no final response, and keeps Opens
     opens-steps Sent x owes y was never opens emits = opens-emits x owes y (inl was) never opens emits
     opens-steps Failed x owes y was never opens fails = opens-fails (f.ends_refused (held x) e.kind) x owes y refl (inr was) never opens fails
     opens-steps Mark x owes y was never opens h = absurd h
+    -- a restart leads to idle, where Opens holds
     opens-steps Restart x owes y was never opens (inl (idle, to)) = (Idle, [], rw (to, is.idle), refl)
     opens-steps Restart x owes y was never opens (inr (other, to)) = (Idle, [], rw (to, is.ended), refl)
 
@@ -257,6 +259,7 @@ module _ {X : Type 0} (f : Figure X) (p : Times) (held : InviteServerPhase → X
           by : ((r : Row) × corrected.Sends p x e.kind e r × (row ≡ (held r.0, r.1)))
               ⊎ ((reliable : Bool) × (set : ℕ) × (last : Option (List ℕ)) × (x ≡ Proceeding reliable set last) × ((code : ℕ) × (e.kind ≡ Response code) × IsSuccess code))
               → IsAllowed e × HoldsIn (Closes (es ++ e ∷ []) e.moment) y
+          -- a row of the corrected machine leads on; the other case is one before the final response
           by (inl (r, is_r, leads)) =
               let sends = closes-sent x e.kind r owes refl closes (sent-row p x e.kind e r is_r) in (sends.0, (r.0, changed p e.moment r.1 owes, led e owes row r y leads to, sends.1))
           by (inr (reliable, set, last, here, response)) = absurd (subst (λ z. Closes es e.moment z owes) here closes)
@@ -266,6 +269,7 @@ module _ {X : Type 0} (f : Figure X) (p : Times) (held : InviteServerPhase → X
       )
         where
           bytes : pays.first.message ≡ e.text
+          -- without a row a debt is paid, and all debts are allowed
           bytes = is.paid x e.kind e pays.first.message pays.holds.0
 
           -- the debt that is paid is the final response, or a provisional one that was owed before it
@@ -288,6 +292,7 @@ module _ {X : Type 0} (f : Figure X) (p : Times) (held : InviteServerPhase → X
           → Closes (es ++ e ∷ []) e.moment row.0 (changed p e.moment row.1 owes)
       closes-received _ _ _ owes was kind never closes (comes _) = absurd (never (was, kind) closes.1)
       closes-received _ _ _ owes was kind never closes (again _ reliable set last must) = absurd closes
+      -- an INVITE that comes again is owed the final response, which is allowed
       closes-received _ _ _ owes was kind never closes (again_after _ reliable message set repeat interval) = (
         closes.0,
         closes.1,
@@ -304,9 +309,11 @@ module _ {X : Type 0} (f : Figure X) (p : Times) (held : InviteServerPhase → X
           let (r, is_r, leads) = is.received x e.kind e row is_row in
           (r.0, changed p e.moment r.1 owes, led e owes row r y leads to, closes-received x e.kind r owes was refl never closes (received-row p x e.kind e r is_r))
       closes-steps Received x owes y was never closes (inr (none, same)) = (x, owes, same, closes-later es (e ∷ []) e.moment e.moment x owes (omega arith) closes)
+      -- what is sent or refused keeps Closes
       closes-steps Sent x owes y was never closes emits = (closes-emits x owes y closes emits).1
       closes-steps Failed x owes y was never closes fails = closes-fails (f.ends_refused (held x) e.kind) x owes y refl closes fails
       closes-steps Mark x owes y was never closes h = absurd h
+      -- after a restart Closes holds, since a restart has come
       closes-steps Restart x owes y was never closes (inl (idle, to)) = (Idle, [], rw (to, is.idle), (refl, inr (inr (any-last IsRestart es e was))))
       closes-steps Restart x owes y was never closes (inr (other, to)) = (Idle, [], rw (to, is.ended), (refl, inr (inr (any-last IsRestart es e was))))
 
@@ -327,6 +334,7 @@ module _ {X : Type 0} (f : Figure X) (p : Times) (held : InviteServerPhase → X
         by (inl late) =
             let last = All-last (λ g. ¬ (GetsRequest Ack g) × ¬ (IsRestart g) × (g.moment < open_at p final.moment (64 * p.t1))) es e lasting in
             absurd (omega (arith, late, last.2))
+        -- no ACK has come, and no restart
         by (inr (inl came)) =
             any-none (GetsRequest Ack) es (All-weaker (λ g. ¬ (GetsRequest Ack g) × ¬ (IsRestart g) × (g.moment < open_at p final.moment (64 * p.t1))) (λ g. ¬ (GetsRequest Ack g)) (λ g all. all.0) es
             (All-front (λ g. ¬ (GetsRequest Ack g) × ¬ (IsRestart g) × (g.moment < open_at p final.moment (64 * p.t1))) es (e ∷ []) lasting)) came
@@ -410,6 +418,7 @@ module _ {X : Type 0} (f : Figure X) (p : Times) (held : InviteServerPhase → X
         final-steps x y (phase, owes, same, opens) take = by is_final.0
           where
             by : IsOut final → HoldsIn (Closes [] final.moment) y
+            -- the final response is sent, or refused
             by (inl sent) =
                 final-emits phase (left_at final (record { phase = held phase; owes = owes })) y (opens-left before final final.moment phase (record { phase = held phase; owes = owes }) opens)
                 (step-of f p Sent final (record { phase = held phase; owes = owes }) y sent (subst (λ w. Takes f p w final y) same take))
@@ -425,6 +434,7 @@ module _ {X : Type 0} (f : Figure X) (p : Times) (held : InviteServerPhase → X
             by-cut (cut f p (quiet f.idle) 0 before final after e.moment x (stands-run f p (before ++ final ∷ after) e.moment x stands))
           where
             by : HoldsIn (Closes after e.moment) x → IsAllowed e
+            -- after the final response no event was one that begins anew, so Closes still holds at this event
             by (phase, owes, same, closes) =
                 let z : Owing X = record { phase = held phase; owes = owes } in
                 (closes-emits after e phase (left_at e z) y

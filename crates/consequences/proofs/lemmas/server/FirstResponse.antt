@@ -45,6 +45,7 @@ module _ {X : Type 0} (f : Figure X) (p : Times) (held : InviteServerPhase → X
   is-response _ _ _ _ (provisional _ r s last code is_provisional) reliable set here = (code, refl, (is_provisional.0, omega (arith, is_provisional.1)))
   is-response _ _ _ _ (success _ r s last code is_success) reliable set here = (code, refl, (omega (arith, is_success.0), omega (arith, is_success.1)))
   is-response _ _ _ _ (unsuccessful _ r s last code is_unsuccessful) reliable set here = (code, refl, (omega (arith, is_unsuccessful.0), is_unsuccessful.1))
+  -- in accepted and completed a response was sent before
   is-response _ _ _ _ (success_again _ s code is_success) reliable set here = absurd (other here)
     where
       other : ¬ (Accepted s ≡ Proceeding reliable set None)
@@ -62,11 +63,13 @@ module _ {X : Type 0} (f : Figure X) (p : Times) (held : InviteServerPhase → X
       by : ((r : Row) × corrected.Sends p (Proceeding reliable invite.moment None) e.kind e r × (row ≡ (held r.0, r.1)))
           ⊎ ((r : Bool) × (set : ℕ) × (last : Option (List ℕ)) × (Proceeding reliable invite.moment None ≡ Proceeding r set last) × ((code : ℕ) × (e.kind ≡ Response code) × IsSuccess code))
           → Any (InTime (SendsResponse IsAnyCode)) (es ++ e ∷ [])
+      -- the row is one of proceeding, so what it sends is a response
       by (inl (r, is_r, leads)) =
           any-last (InTime (SendsResponse IsAnyCode)) es e
           ((out, is-response (Proceeding reliable invite.moment None) e.kind e r (sent-row p (Proceeding reliable invite.moment None) e.kind e r is_r) reliable invite.moment refl), low)
       by (inr (r, set, last, here, (code, kind, is_success))) =
           any-last (InTime (SendsResponse IsAnyCode)) es e ((out, (code, kind, (omega (arith, is_success.0), omega (arith, is_success.1)))), low)
+  -- nothing is owed that could be paid, and nothing stays by itself
   sends reliable es e y low out (inr (inl (left, pays, to))) = absurd (nothing-to-pay _ left pays)
   sends reliable es e y low out (inr (inr (stays, same))) = absurd (is.unmoved (Proceeding reliable invite.moment None) e.kind stays)
 

@@ -42,6 +42,7 @@ is-server-6026 p = record {
   ended = refl;
   received = λ x k e y h. (y, h, refl);
   sent = λ x k e y h. inl (y, h, refl);
+  -- what pays a debt has its bytes, and a refusal counts as sent
   paid = paid-6026;
   unmoved = λ x k h. h;
   undaunted = λ x k. refl;
@@ -83,6 +84,7 @@ is-server-3261 p = record {
   ended = refl;
   received = λ x k e y h. h;
   sent = sent-3261 p;
+  -- what pays a debt has its bytes, and a refusal counts as sent
   paid = paid-3261;
   unmoved = unmoved-3261;
   undaunted = λ x k. refl;
@@ -110,6 +112,7 @@ received-row p (Proceeding reliable set (Some last)) (Request Invite) e row (inl
     subst (ReceivedRow (Proceeding reliable set (Some last)) (Request Invite) e) (sym h.1) (again e reliable set last true)
 received-row p (Proceeding reliable set (Some last)) (Request Invite) e row (inr h) =
     subst (ReceivedRow (Proceeding reliable set (Some last)) (Request Invite) e) (sym h.1) (again e reliable set last false)
+-- an INVITE that comes again in proceeding or completed is owed the last response, and an ACK confirms
 received-row p (Proceeding reliable set None) k e row h = absurd h
 received-row p (Completed reliable final set repeat interval) (Request Invite) e row h =
     subst (ReceivedRow (Completed reliable final set repeat interval) (Request Invite) e) (sym h) (again_after e reliable final set repeat interval)

@@ -102,6 +102,7 @@ module _ (p : Times) where
     received (Proceeding reliable last) (Request method) row owes sorted (inl h) =
         let later = sorted-later es (e ∷ []) (Proceeding reliable last) owes sorted in
         rw h.1 (later.0, All-push (IsTold Now) owes _ later.1 (λ must. h.0, λ may. absurd (yes-must may), later.0))
+    -- a 100 need not be sent again, and the final response must
     received (Proceeding reliable last) (Request method) row owes sorted (inr h) =
         let later = sorted-later es (e ∷ []) (Proceeding reliable last) owes sorted in
         rw h.1 (later.0, All-push (IsTold Now) owes _ later.1 (λ must. absurd (no-must must), λ may. h.0, later.0))

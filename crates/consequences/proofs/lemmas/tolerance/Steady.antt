@@ -50,6 +50,7 @@ module _ (p : Times) (early late : ℕ) (earlier : p.early ≤ early) (later : p
   client-sent client.Idle (Request Ack) e row h = h
   client-sent client.Idle (Request Cancel) e row h = h
   client-sent (client.Calling w) (Request Invite) e row h = (retransmits w.reliable w.request w.set w.interval e h.0, h.1)
+  -- the rows of a CANCEL do not speak of times
   client-sent (client.Proceeding reliable request None) (Request Cancel) e row h = h
   client-sent (client.Proceeding reliable request (Some first)) (Request Cancel) e row h = h
   client-sent (client.Accepted set) (Request Cancel) e row h = h

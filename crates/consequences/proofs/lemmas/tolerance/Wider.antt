@@ -125,6 +125,7 @@ from-without : (P : Owed → Type 0) (os left : List Owed) → Without P os left
 from-without P _ _ (here o os holds) = record { before = []; first = o; after = os; whole = refl; holds = holds; none_before = All-nil (λ o. ¬ (P o)); rest = refl }
 from-without P _ _ (passes o os left never rest) =
     let more = from-without P os left rest in
+    -- the first debt of which P holds is that of the rest
     record {
       before = o ∷ more.before;
       first = more.first;
@@ -156,12 +157,15 @@ module _ (S : List ℕ → Type 0) (t : ℕ) where
       → All (λ n. n.must ≡ false → Dec (S n.message)) ns → ((n : Owed) → Contains ns n → n.must ≡ false → S n.message → All (λ k. S k.message → k.must ≡ false) ns)
       → (others : List Owed) × Without Pays ns others × Later left others
   also-pays _ left _ without nothing fresh opens tell apart = elim without [ ]
+  -- the first debts of both lists are alike, and the send pays the first one
   also-pays _ _ _ (here o os pays) (both o' n os' ns message must deadline rest) fresh opens tell apart =
       let low = pays.1 in (ns, here n ns (subst S (sym message) pays.0, omega (arith, low, deadline)), rest)
+  -- the send pays a later debt of both lists
   also-pays _ _ _ (passes o os left never without) (both o' n os' ns message must deadline rest) fresh opens tell apart =
       let more = also-pays os left ns without rest (All-tail (λ o. t ≤ o.deadline) o os fresh) (All-tail (λ n. t ≤ n.deadline) n ns opens) (All-tail (λ n. n.must ≡ false → Dec (S n.message)) n ns tell)
       (λ k among may pays. All-tail (λ j. S j.message → j.must ≡ false) n ns (apart k (Contains-there n ns k among) may pays)) in
       (n ∷ more.0, passes n ns more.0 (λ pays. never (subst S message pays.0, All-head (λ o. t ≤ o.deadline) o os fresh)) more.1, both o n left more.0 message must deadline more.2)
+  -- the second list has a debt more, which the send may satisfy
   also-pays os left _ without (extra n os' ns may rest) fresh opens tell apart = by (All-head (λ n. n.must ≡ false → Dec (S n.message)) n ns tell may) (also-pays os left ns without rest fresh
       (All-tail (λ n. t ≤ n.deadline) n ns opens) (All-tail (λ n. n.must ≡ false → Dec (S n.message)) n ns tell)
       (λ k among may pays. All-tail (λ j. S j.message → j.must ≡ false) n ns (apart k (Contains-there n ns k among) may pays)))
@@ -280,9 +284,11 @@ module _ {X : Type 0} (f : Figure X) (p : Times) (early late : ℕ) (wider : p.l
       inr (λ w follows. none (record { phase = follows.0.0; owes = changed p e.moment follows.0.1 os }) (follows.0, steady.received_only phase e.kind e follows.0 follows.1, refl), refl),
       near (record { phase = phase; owes = os }) (record { phase = phase; owes = ns }) z same (refl, later),
     )
+    -- for a sent or refused message the states are near each other by the lemmas of what it does
     steps-near Sent z emits = emits-near z emits
     steps-near Failed z fails = fails-near (f.ends_refused phase e.kind) z fails
     steps-near Mark z h = absurd h
+    -- a restart leads both to the same state
     steps-near Restart z (inl (idle, to)) = (quiet f.idle, inl (idle, refl), near (quiet f.idle) (quiet f.idle) z to (refl, nothing))
     steps-near Restart z (inr (other, to)) = (quiet f.ended, inr (other, refl), near (quiet f.ended) (quiet f.ended) z to (refl, nothing))
 

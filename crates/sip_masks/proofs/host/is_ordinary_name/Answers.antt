@@ -40,6 +40,7 @@ returns-then-bad-eq0 c =
     let room : 32 ≤ length w = omega (arith, c.if-window-lt-LONGEST.false) in
     let small : len ≤ 32 = omega (arith, c.if-len-gt-LONGEST.false) in
     let same = λ (i : ℕ) (h : i < 32). get_or-chunk 0 32 w i 0 h ∙ ap (λ n. get_or w n 0) (zero-add i) in
+    -- a letter begins the last label exactly if the name is good
     let letter =
     name-from w len c.beyond.result c.equal_to.result c.equal_to-2.result room (omega (arith, c.if-len-eq0.false)) small
     (λ i. (c.type_inv.window i).fits) (λ i h. prefix_len_passes is_plain w i 0 (omega (arith, h, c.requires)))
@@ -56,6 +57,7 @@ returns-else-bad-eq0 c =
     let room : 32 ≤ length w = omega (arith, c.if-window-lt-LONGEST.false) in
     let small : len ≤ 32 = omega (arith, c.if-len-gt-LONGEST.false) in
     let same = λ (i : ℕ) (h : i < 32). get_or-chunk 0 32 w i 0 h ∙ ap (λ n. get_or w n 0) (zero-add i) in
+    -- a good name would have no bad bit
     let none =
     none-bad w len c.beyond.result c.equal_to.result c.equal_to-2.result room (omega (arith, c.if-len-eq0.false)) small
     (λ i. (c.type_inv.window i).fits) (λ i h. prefix_len_passes is_plain w i 0 (omega (arith, h, c.requires)))
@@ -71,6 +73,7 @@ returns-then-len-eq0 c = (
   λ is.
       let w = c.args.window.now in
       let len = c.args.len in
+      -- the name is empty, longer than a window has, or at the end of the text
       elim c.then-len-eq0.branch [
         | then-len-eq0-via-then-len-eq0 e ↦
             let none : len ≡ 0 = omega (arith, e.if-len-eq0.true) in

@@ -19,6 +19,7 @@ loop-word-preserved c =
     let text = c.args.text.now in
     let l = c.loop-word in
     let room : 64 * (l.word + 1) ≤ length text = omega (arith, c.loop-word-test.true, l.invariant.2) in (
+      -- each mask is right with the new word, and as long as it was
       marks-more is_other text l.other l.word c.others.result (omega (arith, l.invariant.3, c.requires.0, room)) l.invariant.0 (λ i h. c.others.ensures i h ∙ ap is_other (get_or-chunk (64 * l.word) 64 text i 0 h)),
       marks-more is_control text l.control l.word c.controls-ends.result (omega (arith, l.invariant.4, c.requires.1, room)) l.invariant.1 (λ i h. c.controls-ends.ensures i h ∙ ap is_control (get_or-chunk (64 * l.word) 64 text i 0 h)),
       room,

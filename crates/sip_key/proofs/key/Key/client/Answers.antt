@@ -12,6 +12,7 @@ made : (c : In_ok-extend_from_slice) → let text = c.extend_from_slice.new.self
 made c =
     let branch = c.args.branch.now in
     let head = key_head Client (length branch) (length c.args.method.now) in
+    -- the role, the lengths and the branch, folded, stand before the method, with no sent-by
     let begun = c.fold.new.text.items in
     let begun_is : begun ≡ head ++ folded (branch ++ []) =
     c.fold.ensures ∙ ap folded (c.in_ok-text.ensures ∙ sym (append-nil (head ++ branch))) ∙ begun_folded Client (length branch) (length c.args.method.now) branch [] in

@@ -16,6 +16,7 @@ made c =
     let branch = c.args.branch.now in
     let host = c.args.host.now in
     let head = key_head Server (length branch) (length c.args.method.now) in
+    -- the role, the lengths, the branch and the host, folded, stand before the port and the method
     let begun = c.fold.new.text.items in
     let begun_is : begun ≡ head ++ folded (branch ++ host) =
     c.fold.ensures ∙ ap folded (c.in_ok-extend_from_slice.ensures.items ∙ ap (λ text. text ++ host) c.in_ok-text.ensures) ∙ begun_folded Server (length branch) (length c.args.method.now) branch host in

@@ -42,9 +42,11 @@ returns-then-is_newest-clause-first c =
     let key = c.args.key in
     let pairs = c.args.index.now in
     let message = c.in-Some.message in
+    -- what is owed of messages under the key from here on begins with this one
     let after = left-next g s c.args.account pairs key c.args.moment c.loop-step.from c.loop-step.first c.loop-step.invariant.0 message c.in-Some.ensures.found
     c.in-Some-message_from.left c.in-Some-message_from.ensures.found.0 c.in-Some-message_from.ensures.found.1 in
     let here = subst (λ n. IsFirstOf (entries_of g) owes (below pairs key n) c.args.moment c.loop-step.first) c.if-left-message.true after in
+    -- with the place that was found for this message the first of all up to it is known
     let more = one-more g s c.args.account pairs key c.args.moment message c.loop-step.first c.find-place.result c.in-Some.ensures.found.is here c.find-place.ensures.found c.find-place.ensures.none in
     rw c.sooner-first.ensures (newest-first g s c.args.account pairs key c.args.moment message c.requires.gained c.loop-step.first c.find-place.result c.find-place.ensures.found
     (rw c.if-is_newest.true at c.is_newest.ensures) more)
@@ -58,9 +60,11 @@ returns-then-gains-message-clause-first c =
     let key = c.args.key in
     let pairs = c.args.index.now in
     let message = c.in-Some.message in
+    -- what is owed of messages under the key from here on begins with this one
     let after = left-next g s c.args.account pairs key c.args.moment c.loop-step.from c.loop-step.first c.loop-step.invariant.0 message c.in-Some.ensures.found
     c.in-Some-message_from.left c.in-Some-message_from.ensures.found.0 c.in-Some-message_from.ensures.found.1 in
     let here = subst (λ n. IsFirstOf (entries_of g) owes (below pairs key n) c.args.moment c.loop-step.first) c.if-left-message.true after in
+    -- with the place that was found for this message the first of all up to it is known
     let more = one-more g s c.args.account pairs key c.args.moment message c.loop-step.first c.find-place.result c.in-Some.ensures.found.is here c.find-place.ensures.found c.find-place.ensures.none in
     rw c.sooner-first.ensures (highest-first g s c.args.account pairs key c.args.moment message c.requires.gained (sooner c.loop-step.first c.find-place.result) c.if-gains-message.true more)
 
@@ -76,6 +80,7 @@ loop-step-preserved c =
     let next = c.in-Some.ensures.found in
     let count = c.loop-step.invariant.1 in
     let found = c.in-Some-message_from.ensures.found.1 in
+    -- no message under the key was passed over on the way to the next one that is owed
     let after = left-next g s c.args.account pairs key c.args.moment c.loop-step.from c.loop-step.first c.loop-step.invariant.0 message next
     c.in-Some-message_from.left c.in-Some-message_from.ensures.found.0 found in
     elim c.if-left-message.branch [
@@ -84,6 +89,7 @@ loop-step-preserved c =
           let more = one-more g s c.args.account pairs key c.args.moment message c.loop-step.first w.find-place.result next.is here w.find-place.ensures.found w.find-place.ensures.none in
           let fewer = count_passed key c.loop-step.from (message + 1) message next.after (omega arith) pairs next.is in
           rw (w.first-is, w.sooner-first.ensures, w.from-is) (more, omega (arith, count, fewer))
+      -- the next message that is owed is a greater one, from which the search goes on
       | else-left-message w ↦
           let order = found.after.keys in
           let other = w.if-left-message.false in

@@ -18,6 +18,7 @@ loop-row-preserved c =
     let was = c.loop-row.invariant in
     let all = debts-count c.args.gains.now c.args.strikes.now.items c.args.rows.now.items c.len-row-end.result (c.len-row-end.ensures ∙ c.args.rows.now.ok.0) in
     let low = was.low in
+    -- the row has gained the debt, and the rows before it have it still
     record {
       low = omega (arith, low);
       near = c.in_ok-place.ensures.next.gain;

@@ -17,6 +17,7 @@ loop-at-preserved c =
     let at = c.loop-at.at in
     let inside : at < length rows = omega arith in
     let within = c.loop-at.invariant.0 in
+    -- a row that owes something may start earlier, and any other is passed over
     elim c.if-row.branch [
       | then-row w ↦
           let least = w.min-first.ensures in

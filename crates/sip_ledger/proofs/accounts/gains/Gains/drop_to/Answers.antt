@@ -12,6 +12,7 @@ returns c =
     let long = c.requires.gained.long in
     let from = c.requires.from in
     let count = c.args.place - (g.end - c.len.result) in
+    -- the gains and their flags are those from the place on
     let here : count + (g.end - length g.entries.items) ≡ c.args.place = omega (arith, len, long, from) in
     let all = gains-dropped g new c.args.place count c.requires.gained here c.requires.within c.drop_first.ensures refl refl refl refl refl c.requires.none
     (flags-dropped g new c.args.place count c.requires.gained.flags long here c.requires.within c.drop_first.ensures c.drop_first-2.ensures refl) in

@@ -10,6 +10,7 @@ returns c =
     let place = c.args.place in
     let len : c.len.result ≡ length g.entries.items = c.len.ensures ∙ g.entries.ok.0 in
     let messages = rw c.entry-message.ensures at c.take.ensures in
+    -- the place stands no more among those that must be sent
     let must : holds c.take-2.new.self 0 place ≡ false =
     c.take-2.ensures 0 place ∙ ap (λ b. cond (0 == 0 && b) false (holds g.musts 0 place)) (eq-eqb place place refl) in
     let all = gains-let_go g _ place c.requires.gained refl refl refl refl messages c.take-2.ensures

@@ -98,6 +98,7 @@ Begins-log input format p items rest is =
     let (more, end, follow) = Follow-some format (length items) (last_of 0 items) rest in
     let spelled = follow-spelled format (length items) (last_of 0 items) rest more end is.few follow in
     let long : length items + length more ≡ length (items ++ more) = sym (length-append items more) in
+    -- the input is the header, the spelling of these items and of those that follow, and what is left
     let texts : flat_map entry_says items ++ rest ≡ flat_map entry_says (items ++ more) ++ spelled.left =
     ap (λ (t : List ℕ). flat_map entry_says items ++ t) spelled.whole ∙ sym (append_assoc (flat_map entry_says items) (flat_map entry_says more) spelled.left)
     ∙ ap (λ (t : List ℕ). t ++ spelled.left) (sym (flat_map-append items more)) in (
@@ -106,6 +107,7 @@ Begins-log input format p items rest is =
       record {
         format = format;
         rest = spelled.left;
+        -- these and those that follow are few enough and in order, and the end comes after them
         header = subst (Header format p input) texts is.header;
         few = omega (arith, spelled.few, long);
         order = InOrder-append format 0 items more is.order spelled.order;
@@ -144,6 +146,7 @@ module _ (start left : Option (List ℕ)) (before after : Bool) where
       record {
         on = on;
         times = times;
+        -- nothing was read yet, and what was left then is still left
         count = ap (λ (x : ProgressState). x.count) is;
         last = ap (λ (x : ProgressState). x.last) is;
         fine = says.0;
@@ -283,10 +286,12 @@ module _ (start : Option (List ℕ)) (items : List Item) (old new : ReaderState)
   stops-at fresh e at on h steps =
       FailsAs-map old.has_failed new.has_failed _ _ e
       (λ fault says. stops-first new.times start fault h.0 (subst (λ o. IfSome o (λ xs. ComesFirst new.format new.times xs (stops fault))) h.1 (subst (λ s. IfSome old.left (λ xs. Comes s old new xs (stops fault))) at says))) steps.says
+  -- where an entry was to come, the fault is that of what comes next
   stops-at entries e at on h steps =
       let same = same-times old.times h.0 steps.kept in
       FailsAs-map old.has_failed new.has_failed _ _ e
       (λ fault says. stops-next new.times start fault h.1 h.2 (subst (λ t. HasRead start old.format t items old.left) (sym same) h.0) (subst (λ s. IfSome old.left (λ xs. Comes s old new xs (stops fault))) at says)) steps.says
+  -- after the end or a failure the reader does not go on
   stops-at ended e at on h again = absurd (elim on as (λ _. ⊥) [ inl is ↦ cc | inr is ↦ cc ])
   stops-at failed e at on h again = absurd (elim on as (λ _. ⊥) [ inl is ↦ cc | inr is ↦ cc ])
 

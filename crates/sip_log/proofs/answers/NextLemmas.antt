@@ -99,6 +99,7 @@ message-line-told format last line action moment len behind next other is (inl (
 message-line-told format last line action moment len behind next other is (inr (inside, inl (early, same))) =
     let w = message-within action moment len inside in
     inl (faults.Order, same, inr (action, moment, len, message-of format action other, is, inr ((λ none. none w), inl (not_above last moment early, refl))))
+-- within the limits and in order, the message or its fault comes after the line
 message-line-told format last line action moment len behind next other is (inr (inside, inr (order, at))) =
     go (message-told action moment len behind next other at)
   where
@@ -131,6 +132,7 @@ plain-line-told format last line action moment behind next none of is (inl (outs
     inl (faults.Limit, same, inr (action, moment, 0, of, is, inl ((λ w. outside w.0), refl)))
 plain-line-told format last line action moment behind next none of is (inr (inside, inl (early, same))) =
     inl (faults.Order, same, inr (action, moment, 0, of, is, inr ((λ out. out (inside, (λ has. absurd (none has)))), inl (not_above last moment early, refl))))
+-- within the limits and in order, the entry is the line alone
 plain-line-told format last line action moment behind next none of is (inr (inside, inr (order, same))) =
     inr (
       record { action = action; moment = moment; text = [] },

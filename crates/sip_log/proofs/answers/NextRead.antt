@@ -99,6 +99,7 @@ line-lacks action moment len low small = elim (message-or-not action) as (λ _. 
             (subst (λ (t : List ℕ). Lacks line_feed (decimal moment ++ t)) (sym text) (Lacks-append line_feed (decimal moment) [] (lacks-decimal moment low) (Lacks-word line_feed [] refl)))),
         omega (arith, length-append (decimal moment) (length_text action len), ap length text, size),
       )
+  -- the length of a message has at most five digits
   | inl has ↦
       let far = small has in
       let digits = length-decimal-le 5 len (omega arith) (omega arith) (omega arith) in
@@ -126,6 +127,7 @@ entry-read format last rest e behind whole order entry =
       line,
       body_says e.action e.text ++ behind,
       record { whole = split; first = fits.0.nowhere; short = fits.1 },
+      -- without a message the line is the whole entry
       elim (message-or-not e.action) [
         | inr none ↦
             let text = entry.2 none in
@@ -134,6 +136,7 @@ entry-read format last rest e behind whole order entry =
               plain-read format line e.action e.moment (length e.text) fits.1 none entry.0 refl,
               inr (entry.1.0, inr (order, (λ i. gives (record { action = e.action; moment = e.moment; text = text i }) behind) ∙ ap (gives (record { action = e.action; moment = e.moment; text = [] })) (sym (ap (λ (t : List ℕ). t ++ behind) (body-plain e.action e.text none))))),
             )
+        -- with a message its bytes and a line feed come after the line
         | inl has ↦
             inr (
               message e.action e.moment (length e.text),

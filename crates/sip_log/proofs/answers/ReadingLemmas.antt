@@ -81,6 +81,7 @@ Says-headed old mid new before between after format p (Ok a) first says = (says.
   where
     value : (o : Option (List ℕ)) → IfSome o (λ xs. (ys : List ℕ) × (mid ≡ Some ys) × read.HeaderComes xs (gives (format, p) ys)) → IfSome mid (λ xs. (zs : List ℕ) × (new ≡ Some zs) × entry.EntryComes format 0 0 xs (next_of a zs))
         → IfSome o (λ xs. (zs : List ℕ) × (new ≡ Some zs) × ComesFirst format (Some p) xs (next_of a zs))
+    -- what comes by the entry after the header comes first in the input
     value None is behind = tt
     value (Some xs) is behind =
         let h = subst (λ o. IfSome o (λ xs. (zs : List ℕ) × (new ≡ Some zs) × entry.EntryComes format 0 0 xs (next_of a zs))) is.1 behind in
@@ -135,6 +136,7 @@ module _ (old new : ProgressState) (left left2 : Option (List ℕ)) (before afte
       subst (λ s. NextsAt s (beside_source old left before) (beside_source new left2 after) r) (sym stage) (record {
         moves = moves;
         times = always r (IsSome new.times) (subst IsSome (sym same) times);
+        -- where entries are read, what comes by the reader comes next in what is unread
         kept = keeps old.times new.times old.format new.format same format;
         says = subst (λ s. TellsWhatComes (prepend_known old.held left) (prepend_known new.held left2) before after (Comes s (beside_source old left before) (beside_source new left2 after)) next_of r) (sym stage)
             (subst (λ h. TellsWhatComes (prepend_known h left) (prepend_known new.held left2) before after (ComesNext old.format old.count old.last) next_of r) (sym held)
@@ -152,6 +154,7 @@ module _ (old new : ProgressState) (left left2 : Option (List ℕ)) (before afte
         moves = moves;
         times = always r (IsSome new.times) (subst IsSome (sym times) refl);
         kept = subst (λ o. IfSome o (λ p. (new.times ≡ Some p) × (new.format ≡ old.format))) (sym none) tt;
+        -- the header, and then what comes by the entry, come first in what is unread
         says = subst (λ s. TellsWhatComes (prepend_known old.held left) (prepend_known new.held left2) before after (Comes s (beside_source old left before) (beside_source new left2 after)) next_of r) (sym stage)
             (subst (λ h. TellsWhatComes (prepend_known h left) (prepend_known new.held left2) before after (ComesFirst new.format new.times) next_of r) (sym held)
             (subst (λ t. TellsWhatComes (unread window left) (prepend_known new.held left2) before after (ComesFirst new.format t) next_of r) (sym times)
@@ -170,6 +173,7 @@ module _ (old new : ProgressState) (left left2 : Option (List ℕ)) (before afte
         moves = (ended, same_count, same_last);
         times = tt;
         kept = subst (λ o. IfSome o (λ p. (new.times ≡ Some p) × (new.format ≡ old.format))) (sym none) tt;
+        -- the fault of the header comes first in what is unread
         says = subst (λ s. TellsWhatComes {A = Option Entry} (prepend_known old.held left) (prepend_known new.held left2) before after (Comes s (beside_source old left before) (beside_source new left2 after)) next_of (Err e)) (sym stage)
             (subst (λ h. TellsWhatComes {A = Option Entry} (prepend_known h left) (prepend_known new.held left2) before after (ComesFirst new.format new.times) next_of (Err e)) (sym held)
             (subst (λ t. TellsWhatComes {A = Option Entry} (unread window left) (prepend_known new.held left2) before after (ComesFirst new.format t) next_of (Err e)) (sym no_times)

@@ -47,6 +47,7 @@ module _ {B : Type 0} {held held2 : List ℕ} {left left2 : Option (List ℕ)} {
         let behind = known rest left2 ys (λ xs. (zs : List ℕ) × (new ≡ Some zs) × Q xs (seen a zs)) is says.1 in
         (behind.0, behind.1, step ys (seen a behind.0) is behind.2)),
   )
+  -- each fault of the log is told as it was, and so is a failed source
   Says-step rest new after Q seen (Err errors.Header) step says = Says-behind rest after Q faults.Header step says
   Says-step rest new after Q seen (Err errors.EntryLine) step says = Says-behind rest after Q faults.EntryLine step says
   Says-step rest new after Q seen (Err errors.Truncated) step says = Says-behind rest after Q faults.Truncated step says

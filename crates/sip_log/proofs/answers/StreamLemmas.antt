@@ -71,6 +71,7 @@ module _ (start : Option (List ℕ)) (p : Times) (items : List Item) (old new : 
       let is = steps (Ok (Some e)) nexts in
       let same = kept (Ok (Some e)) is in
       let says = subst (λ s. IfSome old.left (λ xs. (ys : List ℕ) × (new.left ≡ Some ys) × Comes s old new xs (gives (item e) ys))) has.on is.says.1 in
+      -- the reader has its entry behind it, and its times are the same
       record {
         on = is.moves.0;
         times_are = same.0;
@@ -114,6 +115,7 @@ streamed_log start p items now has = go start has.starts
     go (Some input) (rest, left, is) =
         let (more, end, follow) = follows_some now.format (last_of 0 items) rest in
         let spelled = follows_spelled now.format (last_of 0 items) rest more end follow in
+        -- the input is the header, the spelling of these items and of those that follow, and what is left
         let texts : flat_map entry_says items ++ rest ≡ flat_map entry_says (items ++ more) ++ spelled.left =
         ap (λ (t : List ℕ). flat_map entry_says items ++ t) spelled.whole ∙ sym (append_assoc (flat_map entry_says items) (flat_map entry_says more) spelled.left)
         ∙ ap (λ (t : List ℕ). t ++ spelled.left) (sym (flat_map-append items more)) in (
@@ -122,6 +124,7 @@ streamed_log start p items now has = go start has.starts
           record {
             format = now.format;
             rest = spelled.left;
+            -- these and those that follow are in order, and the end comes after them
             header = subst (Header now.format p input) texts is.header;
             order = InOrder-append now.format 0 items more is.order spelled.order;
             next = subst (λ m. EndsWith now.format 0 m spelled.left end) (sym (last_of-append 0 items more)) spelled.next;

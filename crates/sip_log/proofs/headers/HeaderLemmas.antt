@@ -151,6 +151,7 @@ within-cut_times p is = record {
   t1_high = omega (arith, is.t1_high);
   t2_low = omega (arith, is.t2_low);
   t2_high = omega (arith, is.t2_high);
+  -- the tolerances have only a greatest value
   t4_low = omega (arith, is.t4_low);
   t4_high = omega (arith, is.t4_high);
   early_high = omega (arith, is.early_high);

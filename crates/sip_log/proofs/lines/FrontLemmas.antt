@@ -30,6 +30,7 @@ module _ (most : ℕ) (held ys : List ℕ) where
       let len : length (held ++ ys) ≡ length line + length (line_feed ∷ behind) = ap length whole ∙ length-append line (line_feed ∷ behind) in
       let inside : length line < length held = inside-held enough len short in
       let low : length line < length front = omega (arith, length-take most held) in
+      -- a line feed stands at the end of that line, within the first `most` bytes
       let here : get_or front (length line) 0 ≡ line_feed =
       get_or-take most held (length line) 0 short ∙ sym (get_or-append held ys 0 (length line) inside)
       ∙ ap (λ (t : List ℕ). get_or t (length line) 0) whole ∙ get_or-append_seam line line_feed behind 0 in

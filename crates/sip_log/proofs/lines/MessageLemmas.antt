@@ -16,6 +16,7 @@ module _ (action : Action) (moment len : ℕ) (held ys : List ℕ) where
   AtMessage-held inside next close = inr (
     omega (arith, length-append held ys),
     (
+      -- the message, the byte after it and what follows them are what is held and what is left
       take len held,
       get_or held len 0,
       drop (len + 1) held ++ ys,

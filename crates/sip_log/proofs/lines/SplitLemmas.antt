@@ -64,6 +64,7 @@ first-cut m xs k (before, here) =
     let inside : k < length xs = before.high in
     let byte : get_or xs k 0 ≡ m = eqb-true _ m here in
     let parts : drop k xs ≡ m ∷ drop (k + 1) xs = drop-cons xs k 0 inside ∙ ap (λ x. x ∷ drop (suc k) xs) byte ∙ ap (λ (n : ℕ). m ∷ drop n xs) (sym (add-one k)) in
+    -- the list is what stands before, m and the rest, and m stands nowhere before
     record {
       whole = sym (take-append-drop k xs) ∙ ap (λ (t : List ℕ). take k xs ++ t) parts;
       first = record {
@@ -103,6 +104,7 @@ pub first-of-front : (m most : ℕ) (xs : List ℕ) (k : ℕ) → IsFirstByte (i
 first-of-front m most xs k (before, here) =
     let inside : k < length (take most xs) = before.high in
     let len = length-take most xs in
+    -- each place of the front has the element of the whole list
     let at : (j : ℕ) → j < k + 1 → get_or (take most xs) j 0 ≡ get_or xs j 0 = λ j low. get_or-take most xs j 0 (omega arith) in (
       record {
         low = before.low;
@@ -117,12 +119,14 @@ pub part-one : (m : ℕ) (front back front2 back2 : List ℕ) → Lacks m front 
     → front ++ back ≡ front2 ++ back2 → (front ≡ front2) × (back ≡ back2)
 part-one m front back front2 back2 lacks lacks2 (inl none) (inl none2) same =
     (sym (append-nil front) ∙ ap (λ (t : List ℕ). front ++ t) (sym none) ∙ same ∙ ap (λ (t : List ℕ). front2 ++ t) none2 ∙ append-nil front2, none ∙ sym none2)
+-- only one of the two parts goes on to an m: then the other part would have that m too
 part-one m front back front2 back2 lacks lacks2 (inl none) (inr more2) same =
     absurd (Lacks-cut m front front2 more2.0 lacks
     (sym (append-nil front) ∙ ap (λ (t : List ℕ). front ++ t) (sym none) ∙ same ∙ ap (λ (t : List ℕ). front2 ++ t) more2.1))
 part-one m front back front2 back2 lacks lacks2 (inr more) (inl none2) same =
     absurd (Lacks-cut m front2 front more.0 lacks2
     (sym (append-nil front2) ∙ ap (λ (t : List ℕ). front2 ++ t) (sym none2) ∙ sym same ∙ ap (λ (t : List ℕ). front ++ t) more.1))
+-- both go on to their first m, which is the same one
 part-one m front back front2 back2 lacks lacks2 (inr more) (inr more2) same =
     let cut = cut-one m front more.0 front2 more2.0 lacks lacks2
     (ap (λ (t : List ℕ). front ++ t) (sym more.1) ∙ same ∙ ap (λ (t : List ℕ). front2 ++ t) more2.1) in

@@ -13,6 +13,7 @@ grown xs ys start end k n ordered within fits =
     let len : length held ≡ end - start = omega (arith, length-drop start (take end xs)) in
     let sum : end + n - start ≡ (end - start) + n = omega arith in
     let parts : end ≡ start + (end - start) = omega arith in
+    -- the window held what stands from its start to its end
     let same : held ≡ take (end - start) (drop start xs) = ap (λ j. drop start (take j xs)) parts ∙ drop-take start (end - start) xs in
     let after = ys ++ post_of end k xs in
     ap (take (end + n - start)) (drop-append-le start (take end xs) after (omega arith))

@@ -103,6 +103,7 @@ numbers-or-not text = elim (cut-or-lacks space text) [
   | inr lacks ↦ inr (λ moment len is. Lacks-cut space text is.moment_text is.len_text lacks is.whole)
   | inl at ↦ elim (number-or-not at.0) [
     | inr other ↦ inr (λ moment len is. other moment (Numbers-parts text at.0 at.1 moment len at.2 is).0)
+    -- what stands before the blank is a number, and what stands after it is one or none
     | inl first ↦ elim (number-or-not at.1) [
       | inr other ↦ inr (λ moment len is. other len (Numbers-parts text at.0 at.1 moment len at.2 is).1)
       | inl second ↦ inl (first.0, second.0, Numbers-of text at.0 at.1 first.0 second.0 at.2 first.1 second.1)
@@ -139,16 +140,19 @@ action-or-not format b = elim (cases_eq b (letter Sent)) [
   | inl is ↦ inl (Sent, (λ same. cc), is)
   | inr sent ↦ elim (cases_eq b (letter Received)) [
     | inl is ↦ inl (Received, (λ same. cc), is)
+    -- neither sent nor received
     | inr received ↦ elim (cases_eq b (letter Failed)) [
       | inl is ↦ inl (Failed, (λ same. cc), is)
       | inr failed ↦ elim (cases_eq b (letter Mark)) [
         | inl is ↦ inl (Mark, (λ same. cc), is)
+        -- neither of these nor a mark
         | inr mark ↦ elim (cases_eq b (letter Restart)) [
           | inl is ↦ restart-or-not format b sent received failed mark is
           | inr restart ↦ inr (λ a. elim a as (λ a. IsOf format a → b ≢ letter a) [
             | Sent ↦ λ of. sent
             | Received ↦ λ of. received
             | Failed ↦ λ of. failed
+            -- none of the five letters
             | Mark ↦ λ of. mark
             | Restart ↦ λ of. restart
           ])
@@ -174,6 +178,7 @@ lettered-or-not format action text of = elim (message-or-not action) as (λ _. H
     | inl is ↦ inl (message action is.0 is.1, (text, has, is.2, refl))
     | inr none ↦ inr (HeadLine-no_numbers format (letter action ∷ space ∷ text) action has refl none)
   ]
+  -- without a message a moment alone stands after the letter
   | inr lacks ↦ elim (number-or-not text) as (λ _. HeadOrNot format (letter action ∷ space ∷ text)) [
     | inl is ↦ inl (plain action is.0, (text, lacks, of, is.1, refl))
     | inr none ↦ inr (HeadLine-no_number format (letter action ∷ space ∷ text) action lacks refl none)
@@ -250,6 +255,7 @@ line-some format last rest = elim (front-or-not rest) [
   | inr none ↦
       let next = Unless-some (longest_line ≤ length rest) faults.Truncated (λ next. next ≡ stops faults.EntryLine) (at_most longest_line (length rest)) (λ long. (stops faults.EntryLine, refl)) in
       (next.0, inl (none, next.1))
+  -- the front line is no line of an entry, or it is one: then its limits, its order and its message are looked at
   | inl front ↦ elim (head-or-not format front.0) [
     | inr none ↦ (stops faults.EntryLine, inr (front.0, front.1, front.2, inl (none, refl)))
     | inl head ↦
@@ -355,6 +361,7 @@ last-or-not word text = elim (number_after-or-not word text) as (λ _. LastOrNot
   | inr none ↦ inr (λ n is. none n [] is)
   | inl is ↦ ends-here is.0 is.1 is.2
 ]
+  -- the number that follows the word ends the text, or something is left after it
   where
     ends-here : (n : ℕ) (behind : List ℕ) → NumberAfter word text n behind → LastOrNot word text
     ends-here n [] is = inl (n, is)
@@ -373,6 +380,7 @@ tolerances-or-not One text = elim (last-or-not (codes " tolerance ") text) as (�
   | inl is ↦ inl (is.0, is.0, (is.1, refl))
   | inr none ↦ inr (λ early late is. none late is.0)
 ]
+-- format 2 has two tolerances, one after the other
 tolerances-or-not Two text = elim (number_after-or-not (codes " early ") text) as (λ _. TolerancesOrNot Two text) [
   | inr none ↦ inr (λ early late is. none early is.0 is.1)
   | inl early ↦ elim (last-or-not (codes " late ") early.1) as (λ _. TolerancesOrNot Two text) [
@@ -392,10 +400,12 @@ times-or-not format line = elim (number_after-or-not (codes "t1 ") line) as (λ 
   | inr none ↦ inr (λ p is. none _ _ is.t1_is)
   | inl t1 ↦ elim (number_after-or-not (codes " t2 ") t1.1) as (λ _. TimesOrNot format line) [
     | inr none ↦ inr (λ p is. none _ _ (t2-after format line p is t1.0 t1.1 t1.2))
+    -- after t2 comes t4, and then the tolerances
     | inl t2 ↦ elim (number_after-or-not (codes " t4 ") t2.1) as (λ _. TimesOrNot format line) [
       | inr none ↦ inr (λ p is. none _ _ (t4-after format line p is t1.0 t1.1 t1.2 t2.0 t2.1 t2.2))
       | inl t4 ↦ elim (tolerances-or-not format t4.1) as (λ _. TimesOrNot format line) [
         | inr none ↦ inr (λ p is. none _ _ (tolerances-after format line p is t1.0 t1.1 t1.2 t2.0 t2.1 t2.2 t4.0 t4.1 t4.2))
+        -- all five numbers stand there, so the line has these times
         | inl both ↦
             let times : Times = record { t1 = t1.0; t2 = t2.0; t4 = t4.0; early = both.0; late = both.1; rules = R6026 } in
             let is : TimesLine format line times = record {
@@ -422,6 +432,7 @@ are-times-or-not p =
         t1_low = is.0.0.0;
         t1_high = is.0.0.1;
         t2_low = is.0.1.0;
+        -- each number has its least and its greatest value, the tolerances the greatest alone
         t2_high = is.0.1.1;
         t4_low = is.1.0.0;
         t4_high = is.1.0.1;
@@ -440,6 +451,7 @@ second-or-not : (format : Format) (rest : List ℕ) → SecondOrNot format rest
 second-or-not format rest = elim (cut-or-lacks line_feed rest) as (λ _. SecondOrNot format rest) [
   | inr lacks ↦ inr (λ p behind is. Lacks-cut line_feed rest is.line behind lacks is.whole)
   | inl at ↦ elim (times-or-not format at.0) as (λ _. SecondOrNot format rest) [
+    -- the line before the first line feed tells no times, or times out of their limits, or times within them
     | inr none ↦ inr (λ p behind is. none p (line-is at.0 at.1 at.2 p behind is))
     | inl times ↦ elim (are-times-or-not times.0) as (λ _. SecondOrNot format rest) [
       | inl limits ↦ inl (times.0, at.1, record { line = at.0; times = times.1; within = limits; whole = at.2.whole })

@@ -113,10 +113,12 @@ HeadLine-one format line (message a m l) (message a2 m2 l2) is is2 =
     let text : is.0 ≡ is2.0 = cc in
     let numbers = Numbers-one is2.0 m l m2 l2 (subst (λ t. Numbers t m l) text is.2) is2.2 in
     λ i. message (action i) (numbers.0 i) (numbers.1 i)
+-- a line of an entry with a message is no line of one without, since the letters differ
 HeadLine-one format line (message a m l) (plain a2 m2) is is2 =
     absurd (is2.1 (subst HasMessage (letter-one a a2 (ap (λ (t : List ℕ). get_or t 0 0) (sym is.3 ∙ is2.4))) is.1))
 HeadLine-one format line (plain a m) (message a2 m2 l2) is is2 =
     absurd (is.1 (subst HasMessage (letter-one a2 a (ap (λ (t : List ℕ). get_or t 0 0) (sym is2.3 ∙ is.4))) is2.1))
+-- both lines are of entries without a message: the letter and the moment are the same
 HeadLine-one format line (plain a m) (plain a2 m2) is is2 =
     let same = sym is.4 ∙ is2.4 in
     let action : a ≡ a2 = letter-one a a2 (ap (λ (t : List ℕ). get_or t 0 0) same) in
@@ -217,6 +219,7 @@ pub Follow-one : (format : Format) (count last : ℕ) (rest : List ℕ) (es es2 
 Follow-one format count last rest [] [] end end2 a b = (refl, next_at-one end end2 (ComesNext-one format count last rest _ _ a b))
 Follow-one format count last rest [] (e2 ∷ es2) end end2 a b = absurd (next_at-not_gives end e2 b.0 (ComesNext-one format count last rest _ _ a b.1))
 Follow-one format count last rest (e ∷ es) [] end end2 a b = absurd (next_at-not_gives end2 e a.0 (ComesNext-one format count last rest _ _ b a.1))
+-- both have an entry there, which is the same one, and then the rest goes on alike
 Follow-one format count last rest (e ∷ es) (e2 ∷ es2) end end2 a b =
     let same = ComesNext-one format count last rest _ _ a.1 b.1 in
     let first : e ≡ e2 = cc in

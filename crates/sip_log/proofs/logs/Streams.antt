@@ -72,6 +72,7 @@ pub record Spelled (format : Format) (last : ℕ) (rest : List ℕ) (items : Lis
 -- entries that follow in the rest are its spelling up to its end
 pub follows_spelled : (format : Format) (last : ℕ) (rest : List ℕ) (items : List Item) (end : LogEnd) → Follows format last rest items end → Spelled format last rest items end
 follows_spelled format last rest [] end next = record { left = rest; whole = refl; order = tt; next = comes-end format 0 last rest end (next-told format 0 last rest (next_at end) next) }
+-- the first entry is spelled at the front, and the others are spelled in what is left
 follows_spelled format last rest (e ∷ es) end (behind, next, follow) =
     let first = next-told format 0 last rest (gives e behind) next in
     let more = follows_spelled format e.moment behind es end follow in

@@ -44,6 +44,7 @@ module _ (most : ℕ) (wide : (n : ℕ) → 10 ≤ n → n < most → decimal n 
   decimal_digits (c ∷ []) d some lead small =
       let k = digit_value_digit c (digit_from_value c d.0) in
       decimal_digit (0 * 10 + digit_value c) (omega (arith, d.0)) ∙ ap (λ x. x ∷ []) (omega arith)
+  -- the first of several digits is not 0, so the decimal text begins with it
   decimal_digits (c ∷ e ∷ cs) d some lead small =
       let k = digit_value_digit c (digit_from_value c d.0) in
       let no : c ≡ 48 → ⊥ = λ z. omega (arith, lead z) in

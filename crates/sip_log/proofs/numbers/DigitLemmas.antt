@@ -17,9 +17,11 @@ digits-len text front back at whole digits within run other =
     let len = ap length whole ∙ length-append front (space ∷ back) in
     let blank : get_or text (length front) 0 ≡ space = ap (λ (t : List ℕ). get_or t (length front) 0) whole ∙ get_or-append_seam front space back 0 in
     elim (cases_lt at (length front)) as (λ _. at ≡ length front) [
+      -- fewer digits were read: but the next byte is one of the digits
       | inl low ↦
           let same : get_or text at 0 ≡ get_or front at 0 = ap (λ (t : List ℕ). get_or t at 0) whole ∙ get_or-append front (space ∷ back) 0 at low in
           absurd (omega (arith, digit_at front at digits low, other (omega (arith, len)), same))
+      -- more digits were read: but the blank is none
       | inr high ↦ elim (cases_lt (length front) at) as (λ _. at ≡ length front) [
         | inl more ↦
             let digit = digit_at (take at text) (length front) run (omega (arith, length-take-le at text within)) in

@@ -43,6 +43,7 @@ IsNumber-short (c ∷ cs) n k some low is = elim (cases_lt 0 (digit_value c)) as
   | inr none ↦
       let first : c ≡ digit_zero = omega (arith, digit_value_digit c (digit_from_value c is.digits.1.0), none) in
       omega (arith, is.plain first)
+  -- the first digit is not 0: with k digits after it the number would be at least 10^k
   | inl more ↦ elim (cases_lt (length cs) k) as (λ _. length (c ∷ cs) ≤ k) [
     | inl short ↦ omega arith
     | inr long ↦

@@ -90,6 +90,7 @@ second-read format p within one = record {
   rest1 = codes " t2 " ++ (decimal p.t2 ++ (codes " t4 " ++ (decimal p.t4 ++ end_text format p)));
   rest2 = codes " t4 " ++ (decimal p.t4 ++ end_text format p);
   rest3 = end_text format p;
+  -- after each name its number is read
   t1_is = after-read (codes "t1 ") p.t1 _ (omega (arith, within.t1_high)) (inr (_, refl));
   t2_is = after-read (codes " t2 ") p.t2 _ (omega (arith, within.t2_high)) (inr (_, refl));
   t4_is = after-read (codes " t4 ") p.t4 _ (omega (arith, within.t4_high)) (end-parted format p);
@@ -122,6 +123,7 @@ within-under rules p is = record {
   t1_high = is.t1_high;
   t2_low = is.t2_low;
   t2_high = is.t2_high;
+  -- the limits are those of the same numbers
   t4_low = is.t4_low;
   t4_high = is.t4_high;
   early_high = is.early_high;
@@ -143,9 +145,11 @@ pub header-spelled : (format : Format) (input : List ℕ) (p : Times) (behind : 
 header-spelled format input p behind (inr (none, same)) = cc
 header-spelled format input p behind (inl (f, rest, title, inr (none, same))) = cc
 header-spelled format input p behind (inl (f, rest, title, inl (q, rest2, front, (rules, left, line, same)))) =
+    -- where lines 1 and 2 were read, and the rules after them, the header is these lines
     let first : ◌≡◌ {A = Format × Times} (format, p) (f, under rules q) = cc in
     let second : behind ≡ left = cc in
     let spelled = second-spelled f front.line q front.within front.times in
+    -- its times are those of line 2, under the rules of line 3
     let is : Header f (under rules q) input left = record {
       times = within-under rules q front.within;
       one = one-tolerance f front.times.rest3 q.early q.late front.times.tolerances;
@@ -163,6 +167,7 @@ header-read format input p behind is =
       format,
       second_text format p ++ line_feed ∷ is.rest,
       is.lines ∙ sym (lines-parts format p is.rest),
+      -- line 2 gives the times of the header under the rules of RFC 6026, and line 3 the rules
       inl (
         under R6026 p,
         is.rest,
@@ -252,6 +257,7 @@ message-read format line action moment len short has is =
     let size = simp length-append at (ap length whole) in (
       decimal moment ++ space ∷ decimal len,
       has,
+      -- the moment stands before the blank, and the length after it
       record {
         moment_text = decimal moment;
         len_text = decimal len;

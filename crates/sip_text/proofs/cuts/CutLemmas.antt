@@ -88,6 +88,7 @@ before-first mark zero (b ∷ text) within none is = (
   ap (λ same. cond same [] (b ∷ before mark text)) is,
   ap (λ same. cond same (Some text) (behind mark text)) is,
 )
+-- the first byte is not the mark, so it stands before it
 before-first mark (suc k) (b ∷ text) within none is =
     let other : nat_eq b mark ≡ false = false_from_ne_true (nat_eq b mark) (none 0 (omega arith) (omega arith)) in
     let rest = before-first mark k text (omega (arith, within)) (λ j low high. none (suc j) (omega arith) (omega arith)) is in

@@ -50,6 +50,7 @@ up_to-some mark text u found = elim (last_byte text) [
   | inr more ↦ at more.0 more.1 more.2 (nat_eq more.1 mark) refl (sym (up_to-end mark more.0 more.1) ∙ sym (ap (up_to mark) more.2) ∙ found)
 ]
   where
+    -- the last byte is the mark, or u is not what stands up to it
     at : (w : List ℕ) (b : ℕ) → text ≡ w ++ (b ∷ []) → (same : Bool) → nat_eq b mark ≡ same → cond same (Some w) None ≡ Some u → text ≡ u ++ (mark ∷ [])
     at w b whole true same is =
         let front : w ≡ u = cc in

@@ -175,6 +175,7 @@ open-is text hexpart = elim hexpart [
   | inl ends ↦ at ends.0 (inr ends.2) (ends.4 ∙ ap (λ t. ends.0 ++ t) ends.3)
   | inr is ↦ at [] (inl refl) is
 ]
+  -- what stands before the last colon is a hexseq, or nothing, and one colon
   where
     at : (u : List ℕ) → Optional Hexseq u → text ≡ u ++ double_colon → (front : List ℕ) × (text ≡ front ++ (colon ∷ [])) × (is_open front ≡ true)
     at u optional whole = (

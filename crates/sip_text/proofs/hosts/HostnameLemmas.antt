@@ -71,6 +71,7 @@ name-is text (u, top, many, is_top, whole) =
   where
     go : (us : List (List ℕ)) → AllByRecursion (Label is_ascii_alphanumeric then Byte dot) us → are_labels (parts dot (concat us ++ top)) ≡ true
     go [] all = ap are_labels (parts-one dot top (lack-top top is_top)) ∙ top-is top is_top
+    -- the first label and its dot come before the others
     go (w ∷ us) all =
         ap (λ t. are_labels (parts dot t)) (spelled w all.0)
         ∙ ap are_labels (parts-mark dot all.0.0 (concat us ++ top) (lack-domain all.0.0 all.0.2))
@@ -94,6 +95,7 @@ name-yes text pass =
   where
     go : (label : List ℕ) (labels : List (List ℕ)) → are_labels (label ∷ labels) ≡ true → Name (join_with_byte dot (label ∷ labels))
     go label [] pass = ([], label, many-nil (Label is_ascii_alphanumeric then Byte dot), top-yes label pass, refl)
+    -- the first label passes its test, and the others are a hostname
     go label (next ∷ labels) pass =
         let both = and_parts (is_label label) (are_labels (next ∷ labels)) pass in
         let rest = go next labels both.1 in (

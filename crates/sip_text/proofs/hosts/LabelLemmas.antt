@@ -128,12 +128,14 @@ label-is first text within (inl one) =
       }),
       one.1,
     )
+-- two bytes or more: the first and the last are letters or digits, and those between of a label
 label-is first text within (inr (u, t, one, (m, e, many, last, t_is), whole)) =
     subst (λ x. (is_label x ≡ true) × (first (slice_index x 0) ≡ true)) (sym split) (
       passes_from (one.0 ∷ (m ++ (last.0 ∷ []))) (record {
         long = lt-ltb 0 (length (one.0 ∷ (m ++ (last.0 ∷ [])))) (omega arith);
         first = no_hyphen one.0 alphanumeric;
         last = ap (λ x. nat_eq x hyphen) (last_of one.0 last.0 m) ∙ no_hyphen last.0 last.1;
+        -- all bytes are of a label
         bytes = and_from _ _ (label_byte one.0 alphanumeric)
             (run-list_all is_label_byte (m ++ (last.0 ∷ []))
             (many-push (One is_label_byte) m (last.0 ∷ []) many (last.0, label_byte last.0 last.1, refl)));
@@ -169,6 +171,7 @@ label-yes first (b ∷ text) pass starts = elim (last_byte text) [
     -- where more bytes follow the first, of which e is the last, the text is a label
     longer : (m : List ℕ) (e : ℕ) → text ≡ m ++ (e ∷ []) → Label first (b ∷ text)
     longer m e is =
+        -- the last byte is no hyphen
         let bytes = list_all-end is_label_byte (b ∷ m) e (ap (λ t. list_all is_label_byte (b ∷ t)) (sym is) ∙ passes.bytes) in
         let inner = and_parts (is_label_byte b) (list_all is_label_byte m) bytes.0 in
         let plain : nat_eq e hyphen ≡ false =

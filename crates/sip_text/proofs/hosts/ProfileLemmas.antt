@@ -56,6 +56,7 @@ record Info (text : List ℕ) : Type 0 where
 -- an optional userinfo of the profile is the text of a user and a password, or of none
 optional-userinfo : (text : List ℕ) → Optional Userinfo text → Info text
 optional-userinfo text (inl none) = record { user = None; password = None; user_fits = tt; fits = tt; owner = λ is. is; whole = none }
+-- a user, perhaps with a password, and an `@`
 optional-userinfo text (inr (u, v, user, (w, x, word, at, v_is), whole)) =
     let password = optional-led colon Password w word in
     record {
@@ -85,6 +86,7 @@ uri-parts text (inl (s, r1, scheme, (c, r2, c_is, (i, r3, info, (h, r4, host, (o
     let host_is = host-parts h host in
     let port_is = optional-led colon Port o port in
     let headers_is = optional-led question Headers b headers in
+    -- each part stands where its text is in the URI
     let p : SipParts = record { secure = named.0; user = info_parts.user; password = info_parts.password; host = host_is.0; port = port_is.0; params = a; headers = headers_is.0 } in
     let rest : r3 ≡ hostport_text p.host p.port ++ p.params ++ led question p.headers =
     e3 ∙ ap (λ t. t ++ r4) host_is.2 ∙ ap (λ t. host_text host_is.0 ++ t) (e4 ∙ ap (λ t. t ++ r5) port_is.2 ∙ ap (λ t. led colon port_is.0 ++ t) (e5 ∙ ap (λ t. a ++ t) headers_is.2))
@@ -93,6 +95,7 @@ uri-parts text (inl (s, r1, scheme, (c, r2, c_is, (i, r3, info, (h, r4, host, (o
       (
         s,
         named.1,
+        -- the parts fit, and their texts in a row are the whole text
         record { user = info_parts.user_fits; password = info_parts.fits; owner = info_parts.owner; host = host_is.1; port = port_is.1; params = params; headers = headers_is.1 },
         e0 ∙ ap (λ t. s ++ t) (e1 ∙ ap (λ t. t ++ r2) c_is ∙ ap (λ t. colon ∷ t) (e2 ∙ ap (λ t. t ++ r3) info_parts.whole ∙ ap (λ t. userinfo_text info_parts.user info_parts.password ++ t) rest)),
       ),
@@ -121,6 +124,7 @@ parts-uri text (sip p) (scheme, same, fits, whole) =
           (
             host_text p.host,
             led colon p.port ++ behind,
+            -- after the host come the port, the parameters and the headers
             parts-host (host_text p.host) p.host fits.host,
             (
               led colon p.port,

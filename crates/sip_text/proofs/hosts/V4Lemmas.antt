@@ -25,6 +25,7 @@ decimal_dot-yes later Q text each pass = at (is_decimal (before dot text)) (behi
     at : (digits : Bool) (o : Option (List ℕ)) → is_decimal (before dot text) ≡ digits → behind dot text ≡ o → option_map_or later (cond digits o None) false ≡ true → (DecimalGroup then Byte dot then Q) text
     at false o none is passes = cc
     at true None some is passes = cc
+    -- the digits, the dot and what follows it are the text
     at true (Some rest) some is passes = (
       before dot text,
       dot ∷ rest,

@@ -25,10 +25,12 @@ pub v6-is : (text : List ℕ) → Ipv6 text → is_v6 text ≡ true
 v6-is text (inl (hexpart, end, is_hex, inl none, whole)) =
     let all : text ≡ hexpart = whole ∙ ap (λ t. hexpart ++ t) none ∙ append-nil hexpart in
     or_left (is_hexpart text) (has_v4_tail text) (ap is_hexpart all ∙ hexpart-is hexpart is_hex)
+-- a hexpart, a colon and an IPv4 address
 v6-is text (inl (hexpart, end, is_hex, inr (mark, v4, is_mark, address, end_is), whole)) =
     or_right (is_hexpart text) (has_v4_tail text)
     (tail-is text hexpart v4 (or_left (is_hexpart hexpart) (is_open hexpart) (hexpart-is hexpart is_hex)) address
     (whole ∙ ap (λ t. hexpart ++ t) (end_is ∙ ap (λ t. t ++ v4) is_mark)))
+-- a hexpart that ends with "::", and an IPv4 address
 v6-is text (inr (hexpart, v4, is_hex, address, whole)) =
     let front = open-is hexpart is_hex in
     or_right (is_hexpart text) (has_v4_tail text)

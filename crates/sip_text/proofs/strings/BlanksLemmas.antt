@@ -25,11 +25,13 @@ blanks-wsp u many = many-map (One is_wsp) Blank u blank-wsp many
 pub blanks-lws : (u : List ℕ) → Lws u → Many Blank u
 blanks-lws u (front, wsp, inl none, some, whole) =
     subst (Many Blank) (sym (whole ∙ ap (λ t. t ++ wsp) none)) (blanks-wsp wsp (many-some (One is_wsp) wsp some))
+-- blanks, a line end and a blank after it: a fold among blanks
 blanks-lws u (front, wsp, inr (before, end, many, is_end, front_is), (first, more, one, others, wsp_is), whole) =
     subst (Many Blank) (sym split)
     (many-append Blank before ((crlf ++ (one.0 ∷ [])) ++ more) (blanks-wsp before many)
     (many-cons Blank (crlf ++ (one.0 ∷ [])) more (blank-fold one.0 one.1) (blanks-wsp more others)))
   where
+    -- the text is these parts in a row
     split : u ≡ before ++ ((crlf ++ (one.0 ∷ [])) ++ more)
     split =
         whole ∙ ap (λ t. t ++ wsp) front_is

@@ -35,6 +35,7 @@ item-blank u v (front, b, inl none, one, whole) =
     ∙ ap (λ q. cond q 1 (cond (begins_with_pair (one.0 ∷ v)) 2 (blank_len (one.0 ∷ v)))) plain.0
     ∙ ap (λ q. cond (q && nat_lt 1 (length (one.0 ∷ v)) && is_escaped_byte (slice_index (one.0 ∷ v) 1)) 2 (blank_len (one.0 ∷ v))) plain.1
     ∙ sym (ap (λ t. blank_len (t ++ v)) text)
+-- the blank is a fold, which begins with no plain byte and no escape
 item-blank u v (front, b, inr fold, one, whole) =
     let text : u ≡ crlf ++ (one.0 ∷ []) = whole ∙ ap (λ t. t ++ b) fold ∙ ap (λ t. crlf ++ t) one.2 in
     ap (λ t. item_len (t ++ v)) text ∙ sym (ap (λ t. blank_len (t ++ v)) text)
@@ -45,6 +46,7 @@ item-at_front u v (inl byte) =
     ap (λ t. item_len (t ++ v)) byte.2
     ∙ ap (λ q. cond q 1 (cond (begins_with_pair (byte.0 ∷ v)) 2 (blank_len (byte.0 ∷ v)))) byte.1
     ∙ sym (ap length byte.2)
+-- an escaped byte is two bytes, and a blank has the length of its own
 item-at_front u v (inr (inl pair)) =
     let text : u ≡ backslash ∷ pair.3.0 ∷ [] = pair.4 ∙ ap (λ t. t ++ pair.1) pair.2 ∙ ap (λ t. backslash ∷ t) pair.3.2 in
     let long : nat_lt 1 (length (backslash ∷ pair.3.0 ∷ v)) ≡ true = lt-ltb 1 (length (backslash ∷ pair.3.0 ∷ v)) (omega arith) in
@@ -153,6 +155,7 @@ quotes-front text n (u, v, (blanks, t, sws, (first, w, is_first, (items, last, c
   },
   n_is ∙ ap length spelled ∙ length-quoted_text blanks items,
 )
+  -- the parts in a row are the text that is spelled
   where
     spelled : u ≡ quoted_text blanks items
     spelled =
@@ -166,6 +169,7 @@ front-quotes text blanks items rest quotes = (
   (
     blanks,
     dquote ∷ (items ++ (dquote ∷ [])),
+    -- the pieces stand between the two quotes
     blanks-units blanks quotes.are_blanks,
     (dquote ∷ [], items ++ (dquote ∷ []), refl, (items, dquote ∷ [], contents-items items quotes.are_items, refl, refl), refl),
     refl,
@@ -212,6 +216,7 @@ pub only-quoted : (text inner rest : List ℕ) (n k : ℕ) → HasFront (Many Bl
 only-quoted text inner rest n k front contents stops first ends last =
     (subst (HasFront (Sws then Quoted) text) len (front-quotes text front.0 contents.0 rest quotes), only)
   where
+    -- the text is the blanks, the quote, the pieces, the quote and the rest
     quotes : Quotes text front.0 contents.0 rest
     quotes = record {
       are_blanks = front.2;

@@ -92,6 +92,7 @@ pub block-passes : (p : ℕ → Bool) (text : List ℕ) (at r : ℕ) → at + 16
 block-passes p text at r room r_is before k below =
     elim (cases_lt k at) [
       | inl low ↦ before k low
+      -- the byte lies in the block, among its first r bytes
       | inr high ↦
           let long = length-chunk at 16 text room in
           let few = prefix_len-le-length p (chunk at 16 text) in

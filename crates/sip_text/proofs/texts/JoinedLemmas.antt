@@ -18,6 +18,7 @@ parts-joined mark P text lack joined =
     subst (λ t. AllByRecursion P (parts mark t)) (sym (joined.4 ∙ ap (λ t. joined.0 ++ t) joined.3.2))
     (go joined.0 joined.3.0 joined.2 joined.3.1)
   where
+    -- the first text ends at the first mark, and the others are the parts after it
     go : (u : List ℕ) (us : List (List ℕ)) → P u → AllByRecursion (Byte mark then P) us → AllByRecursion P (parts mark (u ++ concat us))
     go u [] one all =
         subst (AllByRecursion P) (sym (ap (parts mark) (append-nil u) ∙ parts-one mark u (lack u one))) (one, tt)
@@ -37,6 +38,7 @@ joined-parts mark P text all =
   where
     go : (u : List ℕ) (us : List (List ℕ)) → AllByRecursion P (u ∷ us) → Joined mark P (join_with_byte mark (u ∷ us))
     go u [] each = (u, [], each.0, many-nil (Byte mark then P), sym (append-nil u))
+    -- the first part is followed by a mark and the other parts
     go u (v ∷ us) each =
         let rest = go v us each.1 in (
           u,

@@ -81,6 +81,7 @@ pub run-more : (P : List ℕ → Type 0) (len : List ℕ → ℕ) (text : List �
 run-more P len text n k step front k_is some =
     elim (step.piece front.1) [
       | inl stops ↦ absurd (some (at_rest ∙ stops))
+      -- one piece more follows, which has k bytes
       | inr next ↦ (
         front.0 ++ next.0,
         next.1,

@@ -30,6 +30,7 @@ run-front test [] = ([], [], many-nil (One test), refl, refl)
 run-front test (b ∷ text) = at (run-front test text) (test b) refl
   where
     at : HasFront (Many (One test)) text (prefix_len test text) → (passes : Bool) → test b ≡ passes → HasFront (Many (One test)) (b ∷ text) (cond passes (1 + prefix_len test text) 0)
+    -- the first byte passes, so it begins the run; or it fails, and there is no run
     at rest true is = (
       b ∷ rest.0,
       rest.1,
@@ -46,6 +47,7 @@ run-longest test text n front =
     ap (prefix_len test) (front.3 ∙ ap (λ t. t ++ front.1) front.2.2) in
     omega (arith, same, go front.2.0 front.1 front.2.1, front.4, ap length front.2.2)
   where
+    -- each byte of the run passes, so `prefix_len` counts it
     go : (us : List (List ℕ)) (v : List ℕ) → AllByRecursion (One test) us → length (concat us) ≤ prefix_len test (concat us ++ v)
     go [] v all = omega arith
     go (u ∷ us) v all =
@@ -60,6 +62,7 @@ longest-run test text = record {
   front = front text;
   longest = λ m other. run-longest test text m (other.0, other.1, many-some (One test) other.0 other.2, other.3, other.4);
 }
+  -- the first byte passes and begins the run, or there is none
   where
     front : (xs : List ℕ) → (prefix_len test xs ≡ 0) ⊎ HasFront (OneOrMore (One test)) xs (prefix_len test xs)
     front [] = inl refl

@@ -46,6 +46,7 @@ stripped-escape [] rest is = cc
 stripped-escape (mark ∷ []) rest is = cc
 stripped-escape (mark ∷ high ∷ []) rest is = cc
 stripped-escape (mark ∷ high ∷ low ∷ text) rest is = at _ refl is
+  -- a text of three bytes or more begins with an escape if its first bytes pass the tests
   where
     at : (t : Bool) → (mark == percent && is_ascii_hexdigit high && is_ascii_hexdigit low) ≡ t → (if t then Some text else None) ≡ Some rest → (x : ℕ) × (y : ℕ) × AreDigits x y × (mark ∷ high ∷ low ∷ text ≡ percent ∷ x ∷ y ∷ rest)
     at false test is = cc
@@ -61,6 +62,7 @@ chars-cons : (class : Class) (b : ℕ) (text : List ℕ) → Many (ClassChar cla
 chars-cons class b text many =
     elim (some-many (ClassChar class) (b ∷ text) many) [
       | inl empty ↦ cc
+      -- the first character is a byte of the class, or an escape
       | inr (u, v, one, more, whole) ↦ elim one [
         | inl (byte, test, is) ↦
             let same : b ∷ text ≡ byte ∷ v = whole ∙ ap (λ t. t ++ v) is in
@@ -114,6 +116,7 @@ run-cut test (x ∷ text) = at (run-cut test text) (test x) refl
       all = refl;
       stops = λ b rest same. let head : x ≡ b = cc in ap test (sym head) ∙ is;
     }
+    -- the first byte passes, so it is one more of the run
     at more true is =
         let next : 1 + prefix_len test text ≡ suc (prefix_len test text) = omega arith in
         subst (λ n. IsRun test (x ∷ text) (drop n (x ∷ text))) (sym next) (record {
@@ -125,6 +128,7 @@ run-cut test (x ∷ text) = at (run-cut test text) (test x) refl
 
 -- past a run and an escape the rest is characters exactly if the whole text is, and it is shorter
 pub chars-past : (class : Class) (text stop rest : List ℕ) → is_in class percent ≡ false → IsRun (is_in class) text stop → behind_escape stop ≡ Some rest → (Many (ClassChar class) rest ↔ Many (ClassChar class) text) × (length rest < length text)
+-- the text is the run, the escape and the rest
 chars-past class text stop rest no_percent run is =
     let (high, low, digits, stop_is) = stripped-escape stop rest is in
     let whole : text ≡ run.run ++ (percent ∷ high ∷ low ∷ rest) = run.whole ∙ ap (λ t. run.run ++ t) stop_is in
@@ -133,6 +137,7 @@ chars-past class text stop rest no_percent run is =
         λ many. subst (Many (ClassChar class)) (sym whole)
             (chars-before class run.run (percent ∷ high ∷ low ∷ rest) run.all
             (many-cons (ClassChar class) (percent ∷ high ∷ low ∷ []) rest escape many)),
+        -- the escape is no byte of the class, so characters follow it
         λ many.
             let here : Many (ClassChar class) (percent ∷ high ∷ low ∷ rest) =
             chars-behind class run.run _ no_percent run.all (subst (Many (ClassChar class)) whole many) in
@@ -152,6 +157,7 @@ chars-stop class text [] no_percent run is = (
   λ _. subst (Many (ClassChar class)) (sym run.whole) (chars-before class run.run [] run.all (many-nil (ClassChar class))),
   λ _. refl,
 )
+-- a byte that is neither of the class nor the begin of an escape is no character
 chars-stop class text (b ∷ stop) no_percent run is = (
   λ empty. absurd (omega (arith, eqb-true (length (b ∷ stop)) 0 empty)),
   λ many.

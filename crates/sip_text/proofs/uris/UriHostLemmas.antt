@@ -88,6 +88,7 @@ host-no_port text (name host) u port fits is_port whole =
     has-mark colon u port (subst (Lacks colon) whole (lack-hostname colon refl refl refl refl text fits.0))
 host-no_port text (v4 host) u port fits is_port whole =
     has-mark colon u port (subst (Lacks colon) whole (lack-v4 colon refl refl text fits.0))
+-- an IPv6 address in brackets ends with "]", which no port has
 host-no_port text (v6 host) u port ((a, b, _, (inner, end, _, is_end, b_is), text_is), _) is_port whole =
     let ends : text ≡ (a ++ inner) ++ right_bracket ∷ [] =
     text_is ∙ ap (λ t. a ++ t) (b_is ∙ ap (λ t. inner ++ t) is_end) ∙ sym (append_assoc a inner (right_bracket ∷ [])) in

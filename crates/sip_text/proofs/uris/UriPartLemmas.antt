@@ -26,6 +26,7 @@ cut-optional mark P Q text lack (u, v, one, inl none, whole) =
       subst P (sym (ap (before mark) same ∙ before-led mark u None (lack u one))) one,
       subst (λ o. IfSome o Q) (sym (ap (behind mark) same ∙ behind-led mark u None (lack u one))) tt,
     )
+-- the mark stands between a text of P and one of Q
 cut-optional mark P Q text lack (u, v, one, inr (m, w, is_mark, other, both), whole) =
     let same : text ≡ u ++ led mark (Some w) = whole ∙ ap (λ t. u ++ t) (both ∙ ap (λ t. t ++ w) is_mark) in (
       subst P (sym (ap (before mark) same ∙ before-led mark u (Some w) (lack u one))) one,
@@ -125,6 +126,7 @@ each-past mark P text part rest part_is rest_is one =
     let split : parts mark text ≡ part ∷ parts mark rest =
     parts-cut mark text ∙ ap (λ t. t ∷ later_parts mark (behind mark text)) (sym part_is)
     ∙ ap (λ o. part ∷ later_parts mark o) (sym rest_is) in
+    -- the text is the first part, the mark and the rest
     let whole : text ≡ part ++ led mark (Some rest) =
     cut-whole mark text ∙ ap (λ t. t ++ led mark (behind mark text)) (sym part_is)
     ∙ ap (λ o. part ++ led mark o) (sym rest_is) in (
@@ -216,6 +218,7 @@ pub decides-no_params : (text : List ℕ) (r : Bool) → None ≡ past semicolon
 decides-no_params [] r none is = (λ _. many-nil (Byte semicolon then UriParameter), λ _. is)
 decides-no_params (b ∷ text) r none is = (
   λ empty. absurd (omega (arith, eqb-true (length (b ∷ text)) 0 (sym is ∙ empty))),
+  -- parameters begin with a semicolon
   λ many.
       let (rest, led_is) = params-led (b ∷ text) many in
       elim rest as (λ o. b ∷ text ≡ led semicolon o → r ≡ true) [

@@ -52,17 +52,20 @@ info-agrees text None password rest None key tail (_, password_is, rest_is) whol
 info-agrees text (Some user) password rest None key tail (behind_is, _, _) whole _ _ _ _ lacks =
     let none : behind at_sign text ≡ None = ap (behind at_sign) whole ∙ (uncut at_sign tail lacks).1 in
     cc
+-- the text has a userinfo, so an `@` stands in it
 info-agrees text None password rest (Some owner) key tail (behind_is, _, _) whole no_at _ key_at _ _ =
     let info = owner ++ led colon key in
     let lacks : Lacks at_sign info = lacks-append at_sign owner (led colon key) no_at (lacks-led at_sign colon key refl key_at) in
     let same : text ≡ info ++ led at_sign (Some tail) = whole ∙ append_assoc info (at_sign ∷ []) tail in
     let some : behind at_sign text ≡ Some tail = ap (behind at_sign) same ∙ behind-led at_sign info (Some tail) lacks in
     cc
+-- both have a userinfo: it ends at the first `@`, and the user at the first colon in it
 info-agrees text (Some user) password rest (Some owner) key tail (behind_is, user_is, password_is) whole no_at no_colon key_at _ _ =
     let info = owner ++ led colon key in
     let lacks : Lacks at_sign info = lacks-append at_sign owner (led colon key) no_at (lacks-led at_sign colon key refl key_at) in
     let same : text ≡ info ++ led at_sign (Some tail) = whole ∙ append_assoc info (at_sign ∷ []) tail in
     let some : behind at_sign text ≡ Some tail = ap (behind at_sign) same ∙ behind-led at_sign info (Some tail) lacks in
+    -- what stands before the first `@` is the same, and what stands after it
     let front : before at_sign text ≡ info = ap (before at_sign) same ∙ before-led at_sign info (Some tail) lacks in
     let user_same : user ≡ owner = user_is ∙ ap (before colon) front ∙ before-led colon owner key no_colon in
     let rest_same : rest ≡ tail = cc in (
@@ -78,6 +81,7 @@ port-agrees text host None name parts None (host_is, _) fits _ whole =
 port-agrees text host None name parts (Some number) (_, none) fits is_port whole = absurd (none name number is_port whole)
 port-agrees text host (Some port) name parts None (is_port, there) fits _ whole =
     absurd (host-no_port name parts host port fits is_port (sym (append-nil name) ∙ sym whole ∙ there))
+-- both have a port, which stands after the last colon
 port-agrees text host (Some port) name parts (Some number) (is_port, there) fits is_number whole =
     let same : host ++ colon ∷ port ≡ name ++ colon ∷ number = sym there ∙ whole in
     let lacks = lack-port port is_port.0 in
@@ -177,6 +181,7 @@ cuts-agree text cut p is fits whole =
       password = info.1;
       host = port.0;
       port = port.1;
+      -- the parameters stand after the first semicolon, and the headers after the first question mark
       params = is.params ∙ ap (λ t. led semicolon (behind semicolon t)) front
           ∙ ap (led semicolon) (behind-led semicolon hostport listed no_semicolon) ∙ sym listed_is;
       headers = is.headers ∙ ap (behind question) info.2 ∙ behind-led question (hostport ++ p.params) p.headers no_question;
@@ -205,6 +210,7 @@ host-cut test text user password rest no_question no_semicolon no_colon info all
     let headers = uncut question rest (lacks-all question test rest no_question all) in
     let params = uncut semicolon rest (lacks-all semicolon test rest no_semicolon all) in
     let whole : before semicolon (before question rest) ≡ rest = ap (before semicolon) (headers.0) ∙ params.0 in
+    -- the headers and parameters are none, and the rest is the host
     record {
       rest = rest;
       userinfo = info;
@@ -222,6 +228,7 @@ sip-cut text cut rest front hostport info front_is headers_is hostport_is port p
     let hostport_cut : hostport ≡ before semicolon (before question rest) = hostport_is ∙ ap (before semicolon) front_is in
     let whole : front ≡ hostport ++ led semicolon (behind semicolon front) =
     cut-whole semicolon front ∙ ap (λ t. t ++ led semicolon (behind semicolon front)) (sym hostport_is) in
+    -- each cut is made in what the cut before it left
     record {
       rest = rest;
       userinfo = info;
@@ -274,6 +281,7 @@ pub parts-fit : (secure : Bool) (text : List ℕ) (cut : CutParts) (host : HostP
 parts-fit secure text cut host is info tail fits =
     let spelled = host-spelled cut.host host fits in
     let hostport = before semicolon (before question is.rest) in
+    -- the rest is the host, the port, the parameters and the headers in a row
     let whole : is.rest ≡ host_text host ++ led colon cut.port ++ cut.params ++ led question cut.headers =
     cut-whole question is.rest ∙ ap (λ o. before question is.rest ++ led question o) (sym is.headers)
     ∙ ap (λ t. t ++ led question cut.headers) (
@@ -281,6 +289,7 @@ parts-fit secure text cut host is info tail fits =
     ∙ ap (λ t. t ++ cut.params) (port-whole hostport cut.host cut.port is.port
     ∙ ap (λ t. t ++ led colon cut.port) (sym spelled))) in (
       refl,
+      -- each part is a text of its production
       record {
         user = info.0;
         password = info.1;
@@ -329,6 +338,7 @@ info-fits secure text cut (sip p) is (_, fits, whole) =
         subst (λ o. IfSome o User) (sym same.user) fits.user,
         subst (λ o. IfSome o Password) (sym same.password) fits.password,
       ),
+      -- the parameters and the headers fit, since they are those of the URI
       (
         subst UriParameters (sym same.params) fits.params,
         subst (λ o. IfSome o Headers) (sym same.headers) fits.headers,

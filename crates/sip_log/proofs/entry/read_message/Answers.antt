@@ -25,6 +25,7 @@ returns-clause-says g c =
     let len = c.args.len in
     let held = items c.hold.new.self in
     let inside : len < length held = omega (arith, hold.some) in
+    -- the byte after the message is looked at
     let byte = ap (λ (t : List ℕ). get_or t len 0) c.as_slice-held.ensures.value in
     let text = (rw c.requires.empty at c.in_ok-extend_from_slice.ensures.items) ∙ ap (take len) c.as_slice-held.ensures.value in
     rw c.consume.ensures

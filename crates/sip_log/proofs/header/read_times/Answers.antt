@@ -42,6 +42,7 @@ returns c =
     let t2 = c.in_ok-t2.ensures in
     let t4 = c.in_ok-t4.ensures in
     let both = c.in_ok-early.ensures in
+    -- the times are those of the line, with the rules of RFC 6026
     let n : Times = record { t1 = t1.0; t2 = t2.0; t4 = t4.0; early = both.0; late = both.1; rules = R6026 } in
     let is : TimesLine format line n = record {
       rest1 = c.in_ok-t1.rest.now;
@@ -53,6 +54,7 @@ returns c =
       tolerances = both.2;
       rules = refl;
     } in
+    -- as they are within their limits or not, the times are read or refused
     times-read format line n _ c.with_tolerances.result is
     (λ p other. times-after format line p other t1.0 _ t1.1 t2.0 _ t2.1 t4.0 _ t4.1 both.0 both.1 both.2)
     (λ i. record { t1 = t1.2 i; t2 = t2.2 i; t4 = t4.2 i; early = both.3 i; late = both.4 i; rules = R6026 })

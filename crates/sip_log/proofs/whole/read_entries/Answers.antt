@@ -16,6 +16,7 @@ loop-entry-preserved g c =
     let entry = c.in-Ok-Some.entry in
     let items : List Item = map item l.entries.items in
     let nexts = rw c.in-Ok-Some.field-0-is at c.in-Ok-Some.ensures in
+    -- the entry is counted, and the reader goes on after it
     let counted = Nexts-counted start items old new entry nexts in
     let kept = c.in_ok-keep-in-Ok-Some.ensures in
     let more : map item c.keep.new.entries.items ≡ items ++ item entry ∷ [] = ap (map item) kept ∙ map-append item l.entries.items (entry ∷ []) in

@@ -18,6 +18,7 @@ returns-in-Ok g c =
     let left2 = prepend_known (items c.read_header.new.window) (g.R.Source.left c.read_header.new.source) in
     let before = g.R.Source.has_failed c.args.source.now in
     let after = g.R.Source.has_failed c.read_header.new.source in
+    -- what comes in the unread input is the header with this format and these times
     let format = c.in-Ok.header.0 in
     let p = c.in-Ok.header.1 in (
       refl,

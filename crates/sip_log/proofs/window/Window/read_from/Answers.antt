@@ -14,6 +14,7 @@ returns-clause-reads g c =
     let n = c.in_ok-count.count in
     let fills = c.in_ok-count.ensures.bytes in
     let within : w.end ≤ length bytes = omega (arith, c.deref_mut.ensures.len) in
+    -- `put` is the buffer with the bytes that came at the end of the window
     let put = put_mid w.end (length bytes - w.end) bytes buf in
     let len : length put ≡ w.bytes.len = search (rules, places) in
     record {

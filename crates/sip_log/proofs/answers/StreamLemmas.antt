@@ -71,7 +71,7 @@ module _ (start : Option (List ℕ)) (p : Times) (items : List Item) (old new : 
       let is = steps (Ok (Some e)) nexts in
       let same = kept (Ok (Some e)) is in
       let says = subst (λ s. IfSome old.left (λ xs. (ys : List ℕ) × (new.left ≡ Some ys) × Comes s old new xs (gives (item e) ys))) has.on is.says.1 in
-      -- the reader has its entry behind it, and its times are the same
+      -- the reader stands after this entry, and its times are the same
       record {
         on = is.moves.0;
         times_are = same.0;

@@ -31,6 +31,7 @@ pub advances_more : (moment : ℕ) (indices : List ℕ) (old now : List AnySet) 
     → slice_get now index ≡ Some set → SetWaits moment set after → AdvancesAt moment (indices ++ index ∷ []) old (slice_set now index after)
 advances_more moment indices old now index set after up fresh at waits = record {
   long = length-set now index after ∙ up.long;
+  -- the set at the new index has waited now, and it had not before
   each = λ n a b was is. elim (set_place now index n after b is) [
     | inl here ↦ elim (up.each n a set was (ap (slice_get now) here.0 ∙ at)) [
       | inl early ↦ absurd (fresh (subst (Contains indices) here.0 early.0))
@@ -39,6 +40,7 @@ advances_more moment indices old now index set after up fresh at waits = record 
         subst (λ x. SetWaits moment a x) here.1 (subst (λ x. SetWaits moment x after) same.1 waits),
       )
     ]
+    -- any other set has waited before, or is as it was
     | inr other ↦ elim (up.each n a b was other.1) [
       | inl early ↦ inl (Contains-append_left indices (index ∷ []) n early.0, early.1)
       | inr same ↦ inr (λ has. elim (Contains-push_cases indices index n has) [ inl before ↦ same.0 before | inr e ↦ other.0 (sym e) ], same.1)
@@ -263,6 +265,7 @@ pub marked_names : (marked : List ℕ) (marks : List Bool) (sets : List AnySet) 
 marked_names marked marks sets long are members n = (
   λ has. (let found = Contains-from_flat_map (numbers_at sets) marked n has in at_among sets found.0 n found.2),
   λ has.
+      -- a number that some set names is named by a marked one, since the others name none
       let found = Contains-from_flat_map numbers_of sets n has in
       let index = found.1.0 in
       let at : slice_get sets index ≡ Some found.0 = slice_get-get_or sets index found.0 found.1.1 ∙ ap Some found.1.2 in

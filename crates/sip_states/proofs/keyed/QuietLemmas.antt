@@ -91,6 +91,7 @@ first_still p machine texts =
     let q = first_is_of machine texts p in
     let r = (meaning_of machine).rules p in
     let lawful = lawful_of machine p in
+    -- it has no end and can stay for ever, and a restart leaves it as it is
     record {
       endless = ap r.window q ∙ lawful.first_has_no_end;
       stays = ap r.until q ∙ lawful.first_stays;
@@ -105,6 +106,7 @@ last_still p machine texts =
     let q = last_is_of machine texts p in
     let r = (meaning_of machine).rules p in
     let lawful = lawful_of machine p in
+    -- it has no end and can stay for ever, and a restart leaves it as it is
     record {
       endless = ap r.window q ∙ lawful.ended_has_no_end;
       stays = ap r.until q ∙ lawful.ended_stays;
@@ -144,6 +146,7 @@ module _ (p : Times) (machine : MachineKind) (texts : Texts) (x : StateOf machin
       λ has.
           let same = (Contains-single q y).0 has in
           record { before = q; among = (waits_still h e.moment low q).1 refl; takes = (still.takes e is y).1 same },
+      -- the state is the only one, the book has what it names, and it is in range
       λ given. (Contains-single q y).1 ((still.takes e is y).0 (subst (λ z. r.Take z e y) ((waits_still h e.moment low given.before).0 given.among) given.takes)),
     );
     distinct = λ i j d lt within. absurd (omega (arith, lt, within));

@@ -49,6 +49,7 @@ module _ {X : Type 0} (test : X → Bool) (x : X) where
     where
       step : (b : Bool) → test y ≡ b → (Contains (filter test ys) x → Contains ys x × (test x ≡ true)) → Contains (cond b (y ∷ filter test ys) (filter test ys)) x →
           Contains (y ∷ ys) x × (test x ≡ true)
+      -- the first element passes and is kept, or it is left out
       step true e rest h' =
           elim (Contains-cons y (filter test ys) x h') [
             | inl same ↦ (rw (← same) (Contains-here y ys), ap test (sym same) ∙ e)

@@ -48,6 +48,7 @@ module _ {X : Type 0} (r : MachineRules X) (lawful : IsLawful r) (P : X → Type
       let past : m ≤ e.at = omega arith in
       Wait-end r lawful (Wait r P h m) m n y
       (record {
+        -- the state waited until m before it ended
         start = e.start;
         among = Wait-stay r P h m e.start (record { among = e.among; reached = low; waits = IsWithin-earlier m e.at (r.until e.start) past e.hides.waited });
         at = e.at;

@@ -103,8 +103,10 @@ module _ {X : Type 0} (f : Figure X) (p : Times) (rank : X → ℕ) (ranked : Is
     after_final before between later request final e code y request_sent first final_received is_response is_final e_sent after =
         let r = rules_of_figure f p in
         let last = Goes-last r r.first 0 after.steps (Takes e) y after.goes in
+        -- the run is cut at the request and at the final response
         let one = Goes-through r r.first 0 after.steps last.before last.at before request (between ++ final ∷ later) last.goes after.takes in
         let two = Goes-through r one.reached request.moment one.steps last.before last.at between final later one.goes one.takes in
+        -- after the request the rank is 1 or more, and after the final response 2 or more
         let opened = opens request (when f p request one.before) one.reached (step_of f p Sent request one.before one.reached request_sent one.does) first in
         let risen = goes_keep f p (λ x. 1 ≤ rank x) (rank_kept 1 (omega arith)) one.reached request.moment two.front two.before two.at two.to opened in
         let finished = finishes code final (when f p final two.before) two.reached (step_of f p Received final two.before two.reached final_received two.does) is_response is_final risen in

@@ -76,10 +76,12 @@ module _ {X : Type 0} (r : MachineRules X) where
       by_end (yes early) later = hides x h t z events m after does (later early)
       by_end (no late) later = of_events (omega (arith, late)) events is low
   Goes-fewer x h (Takes f ∷ steps) y last [] [] m n (z, after, does, goes) waits is low high from to = absurd (cc)
+  -- the event comes after m, so the state stays until m
   Goes-fewer x h (Takes f ∷ steps) y last [] (e ∷ more) m n (z, after, does, goes) waits is low high from to =
       let later : m ≤ e.moment = All-head (NotBefore m) e more high in
       let same : f ≡ e = cc in
       stays x h m from (IsWithin-earlier m f.moment (r.until x) (rw same later) does.0)
+  -- the event comes by m, so the run takes it and goes on with fewer
   Goes-fewer x h (Takes f ∷ steps) y last (e ∷ events) more m n (z, after, does, goes) waits is low high from to =
       let same : f ≡ e = cc in
       let early : f.moment ≤ m = rw same (All-head (NotAfter m) e events low) in

@@ -37,6 +37,7 @@ module _ {S : Type 0} (window : S → Option (ℕ × Option ℕ)) (until : S →
       IsLastOf (CanReach (window x) (until x) h) h (Some r) → new ≡ max last r → IsLastSoFar (xs ++ x ∷ []) new
   last_push xs x last r new so_far reach is m low = (
     λ some. elim some [
+      -- the new moment is by the last moment so far, or by that of the new state
       | inl first ↦ let old = (so_far m low).0 (inl first) in omega arith
       | inr any ↦ elim ((any_push (λ y. CanReach (window y) (until y) h m) xs x).0 any) [
         | inl earlier ↦ let old = (so_far m low).0 (inr earlier) in omega arith

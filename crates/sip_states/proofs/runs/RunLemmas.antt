@@ -106,6 +106,7 @@ module _ {X : Type 0} (r : MachineRules X) where
   run_of_wait fs f m y w =
       record {
         steps = w.begins.steps ++ Takes f ∷ map Hides w.ends;
+        -- the steps to f, f itself and the hidden ends after it are one run
         stands = record {
           last = w.stands.last;
           goes = Goes-join r.first 0 w.begins.steps (Takes f) (map Hides w.ends) y w.stands.last (record { middle = w.start; goes = w.begins.goes; then = w.stands.goes });
@@ -136,6 +137,7 @@ module _ {X : Type 0} (r : MachineRules X) where
           among = record { steps = after.steps; stands = record { last = l.at; goes = l.goes; reached = l.low; waits = l.does.0 }; takes = after.takes };
           takes = l.does.1;
         },
+    -- the steps before the event and the event are a run
     λ g. record {
       steps = g.among.steps;
       goes = let stands = g.among.stands in

@@ -50,6 +50,7 @@ module _ {X : Type 0} (f : Figure X) (is : IsFigure f) (p : Times) where
   lasts-waits x h =
       let owed = IsWithin-owed h (closes_at f p x.phase) x.owes in
       let closes = closes-within h (f.window p x.phase) in (
+        -- what the standard bounds are the close of the phase and the deadlines that must be kept
         λ lasts. owed.1 (All-append (λ m. h ≤ m) (closes_of (f.window p x.phase)) (f.sends_by p x.phase) (closes.1 lasts.0) lasts.1, lasts.2),
         λ within.
             let halves = owed.0 within in (
@@ -116,6 +117,7 @@ module _ {X : Type 0} (f : Figure X) (is : IsFigure f) (p : Times) where
         steps = run.steps ++ Hides h ∷ [];
         stands = record {
           last = h;
+          -- the run goes on by the hidden step to ended, in which it waits
           goes = Goes-push (rules_of f p) (quiet f.idle) 0 run.steps (Hides h) (quiet f.ended)
               (record { before = x; at = run.stands.last; goes = run.stands.goes; low = run.stands.reached; does = may-hide x h may run.stands.waits });
           reached = omega arith;

@@ -54,6 +54,7 @@ module _ {X S : Type 0} (names : S → List ℕ) (InRange : S → Type 0) (seen 
         x,
         low,
         is,
+        -- the end lies within the window of the state of the code too
         record {
           at = e.at;
           is = record {
@@ -85,6 +86,7 @@ module _ {X S : Type 0} (names : S → List ℕ) (InRange : S → Type 0) (seen 
     pub reach_seen : SomeCanReach window until h m xs ↔ ((y : X) × Wait r (Contains (map (seen texts) xs)) h m y)
     reach_seen = (
       λ (k, x, within, is, can). elim can [
+        -- a state of the code stays, or it ends
         | inl stays ↦ (
           seen texts x,
           Wait-stay r (Contains (map (seen texts) xs)) h m (seen texts x)
@@ -92,6 +94,7 @@ module _ {X S : Type 0} (names : S → List ℕ) (InRange : S → Type 0) (seen 
         )
         | inr ends ↦ (r.ended, Wait-end r follows.lawful (Contains (map (seen texts) xs)) h m r.ended (seen_ends xs h m (k, x, within, is, ends)))
       ],
+      -- a state that stands for one of the code stays, or ends
       λ (y, wait). elim ((Wait-cases r follows.lawful (Contains (map (seen texts) xs)) h m y).0 wait) [
         | inl s ↦
             let (x, (k, within, is), same) = Contains-from_map (seen texts) xs y s.among in
@@ -119,6 +122,7 @@ module _ {X S : Type 0} (names : S → List ℕ) (InRange : S → Type 0) (seen 
           | inl s ↦
               let (x, member, same) = Contains-from_map (seen texts) xs y s.among in
               rw (← same) (Contains-map (seen texts) ys x ((a.members x).1 ((seen_waits m x).0 (rw same s.waits), inl member)))
+          -- the ended state is the one to which the code's states end
           | inr e ↦
               rw (e.hides.gives, ← follows.ended_is texts)
               (Contains-map (seen texts) ys ended

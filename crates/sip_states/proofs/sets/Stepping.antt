@@ -25,6 +25,7 @@ module _ {X S : Type 0} (names : S → List ℕ) (InRange : S → Type 0) (seen 
       record {
         members = λ x. rw (is, map-append (seen texts) xs ys) (
           λ h. elim (Contains-append_cases (map (seen texts) xs) (map (seen texts) ys) x h) [ inl first ↦ inl ((c.members x).0 first) | inr later ↦ inr ((s.members x).0 later) ],
+          -- what either list has is in both together, and nothing else is
           λ h. elim h [
             | inl p ↦ Contains-append_left (map (seen texts) xs) (map (seen texts) ys) x ((c.members x).1 p)
             | inr q ↦ Contains-append_right (map (seen texts) xs) (map (seen texts) ys) x ((s.members x).1 q)
@@ -40,10 +41,12 @@ pub gives_some : {X S : Type 0} (seen : Texts → S → X) (texts : Texts) (r : 
 gives_some seen texts r e lawful [] y = (λ none. absurd none, λ g. absurd (Contains-none g.before g.among.0))
 gives_some seen texts r e lawful (s ∷ xs) y =
     let more = gives_some seen texts r e lawful xs y in (
+      -- the event leads from the first state, or from a later one
       λ h. elim h [
         | inl takes ↦ record { before = seen texts s; among = (Contains-here (seen texts s) (map (seen texts) xs), lawful.timely (seen texts s) e y takes); takes = takes }
         | inr rest ↦ let g = more.0 rest in record { before = g.before; among = (Contains-there (seen texts s) (map (seen texts) xs) g.before g.among.0, g.among.1); takes = g.takes }
       ],
+      -- what it gives comes from the first state, or from a later one
       λ g. elim (Contains-cons (seen texts s) (map (seen texts) xs) g.before g.among.0) [
         | inl same ↦ inl (rw same g.takes)
         | inr rest ↦ inr (more.1 (record { before = g.before; among = (rest, g.among.1); takes = g.takes }))
@@ -84,6 +87,7 @@ module _ {X S : Type 0} (names : S → List ℕ) (InRange : S → Type 0) (seen 
       Covers-iff names InRange seen texts (λ y. GivesFrom seen texts r xs e y ⊎ r.Take (seen texts ended) e y) (GivesAfter seen texts r xs h e)
       (λ y. (
         λ ways. elim ways [
+          -- a state that stays gives what it gives, and the ended state what it gives
           | inl from ↦ stayed_gives y from
           | inr takes ↦ record {
             before = seen texts ended;
@@ -91,6 +95,7 @@ module _ {X S : Type 0} (names : S → List ℕ) (InRange : S → Type 0) (seen 
             takes = takes;
           }
         ],
+        -- after the wait there is one of the states that stayed, or the ended one
         λ g. elim (after_gives y g) [ inl from ↦ inl from | inr ends ↦ inr ends.1 ],
       )) new
       (Covers-append names InRange seen texts (GivesFrom seen texts r xs e) (r.Take (seen texts ended) e) found added new c stands is)
@@ -103,6 +108,7 @@ module _ {X S : Type 0} (names : S → List ℕ) (InRange : S → Type 0) (seen 
       let same : (y : X) → r.Take (seen texts s) e y ↔ GivesAfter seen texts r xs h e y =
       λ y. (
         λ takes. stayed_gives y (record { before = seen texts s; among = (rw here (Contains-here (seen texts s) []), follows.lawful.timely (seen texts s) e y takes); takes = takes }),
+        -- after the wait there is the one state alone
         λ g. elim (after_gives y g) [
           | inl from ↦
               let only = (Contains-single (seen texts s) from.before).0 (rw here at from.among.0) in
@@ -110,6 +116,7 @@ module _ {X S : Type 0} (names : S → List ℕ) (InRange : S → Type 0) (seen 
           | inr ends ↦ absurd (none ends.0)
         ],
       ) in
+      -- so what the step leads to stands for what is given
       record {
         members = λ y. (λ has. (same y).0 ((stands.members y).0 has), λ gives. (stands.members y).1 ((same y).1 gives));
         distinct = stands.distinct;
@@ -123,6 +130,7 @@ module _ {X S : Type 0} (names : S → List ℕ) (InRange : S → Type 0) (seen 
   covers_stand book P found new c same apart =
       let known : All (Knows names texts) new =
       λ k d low. All-contains (Knows names texts) found (get_or new k d) c.known ((same (get_or new k d)).0 (Contains-get_or new k d low)) in
+      -- each state that is covered is in the list, and stands for one alone
       record {
         members = λ x. (
           λ k. let (s, member, is) = Contains-from_map (seen texts) new x k in (c.members x).0 (rw (← is) (Contains-map (seen texts) found s ((same s).0 member))),

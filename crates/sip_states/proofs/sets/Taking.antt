@@ -62,6 +62,7 @@ took_kept names InRange seen r ended window until machine follows texts P e new 
     record {
       in_range = s.in_range;
       distinct = apart;
+      -- each new state can wait until the moment of the event, since it was led there at that moment
       waiting = All-weaker (λ x. Waits (r machine) (seen texts x) e.moment) (λ x. IsWithin e.moment (until machine x))
           (λ x. (seen_waits names InRange seen (r machine) (ended machine) (window machine) (until machine) follows texts e.moment x).0) new
           (took_waits names InRange seen texts (r machine) follows.lawful P e new s);
@@ -79,10 +80,12 @@ advanced_kept names InRange seen r ended window until machine follows h m xs ys 
       in_range = a.in_range;
       distinct = a.distinct;
       waiting = λ k d low. ((a.members (get_or ys k d)).0 (Contains-get_or ys k d low)).0;
+      -- there is at most one state more, and then ended is new
       few = elim a.grows [
         | inl fewer ↦ elim kept.few [
           | inl few ↦ inl (omega arith)
           | inr (most, there) ↦ inr (omega arith, (a.members (ended machine)).1 (IsWithin-none m (until machine (ended machine)) stays, inl there))
+        -- ended was added, so it was not there before
         ]
         | inr (more, absent, there) ↦ elim kept.few [
           | inl few ↦ inr (omega arith, there)

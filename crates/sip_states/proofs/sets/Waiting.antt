@@ -63,6 +63,7 @@ module _ {X : Type 0} (r : MachineRules X) (lawful : IsLawful r) where
         start = ended.start;
         begins = ended.among;
         ends = ended.at ∷ [];
+        -- it stands in the ended state from the end on
         stands = record {
           last = ended.at;
           goes = (y, ended.after, ended.hides, (refl, refl));
@@ -79,6 +80,7 @@ module _ {X : Type 0} (r : MachineRules X) (lawful : IsLawful r) where
   hidden : (S : X → Type 0) (h m : ℕ) (y : X) (x : X) → S x → (ends : List ℕ) → Reaches r x h (map Hides ends) y m → StaysFrom r S h m y ⊎ EndsFrom r S h m y
   hidden S h m y x among [] stands =
       inl (record { among = subst S (sym stands.goes.0) among; reached = let e = stands.goes.1 in let k = stands.reached in omega arith; waits = stands.waits })
+  -- one hidden step is the end
   hidden S h m y x among (t ∷ []) stands =
       let (z, low, hides, rest) = stands.goes in
       inr
@@ -90,6 +92,7 @@ module _ {X : Type 0} (r : MachineRules X) (lawful : IsLawful r) where
         before = let e = rest.1 in let k = stands.reached in omega arith;
         hides = rw rest.0 hides;
       })
+  -- two hidden steps cannot be, since a state ends once
   hidden S h m y x among (t ∷ u ∷ ts) stands =
       let (z, low, first, more) = stands.goes in let (v, _, second, _) = more in absurd (ends_once x t u z v first second)
 

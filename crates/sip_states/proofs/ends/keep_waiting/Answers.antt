@@ -45,6 +45,7 @@ loop-at-preserved g c =
     let d = g.M.Machine.ended m in
     let x = get_or ys at d in
     let is : x ≡ get_or ys at x = get_or_default ys at d x low in
+    -- whether the state can wait until the moment
     let test : is_within c.args.moment (g.M.Machine.until m x) ≡ c.is_within.result = sym (ap (is_within c.args.moment) (c.until.ensures d)) ∙ sym c.is_within.ensures in
     elim c.if-is_within.branch [
       | then-is_within w ↦
@@ -53,6 +54,7 @@ loop-at-preserved g c =
             filters = FiltersInPlace-more_set filters low (test ∙ w.if-is_within.true) is;
             in_range = All-set g.M.Machine.in_range ys c.loop-at.kept x (All-get_or g.M.Machine.in_range ys at d low in_range) in_range;
           })
+      -- a state that cannot is passed over
       | else-is_within w ↦ rw (w.pool-is, w.kept-is) (record { filters = FiltersInPlace-more_no filters low (test ∙ w.if-is_within.false) is; in_range = in_range })
     ]
 

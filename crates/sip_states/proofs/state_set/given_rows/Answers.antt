@@ -29,6 +29,7 @@ module _ (g : Over) (c : After-len g) where
       let new = c.find_given.new.pool in
       let rows = c.in_ok-rows.rows.items in
       let ones = c.in_ok-rows.ensures in
+      -- the states follow the rules of the machine, and of equal ones the first stands there
       let follows : Follows g.M.Machine.names g.M.Machine.seen r (g.M.Machine.ended m) (g.M.Machine.end_window m) (g.M.Machine.until m) =
       record { lawful = g.met.M.Machine.lawful m; ended_is = g.met.M.Machine.ended_stands m; ended_names = (g.met.M.Machine.ended_fits m).0; window_is = g.met.M.Machine.window_stands m; until_is = g.met.M.Machine.until_stands m; apart = g.met.M.Machine.apart } in
       covers_stand g.M.Machine.names g.M.Machine.in_range g.M.Machine.seen r (g.M.Machine.ended m) (g.M.Machine.end_window m) (g.M.Machine.until m) follows texts xs c.args.from e
@@ -42,6 +43,7 @@ returns-then-len-gt-WIDEST-clause-too_many g c = λ _.
     let x = g.M.Machine.ended c.args.machine.now in
     let rows = c.in_ok-rows.rows.items in
     let states = picked c.find_given.new.pool x rows in
+    -- there are more rows than a set follows, and so more states
     let size : length states ≡ length rows = length-map rows (λ row. get_or c.find_given.new.pool row x) in
     let len = c.len.ensures in
     let ok = c.in_ok-rows.rows.ok.0 in

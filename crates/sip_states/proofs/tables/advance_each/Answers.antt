@@ -32,6 +32,7 @@ returns-in_err-advance-clause-err g c =
     let sets = c.loop-index.sets in
     let at = get_or indices i 0 in
     let w = c.advance.new.self in
+    -- the sets of the indices before this one have waited
     always_err c.from_residual.result _ (
       take i indices,
       take_among i indices,
@@ -47,6 +48,7 @@ loop-index-preserved g c =
     let sets = c.loop-index.sets in
     let at = get_or indices i 0 in
     let w = c.advance.new.self in
+    -- this set has waited now, and the map has the same keys
     let low : i < length indices = omega arith in
     let inv = c.loop-index.invariant in
     record {

@@ -33,6 +33,7 @@ loop-place-preserved-then-is_empty g c =
     let marks = c.loop-place.marks.named in
     let index = c.in-Some.index in
     let set = c.index.result.now in
+    -- the set names nothing, so it needs no mark
     let none : length c.names.new.out.items ≡ 0 = grind (arith, common_steps) in
     let empty : c.names.new.out.items ≡ [] = nil_from_length c.names.new.out.items none in
     let silent : numbers_of set ≡ [] = names_nothing (numbers_of set) c.clear.new.self.items c.names.new.out.items c.clear.ensures.items empty

@@ -13,6 +13,7 @@ invariant_of-self c =
     let moved = c.self.inside.moved in
     let is = c.self.invariant.0 in
     let low : c.args.index < length places = rw (← c.self.view_is, length-map) at c.requires in
+    -- p is the place of the index, which is not among the moved ones
     let p = c.index.result.now in
     let at : p ≡ get_or places c.args.index 0 = c.index.ensures ∙ get_or_default places c.args.index p 0 low in
     let p_low = place_low order places moved is c.args.index p low at in
@@ -28,6 +29,7 @@ returns-then-place-self-clause-named c =
     let moved = c.self.inside.moved in
     let is = c.self.invariant.0 in
     let low : c.args.index < length places = rw (← c.self.view_is, length-map) at c.requires in
+    -- p is the place of the index, which is not among the moved ones
     let p = c.index.result.now in
     let at : p ≡ get_or places c.args.index 0 = c.index.ensures ∙ get_or_default places c.args.index p 0 low in
     let p_low = place_low order places moved is c.args.index p low at in

@@ -20,6 +20,7 @@ invariant_of-self c =
     let named = c.self.inside.named in
     let moved = c.self.inside.moved in
     let is = c.self.invariant.0 in
+    -- the index is moved, and its place p comes after the named ones
     let mark : IsMarked (marks places moved) c.args.index = rw (← c.self.view_is) at c.requires in
     let under = marked_under places moved c.args.index mark in
     let p = c.index.result.now in
@@ -36,6 +37,7 @@ returns-then-place-self-clause-named c =
     let places = c.self.inside.places.items in
     let named = c.self.inside.named in
     let moved = c.self.inside.moved in
+    -- the index is moved, and p is its place
     let mark : IsMarked (marks places moved) c.args.index = rw (← c.self.view_is) at c.requires in
     let under = marked_under places moved c.args.index mark in
     let p = c.index.result.now in
@@ -52,6 +54,7 @@ returns-then-place-self-clause-moved c =
     let named = c.self.inside.named in
     let moved = c.self.inside.moved in
     let is = c.self.invariant.0 in
+    -- the index is moved, and its place p comes after the named ones
     let mark : IsMarked (marks places moved) c.args.index = rw (← c.self.view_is) at c.requires in
     let under = marked_under places moved c.args.index mark in
     let p = c.index.result.now in

@@ -20,6 +20,7 @@ invariant_of-self c =
     let named = c.self.inside.named in
     let moved = c.self.inside.moved in
     let is = c.self.invariant.0 in
+    -- the index is not named, and its place p is among the moved ones
     let none : slice_get (marks places named) c.args.index ≡ Some false = rw (← c.self.view_is) at c.requires in
     let from = unmarked_from places named c.args.index none in
     let p = c.index.result.now in
@@ -37,6 +38,7 @@ returns-then-place-self-clause-named c =
     let named = c.self.inside.named in
     let moved = c.self.inside.moved in
     let is = c.self.invariant.0 in
+    -- the index is not named, and its place p is among the moved ones
     let none : slice_get (marks places named) c.args.index ≡ Some false = rw (← c.self.view_is) at c.requires in
     let from = unmarked_from places named c.args.index none in
     let p = c.index.result.now in
@@ -56,6 +58,7 @@ returns-then-place-self-clause-moved c =
     let places = c.self.inside.places.items in
     let named = c.self.inside.named in
     let moved = c.self.inside.moved in
+    -- the index is not named, and p is its place
     let none : slice_get (marks places named) c.args.index ≡ Some false = rw (← c.self.view_is) at c.requires in
     let from = unmarked_from places named c.args.index none in
     let p = c.index.result.now in

@@ -15,6 +15,7 @@ pub invariant_of-self-then-stepped : goal.invariant_of-self-then-stepped
 invariant_of-self-then-stepped g c =
     let m = c.self.inside.machine in
     let new = c.step_alone.new.pool in
+    -- the states follow the rules of the machine, and there is one of them
     let follows : Follows g.M.Machine.names g.M.Machine.seen (g.M.Machine.rules m) (g.M.Machine.ended m) (g.M.Machine.end_window m) (g.M.Machine.until m) =
     record { lawful = g.met.M.Machine.lawful m; ended_is = g.met.M.Machine.ended_stands m; ended_names = (g.met.M.Machine.ended_fits m).0; window_is = g.met.M.Machine.window_stands m; until_is = g.met.M.Machine.until_stands m; apart = g.met.M.Machine.apart } in
     let one : length new ≡ 1 = OnTrue_at c.if-stepped.true c.in_ok-stepped.ensures.alone in

@@ -22,6 +22,7 @@ invariant_of-self g c =
     let es = c.self.inside.sets.entries in
     let marks = c.in_ok-marks.marks.named in
     let moved = c.in_ok-marks.marks.moved in
+    -- as many sets, records and marks are left as flags are true
     let size : index_map_len c.keep_entries.new.map ≡ length (kept_of flags es) = ap length c.keep_entries.ensures in
     let few = kept_few flags es in
     let long : length c.in_ok-agenda.agenda ≡ index_map_len c.keep_entries.new.map =
@@ -31,6 +32,7 @@ invariant_of-self g c =
       omega (arith, size, few, c.self.invariant.0),
       long,
       marks_long,
+      -- each index has both marks
       λ index set at unmarked. absurd (false≢true (all_marked marks c.in_ok-marks.ensures.named index false unmarked)),
       moved_long,
       record {

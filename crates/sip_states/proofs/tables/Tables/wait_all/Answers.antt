@@ -25,6 +25,7 @@ invariant_of-self g c =
     let marks = c.in_ok-marks.marks.named in
     let moved = c.in_ok-marks.marks.moved in
     let size = c.in_err-advance_each.ensures.size in
+    -- there are as many marks as sets, and all are set
     let marks_long = c.in_ok-marks.ensures.long.0 ∙ c.len.ensures.len ∙ sym size in
     let moved_long = c.in_ok-marks.ensures.long.1 ∙ c.len.ensures.len ∙ sym size in (
       subst (λ n. n ≤ most_keys) (sym size) c.self.invariant.0,
@@ -44,6 +45,7 @@ invariant_of-self-2 g c =
     let marks = c.in_ok-marks.marks.named in
     let moved = c.in_ok-marks.marks.moved in
     let size = c.in_ok-advance_each.ensures.size in
+    -- there are as many marks as sets, and all are set
     let marks_long = c.in_ok-marks.ensures.long.0 ∙ c.len.ensures.len ∙ sym size in
     let moved_long = c.in_ok-marks.ensures.long.1 ∙ c.len.ensures.len ∙ sym size in (
       subst (λ n. n ≤ most_keys) (sym size) c.self.invariant.0,
@@ -80,6 +82,7 @@ returns-clause-ok g c =
       keys = c.in_ok-advance_each.ensures.keys;
       records = refl;
       long = up.long;
+      -- each set is marked, and each marked set has waited
       each = all_advance c.args.moment c.moved.result.now marks (values sets) (values c.advance_each.new.sets)
           (c.in_ok-marks.ensures.long.1 ∙ c.len.ensures.len ∙ sym (length-values_of sets.entries)) c.in_ok-marks.ensures.moved c.moved.ensures.members up;
     })

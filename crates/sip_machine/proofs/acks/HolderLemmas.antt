@@ -59,6 +59,7 @@ module _ (texts : Texts) (to : List ℕ) (low high t : ℕ) (rows : List (List D
         before = one.before;
         first = one.first;
         after = one.after;
+        -- its message has the To, and none before it has, since all with the To stand under its hash
         whole = one.whole;
         holds = (subst (λ n. IsToOf (text_of texts n) to) (sym same) its, one.holds.1);
         none_before = λ k d within has. one.none_before k d within (All-front W one.before (one.first ∷ one.after) (subst (All W) one.whole under) k d within has);

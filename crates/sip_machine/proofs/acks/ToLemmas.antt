@@ -81,6 +81,7 @@ pub all_below : (tos : List To) (number : ℕ) (last : To) → AllPairs (λ a b.
 all_below tos number last up some at low = λ k d within.
     let end : get_or tos (length tos - 1) d ≡ last = get_or_default tos (length tos - 1) d last (omega (arith, some)) ∙ sym at in
     let number_is = ap (λ t. t.number) end in
+    -- a To before the last has a lesser number than it
     elim (cases_lt k (length tos - 1)) [
       | inl before ↦ (let lt = up k (length tos - 1) d before (omega (arith, some)) in omega (arith, lt, number_is, low))
       | inr there ↦
@@ -106,6 +107,7 @@ front_below (t ∷ ts) number last up is same = λ k d low.
     let n = length tos - 1 in
     let size = length-take-le n tos (omega arith) in
     let below : k < n = omega (arith, size, low) in
+    -- the last To of the list is the one with this number
     let end : get_or tos n d ≡ last = get_or_default tos n d last (omega arith) ∙ get_or_from_slice_get tos n last last (sym is) in
     let lt = up k n d below (omega arith) in
     rw (get_or-take n tos k d below) (omega (arith, lt, ap (λ to. to.number) end, same))

@@ -32,6 +32,7 @@ module _ (P : Debt → Type 0) (message t : ℕ) (only : (debt : Debt) → IsTru
   pub first-at : (debts : List Debt) (at : ℕ) (d : Debt) → at < length debts → All (λ debt. ¬ (P debt)) (take at debts) →
       P (get_or debts at d) → IsTrue (is_payable message t (get_or debts at d)) → IsWithoutFirst P debts (paid_by message t debts)
   first-at [] at d low none holds pays = absurd (omega (arith, low))
+  -- the first debt is the one of which P holds
   first-at (debt ∷ debts) zero d low none holds pays = record {
     before = [];
     first = debt;
@@ -41,6 +42,7 @@ module _ (P : Debt → Type 0) (message t : ℕ) (only : (debt : Debt) → IsTru
     none_before = All-nil (λ x. ¬ (P x));
     rest = ap (λ b. cond b debts (debt ∷ paid_by message t debts)) pays;
   }
+  -- the first debt is not paid, and the one is among the others
   first-at (debt ∷ debts) (suc at) d low none holds pays =
       let fails = All-head (λ x. ¬ (P x)) debt (take at debts) none in
       subst (IsWithoutFirst P (debt ∷ debts)) (sym (unpaid-front message t debt debts (λ paid. fails (only debt paid))))
@@ -66,6 +68,7 @@ front-first P message t n debts found =
     let back = drop n debts in
     let left = ap length found.rest ∙ length-append found.before found.after in
     let long = ap length found.whole ∙ length-append found.before (found.first ∷ found.after) in
+    -- what stands before the debt, and the debt, are the same in the whole list
     record {
       before = found.before;
       first = found.first;

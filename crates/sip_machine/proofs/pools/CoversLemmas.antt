@@ -25,6 +25,7 @@ module _ {X S : Type 0} where
           | inl first ↦ elim first [ inl here ↦ inl here | inr rest ↦ inr (more.0 (inl rest)) ]
           | inr later ↦ inr (more.0 (inr later))
         ],
+        -- from the other side: what leads from the first element or from one of the others
         λ h. elim h [
           | inl here ↦ inl (inl here)
           | inr rest ↦ elim (more.1 rest) [ inl first ↦ inl (inr first) | inr later ↦ inr later ]
@@ -40,6 +41,7 @@ module _ {X S : Type 0} where
           | inl p ↦ elim p [ inl here ↦ inl (inl here) | inr rest ↦ inr (more.0 (inl rest)) ]
           | inr q ↦ elim q [ inl here ↦ inl (inr here) | inr rest ↦ inr (more.0 (inr rest)) ]
         ],
+        -- from the other side: what leads in one of the two ways from one of the elements
         λ h. elim h [
           | inl here ↦ elim here [ inl p ↦ inl (inl p) | inr q ↦ inr (inl q) ]
           | inr rest ↦ elim (more.1 rest) [ inl p ↦ inl (inr p) | inr q ↦ inr (inr q) ]
@@ -84,6 +86,7 @@ module _ {X S : Type 0} (names : S → List ℕ) (InRange : S → Type 0) (seen 
   Covers-both P Q xs ys c d = record {
     members = λ y. rw (map-append (seen texts) xs ys) (
       λ has. elim (Contains-append_cases (map (seen texts) xs) (map (seen texts) ys) y has) [ inl first ↦ inl ((c.members y).0 first) | inr later ↦ inr ((d.members y).0 later) ],
+      -- what either covers is in the list
       λ h. elim h [
         | inl p ↦ Contains-append_left (map (seen texts) xs) (map (seen texts) ys) y ((c.members y).1 p)
         | inr q ↦ Contains-append_right (map (seen texts) xs) (map (seen texts) ys) y ((d.members y).1 q)

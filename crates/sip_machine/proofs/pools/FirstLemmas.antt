@@ -46,6 +46,7 @@ module _ {X : Type 0} (xs : List X) where
         (All-weaker (λ row. (from ≤ row) × (row < at)) (λ row. (from ≤ row) × (row < at + 1)) (λ row is. let b = is.1 in (is.0, omega (arith, b))) rows first.within)
         (low, omega arith);
     rising = all_pairs_push (λ a b. a < b) rows at first.rising (λ k d low. (first.within k d low).1);
+    -- an element before `at` has its first one among the rows, and the one at `at` is one itself
     each = λ k x low_k high_k. elim (cases_lt k at) [
       | inl before ↦ Any-more (λ row. get_or xs row x ≡ get_or xs k x) rows at (first.each k x low_k before)
       | inr behind ↦
@@ -91,6 +92,7 @@ run-of rows rising some near =
       some = some;
       each = λ k low.
           let rest = length rows - 1 - k in
+          -- between two rising indices there is at least their distance
           let end : k + rest ≡ length rows - 1 = omega (arith, low) in
           let up = rising-apart rows 0 k rising (omega (arith, low)) in
           let on = rising-apart rows k rest rising (omega (arith, low, end)) in
@@ -106,10 +108,12 @@ run_picked xs rows first x run within =
     let last = within (length rows - 1) 0 (omega (arith, run.some)) in
     let end = run.each (length rows - 1) (omega (arith, run.some)) in
     let behind = length-drop first xs in
+    -- the part of the list is as long as the rows
     let room : length rows ≤ length (drop first xs) = omega (arith, run.some, last, end, behind) in
     let size : length (take (length rows) (drop first xs)) ≡ length rows = length-take-le (length rows) (drop first xs) room in
     let count : length (picked xs x rows) ≡ length rows = length-map rows (λ row. get_or xs row x) in
     same_lists (take (length rows) (drop first xs)) (picked xs x rows) (size ∙ sym count)
+    -- each row is one more than the one before, so its element stands there in the part
     (λ k d low.
     let inside : k < length rows = omega (arith, low, size) in
     let is = run.each k inside in
@@ -135,6 +139,7 @@ module _ {X : Type 0} (xs : List X) (rows : List ℕ) where
     long = long ∙ picking.long;
     front = λ d.
         let room : to < length zs = omega (arith, within, long, picking) in
+        -- the front has the element of the next row too
         take_more zs to d room ∙ ap₂ (λ ws w. ws ++ w ∷ []) (front ∙ picking.front d) (here d ∙ picking.rest row d le ∙ ap (λ r. get_or xs r d) is)
         ∙ sym (map-append (λ r. get_or xs r d) (take to rows) (get_or rows to 0 ∷ [])) ∙ ap (map (λ r. get_or xs r d)) (sym (take_more rows to 0 low));
     rest = λ k d le_k. rest k d (omega (arith, le_k)) ∙ picking.rest k d (omega (arith, le_k));
@@ -165,12 +170,14 @@ module _ {S : Type 0} (input : S → List (List ℕ)) (phases : List S) (from : 
         same = λ i k x above_i low_i above_k low_k e.
             let p = x.phase in
             let alike = sym (state-at phases rows xs i p x is low_i) ∙ e ∙ state-at phases rows xs k p x is low_k in
+            -- states that are equal have one phase and owe the same
             let phase : get_or phases i p ≡ get_or phases k p = ap (λ y. y.phase) alike in
             let owes : owed_in rows i ≡ owed_in rows k = ap (λ y. y.owes) alike in
             let in_i : i < length rows = omega (arith, low_i, size, long) in
             let in_k : k < length rows = omega (arith, low_k, size, long) in
             let there_i : from + (i - from) ≡ i = omega (arith, above_i) in
             let there_k : from + (k - from) ≡ k = omega (arith, above_k) in
+            -- so the same was mixed into equal prints
             mixing.mixed (i - from) p (omega (arith, above_i, low_i, size, all)) (omega (arith, above_i, low_i, size))
             ∙ ap₂ (λ n q. bit_xor n (hash_by (input q))) (prints.same i k [] above_i in_i above_k in_k owes)
             (ap (λ n. get_or phases n p) there_i ∙ phase ∙ ap (λ n. get_or phases n p) (sym there_k))

@@ -89,9 +89,11 @@ module _ {S : Type 0} where
   pushed-is q g p phases rows from to n long size =
       let xs = from_to from to (beside phases rows) in
       let owes : CodeOwing S → List Debt = λ x. x.owes in
+      -- the rows of the states that pass are the rows that pass
       let same : map g (filter p (from_to from to rows)) ≡ map (λ (x : CodeOwing S). g x.owes) (filter (λ x. p x.owes) xs)
       = ap (λ rs. map g (filter p (from_to from to rs))) (owes-beside phases rows long) ∙ ap (λ ys. map g (filter p ys)) (from_to-map owes from to (beside phases rows))
       ∙ ap (map g) (filter-map owes p xs) ∙ map-again owes g (filter (λ x. p x.owes) xs) in
+      -- the new rows stand beside the one phase
       beside-append phases (replicate n q) rows (map g (filter p (from_to from to rows))) long
       ∙ ap (λ ys. beside phases rows ++ ys)
       (ap (λ k. beside (replicate k q) (map g (filter p (from_to from to rows)))) size ∙ beside-each q (map g (filter p (from_to from to rows)))

@@ -37,6 +37,7 @@ other_row p (Calling w) (Response code) e y other = (
   λ h. elim h [ inl row ↦ inl row | inr final ↦ elim final [ inl success ↦ absurd (other success.0) | inr row ↦ inr (inr row) ] ],
   λ h. elim h [ inl row ↦ inl row | inr final ↦ elim final [ inl success ↦ absurd (other success.0) | inr row ↦ inr (inr row) ] ],
 )
+-- in proceeding too only a 2xx has another row, and other messages have the same
 other_row p (Proceeding reliable request cancel) (Response code) e y other = (
   λ h. elim h [ inl success ↦ absurd (other success.0) | inr row ↦ inr row ],
   λ h. elim h [ inl success ↦ absurd (other success.0) | inr row ↦ inr row ],

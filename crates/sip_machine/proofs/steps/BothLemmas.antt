@@ -57,11 +57,13 @@ module _ {X S : Type 0} (names : S → List ℕ) (InRange : S → Type 0) (seen 
                 ]
             | inr e ↦ inr ((other.only x).1 (sym e))
           ],
+          -- what is in the list is one of the two states
           λ h. elim h [
             | inl p ↦ rw ((one.only x).0 p) (0, omega arith, refl)
             | inr q ↦ rw ((other.only x).0 q) (Contains-push (seen texts s ∷ []) (seen texts t))
           ],
         );
+        -- the two are not the same, since no state is of both
         distinct =
             let differ : seen texts s ≢ seen texts t = λ e. apart (seen texts s) ((one.only (seen texts s)).1 refl) ((other.only (seen texts s)).1 e) in
             AllPairs-cons (λ x y. x ≢ y) (seen texts s) (seen texts t ∷ [])

@@ -159,6 +159,7 @@ module _ {S X : Type 0} (f : Figure X) (p : Times) (seen : Texts → S → X) (n
         rested-pays f p seen names InRange texts e (InPhase owes) moves (Some message)
         (FindsFirst-same (λ debt. IsTrue (is_payable message e.moment debt)) (PaysFor (f.Satisfies (seen texts phase) e.kind e) texts e.moment) e.moment owes (Some message) tells
         (pays-some message e.moment owes is)) knows fit
+    -- no debt can be paid, so the state gives nothing
     paid-answers message owes moves tells knows fit false is =
         rested-pays f p seen names InRange texts e (InPhase owes) moves None
         (FindsFirst-same (λ debt. IsTrue (is_payable message e.moment debt)) (PaysFor (f.Satisfies (seen texts phase) e.kind e) texts e.moment) e.moment owes None tells
@@ -251,6 +252,7 @@ in-run names InRange texts phases rows xs from to phase is here order le known f
     let d = at_rest phase in
     let first = get_or xs from d in
     let at : first.phase ≡ phase = ap (λ z. z.phase) (state-at phases rows xs from phase d is (omega (arith, order, le))) ∙ sym here in
+    -- what holds of each state of the run holds of its phase, and all have that phase
     record {
       known = subst (Knows names texts) at (All-front (Keeps texts) (names first.phase) (owes_names first.owes) (slice-first (Knows (owing_names names) texts) from to xs d order le known));
       in_range = subst InRange at (slice-first (OwingInRange InRange) from to xs d order le fits).0;

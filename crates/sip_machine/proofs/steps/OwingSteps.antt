@@ -124,6 +124,7 @@ counts-may t d low = grind (arith, nat_tests)
 IsWithoutFirst-filter : {X : Type 0} (p : X → Bool) (P : X → Type 0) (xs ys : List X) → ((x : X) → P x → p x ≡ true) → IsWithoutFirst P xs ys →
     IsWithoutFirst P (filter p xs) (filter p ys)
 IsWithoutFirst-filter p P xs ys passes a =
+    -- what stands before the first, the first itself, and what follows it are filtered each
     record {
       before = filter p a.before;
       first = a.first;
@@ -145,11 +146,13 @@ module _ {S X : Type 0} (f : Figure X) (p : Times) (seen : Texts → S → X) (n
       (record x { phase = turn.phase; owes = changed_debts p e.moment turn.change x.owes })
   led-one Row e x turn one known fits small =
       let after = turn_seen seen texts turn in
+      -- the code's state stands for the state to which the turn leads
       let there : led_to p e.moment (owes_seen texts x.owes) after
       ≡ owing_seen seen texts (record x { phase = turn.phase; owes = changed_debts p e.moment turn.change x.owes })
       = ap (λ (owes : List Owed). record { phase = seen texts turn.phase; owes = owes }) (changed-seen p texts e.moment turn.change x.owes) in
       let owes_known = All-back (Keeps texts) (names x.phase) (owes_names x.owes) known in
       let here = All-back (Keeps texts) (names turn.phase) (change_names turn.change) one.known in
+      -- it is the only one, the book has what it names, and it is in range
       record {
         only = λ y. (
           λ h. h.2 ∙ ap (led_to p e.moment (owes_seen texts x.owes)) ((one.only h.0).0 h.1) ∙ there,
@@ -174,6 +177,7 @@ module _ {S X : Type 0} (f : Figure X) (p : Times) (seen : Texts → S → X) (n
   repaid-one e x left known fits paid =
       let Q = PaysFor (f.Satisfies (seen texts x.phase) e.kind e) texts e.moment in
       let P = λ (owed : Owed). f.Satisfies (seen texts x.phase) e.kind e owed.message × (e.moment ≤ owed.deadline) in
+      -- the debts that are left are the only ones without the first that is paid
       let pays = IsWithoutFirst-map (owed_seen texts) Q P x.owes left (λ k d low. (λ h. h, λ h. h)) paid in
       let owes_known = All-names (Keeps texts) x.owes (All-back (Keeps texts) (names x.phase) (owes_names x.owes) known) in
       record {
@@ -182,6 +186,7 @@ module _ {S X : Type 0} (f : Figure X) (p : Times) (seen : Texts → S → X) (n
               (IsWithoutFirst-same P (owes_seen texts x.owes) h.0 (owes_seen texts left) h.1 pays),
           λ same. (owes_seen texts left, pays, same),
         );
+        -- the book has what the state names, and it is in range
         known = All-append (Keeps texts) (names x.phase) (owes_names left) (All-front (Keeps texts) (names x.phase) (owes_names x.owes) known)
             (names-kept texts left (All-without Q (λ d. Keeps texts d.message) x.owes left paid owes_known));
         in_range = (fits.0, All-without Q (λ d. d.deadline < 2 ^ 50) x.owes left paid fits.1);
@@ -203,6 +208,7 @@ module _ {S X : Type 0} (f : Figure X) (p : Times) (seen : Texts → S → X) (n
   emitted-both is e x sent rested one other =
       let here = owing_seen seen texts x in
       let Row = f.Sends p (seen texts x.phase) e.kind e in
+      -- no state is both led and at rest
       AnswersBoth-two (owing_names names) (OwingInRange InRange) (owing_seen seen) texts (Follows Row p e here) (Rests f e here)
       (λ y row rest. elim rest [ inl pays ↦ Follows-Repays f is p e here y row pays | inr stays ↦ Follows-Stays f is p e here y row stays ])
       sent rested one other
@@ -218,6 +224,7 @@ module _ {S X : Type 0} (f : Figure X) (p : Times) (seen : Texts → S → X) (n
       AnswersOne (owing_names names) (OwingInRange InRange) (owing_seen seen) texts (Repays f e (owing_seen seen texts x)) repaid →
       AnswersOne (owing_names names) (OwingInRange InRange) (owing_seen seen) texts (Rests f e (owing_seen seen texts x)) repaid
   rests-repaid e x moves None none = λ y h. elim h [ inl pays ↦ none y pays | inr stays ↦ moves stays.0 ]
+  -- the state can rest only by a payment
   rests-repaid e x moves (Some s) one = record {
     only = λ y. (
       λ h. elim h [ inl pays ↦ (one.only y).0 pays | inr stays ↦ absurd (moves stays.0) ],
@@ -258,6 +265,7 @@ module _ {S X : Type 0} (f : Figure X) (p : Times) (seen : Texts → S → X) (n
   repaid-at e x None none known fits =
       let P = PaysFor (f.Satisfies (seen texts x.phase) e.kind e) texts e.moment in
       repaid-none e (unexpired_at e.moment x) (All-filter (counts_at e.moment) (λ debt. ¬ (P debt)) x.owes none)
+  -- the first debt that is paid is also the first among those that have not expired
   repaid-at e x (Some message) finds known fits =
       let P = PaysFor (f.Satisfies (seen texts x.phase) e.kind e) texts e.moment in
       repaid-one e (unexpired_at e.moment x) (filter (counts_at e.moment) (paid_by message e.moment x.owes)) (known-at e.moment x known) (in_range-at e.moment x fits)
@@ -293,6 +301,7 @@ module _ {S X : Type 0} (f : Figure X) (p : Times) (seen : Texts → S → X) (n
   heard-one e x None none known fits small =
       let now = unexpired_at e.moment x in
       stays-one (f.Receives p (seen texts x.phase) e.kind e) e now none (known-at e.moment x known) (in_range-at e.moment x fits)
+  -- where the message has a row, the state follows it and does not stay
   heard-one e x (Some turn) one known fits small =
       let now = unexpired_at e.moment x in
       let there = led_by p e.moment turn x in
@@ -368,12 +377,14 @@ module _ {S X : Type 0} (f : Figure X) (p : Times) (seen : Texts → S → X) (n
       IsWithin e.moment (until_of f p (owing_seen seen texts x)) → Gives (Steps f p a e (owing_seen seen texts (unexpired_at e.moment x))) e.moment x effect →
       Gives (TakeOf f p (owing_seen seen texts x) e) e.moment x effect
   taken a e x effect is within gives =
+      -- `at` is the state for which the code's stands, without what has expired
       let at : Owing X = record { phase = seen texts x.phase; owes = unexpired e.moment (owes_seen texts x.owes) } in
       let here : owing_seen seen texts (unexpired_at e.moment x) ≡ at
       = ap (λ (owes : List Owed). record { phase = seen texts x.phase; owes = owes }) (sym (unexpired-seen e.moment texts x.owes)) in
       let next = given_by p e.moment x effect in
       StandFor-same (owing_names names) (OwingInRange InRange) (owing_seen seen) texts (Steps f p a e (owing_seen seen texts (unexpired_at e.moment x)))
       (TakeOf f p (owing_seen seen texts x) e)
+      -- what it takes are its steps, since it lasts until the event
       (λ y. (
         λ h. (within, subst (λ b. Steps f p b e at y) (sym is) (subst (λ z. Steps f p a e z y) here h)),
         λ h. subst (λ z. Steps f p a e z y) (sym here) (subst (λ b. Steps f p b e at y) is h.1),

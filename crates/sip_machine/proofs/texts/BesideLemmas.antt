@@ -39,6 +39,7 @@ count-parted p (x ∷ xs) zero low parts =
     let here : p x ≡ false = parts.1 0 x (omega arith) (omega arith) in
     let rest = count-parted p xs zero (omega arith) (λ k d le lt. absurd (omega (arith, lt)), λ k d le lt. parts.1 (suc k) d (omega arith) (omega (arith, lt))) in
     count-cons p x xs ∙ ap₂ (λ b n. cond b 1 0 + n) here rest
+-- the first element passes, and so do i of the others
 count-parted p (x ∷ xs) (suc i) low parts =
     let here : p x ≡ true = parts.0 0 x (omega arith) (omega arith) in
     let rest = count-parted p xs i (omega (arith, low)) (λ k d le lt. parts.0 (suc k) d (omega arith) (omega (arith, lt)), λ k d le lt. parts.1 (suc k) d (omega (arith, le)) (omega (arith, lt))) in
@@ -143,12 +144,14 @@ many-among low high (n ∷ ns) [] up up' all = omega arith
 many-among low high (n ∷ ns) (m ∷ ms) up up' all =
     let a = count-cons (between low high) n ns in
     let b = count-cons (between low high) m ms in
+    -- the first number of both is the same, or that of ns is not among ms
     elim (eqb_tells n m) [
       | inl same ↦
           let rest = many-among low high ns ms (rest_rises n ns up) (rest_rises m ms up')
           (among_rest n ns ms (λ x has. all x (tail_in m ms x has)) (λ x has is. (let lt = above m ms x up' has in omega (arith, lt, is, same.1)))) in
           let one : one_of (between low high n) ≡ one_of (between low high m) = ap (λ x. one_of (between low high x)) same.1 in
           omega (arith, a, b, rest, one)
+      -- the number that only ns has counts for ns alone
       | inr other ↦
           let rest = many-among low high ns (m ∷ ms) (rest_rises n ns up) up' (all_behind n m ns ms up up' all other.1) in
           omega (arith, a, rest)
@@ -162,6 +165,7 @@ among-all low high (n ∷ ns) [] up up' all few x has le le' = absurd (let some 
 among-all low high (n ∷ ns) (m ∷ ms) up up' all few x has le le' =
     let a = count-cons (between low high) n ns in
     let b = count-cons (between low high) m ms in
+    -- the first number of both is the same: it is x, or x is among the others
     elim (eqb_tells n m) [
       | inl same ↦
           let one : one_of (between low high n) ≡ one_of (between low high m) = ap (λ x. one_of (between low high x)) same.1 in
@@ -172,6 +176,7 @@ among-all low high (n ∷ ns) (m ∷ ms) up up' all few x has le le' =
                 (among_rest n ns ms (λ x has. all x (tail_in m ms x has)) (λ x has is. (let lt = above m ms x up' has in omega (arith, lt, is, same.1))))
                 (omega (arith, a, b, few, one)) x rest le le')
           ]
+      -- the first number of ns is not in ms: it lies outside, since else ns would have more
       | inr other ↦
           let behind = all_behind n m ns ms up up' all other.1 in
           let most = many-among low high ns (m ∷ ms) (rest_rises n ns up) up' behind in

@@ -60,11 +60,13 @@ module _ (texts : Texts) (number : ℕ) (bytes : List ℕ) (book : IsBook (texts
   pub IsBook-front : IsBook texts
   IsBook-front = record {
     rising = λ i j d lt low.
+        -- two of the messages have rising numbers, as in the whole book
         let first : ℕ × List ℕ → ℕ = λ t. t.0 in
         let one = ap first (get_or_append_left texts ((number, bytes) ∷ []) d i (omega (arith, lt, low))) in
         let other = ap first (get_or_append_left texts ((number, bytes) ∷ []) d j low) in
         let less = book.rising i j d lt (omega (arith, low, long)) in
         omega (arith, one, other, less);
+    -- two of them with the same bytes are the same, as in the whole book
     apart = λ a b keeps_a keeps_b same.
         book.apart a b (Keeps-grow texts number bytes a keeps_a) (Keeps-grow texts number bytes b keeps_b)
         (text_of-grow texts number bytes a keeps_a ∙ same ∙ sym (text_of-grow texts number bytes b keeps_b));
@@ -124,8 +126,10 @@ newest_placed texts runs now newest position is at put =
     let places = places_of runs in
     let i = index_of runs newest.gap in
     let place : ℕ → ℕ → Place = λ h p. record { hash = h; position = p } in
+    -- the newest message stands after all others, at this position
     let size : length texts ≡ length front + 1 = ap length is.last ∙ length-append front ((is.number, bytes) ∷ []) in
     let here : length front ≡ position = omega (arith, size, at) in
+    -- its place is put in the gap of its hash and bytes
     let grown = IsOrder-grow front places is.number bytes i is.order.order (subst (λ h. IsGap front (h, bytes) places i) is.hash is.gap) in
     subst (λ ts. IsOrder ts (places_of now)) (sym is.last)
     (subst (IsOrder (front ++ (is.number, bytes) ∷ [])) (ap (λ h. insert places i (place h (length front))) (sym is.hash) ∙ ap (λ p. insert places i (place newest.hash p)) here ∙ sym put) grown)
@@ -223,6 +227,7 @@ retained_order true [] [] book up kept places order = IsOrder-only [] [] book up
 retained_order true [] (n ∷ ns) book up kept places order = absurd (Contains-nil n (All-head (Keeps []) n ns kept))
 retained_order true (x ∷ xs) numbers book up kept places order =
     let texts : Texts = x ∷ xs in
+    -- without a place the newest message stays out, and the others keep theirs
     let front : Texts = placed true texts in
     let y : ℕ × List ℕ = get_or texts (length xs) (0, []) in
     let is : texts ≡ front ++ y ∷ [] = split_last texts (length xs) (omega arith) in

@@ -59,6 +59,7 @@ merged_is [] [] up rising kept = refl
 merged_is (n ∷ ns) [] up rising kept = absurd (Contains-nil n (All-head (Keeps []) n ns kept))
 merged_is [] (t ∷ ts) up rising kept = refl
 merged_is (n ∷ ns) (t ∷ ts) up rising kept =
+    -- the first message has the first number, so it is kept, and the numbers go on
     elim (eqb_tells t.0 n) [
       | inl same ↦
           let apart : All (λ m. t.0 ≢ m) ns = All-weaker (λ m. n < m) (λ m. t.0 ≢ m) (λ m low e. absurd (omega (arith, low, e, same.1))) ns (AllPairs-head (λ a b. a < b) n ns up) in
@@ -66,6 +67,7 @@ merged_is (n ∷ ns) (t ∷ ts) up rising kept =
           let rest = merged_is ns ts (AllPairs-tail (λ a b. a < b) n ns up) (AllPairs-tail (λ a b. a.0 < b.0) t ts rising) later ∙ sym (only_rest t ts ns apart) in
           let first : t ≡ (n, text_of (t ∷ ts) n) = (λ i. (same.1 i, sym (text_of-same t.0 t.1 ts n same.1) i)) in
           cond-true (nat_eq t.0 n) (t ∷ merged ns ts) (merged (n ∷ ns) ts) same.0 ∙ (λ i. first i ∷ rest i)
+      -- the first message has another number, so it goes, and the numbers stay
       | inr other ↦
           let here : Keeps ts n = keeps_rest t ts n other.1 (All-head (Keeps (t ∷ ts)) n ns kept) in
           let under : t.0 < n = below_rest t ts rising n here in
@@ -288,10 +290,12 @@ pub moves_run : (f : Place → Option Place) (most : ℕ) (old now : List PlaceR
 moves_run f most old now i d run moves low read is fewer led =
     let inside : i < length old = (let long = moves.long in omega arith) in
     let was : d ≡ get_or old i d = read ∙ still old now i d moves.rest in
+    -- the places of the runs so far are the moved ones
     record {
       places = ap places_of (take_more_set now i run low) ∙ flat_map-append items (take i now) (run ∷ []) ∙ ap (λ ps. places_of (take i now) ++ ps) (append-nil (items run) ∙ is)
           ∙ ap (λ ps. ps ++ filter_map f (items d)) moves.places ∙ sym (filter_map-append f (places_of (take i old)) (items d))
           ∙ ap (filter_map f) (ap (λ r. places_of (take i old) ++ items r) was ∙ sym (places_more old i d inside));
+      -- the runs after it are as they were, and those so far tell their first place
       rest = drop-set-lt (i + 1) now i run (omega arith) ∙ still_rest old now i moves.rest;
       led = All-same (λ run. 0 < length run.places.items → IsLed run) (take (i + 1) (set now i run)) (take i now ++ run ∷ []) (take_more_set now i run low)
           (All-push (λ run. 0 < length run.places.items → IsLed run) (take i now) run moves.led led);
@@ -322,6 +326,7 @@ pub moves_runs : (f : Place → Option Place) (most : ℕ) (old now new : List P
 moves_runs f most old now new i moves end is =
     let all_now : take i now ≡ now = take_all i now (let long = moves.long in omega arith) in
     let led : All (λ run. 0 < length run.places.items → IsLed run) now = subst (All (λ run. 0 < length run.places.items → IsLed run)) all_now moves.led in
+    -- the runs that are left have a place each, and tell the first one
     let filled : All (λ run. has_places run ≡ true) (filter has_places now) = filter_passes has_places now in
     let ready = All-filter has_places (λ run. 0 < length run.places.items → IsLed run) now led in (
       ap places_of is ∙ places_filled now ∙ ap places_of (sym all_now) ∙ moves.places ∙ ap (λ runs. filter_map f (places_of runs)) (take_all i old end),
@@ -361,6 +366,7 @@ module _ (texts : Texts) (numbers : List ℕ) (book : IsBook texts) (up : AllPai
       go : (o : Option ℕ) → place_among numbers (number_at texts p.position) ≡ o → option_map (λ i. record { hash = p.hash; position = i }) (place_among numbers (number_at texts p.position)) ≡ Some q
           → (q.hash ≡ p.hash) × (q.position < length numbers) × (get_or numbers q.position 0 ≡ number_at texts p.position)
       go None is out = absurd (let never : None ≡ Some q = sym (ap (option_map (λ i. record { hash = p.hash; position = i })) is) ∙ out in cc)
+      -- the place is among the numbers at i, so it is moved there
       go (Some i) is out =
           let put : Place = record { hash = p.hash; position = i } in
           let both : Some put ≡ Some q = sym (ap (option_map (λ i. record { hash = p.hash; position = i })) is) ∙ out in
@@ -391,10 +397,12 @@ module _ (texts : Texts) (numbers : List ℕ) (book : IsBook texts) (up : AllPai
       let within : i < length numbers = (let long = length-only numbers texts in omega arith) in
       let n = get_or numbers i 0 in
       let keeps : Keeps texts n = kept i 0 within in
+      -- the message that stays at i has a place j in the old order
       let (k, k_low, k_is) = kept_place texts n keeps in
       let none : Place = record { hash = 0; position = 0 } in
       let (j, j_low, p_is) = mapped_place (λ p. p.position) places none k (order.whole k k_low) in
       let p = get_or places j none in
+      -- this place is moved to the position i
       let q : Place = record { hash = p.hash; position = i } in
       let gives : moved texts numbers p ≡ Some q = ap (λ m. option_map (λ i. record { hash = p.hash; position = i }) (place_among numbers m)) (ap (number_at texts) p_is ∙ k_is)
       ∙ ap (option_map (λ i. record { hash = p.hash; position = i })) (place_at numbers i 0 up within) in

@@ -67,6 +67,7 @@ places-halved runs r n d first second low head tail =
     let before = places_of (take r runs) in
     let after = places_of (drop (r + 1) runs) in
     let run = items (get_or runs r d) in
+    -- the runs are those before, the two halves, and those after
     let split : insert (set runs r first) (r + 1) second ≡ (take r runs ++ first ∷ []) ++ second ∷ drop (r + 1) runs =
     rw (take_more_set runs r first low, drop-set-lt (r + 1) runs r first (omega arith)) refl in
     ap places_of split ∙ flat_map-append items (take r runs ++ first ∷ []) (second ∷ drop (r + 1) runs)
@@ -141,6 +142,7 @@ pub led_halved : (runs : List PlaceRun) (r n : ℕ) (d head tail : PlaceRun) →
 led_halved runs r n d head tail low led some more begins front behind begins' =
     let run = get_or runs r d in
     let old : IsLed run = All-get_or IsLed runs r d low led in
+    -- the halves are not empty
     let size : length (items head) ≡ n = ap length front ∙ length-take-le n (items run) (omega arith) in
     let rest : length (items tail) ≡ length (items run) - n = ap length behind ∙ length-drop n (items run) in
     let led_head : IsLed head = record {
@@ -148,6 +150,7 @@ led_halved runs r n d head tail low led some more begins front behind begins' =
       first = begins ∙ old.first ∙ get_or_default (items run) 0 run.first head.first old.filled
           ∙ sym (ap (λ places. get_or places 0 head.first) front ∙ get_or-take n (items run) 0 head.first some);
     } in
+    -- the second half tells its first place, and the first half that of the run
     let led_tail : IsLed tail = record { filled = omega (arith, rest); first = begins' } in
     let all = All-set IsLed runs r head led_head led in
     All-append IsLed (take (r + 1) (set runs r head)) (tail ∷ drop (r + 1) (set runs r head)) (All-take IsLed (r + 1) (set runs r head) all)
@@ -172,11 +175,13 @@ module _ (texts : Texts) (runs : List PlaceRun) (key : ℕ × List ℕ) (held : 
             let low : i < length runs = omega arith in
             let off_i = length (places_of (take i runs)) in
             let off_j = length (places_of (take j runs)) in
+            -- both runs tell their first place, and the places of the first come before those of the second
             let led_i = led_at i d low in
             let led_j = led_at j d high in
             let ends = run_ends runs i j d less (omega arith) in
             let room = length-flat_map-take items runs j d high in
             let later = rank_of_begun (compare (key_of texts (get_or (items (get_or runs j d)) 0 first)) key) (sym (begins texts key (get_or runs j d) led_j) ∙ begun) in
+            -- so a run before one that begins by the key begins by it too
             let up = rw (place_at runs i 0 d first low led_i.filled, place_at runs j 0 d first high led_j.filled) at
             (searchable texts (places_of runs) key held.order.rising (off_i + 0) (off_j + 0) first (omega arith) (omega arith)) in
             begins texts key (get_or runs i d) led_i ∙ begun_of_rank (compare (key_of texts (get_or (items (get_or runs i d)) 0 first)) key) (omega (arith, up, later))
@@ -214,9 +219,11 @@ module _ (texts : Texts) (runs : List PlaceRun) (key : ℕ × List ℕ) (held : 
       let all = places_of runs in
       let led = led_at r d low in
       let room = length-flat_map-take items runs r d low in
+      -- the places of all runs rise, and those of this run lie together
       let up = searchable texts all key held.order.rising in
       let begin = place_at runs r 0 d first low led.filled in
       let front = compare (key_of texts (get_or (items run) 0 first)) key in
+      -- the gap lies within this run
       record {
         within = omega arith;
         -- a place before the gap is less than the key
@@ -253,6 +260,7 @@ module _ (texts : Texts) (runs : List PlaceRun) (key : ℕ × List ℕ) (held : 
           | inr later ↦
               let size = run_size runs r d low in
               elim (cases_lt (r + 1) (length runs)) [
+                -- the first place of the next run is greater than the key, and so is each place after it
                 | inl more ↦
                     let led' = led_at (r + 1) d more in
                     let begin' = place_at runs (r + 1) 0 d first more led'.filled in

@@ -47,6 +47,7 @@ pub text_of-none : (texts : Texts) (bytes : List ℕ) → All (λ kept. kept.1 �
 text_of-none [] bytes none n keeps e = Contains-nil n keeps
 text_of-none (kept ∷ texts) bytes none n keeps e =
     elim (eqb_tells kept.0 n) [
+      -- the number is that of the first message, or of a later one
       | inl same ↦ All-head (λ k. k.1 ≢ bytes) kept texts none (sym (text_of-same kept.0 kept.1 texts n same.1) ∙ e)
       | inr other ↦
           elim (Contains-cons_cases kept.0 (map (λ k. k.0) texts) n keeps) [
@@ -80,6 +81,7 @@ pub text_of-grow : (texts : Texts) (number : ℕ) (bytes : List ℕ) (n : ℕ) �
 text_of-grow [] number bytes n keeps = absurd (Contains-nil n keeps)
 text_of-grow (kept ∷ texts) number bytes n keeps =
     elim (eqb_tells kept.0 n) [
+      -- the number is that of the first message, or of a later one
       | inl same ↦ text_of-same kept.0 kept.1 (texts ++ (number, bytes) ∷ []) n same.1 ∙ sym (text_of-same kept.0 kept.1 texts n same.1)
       | inr other ↦
           elim (Contains-cons_cases kept.0 (map (λ k. k.0) texts) n keeps) [
@@ -110,6 +112,7 @@ IsBook-grow texts number bytes book above other =
     record {
       rising = all_pairs_push (λ a b. a.0 < b.0) texts (number, bytes) book.rising
           (λ k d low. let at = Contains-get_or texts k d low in above (get_or texts k d).0 (Keeps-at texts at.0 (get_or texts k d) at.1 (sym at.2)));
+      -- two old numbers, an old one and the new one, or the new one twice
       apart = λ a b keeps_a keeps_b e. elim (Keeps-grow_cases texts number bytes a keeps_a) [
         | inl old_a ↦ elim (Keeps-grow_cases texts number bytes b keeps_b) [
           | inl old_b ↦ book.apart a b old_a old_b (sym (kept_is a old_a) ∙ e ∙ kept_is b old_b)

@@ -104,6 +104,7 @@ has_phases is =
       by_names = is.by_names;
       window_same = is.window_same;
       closes_same = is.closes_same;
+      -- idle and ended are the same for each machine
       idle_is = λ m. is.idle_is;
       ended_is = λ m. is.ended_is;
       idle_fits = λ m. is.idle_fits;

@@ -29,6 +29,7 @@ same_without P [] (x ∷ before') first first' after after' e p p' none none' =
     let here : first ≡ x = cc in absurd (All-head (λ x. ¬ (P x)) x before' none' (subst P here p))
 same_without P (x ∷ before) [] first first' after after' e p p' none none' =
     let here : first' ≡ x = cc in absurd (All-head (λ x. ¬ (P x)) x before none (subst P here p'))
+-- both begin with the same element, of which P does not hold
 same_without P (x ∷ before) (x' ∷ before') first first' after after' e p p' none none' =
     let here : x ≡ x' = cc in
     let more : before ++ first ∷ after ≡ before' ++ first' ∷ after' = cc in
@@ -58,6 +59,7 @@ both P Q R f xs p q = λ k d low. f _ (p k d low) (q k d low)
 pub IsWithoutFirst-map : {X Y : Type 0} (f : X → Y) (Q : X → Type 0) (P : Y → Type 0) (xs ys : List X) →
     All (λ x. Q x ↔ P (f x)) xs → IsWithoutFirst Q xs ys → IsWithoutFirst P (map f xs) (map f ys)
 IsWithoutFirst-map {X} f Q P xs ys same a =
+    -- what holds of all elements holds of those before the first, and of the first
     let halves : All (λ x. Q x ↔ P (f x)) (a.before ++ a.first ∷ a.after) = subst (All (λ x. Q x ↔ P (f x))) a.whole same in
     let here = All-head (λ x. Q x ↔ P (f x)) a.first a.after (All-back (λ x. Q x ↔ P (f x)) a.before (a.first ∷ a.after) halves) in
     let front = All-front (λ x. Q x ↔ P (f x)) a.before (a.first ∷ a.after) halves in
@@ -67,6 +69,7 @@ IsWithoutFirst-map {X} f Q P xs ys same a =
       after = map f a.after;
       whole = ap (map f) a.whole ∙ map-append f a.before (a.first ∷ a.after);
       holds = here.0 a.holds;
+      -- none before the first has P, and the rest is mapped
       none_before = All-map (λ y. ¬ (P y)) f a.before
           (both (λ x. ¬ (Q x)) (λ x. Q x ↔ P (f x)) (λ x. ¬ (P (f x))) (λ x none iff p. none (iff.1 p)) a.before a.none_before front);
       rest = ap (map f) a.rest ∙ map-append f a.before a.after;
@@ -146,6 +149,7 @@ earliest-none (x ∷ xs) ys e = cc
 -- where Q and P hold of the same elements, a list without the first of Q is one without the first of P
 pub IsWithoutFirst-alike : {X : Type 0} (Q P : X → Type 0) (xs ys : List X) → All (λ x. Q x ↔ P x) xs → IsWithoutFirst Q xs ys → IsWithoutFirst P xs ys
 IsWithoutFirst-alike Q P xs ys same a =
+    -- what holds of all elements holds of those before the first, and of the first
     let halves : All (λ x. Q x ↔ P x) (a.before ++ a.first ∷ a.after) = subst (All (λ x. Q x ↔ P x)) a.whole same in
     let here = All-head (λ x. Q x ↔ P x) a.first a.after (All-back (λ x. Q x ↔ P x) a.before (a.first ∷ a.after) halves) in
     let front = All-front (λ x. Q x ↔ P x) a.before (a.first ∷ a.after) halves in

@@ -30,6 +30,7 @@ pub owes_apart : (texts : Texts) (xs ys : List Debt) → IsBook texts → All (K
 owes_apart texts [] [] book x_known y_known e = refl
 owes_apart texts [] (y ∷ ys) book x_known y_known e = cc
 owes_apart texts (x ∷ xs) [] book x_known y_known e = cc
+-- the first debts stand for the same, and so do the others
 owes_apart texts (x ∷ xs) (y ∷ ys) book x_known y_known e =
     let here : owed_seen texts x ≡ owed_seen texts y = cc in
     let rest : owes_seen texts xs ≡ owes_seen texts ys = cc in
@@ -107,6 +108,7 @@ AreDue-deadlines t (o ∷ os) =
       λ all.
           let front = due-front t o.must o (filter (λ o. o.must) os) all in
           All-cons (λ owed. owed.must ≡ true → t ≤ owed.deadline) o os front.0 (more.0 front.1),
+      -- from the other side: the first debt is due, and so are the others
       λ due.
           due-more t o.must o (filter (λ o. o.must) os) (All-head (λ owed. owed.must ≡ true → t ≤ owed.deadline) o os due)
           (more.1 (All-tail (λ owed. owed.must ≡ true → t ≤ owed.deadline) o os due)),
@@ -146,6 +148,7 @@ payable-seen texts n t book kept d d_kept = (
       let message : d.message ≡ n = grind (arith, nat_tests) in
       let in_time : t ≤ d.deadline = grind (arith, nat_tests) in
       (ap (text_of texts) message, in_time),
+  -- from the other side: equal bytes have one number
   λ pays.
       let message : d.message ≡ n = book.apart d.message n d_kept kept pays.0 in
       let in_time = pays.1 in

@@ -22,6 +22,7 @@ returns-then-gap-clause-led c =
     let runs = c.args.runs.now.items in
     let run = c.index_mut.result.now in
     let is : run ≡ get_or runs c.args.gap.run run = rw c.in_ok-reserve.ensures.items at c.index_mut.ensures.value in
+    -- the run becomes a first half and a second half, each with its first message told
     let head : PlaceRun = record { first = run.first; places = c.split_off.new.self } in
     let tail : PlaceRun = record { first = c.index-first.result.now; places = c.in_ok-places.places } in
     let same : c.index.result.now ≡ get_or runs c.args.gap.run run = c.index.ensures ∙ get_or_default runs c.args.gap.run c.index.result.now run c.requires.inside.run in
@@ -48,6 +49,7 @@ returns-clause-led c =
     let runs = c.args.runs.now.items in
     let run = c.index_mut.result.now in
     let is : run ≡ get_or runs c.args.gap.run run = rw c.in_ok-reserve.ensures.items at c.index_mut.ensures.value in
+    -- the run becomes a first half and a second half, each with its first message told
     let head : PlaceRun = record { first = run.first; places = c.split_off.new.self } in
     let tail : PlaceRun = record { first = c.index-first.result.now; places = c.in_ok-places.places } in
     let same : c.index.result.now ≡ get_or runs c.args.gap.run run = c.index.ensures ∙ get_or_default runs c.args.gap.run c.index.result.now run c.requires.inside.run in

@@ -105,6 +105,7 @@ invite_client_is_figure =
       idle_stays = λ p. refl;
       ended_has_no_end = λ p. refl;
       ended_stays = λ p. refl;
+      -- a row leads to a phase whose timers are not past
       received_waits = received;
       sent_waits = sent;
       sent_leaves = leaves;
@@ -126,6 +127,7 @@ invite_client_is_coded =
       window_same = invite_client_window_same;
       closes_same = invite_client_closes_same;
       named = invite_client_named;
+      -- idle and ended are those of the figure, name no message and are in range
       idle_is = λ texts. refl;
       ended_is = λ texts. refl;
       ended_decided = inr (λ same. cc);

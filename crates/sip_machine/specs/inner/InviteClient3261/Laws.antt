@@ -38,6 +38,7 @@ invite_client_3261_is_figure =
       idle_stays = invite_client_is_figure.idle_stays;
       ended_has_no_end = invite_client_is_figure.ended_has_no_end;
       ended_stays = invite_client_is_figure.ended_stays;
+      -- a row leads to a phase whose timers are not past
       received_waits = received;
       sent_waits = invite_client_is_figure.sent_waits;
       sent_leaves = invite_client_is_figure.sent_leaves;
@@ -54,6 +55,7 @@ invite_client_3261_is_coded =
       window_same = invite_client_is_coded.window_same;
       closes_same = invite_client_is_coded.closes_same;
       named = invite_client_is_coded.named;
+      -- idle and ended are those of the figure, name no message and are in range
       idle_is = invite_client_is_coded.idle_is;
       ended_is = invite_client_is_coded.ended_is;
       ended_decided = invite_client_is_coded.ended_decided;

@@ -109,6 +109,7 @@ leaves p (In (Proceeding reliable set last) again) (Response code) e y (inr (oth
     λ same. within_keeps p (Proceeding reliable set last) (Response code) e within.0 within.1 (sym (ap (λ z. z.1) within.2) ∙ drop)
     (in_same (within.0).0 (Proceeding reliable set last) again (sym (ap (λ z. z.0) within.2) ∙ same))
 leaves p (In (Proceeding reliable set last) again) (Response code) e y (inr (other, within)) (inr stays) = absurd (other stays.2)
+-- in completed a row of the corrected machine keeps the debts and the phase
 leaves p (In (Completed reliable final set repeat interval) again) (Response code) e y (other, within) (inl drop) =
     λ same. within_keeps p (Completed reliable final set repeat interval) (Response code) e within.0 within.1 (sym (ap (λ z. z.1) within.2) ∙ drop)
     (in_same (within.0).0 (Completed reliable final set repeat interval) again (sym (ap (λ z. z.0) within.2) ∙ same))
@@ -128,6 +129,7 @@ invite_server_3261_is_figure =
       idle_stays = λ p. refl;
       ended_has_no_end = λ p. refl;
       ended_stays = λ p. refl;
+      -- a row leads to a phase whose timers are not past
       received_waits = received;
       sent_waits = sent;
       sent_leaves = leaves;
@@ -150,6 +152,7 @@ invite_server_3261_is_coded =
       window_same = invite_server_3261_window_same;
       closes_same = invite_server_3261_closes_same;
       named = invite_server_3261_named;
+      -- idle and ended are those of the figure, name no message and are in range
       idle_is = λ texts. refl;
       ended_is = λ texts. refl;
       ended_decided = inl refl;

@@ -82,6 +82,7 @@ plain_client_is_figure =
       idle_stays = λ p. refl;
       ended_has_no_end = λ p. refl;
       ended_stays = λ p. refl;
+      -- a row leads to a phase whose timers are not past
       received_waits = received;
       sent_waits = sent;
       sent_leaves = leaves;
@@ -103,6 +104,7 @@ plain_client_is_coded =
       window_same = plain_client_window_same;
       closes_same = plain_client_closes_same;
       named = plain_client_named;
+      -- idle and ended are those of the figure, name no message and are in range
       idle_is = λ texts. refl;
       ended_is = λ texts. refl;
       ended_decided = inr (λ same. cc);

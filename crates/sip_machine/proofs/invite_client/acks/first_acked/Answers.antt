@@ -37,6 +37,7 @@ returns-clause-finds c =
     let to = c.of-to.ensures ∙ c.in_ok-to.ensures ∙ ap (λ a. solid a.0) c.to.ensures in
     IfOk-weaker c.first_with_to.result _ _ (λ index finds.
     FindsFirst-same (HasTo texts c.of-to.result t) (PaysDebt texts ack invite t) t (owed_in c.args.dues.now c.args.row) index (λ k d low.
+    -- an ACK with the To of the response belongs to it exactly if it is one for the INVITE
     let response = text_of texts (get_or (owed_in c.args.dues.now c.args.row) k d).message in
     let by_to = AckOf-by_to ack invite response c.in-Some.ack c.in-Some-2.invite c.is_ack_for.result
     (rw (c.in-Some.is, c.number.ensures) at c.in_ok-ack.ensures) (rw c.in-Some-2.is at c.in_ok-invite.ensures) c.is_ack_for.ensures c.if-not-is_ack_for.false c.of-to.result to in

@@ -16,6 +16,7 @@ returns-then-branch c =
     let debts = c.args.debts.now in
     let at = c.loop-debt.debt-index in
     let debt = get_or debts at no_debt in
+    -- the debt has the To and is in time, and a send of its message pays no debt before it
     let has : HasTo texts to t debt = (c.in_ok-has_to.ensures.0 c.if-branch.true, c.if-moment-debt.true) in
     first-at (HasTo texts to t) debt.message t (pays-to texts to t debt.message has.0) debts at no_debt c.loop-debt-test.true c.loop-debt.invariant has
     (payable-now debt.message t debt refl has.1)

@@ -21,6 +21,7 @@ returns-clause-ok g c = λ d.
     let names = g.M.Phases.names in
     let p = c.index.result.now in
     let owes = owed_in c.pool.inside.dues c.args.at in
+    -- the state at the index is the phase there with what its row owes
     let here = state-here c.pool.inside.phases.items c.pool.inside.dues c.args.pool.now c.args.at p d c.pool.view_is c.requires c.index.ensures in
     let old = c.args.out.now.items in
     let x = get_or c.args.pool.now c.args.at d in

@@ -39,6 +39,7 @@ loop-at-preserved g c =
     let texts = c.args.book.now in
     let e = event_in texts c.args.event.now in
     let P = LeadsFrom m.figure (m.times c.args.machine.now) m.seen texts e in
+    -- what was found before the run, and what the run leads to, is found of all up to its end
     let (at_le, has) = c.loop-at.invariant in
     let order = c.run_end-end.ensures.order in
     let le = c.requires.count in (

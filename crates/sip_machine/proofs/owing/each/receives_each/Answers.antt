@@ -19,6 +19,7 @@ returns-clause-gives g c =
     let P = LeadsFrom m.figure p m.seen texts e in
     let old = c.args.pool.now in
     let some = take c.args.count old in
+    -- what is found by the rows is what the states take
     on_ok_weaker c.leads_each.result
     (λ (has : HasFound (owing_names m.names) (OwingInRange m.in_range) (owing_seen m.seen) texts P some old c.leads_each.new.pool).
     let (added, is, covers) = has in (

@@ -62,13 +62,16 @@ returns-clause-gives g c = λ d.
     let p = m.times c.args.machine.now in
     let e = event_in texts c.args.event.now in
     let x = get_or c.args.pool.now c.args.at d in
+    -- the state at the index can wait until the moment or not
     let here = state-here c.pool.inside.phases.items c.pool.inside.dues c.args.pool.now c.args.at c.index.result.now d c.pool.view_is c.requires.at c.index.ensures in
     let within = subst (λ x. IsWithin e.moment (until_of m.figure p (owing_seen m.seen texts x))) here (rw (c.moment.ensures, c.until.ensures texts) at c.if-is_past.ensures) in
     let rested = option_map (λ rest. rests_at e.moment rest x) c.in_ok-rest.rest in
+    -- what it gives without a row is one state at most
     let one = subst (λ x. AnswersOne (owing_names m.names) (OwingInRange m.in_range) (owing_seen m.seen) texts
     (Rests m.figure e (owing_seen m.seen texts (unexpired_at e.moment x))) (option_map (λ rest. rests_at e.moment rest x) c.in_ok-rest.rest)) here c.in_ok-rest.ensures.gives in
     let covers = Covers-one (owing_names m.names) (OwingInRange m.in_range) (owing_seen m.seen) texts (RestsFrom m.figure p m.seen texts e x) rested
     (lasting-answers m.figure p m.seen m.names m.in_range texts e.moment x (Rests m.figure e (owing_seen m.seen texts (unexpired_at e.moment x))) rested within one) in
+    -- that state was pushed
     on_ok_weaker c.push_rested.result (λ (is : c.push_rested.new.self ≡ c.args.pool.now ++ option_to_list rested). (option_to_list rested, is, covers))
     (rw (c.in_ok-rest.ensures.same, c.pool.view_is, c.moment-2.ensures) at c.push_rested.ensures.ok d)
 

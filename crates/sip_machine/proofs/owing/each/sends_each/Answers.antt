@@ -40,6 +40,7 @@ loop-at-preserved g c =
     let texts = c.args.book.now in
     let e = event_in texts c.args.event.now in
     let P = λ (x : CodeOwing g.row.M-Phase.Denot). TakeOf m.figure (m.times c.args.machine.now) (owing_seen m.seen texts x) e in
+    -- what was found before the run, and what the run takes, is found of all up to its end
     let (at_le, has) = c.loop-at.invariant in
     let order = c.run_end-end.ensures.order in
     let le = c.requires.count in (

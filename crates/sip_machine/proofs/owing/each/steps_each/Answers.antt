@@ -38,12 +38,14 @@ loop-at-preserved g c =
     let P = λ (x : CodeOwing g.row.M-Phase.Denot). TakeOf m.figure (m.times c.args.machine.now) (owing_seen m.seen texts x) e in
     let old = c.args.pool.now in
     let at = c.loop-at.at in
+    -- what was found so far stands after the old states
     let (found, is, covers) = c.loop-at.invariant in
     let below = c.loop-at-test.true in
     let le = c.requires.count in
     let low : at < length old = omega (arith, below, le) in
     let d = some-at old at low in
     let x = get_or old at d in
+    -- the next old state is still at its index, and what it takes was pushed
     let here : get_or c.loop-at.pool at d ≡ x = ap (λ ys. get_or ys at d) is ∙ get_or_append_left old found d at low in
     let (added, new_is, gives) = c.in_ok-successors.ensures.ok d in
     let stands = subst (λ s. StandFor (owing_names m.names) (OwingInRange m.in_range) (owing_seen m.seen) texts (P s) added) here gives in

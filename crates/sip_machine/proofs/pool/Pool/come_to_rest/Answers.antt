@@ -15,6 +15,7 @@ returns-clause-ok g c = λ d.
     let at = c.args.at in
     let t = c.args.moment in
     let owes = rested_debts t c.args.rest (owed_in rows at) in
+    -- the row owes what is left of it, and the phase stays
     let low = in-phases phases rows c.args.self.now at c.self.view_is c.requires in
     let is = state-at phases rows c.args.self.now at d.phase d c.self.view_is c.requires in
     ap (beside phases) c.in_ok-come_to_rest.ensures.ok ∙ beside-owes phases rows at d.phase owes c.self.invariant low

@@ -18,6 +18,7 @@ loop-at-preserved g c =
     let kept = c.loop-at.slots.prints in
     let print = c.index-print.result.now in
     let at_from = c.loop-at.auto.at in
+    -- the state has an equal before it exactly if one of the first ones is equal
     let (first, long, told) = c.loop-at.invariant in
     let repeats = rw c.deref.ensures.value at c.is_repeat.ensures in
     elim c.if-not-is_repeat.branch [
@@ -28,6 +29,7 @@ loop-at-preserved g c =
           let here : get_or prints (at - from) 0 ≡ print = get_or_default prints (at - from) 0 print low_at ∙ sym c.index-print.ensures in
           let more_rows = length_push rows at in
           let more_kept = length_push kept print in
+          -- the rows have one more, and the print of each row stands beside it
           rw (w.rows-is, w.slots-is, w.in_ok-push.ensures.ok, w.in_ok-push-2.ensures.items) (
             first-more xs from at rows at_from first
                 (λ x i d low same. true≢false (sym ((repeats x).1 (Any-here xs rows i d at x low same)) ∙ w.if-not-is_repeat.true)),

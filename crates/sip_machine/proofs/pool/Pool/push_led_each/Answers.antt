@@ -22,10 +22,12 @@ returns-clause-ok g c =
     let t = c.args.moment in
     let p = c.args.params.now in
     let leads : List Debt → List Debt = λ owes. changed_debts p t c.args.turn.change (filter (counts_at t) owes) in
+    -- the rows whose debts are in time are pushed, changed as the row of the machine says
     let some = filter (is_timely t) (from_to c.args.from c.args.to rows) in
     let led = on_ok c.lead_each-led.result _ (rw c.is_err.ensures.value at c.if-is_err.false) c.lead_each-led.ensures.ok in
     let dues_is : c.lead_each-led.new.dues ≡ rows ++ map leads some
     = mapped-behind leads rows some c.push_timely.new.self c.lead_each-led.new.dues c.len-before.result c.in_ok-push_timely.ensures.ok c.len-before.ensures led in
+    -- as many phases are pushed as rows
     let count = behind-size rows (map leads some) c.lead_each-led.new.dues c.len.result dues_is c.len.ensures in
     let phases_is = on_ok c.push_phases.result _ (rw c.is_err-else-is_err.ensures.value at c.if-is_err-2.false) c.push_phases.ensures.ok in
     ap₂ beside phases_is dues_is

@@ -35,18 +35,21 @@ returns-clause-ok g c =
     let message = c.args.message in
     let q = c.index-phase.result.now in
     let d = some-at xs from c.requires.from in
+    -- the rows that can pay and are in time are pushed, with the message paid
     let can : List Debt → Bool = λ owes. list_any (is_payable message t) owes && is_timely t owes in
     let pays : List Debt → List Debt = λ owes. filter (counts_at t) (paid_by message t owes) in
     let some = filter can (from_to from to rows) in
     let dues_is : c.push_paid.new.self ≡ rows ++ map pays some = c.in_ok-push_paid.ensures.ok in
     let count = behind-size rows (map pays some) c.push_paid.new.self c.len.result dues_is c.len.ensures in
     let phases_is = on_ok c.push_phases.result _ (rw c.is_err.ensures.value at c.if-is_err.false) c.push_phases.ensures.ok in
+    -- all states of the run have its phase
     let phase : (get_or xs from d).phase ≡ q
     = ap (λ z. z.phase) (state-at phases rows xs from q d c.self.view_is c.requires.from) ∙ sym c.index-phase.ensures in
     let each : All (λ (x : CodeOwing g.row.P.Denot). record { phase = q; owes = pays x.owes } ≡ repaid_at t message x) (filter (λ x. can x.owes) (from_to from to xs))
     = All-filter (λ x. can x.owes) (λ x. record { phase = q; owes = pays x.owes } ≡ repaid_at t message x) (from_to from to xs)
     (All-weaker (λ x. x.phase ≡ (get_or xs from d).phase) (λ x. record { phase = q; owes = pays x.owes } ≡ repaid_at t message x)
     (λ x same. ap (λ p. record { phase = p; owes = pays x.owes }) (sym phase ∙ sym same)) (from_to from to xs) (c.requires.same d)) in
+    -- so the new states are the old ones with the message paid
     ap₂ beside phases_is dues_is
     ∙ pushed-is q pays can phases rows from to _ c.self.invariant (omega (arith, count, c.len-before.ensures))
     ∙ ap (λ ys. ys ++ map (λ (x : CodeOwing g.row.P.Denot). record { phase = q; owes = pays x.owes }) (filter (λ x. can x.owes) (from_to from to ys))) c.self.view_is

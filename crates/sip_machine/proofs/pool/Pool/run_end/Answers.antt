@@ -28,11 +28,13 @@ loop-end-preserved g c =
     let below = c.loop-end-test.true in
     let at = c.requires.at in
     let limit = c.requires.limit in
+    -- the next state is one of the pool
     let low : c.loop-end.end < length xs = omega (arith, below, limit) in
     let first_low : c.args.at < length xs = omega (arith, at, limit) in
     let order = was.0 in (
       omega (arith, order),
       omega (arith, below),
+      -- its phase is that of the first state of the run
       λ d.
           let phase : (get_or xs c.loop-end.end d).phase ≡ (get_or xs c.args.at d).phase =
           ap (λ z. z.phase) (state-at phases rows xs c.loop-end.end p d c.self.view_is low) ∙ sym c.index-in-loop-end.ensures ∙ g.met.P.Phase.exact p q (sym c.if-eq.ensures)

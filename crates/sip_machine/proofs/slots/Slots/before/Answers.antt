@@ -23,6 +23,7 @@ returns c =
     let x = c.index-kept.result.now in
     let are : AreSlots s = subst AreSlots c.self.view_is c.self.invariant in
     let low = c.requires in
+    -- the print and the older row of the pair are those that the slots tell
     let print = pair-print newest kept s at x c.self.view_is low c.index-kept.ensures in
     let older = pair-older newest kept s at x c.self.view_is low c.index-kept.ensures in
     rw print (c.last_from.ensures at (omega (arith, low)) (rw (sym print, sym older) (are.older_is at low)))

@@ -13,11 +13,13 @@ loop-next-preserved c =
     let kept = c.self.inside.kept.items in
     let x = c.index-kept.result.now in
     let are : AreSlots s = subst AreSlots c.self.view_is c.self.invariant in
+    -- the row that is looked at leads to an older one of its slot
     let low : at < length s.prints = omega (arith, some, c.loop-next.invariant.0) in
     let print = pair-print newest kept s at x c.self.view_is low c.index-kept.ensures in
     let older = pair-older newest kept s at x c.self.view_is low c.index-kept.ensures in
     let within = (are.older_is at low).within in (
       omega (arith, older, within, low),
+      -- no row between the two has the print
       λ limit low_limit is.
           rw (sym older)
           (reached-more s c.args.print limit c.loop-next.next at are low_limit (c.loop-next.invariant.1 limit low_limit is) (omega (arith, some)) (λ same. c.if-kept-print.false (sym print ∙ same))),

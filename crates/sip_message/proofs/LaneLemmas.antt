@@ -28,6 +28,7 @@ all_pass q d i n z room few fits none f lanes all k from to =
     let long = length-chunk i n d room in
     let mask = ap (λ l. mask_l l % 2 ^ 64) (ap (map (top 7)) lanes ∙ map-map (top 7) f v) ∙ mask_l-mod (map (λ x. top 7 (f x)) v) 64 (omega (arith, length-map v (λ x. top 7 (f x)))) in
     let whole = leading_from_mask_l (λ x. top 7 (f x)) v (sym mask ∙ eqb-true _ 0 none) in
+    -- the byte at k is the one of the lane, whose top bit is not set
     let back : i + (k - i) ≡ k = omega arith in
     let at = get_or-chunk i n d (k - i) 0 (omega arith) ∙ ap (λ j. get_or d j 0) back in
     let clear = subst (λ x. top 7 (f x) ≡ false) at (not-true _ (prefix_len_passes (λ x. not (top 7 (f x))) v (k - i) 0 (omega arith))) in
@@ -46,6 +47,7 @@ two_clear d i j n o f g a b room_i room_j few a_is b_is none k below =
     let long_a : length a ≡ n = ap length a_is ∙ length-map (chunk i n d) f ∙ length-chunk i n d room_i in
     let long_b : length b ≡ n = ap length b_is ∙ length-map (chunk j n d) g ∙ length-chunk j n d room_j in
     let long : length (zip2 o a b) ≡ n = length-zip2 o a b (long_a ∙ sym long_b) ∙ long_a in
+    -- each pair of lanes is of the bytes at the same distance from i and from j
     let first : get_or a k 0 ≡ f (get_or d (i + k) 0) =
     ap (λ l. get_or l k 0) a_is ∙ get_or-map f (chunk i n d) k 0 0 (omega (arith, length-chunk i n d room_i, below)) ∙ ap f (get_or-chunk i n d k 0 below) in
     let second : get_or b k 0 ≡ g (get_or d (j + k) 0) =
@@ -66,6 +68,7 @@ moved-up b0 b1 b2 b3 b4 b5 b6 b7 zero h0 h1 h2 h3 h4 h5 h6 h7 some few = absurd 
 moved-up b0 b1 b2 b3 b4 b5 b6 b7 (suc zero) h0 h1 h2 h3 h4 h5 h6 h7 some few = omega (arith, h0, h1, h2, h3, h4, h5, h6, h7)
 moved-up b0 b1 b2 b3 b4 b5 b6 b7 (suc (suc zero)) h0 h1 h2 h3 h4 h5 h6 h7 some few = omega (arith, h0, h1, h2, h3, h4, h5, h6, h7)
 moved-up b0 b1 b2 b3 b4 b5 b6 b7 (suc (suc (suc zero))) h0 h1 h2 h3 h4 h5 h6 h7 some few = omega (arith, h0, h1, h2, h3, h4, h5, h6, h7)
+-- the number of bytes is 1 to 8, and each case is arithmetic
 moved-up b0 b1 b2 b3 b4 b5 b6 b7 (suc (suc (suc (suc zero)))) h0 h1 h2 h3 h4 h5 h6 h7 some few = omega (arith, h0, h1, h2, h3, h4, h5, h6, h7)
 moved-up b0 b1 b2 b3 b4 b5 b6 b7 (suc (suc (suc (suc (suc zero))))) h0 h1 h2 h3 h4 h5 h6 h7 some few = omega (arith, h0, h1, h2, h3, h4, h5, h6, h7)
 moved-up b0 b1 b2 b3 b4 b5 b6 b7 (suc (suc (suc (suc (suc (suc zero)))))) h0 h1 h2 h3 h4 h5 h6 h7 some few = omega (arith, h0, h1, h2, h3, h4, h5, h6, h7)
@@ -80,6 +83,7 @@ number-front [] k room fits some few = absurd (omega (arith, room))
 number-front (b0 ∷ []) k room fits some few = absurd (omega (arith, room))
 number-front (b0 ∷ b1 ∷ []) k room fits some few = absurd (omega (arith, room))
 number-front (b0 ∷ b1 ∷ b2 ∷ []) k room fits some few = absurd (omega (arith, room))
+-- a window of fewer than eight bytes is none
 number-front (b0 ∷ b1 ∷ b2 ∷ b3 ∷ []) k room fits some few = absurd (omega (arith, room))
 number-front (b0 ∷ b1 ∷ b2 ∷ b3 ∷ b4 ∷ []) k room fits some few = absurd (omega (arith, room))
 number-front (b0 ∷ b1 ∷ b2 ∷ b3 ∷ b4 ∷ b5 ∷ []) k room fits some few = absurd (omega (arith, room))

@@ -131,6 +131,7 @@ uri-owned u w =
     let hp = w.3.3.3 in
     let at = hostport_text hp.0 hp.1 in
     let p : SipParts = record { secure = false; user = Some user; password = None; host = hp.0; port = hp.1; params = []; headers = None } in
+    -- the user is plain, there is no password, and the URI has neither parameters nor headers
     let fits : SipFits p = record { user = plain-user user w.3.2; password = tt; owner = λ none. refl; host = hp.2; port = hp.3; params = many-nil _; headers = tt } in
     let text : sip_text p ≡ user ++ at_sign ∷ at =
     ap₂ (λ x y. (x ++ at_sign ∷ []) ++ y) (append-nil user) (append-nil (at ++ []) ∙ append-nil at) ∙ append_assoc user (at_sign ∷ []) at in
@@ -189,6 +190,7 @@ param-some text at end start behind first to mark run equal value =
     let name = segment start behind text in
     let v = segment first to text in
     let later : behind ≤ to = omega (arith, equal.0, value.0) in
+    -- the equals sign and the value stand after the name
     let led : (Mark equals then Exactly v) (segment behind to text) =
     (segment behind first text, v, subst (Mark equals) (sym equal.2) (mark-alone equals), refl, segment-cut text behind first to equal.0 value.0) in
     let whole : (Exactly name then Mark equals then Exactly v) (segment start to text) =

@@ -52,6 +52,7 @@ request-plain text end method uri to run mark is version =
     let m = segment 0 method text in
     let u = segment uri to text in
     let last : (Byte space then Version) (segment to end text) = (space ∷ [], codes "SIP/2.0", refl, refl, version) in
+    -- from the end to the begin, each part stands before those after it
     let s1 = whole-stands (Byte space then Version) text to end is.1 last in
     let s2 = then-stands (Exactly u) (Byte space then Version) text uri end to end (is.0, is.1, refl) s1 in
     let s3 = then-stands (Byte space) (Exactly u then Byte space then Version) text method end uri end mark s2 in

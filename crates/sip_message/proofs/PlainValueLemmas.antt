@@ -120,6 +120,7 @@ pub cseq-plain : (text : List ℕ) (at end digits method number : ℕ) → LiesW
 cseq-plain text at end digits method number run mark is are value low =
     let d = segment at digits text in
     let m = segment method end text in
+    -- the SP and the method stand after the digits
     let behind : LiesWithin (Blanks then Exactly m) text digits end end = then-stands Blanks (Exactly m) text digits end method end (mark.0, mark.1, subst Blanks (sym mark.2) blanks-space) (is.0, is.1, refl) in
     record {
       digits = d;

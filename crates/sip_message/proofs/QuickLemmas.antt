@@ -54,6 +54,7 @@ open-line text at end is room cr lf =
     let rest = drop (end + 2) text in
     let one : suc end ≡ end + 1 = omega arith in
     let two : suc (end + 1) ≡ end + 2 = omega arith in
+    -- at the end of the line stand CR, LF and the rest
     let ends : drop end text ≡ crlf ++ rest =
     drop-cons text end 0 (omega (arith, room)) ∙ ap₂ (λ b t. b ∷ t) cr (ap (λ k. drop k text) one ∙ drop-cons text (end + 1) 0 (omega (arith, room)) ∙ ap₂ (λ b t. b ∷ t) lf (ap (λ k. drop k text) two)) in
     let behind : drop n (drop at text) ≡ crlf ++ rest = drop-drop n at text ∙ ap (λ k. drop k text) (sym is) ∙ ends in (
@@ -104,6 +105,7 @@ line-cut text at n end less within is =
     let t = drop at text in
     let long : n ≤ length t = omega (arith, length-drop at text, less, within) in
     let next : suc (at + n) ≡ at + n + 1 = omega arith in
+    -- after the n bytes stand the colon and what follows it
     let behind : drop n t ≡ colon ∷ drop (at + n + 1) text =
     drop-drop n at text ∙ drop-cons text (at + n) 0 (omega (arith, less, within)) ∙ ap₂ (λ b k. b ∷ drop k text) is next in
     let parts : t ≡ take n t ++ colon ∷ drop (at + n + 1) text = sym (take-append-drop n t) ∙ ap (λ r. take n t ++ r) behind in
@@ -151,6 +153,7 @@ plain-named text at n end is some less within mark =
       spelled = name;
       is_token = plain-run (drop at text) n is some;
       name_is = refl;
+      -- the name, no blanks and the colon stand before the rest
       whole = (name, colon ∷ rest, refl, ([], colon ∷ rest, many-nil _, (colon ∷ [], rest, refl, refl, refl), refl), line-cut text at n end less within mark);
     }
 
@@ -211,11 +214,13 @@ so_far-more text from at end fields f so room clear is field =
     let line = take (end - at) (drop at text) in
     let one : flat_map with_end (line ∷ []) ≡ with_end line = append-nil (with_end line) in
     record {
+      -- the line stands after the lines so far, and its field after theirs
       lines = so.lines ++ line ∷ [];
       within = room;
       whole = so.whole ∙ ap (λ t. flat_map with_end so.lines ++ t) is ∙ sym (append_assoc (flat_map with_end so.lines) (with_end line) (drop (end + 2) text))
           ∙ ap (λ t. t ++ drop (end + 2) text) (sym (flat_map-append with_end so.lines (line ∷ []) ∙ ap (λ t. flat_map with_end so.lines ++ t) one));
       are_open = AllByRecursion-append IsOpen so.lines (line ∷ []) so.are_open (clear, tt);
+      -- it has no controls
       are = fields-push so.lines fields line f so.are field;
     }
 
@@ -231,10 +236,12 @@ ordinary-head bytes text more rest start fields end at bytes_is clear is is_star
     let first = take (end - 0) (drop 0 text) in
     let ls = flat_map with_end are.lines in
     let behind = drop (at + 2) text in
+    -- the lines have neither CR nor LF, and none of them is empty
     let begins = lines-begin are.lines fields are.are are.are_open in
     let inner : AreInner (first ∷ are.lines) = ((open-inner first clear, start-some first start is_start), begins.0) in
     let text_is : text ≡ (with_end first ++ ls) ++ (crlf ++ behind) =
     is ∙ ap (λ t. with_end first ++ t) (are.whole ∙ ap (λ t. ls ++ t) are.ends) ∙ sym (append_assoc (with_end first) ls (crlf ++ behind)) in
+    -- the head is the start line and these lines, and the empty line follows it
     let whole : bytes ≡ (with_end first ++ ls) ++ (crlf ++ rest) =
     bytes_is ∙ ap (λ t. t ++ more) text_is ∙ append_assoc (with_end first ++ ls) (crlf ++ behind) more ∙ ap (λ t. (with_end first ++ ls) ++ (crlf ++ t)) (sym rest_is) in
     record {
@@ -243,6 +250,7 @@ ordinary-head bytes text more rest start fields end at bytes_is clear is is_star
       others = are.lines;
       is_head = subst (λ t. CutSays t (with_end first ++ ls, rest)) (sym whole) (lines-head first are.lines rest inner);
       no_bare = inner-no_bare (first ∷ are.lines) inner;
+      -- its lines are the start line and the fields
       are_lines = record { whole = refl; folded = inner-folds (first ∷ are.lines) inner; cut = begins.1 };
       is_start = is_start;
       are_fields = are.are;

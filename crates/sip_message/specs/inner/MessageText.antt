@@ -85,6 +85,7 @@ pub record MessageFits (start : StartLine) (fields : List Field) (rest : List â„
   pub cseq_once : IsNotTwice known_name.CSeq fields
   pub cseq : HasField known_name.CSeq fields
   pub length_once : IsNotTwice known_name.ContentLength fields
+  -- the method and the body fit the start line, the Via and the length
   pub method : MethodFits start (cseq.0.1)
   pub has_length : HasLength (via.0.1) (content_length fields)
   pub enough : IsEnough (content_length fields) rest
@@ -99,6 +100,7 @@ pub record MessageText (bytes : List â„•) (m : Message) : Type 0 where
   pub is_head : CutSays bytes (head, rest)
   pub no_bare : HasNoBareEnd head
   pub are_lines : LinesSay head first others
+  -- the start line and the fields are what the lines say, and the body has its length
   pub is_start : StartText first m.start
   pub are_fields : FieldsText others m.fields
   pub fits : MessageFits m.start m.fields rest

@@ -140,6 +140,7 @@ one-display text (None, i) (None, j) a b =
     ap (λ x. (None, x)) same
 one-display text (None, i) (Some n, j) a (s, name, behind) = absurd (name-angle text (n, s) name (ap (λ t. slice_index t 0) a))
 one-display text (Some m, i) (None, j) (r, name, behind) b = absurd (name-angle text (m, r) name (ap (λ t. slice_index t 0) b))
+-- both have a display name, which is the same, and so is what follows it
 one-display text (Some m, i) (Some n, j) (r, name, behind) (s, name_too, behind_too) =
     let same : ◌≡◌ {A = List ℕ × List ℕ} (m, r) (n, s) = one-name text (m, r) (n, s) name name_too in
     let angles : left_angle ∷ i ≡ left_angle ∷ j = same-behind s (left_angle ∷ i) (left_angle ∷ j) (subst (λ t. Behind t (left_angle ∷ i)) (ap (λ x. x.1) same) behind) behind_too in
@@ -182,8 +183,10 @@ one-cut text c d (named i display uri rest) (named j display_too uri_too rest_to
     let rests : Some c.rest ≡ Some d.rest = sym rest ∙ ap (behind right_angle) inner ∙ rest_too in
     let one : c.rest ≡ d.rest = cc in
     cut_same c d (ap (λ x. x.0) same) (uri ∙ ap (before right_angle) inner ∙ sym uri_too) one
+-- a URI in angles and one without them cannot both stand there
 one-cut text c d (named i display uri rest) (plain has none all stops whole) = absurd (no-display text has (c.display, i) display)
 one-cut text c d (plain has none all stops whole) (named j display uri rest) = absurd (no-display text has (d.display, j) display)
+-- both have no angles, and end at the same byte
 one-cut text c d (plain has none all stops whole) (plain has_too none_too all_too stops_too whole_too) =
     let same = same_front is_unmarked_byte c.uri c.rest d.uri d.rest all all_too stops stops_too (sym whole ∙ whole_too) in
     cut_same c d (none ∙ sym none_too) same.0 same.1
@@ -249,6 +252,7 @@ tail-no_params text params behind none p is =
 -- where the grammar has a display name, or none, before a URI in angles, the reader cuts it off there
 before-display : (display : Option (List ℕ)) (d text inner : List ℕ) → IfSome display DisplayName → BeforeUri display d → text ≡ d ++ inner → DisplayFront text (display, inner)
 before-display None d text inner fits is whole = whole ∙ ap (λ t. t ++ inner) is
+-- the name, blanks and "<" stand at the front
 before-display (Some name) d text inner fits (e, t, e_is, (s, l, sws, l_is, t_is), d_is) whole = (
   s ++ (left_angle ∷ inner),
   at fits,

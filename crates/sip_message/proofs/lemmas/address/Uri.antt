@@ -40,6 +40,7 @@ lower-token b is = at (nat_lt b 65) (nat_lt b 91) refl refl is
     at : (x y : Bool) → nat_lt b 65 ≡ x → nat_lt b 91 ≡ y → is_token_byte (cond x b (cond y (b + 32) b)) ≡ true → is_token_byte b ≡ true
     at true y x_is y_is pass = pass
     at false false x_is y_is pass = pass
+    -- a capital letter, whose lower case is a letter
     at false true x_is y_is pass =
         let high = ltb-true b 91 y_is in
         let low = ltb-false b 65 x_is in
@@ -65,6 +66,7 @@ scheme-token b is = elim (or_cases (is_ascii_alphanumeric b) (is_among "+-." b) 
     | inl e ↦ subst (λ x. is_token_byte x ≡ true) (eqb-true 43 b e) refl
     | inr two ↦ elim (or_cases (nat_eq 45 b) _ two) [
       | inl e ↦ subst (λ x. is_token_byte x ≡ true) (eqb-true 45 b e) refl
+      -- of `+`, `-` and `.` each is a byte of a token
       | inr three ↦ elim (or_cases (nat_eq 46 b) false three) [
         | inl e ↦ subst (λ x. is_token_byte x ≡ true) (eqb-true 46 b e) refl
         | inr none ↦ absurd (both_ways false refl none)
@@ -161,6 +163,7 @@ decide-port v = at (nat_le 1 (length v)) (nat_le (length v) 5) (list_all is_asci
     at true false c d low high all small = inr (λ port. both_ways (nat_le (length v) 5) high (le-leb (length v) 5 (port-length v port).1))
     at true true false d low high all small = inr (λ port. both_ways (list_all is_ascii_digit v) all (run-list_all is_ascii_digit v (port.0.0, port.0.1, port.0.2)))
     at true true true false low high all small = inr (λ port. both_ways (nat_le (digits_value 10 v) 65535) small (le-leb (digits_value 10 v) 65535 port.1))
+    -- all tests pass, so the text is a port
     at true true true true low high all small =
         let whole = take_all (length v) v (omega arith) in
         inl (port-end v (length v) (digits_value 10 v) (leb-true 1 (length v) low) (leb-true (length v) 5 high) (omega arith)
@@ -175,6 +178,7 @@ port-cut text = at (before_last colon text) refl
       where
         none-some_is : {u : List ℕ} → None ≡ Some u → ⊥
         none-some_is e = cc
+    -- the text after the last colon is a port, or it is none
     at (Some u) is = elim (decide-port (behind_last colon text)) [
       | inl port ↦ (u, Some (behind_last colon text), port-there text u (behind_last colon text) is refl port)
       | inr none ↦ (text, None, no-port text (λ v some port. none port))
@@ -220,12 +224,14 @@ one-uri text (sip p) (sip q) a b =
     let same = scheme-one text (uri-scheme text (sip p) a) (uri-scheme text (sip q) b) in
     let secure = same-name b.0 p.secure q.secure (subst (λ s. SameText s (scheme_name p.secure)) same.0 a.1) b.1 in
     same-sip (sip_text p) p q secure a.2 b.2 refl same.1
+-- a SIP URI and another URI have different schemes
 one-uri text (sip p) (other scheme rest) a b =
     let same = scheme-one text (uri-scheme text (sip p) a) (uri-scheme text (other scheme rest) b) in
     absurd (b.1 p.secure (subst (λ s. SameText s (scheme_name p.secure)) same.0 a.1))
 one-uri text (other scheme rest) (sip q) a b =
     let same = scheme-one text (uri-scheme text (other scheme rest) a) (uri-scheme text (sip q) b) in
     absurd (a.1 q.secure (subst (λ s. SameText s (scheme_name q.secure)) (sym same.0) b.1))
+-- both are other URIs, with the same scheme and the same rest
 one-uri text (other s r) (other t q) a b =
     let same = scheme-one text (uri-scheme text (other s r) a) (uri-scheme text (other t q) b) in
     ap (λ x. other x r) same.0 ∙ ap (other t) same.1

@@ -95,6 +95,7 @@ pub asks-via : (f : Field) (a : Asked) (r via : Option Via) (b : Bool) → f.nam
 asks-via f a None via b named is none via_is so fields of = absurd (false≢true (sym is ∙ so))
 asks-via f a (Some v) via b named is read via_is so fields of = record {
   via = first-also FirstVia known_name.Via fields f (option_map element a.via) (option_map element via) (element v) (ap (is_name_of known_name.Via) named) read.0 (ap (option_map element) via_is ∙ map-or element a.via (Some v)) of.via;
+  -- of the other names nothing changes
   from = once-passed Itself known_name.From fields f (option_copied a.from) (ap (is_name_of known_name.From) named) of.from;
   to = once-passed Itself known_name.To fields f (option_copied a.to) (ap (is_name_of known_name.To) named) of.to;
   call_id = once-passed Itself known_name.CallId fields f (option_copied a.call_id) (ap (is_name_of known_name.CallId) named) of.call_id;
@@ -111,6 +112,7 @@ asks-cseq f a (Some c) cseq named some read (none, is) fields of = record {
   from = once-passed Itself known_name.From fields f (option_copied a.from) (ap (is_name_of known_name.From) named) of.from;
   to = once-passed Itself known_name.To fields f (option_copied a.to) (ap (is_name_of known_name.To) named) of.to;
   call_id = once-passed Itself known_name.CallId fields f (option_copied a.call_id) (ap (is_name_of known_name.CallId) named) of.call_id;
+  -- the CSeq is kept, and of the other names nothing changes
   cseq = once-also CSeqValue known_name.CSeq fields f (option_map cseq_parts a.cseq) (option_map cseq_parts cseq) (cseq_parts c) (ap (is_name_of known_name.CSeq) named) read.0 (ap (option_map cseq_parts) none) (ap (option_map cseq_parts) is) of.cseq;
   content_length = once-passed Itself known_name.ContentLength fields f (option_copied a.content_length) (ap (is_name_of known_name.ContentLength) named) of.content_length;
 }

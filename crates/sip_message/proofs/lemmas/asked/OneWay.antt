@@ -79,11 +79,13 @@ parts-one fields p q a b =
     let vias : ◌≡◌ {A = List Element} (p.via ∷ p.others) (q.via ∷ q.others) = same-elements (values known_name.Via fields) _ _ a.vias b.vias in
     let via : p.via ≡ q.via = cc in
     let others : p.others ≡ q.others = cc in
+    -- each named field has one value, which says one thing
     let from = same-address known_name.From fields p.from q.from a.from b.from in
     let to = same-address known_name.To fields p.to q.to a.to b.to in
     let call_id = same-value known_name.CallId fields a.call_id b.call_id in
     let text : b.cseq.0 ≡ a.cseq.0 = same-value known_name.CSeq fields b.cseq.1 a.cseq.1 in
     let cseq : p.cseq ≡ q.cseq = same-cseq a.cseq.0 p.cseq q.cseq (said-value a.cseq.0 p.cseq a.cseq.2) (said-value a.cseq.0 q.cseq (subst (λ t. CSeqSays q.cseq t) text b.cseq.2)) in
+    -- so all parts are the same, one after another
     ap (λ v. make v p.others p.from p.to p.call_id p.cseq) via ∙ ap (λ o. make q.via o p.from p.to p.call_id p.cseq) others
     ∙ ap (λ f. make q.via q.others f p.to p.call_id p.cseq) from ∙ ap (λ t. make q.via q.others q.from t p.call_id p.cseq) to
     ∙ ap (λ i. make q.via q.others q.from q.to i p.cseq) call_id ∙ ap (λ c. make q.via q.others q.from q.to q.call_id c) cseq

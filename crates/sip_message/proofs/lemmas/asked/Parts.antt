@@ -86,10 +86,12 @@ has-parts bytes m text =
     let to = first-value known_name.To m.fields text.fits.to.0 text.fits.to.1 in
     let call_id = first-value known_name.CallId m.fields text.fits.call_id.0 text.fits.call_id.1 in
     let cseq = first-value known_name.CSeq m.fields text.fits.cseq.0 text.fits.cseq.1 in
+    -- each of these values is of its row
     let vias = first-elements _ via.0 (subst (AllByRecursion (Row (known known_name.Via))) via.1 (row-values known_name.Via m.fields rows)) in
     let from_row = row-of known_name.From m.fields _ rows from in
     let to_row = row-of known_name.To m.fields _ rows to in
     let cseq_row = row-of known_name.CSeq m.fields _ rows cseq in (
+      -- the parts are those that the values say
       record { via = vias.0; others = vias.1; from = (text.fits.from.0.1, from_row.0); to = (text.fits.to.0.1, to_row.0); call_id = text.fits.call_id.0.1; cseq = (cseq_row.0, cseq_row.1) },
       record {
         vias = subst (λ t. AreElements t (vias.0 ∷ vias.1)) (sym via.1) vias.2;

@@ -167,6 +167,7 @@ start-canon : (line : List ℕ) (s : StartLine) → StartText line s → StartTe
 start-canon line (request method uri) (token, is_uri, whole) =
     (token, is_uri, (method, space ∷ (uri ++ space ∷ codes "SIP/2.0"), refl, (space ∷ [], uri ++ space ∷ codes "SIP/2.0", refl, (uri, space ∷ codes "SIP/2.0", refl, (space ∷ [], codes "SIP/2.0", refl, refl, refl), refl), refl), refl))
 start-canon line (status code reason) (bytes, whole) =
+    -- the version, the code as it was spelled, and the reason stand in the line
     let parts = status_parts line code reason (bytes, whole) in (
       bytes,
       (
@@ -177,6 +178,7 @@ start-canon line (status code reason) (bytes, whole) =
           space ∷ [],
           decimal code ++ space ∷ reason,
           refl,
+          -- the code in decimal is the three digits
           (decimal code, space ∷ reason, subst (λ t. CodeText t code) (sym (code-decimal parts.digits code parts.is_code)) parts.is_code, (space ∷ [], reason, refl, refl, refl), refl),
           refl,
         ),
@@ -207,6 +209,7 @@ start-inner line (request method uri) (token, is_uri, whole) = (
 start-inner line (status code reason) (bytes, whole) =
     let parts = status_parts line code reason (bytes, whole) in
     let digits = subst Inner (sym (code-decimal parts.digits code parts.is_code)) (solid-inners parts.digits (each-between is_solid 3 3 (One is_ascii_digit) (each-one is_solid is_ascii_digit (solid_class is_ascii_digit refl refl refl refl)) parts.digits parts.is_code.digits)) in (
+      -- neither the version nor the digits nor the reason has CR or LF
       all_both is_inner_byte (codes "SIP/2.0") (space ∷ (decimal code ++ space ∷ reason)) version-inner
           (refl, all_both is_inner_byte (decimal code) (space ∷ reason) digits (refl, each-many is_inner_byte (One is_reason_byte) (each-one is_inner_byte is_reason_byte (inner_class is_reason_byte refl refl)) reason bytes)),
       (λ none. absurd (omega (arith, ap length none))),
@@ -219,12 +222,14 @@ field-canon line f is =
     let trimmed = closed-unfolded Trimmed closed-trimmed f.value (is.valued.opens, is.valued.ends) in
     record {
       rest = space ∷ unfolded f.value;
+      -- the name is that of the field, and one SP stands before the value
       named = record {
         spelled = name_text f.name;
         is_token = spelled.0;
         name_is = spelled.1;
         whole = (name_text f.name, colon ∷ space ∷ unfolded f.value, refl, ([], colon ∷ space ∷ unfolded f.value, many-nil (One is_wsp), (colon ∷ [], space ∷ unfolded f.value, refl, refl, refl), refl), refl);
       };
+      -- the value, unfolded, neither begins nor ends with a blank
       valued = record {
         opens = trimmed.0;
         ends = trimmed.1;
@@ -388,9 +393,11 @@ fits-unfolded start fs rest rows fits = record {
   to = stands-unfolded known_name.To fs fits.to;
   call_id_once = once-unfolded known_name.CallId fs fits.call_id_once;
   call_id = stands-unfolded known_name.CallId fs fits.call_id;
+  -- Call-ID and CSeq stand once, and so do their unfolded values
   cseq_once = once-unfolded known_name.CSeq fs fits.cseq_once;
   cseq = stands-unfolded known_name.CSeq fs fits.cseq;
   length_once = once-unfolded known_name.ContentLength fs fits.length_once;
+  -- the length is the same, and so is what it asks of the body
   method = method start fits.method;
   has_length = λ streams. subst (λ l. is_some l ≡ true) len (fits.has_length (stream streams));
   enough = subst (λ l. IsEnough l (cut_body (content_length fs) rest)) len (body-enough (content_length fs) rest fits.enough);
@@ -425,10 +432,12 @@ canon-text bytes s text =
       rest = s.body;
       first = start_text s.start;
       others = map field_text (map unfolded_field s.fields);
+      -- the lines have no line end within them, so they are read as they were written
       is_head = lines-head (start_text s.start) (map field_text (map unfolded_field s.fields)) s.body inner;
       no_bare = inner-no_bare (start_text s.start ∷ map field_text (map unfolded_field s.fields)) inner;
       are_lines = record { whole = refl; folded = inner-folds (start_text s.start ∷ map field_text (map unfolded_field s.fields)) inner; cut = fields-cut text.others s.fields text.are_fields };
       is_start = start-canon text.first s.start text.is_start;
+      -- the unfolded fields fit, and the body is cut to its length as before
       are_fields = fields-canon text.others s.fields text.are_fields;
       fits = subst (MessageFits s.start (map unfolded_field s.fields)) (sym text.body_is) (fits-unfolded s.start s.fields text.rest rows text.fits);
       body_is = text.body_is ∙ body-twice (content_length s.fields) text.rest text.fits.enough ∙ ap (λ l. cut_body l (cut_body (content_length s.fields) text.rest)) (sym (length-unfolded s.fields rows))

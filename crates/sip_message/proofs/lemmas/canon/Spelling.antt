@@ -132,10 +132,12 @@ no_empty (l ∷ ls) u v body inner is = at (λ z z_is. no_empty ls z v body inne
     at later (first_longer c z longer back) =
         let head : carriage_return ≡ c = cc in
         absurd (both_ways (is_inner_byte carriage_return) refl (subst (λ x. is_inner_byte x ≡ true) (sym head) (all_right is_inner_byte u (c ∷ z) (subst Inner longer inner.0.0)).0))
+    -- the first line would be one byte longer, a CR
     at later (second_longer c [] longer back) =
         let tails : carriage_return ∷ line_feed ∷ (flat_map with_end ls ++ (crlf ++ body)) ≡ c ∷ (carriage_return ∷ (line_feed ∷ (crlf ++ v))) = back in
         let heads : line_feed ≡ carriage_return = cc in
         absurd (omega (arith, heads))
+    -- the first line would be longer by a CR and more, so the empty line begins after it
     at later (second_longer c (d ∷ z) longer back) =
         let tails : carriage_return ∷ line_feed ∷ (flat_map with_end ls ++ (crlf ++ body)) ≡ c ∷ d ∷ (z ++ (crlf ++ (crlf ++ v))) = back in
         omega (arith, size, later z (cc), ap length longer, length-append l (c ∷ d ∷ z))

@@ -49,6 +49,7 @@ unfold-solid old text out mid new from at below solid u mid_is new_is = record {
       new_is ∙ ap (λ x. x ++ get_or text at 0 ∷ []) (mid_is ∙ ap (λ x. x ++ unfolded_run run) u.appended ∙ append_assoc old u.done (unfolded_run run))
       ∙ append_assoc old (u.done ++ unfolded_run run) (get_or text at 0 ∷ []) ∙ ap (λ x. old ++ x) (append_assoc u.done (unfolded_run run) (get_or text at 0 ∷ []));
   within = omega arith;
+  -- what was written and the rest, unfolded, are the text unfolded
   rest =
       ap (λ n. (u.done ++ (unfolded_run run ++ get_or text at 0 ∷ [])) ++ unfolded_from (take n (drop (at + 1) text)) (drop (at + 1) text)) none
       ∙ append_assoc u.done (unfolded_run run ++ get_or text at 0 ∷ []) (unfolded_from [] (drop (at + 1) text))

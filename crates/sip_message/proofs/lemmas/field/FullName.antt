@@ -24,6 +24,7 @@ other-by ((s, k) ∷ more) text n len none = at (nat_eq (length s) n) (bytes_eq 
     at true true long is none later = absurd (none.0 ((bytes_eq-Decides (folded text) s).0 is))
     at true false long is none later = later none.1
     at false false long is none later = later none
+    -- equal texts have one length
     at false true long is none later =
         let same : length s ≡ n = sym (ap length ((bytes_eq-Decides (folded text) s).0 is)) ∙ length-folded text ∙ len in
         absurd (both_ways (nat_eq (length s) n) long (eq-eqb (length s) n same))

@@ -56,6 +56,7 @@ named-read line token rest more read found = (is, (λ x other. let same = same_n
       spelled = token;
       is_token = read.0.0;
       name_is = refl;
+      -- the token, the blanks, the colon and the rest stand in a row
       whole = (
         token,
         rest,

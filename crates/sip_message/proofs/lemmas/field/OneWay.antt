@@ -43,8 +43,10 @@ same_name line r s n m one other =
     let spaces = other.whole.3.0 in
     let wsp = each-wsp blanks one.whole.3.2 in
     let wsp_too = each-wsp spaces other.whole.3.2 in
+    -- both names end at the first byte that is none of a token
     let names = same_front is_token_byte one.spelled _ other.spelled _ (each-token _ one.is_token) (each-token _ other.is_token)
     (name_stops blanks r wsp) (name_stops spaces s wsp_too) (sym (name_whole line r n one) ∙ name_whole line s m other) in
+    -- both runs of blanks end at the colon
     let rests = same_front is_wsp blanks (colon ∷ r) spaces (colon ∷ s) wsp wsp_too refl refl names.1 in
     let tails : colon ∷ r ≡ colon ∷ s = rests.1 in
     (one.name_is ∙ ap name_of names.0 ∙ sym other.name_is, cc)

@@ -40,6 +40,7 @@ token-cut text n longest some = at longest.front
             let longer : HasFront Token text (length (u ++ b ∷ [])) = (
               u ++ b ∷ [],
               v,
+              -- the token with this byte would be longer
               (token.0, token.1 ++ b ∷ [], token.2, many-push (One is_token_byte) token.1 (b ∷ []) token.3 (b, is, refl), ap (λ t. t ++ b ∷ []) token.4 ∙ append_assoc token.0 token.1 (b ∷ [])),
               whole ∙ sym (append_assoc u (b ∷ []) v),
               refl,

@@ -101,6 +101,7 @@ first-double t rest from k within is none first at some cr = (
     high = omega (arith, there.fits);
     before = λ j low high found. none-before t rest from k within is none first j (omega (arith, high, some)) found;
   },
+  -- all four bytes lie within the text
   record { fits = omega (arith, there.fits, some); reads = reads },
 )
   where
@@ -239,12 +240,14 @@ clean-paired a (b ∷ []) no_end clean = at (clean-first b [] clean)
     at : ((is_inner_byte b ≡ true) × HasNoBareEnd []) ⊎ ((v : List ℕ) × (b ∷ [] ≡ crlf ++ v) × HasNoBareEnd v) → Paired a (b ∷ [])
     at (inl (inner, _)) = (no_end ∙ sym (inner-parts b inner).1, (inner-parts b inner).0)
     at (inr (v, same, _)) = absurd (omega (arith, ap length same))
+-- the byte is one within a line, or CR and LF stand there
 clean-paired a (b ∷ c ∷ t) no_end clean = at (clean-first b (c ∷ t) clean) (clean-paired b (c ∷ t)) (clean-paired c t)
   where
     at : ((is_inner_byte b ≡ true) × HasNoBareEnd (c ∷ t)) ⊎ ((v : List ℕ) × (b ∷ c ∷ t ≡ crlf ++ v) × HasNoBareEnd v)
         → (nat_eq b carriage_return ≡ false → HasNoBareEnd (c ∷ t) → Paired b (c ∷ t))
         → (nat_eq c carriage_return ≡ false → HasNoBareEnd t → Paired c t) → Paired a (b ∷ c ∷ t)
     at (inl (inner, rest)) one two = (no_end ∙ sym (inner-parts b inner).1, one (inner-parts b inner).0 rest)
+    -- CR and LF stand there, one after the other
     at (inr (v, same, rest)) one two =
         let both : b ∷ c ∷ t ≡ carriage_return ∷ line_feed ∷ v = same in
         let b_is : b ≡ carriage_return = cc in
@@ -266,8 +269,10 @@ paired-clean a (b ∷ c ∷ t) no_end paired = at (nat_eq b carriage_return) ref
     at : (end : Bool) → nat_eq b carriage_return ≡ end
         → (nat_eq b carriage_return ≡ false → Paired b (c ∷ t) → HasNoBareEnd (c ∷ t))
         → (nat_eq c carriage_return ≡ false → Paired c t → HasNoBareEnd t) → HasNoBareEnd (b ∷ c ∷ t)
+    -- the byte is no CR, so it is one within a line
     at false is one two =
         many-cons CleanPiece (b ∷ []) (c ∷ t) (inr (b, parts-inner b is (sym paired.0 ∙ no_end), refl)) (one is paired.1)
+    -- the byte is a CR, and the next one its LF
     at true is one two =
         let b_is : b ≡ carriage_return = eqb-true b carriage_return is in
         let c_is : c ≡ line_feed = eqb-true c line_feed (sym paired.1.0 ∙ is) in

@@ -35,6 +35,7 @@ no_longer [] line other rest more b folded none longer is =
     let tails : line_feed ∷ more ≡ carriage_return ∷ (line_feed ∷ rest) = cc in
     let heads : line_feed ≡ carriage_return = cc in
     absurd (omega (arith, heads))
+-- the CR ends the second line, and a blank would follow it in the first
 no_longer (c ∷ z) line other rest more b folded none longer is =
     let b_is : carriage_return ≡ b = cc in
     let tails : line_feed ∷ more ≡ c ∷ (z ++ (crlf ++ rest)) = cc in

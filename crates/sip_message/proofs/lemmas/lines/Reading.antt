@@ -67,6 +67,7 @@ so_far-more lines rest line more fields f n so read is =
     record {
       done = so.done ++ line ∷ [];
       left = next.0;
+      -- the lines so far have this one more, and so have the fields
       whole = so.whole ∙ ap (λ ls. so.done ++ ls) next.1 ∙ sym (append_assoc so.done (line ∷ []) next.0);
       lines_left = next.2;
       are = fields-push so.done fields line f so.are (first one);

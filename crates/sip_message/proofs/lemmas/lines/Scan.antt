@@ -33,6 +33,7 @@ unscanned done rest u v scanned same = at (two_cuts done rest u (crlf ++ v) same
     at (first_longer c [] longer back) =
         let head : carriage_return ≡ c = cc in
         absurd (scanned.apart u (longer ∙ ap (λ x. u ++ x ∷ []) (sym head)))
+    -- the CRLF lies in what was scanned, so a blank follows it
     at (first_longer c (d ∷ z) longer back) =
         let both : carriage_return ∷ line_feed ∷ v ≡ c ∷ d ∷ (z ++ rest) = back in
         let c_is : carriage_return ≡ c = cc in

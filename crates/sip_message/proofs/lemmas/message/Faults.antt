@@ -83,6 +83,7 @@ read-fields n (line ∷ lines) fields is =
     let named = given-then one.1 in
     let valued = given-then named.2 in
     let more = given-then one.2 in
+    -- the line has a name, blanks, a colon and a value, and the others are fields
     let f = given valued.2 in (
       one.0,
       more.0,
@@ -107,10 +108,12 @@ read-fits start fields rest body names is read =
     let call_id = given-then to.2 in
     let cseq = given-then call_id.2 in
     let len = given-then cseq.2 in
+    -- each of these fields stands once
     let from_once = given-then from.1 in
     let to_once = given-then to.1 in
     let call_id_once = given-then call_id.1 in
     let cseq_once = given-then cseq.1 in
+    -- the method and the body are as demanded
     let method = given-then read in
     let has = given-then method.2 in
     let enough = given-then has.2 in
@@ -124,6 +127,7 @@ read-fits start fields rest body names is read =
         to_once = to_once.1;
         to = (to.0, to_once.2);
         call_id_once = call_id_once.1;
+        -- the body: its length where it is needed, enough bytes and no more
         call_id = (call_id.0, call_id_once.2);
         cseq_once = cseq_once.1;
         cseq = (cseq.0, cseq_once.2);
@@ -144,6 +148,7 @@ read-text bytes m is =
     let lines = bare.2 in
     let start = given-then lines.3 in
     let fields = given-then start.2 in
+    -- the named fields, and then what the message demands
     let names = given-then fields.2 in
     let body = given-then names.2 in
     let fits = read-fits start.0 fields.0 cut.0.1 body.0 names.0 names.1 body.1 in
@@ -153,6 +158,7 @@ read-text bytes m is =
       first = lines.0;
       others = lines.1;
       is_head = cut.1;
+      -- each part of the text is what its stage read
       no_bare = bare.1;
       are_lines = lines.2;
       is_start = start.1;
@@ -169,9 +175,11 @@ text-read bytes m text =
       text.first,
       text.others,
       text.are_lines,
+      -- the start line and the fields
       passes m.start text.is_start
           (passes m.fields (fields-read 1 text.others m.fields text.are_fields) (passes (fits.via.0, fits.cseq.0)
           (passes fits.via.0 fits.via.1 (passes fits.from.0 (passes tt fits.from_once fits.from.1) (passes fits.to.0 (passes tt fits.to_once fits.to.1)
+          -- the body
           (passes fits.call_id.0 (passes tt fits.call_id_once fits.call_id.1) (passes fits.cseq.0 (passes tt fits.cseq_once fits.cseq.1) (passes tt fits.length_once refl))))))
           (passes m.body (passes tt fits.method (passes tt fits.has_length (passes tt fits.enough (passes tt fits.no_more (ap (λ b. gives b) text.body_is)))))
           refl))),

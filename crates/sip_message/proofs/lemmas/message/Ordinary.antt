@@ -67,6 +67,7 @@ ordinary-whole {rest = rest} {body = body} {fields = fields} start a via from to
       cseq = c.0;
       says_via = v.2;
       says_cseq = c.2;
+      -- what was found: the head, its lines, the start line and the fields
       found = record {
         head = h.head;
         others = h.others;
@@ -76,6 +77,7 @@ ordinary-whole {rest = rest} {body = body} {fields = fields} start a via from to
         are_names =
             passes v.0 v.1 (passes f.0 (once-is known_name.From fields f.0 f.1) (passes t.0 (once-is known_name.To fields t.0 t.1) (passes i.0 (once-is known_name.CallId fields i.0 i.1) (passes c.0 (once-is known_name.CSeq fields c.0 c.1)
             (passes tt (not-twice known_name.ContentLength fields (option_copied a.content_length) of.content_length) refl)))));
+        -- the body has the length that is said, and the named fields stand where they were found
         is_body = subst (λ len. BodyOf (start_parts start) c.0 (v.0.1) len rest (gives body)) (said-length fields (option_copied a.content_length) of.content_length) (has v.0 c.0 v.2 c.2);
         stand = record {
           via = first-value known_name.Via fields v.0 v.1;

@@ -89,12 +89,14 @@ found-keeps {bytes = bytes} {n = n} e s f first said =
     let keeps : Keeps _ parts.0 (n.via.1) n.from n.to n.call_id (n.cseq.1) = record {
       parts = record { is = parts.1; only = (λ q is. parts-one _ q parts.0 is parts.1) };
       spelled = (bytes, text);
+      -- each named field stands where it was found
       via = f.stand.via;
       from = f.stand.from;
       to = f.stand.to;
       call_id = f.stand.call_id;
       cseq = f.stand.cseq;
     } in
+    -- the first Via and the CSeq say what was found of them
     let top = keeps-via keeps in (
       parts.0,
       record {

@@ -67,6 +67,7 @@ only-elements {m = m} {p = p} {v = v} k = (p.via ∷ p.others, record { is = k.p
         at [] (e ∷ now, more, now_text, later, is) are =
             let wrong : ◌≡◌ {A = List Element} [] (e ∷ (now ++ more)) = is in
             cc
+        -- with these elements the fields would have other parts, but they have only these
         at (e ∷ es) some are =
             let other : HasParts m.fields (record { via = e; others = es; from = p.from; to = p.to; call_id = p.call_id; cseq = p.cseq }) = record { vias = are; from = k.parts.is.from; to = k.parts.is.to; call_id = k.parts.is.call_id; cseq = k.parts.is.cseq } in
             let one = k.parts.only _ other in

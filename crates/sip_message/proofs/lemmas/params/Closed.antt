@@ -260,6 +260,7 @@ set-tail Ok text ([], all, is) = ([], [], (tt, refl), tt, is)
 set-tail Ok text (u ∷ us, ((m, x, (sws, c, is_sws, (byte, after, is_byte, is_after, c_is), m_is), (name, value, ok, param), u_is), all), is) =
     let more = set-params Ok us all in
     let part : List ℕ = semicolon ∷ (after ++ (x ++ concat us)) in
+    -- the first parameter, without the blanks before its semicolon, and the others
     let c_whole : c ≡ semicolon ∷ after = c_is ∙ ap (λ t. t ++ after) is_byte in (
       part,
       (name, value) ∷ more.0,
@@ -267,6 +268,7 @@ set-tail Ok text (u ∷ us, ((m, x, (sws, c, is_sws, (byte, after, is_byte, is_a
       (ok, more.1),
       (
         sws,
+        -- the blanks before it stand at the front
         part,
         is_sws,
         refl,

@@ -142,6 +142,7 @@ param-front m x rest (name, None) mark (token, x_is) next =
     both (name ++ rest) (token-stops name rest token, (m, name ++ rest, mark, refl, append_assoc m x rest ∙ ap (λ t. m ++ (t ++ rest)) x_is))
     (both (name, rest) (token, next-stops is_separator is_token_byte rest blank-token separator-token next, (name, rest, refl, refl, refl))
     (both (None, rest) (next-other is_separator equals rest refl refl next, refl) refl))
+-- a parameter with a value: its name, `=` and the value are read one after the other
 param-front m x rest (name, Some value) mark (token, kind, (u, w, u_is, (e, v, equal, v_is, w_is), x_is)) next =
     both (name ++ (e ++ (value ++ rest))) (token-stops name (e ++ (value ++ rest)) token, (m, name ++ (e ++ (value ++ rest)), mark, refl, append_assoc m x rest ∙ ap (λ t. m ++ t) flat))
     (both (name, e ++ (value ++ rest)) (token, next-stops is_equals is_token_byte (e ++ (value ++ rest)) blank-token equals-token (mark-next is_equals equals e (value ++ rest) refl refl equal), (name, e ++ (value ++ rest), refl, refl, refl))
@@ -172,6 +173,7 @@ front-param : (text : List ℕ) (p : Param) (rest : List ℕ) → ParamFront tex
 front-param text p rest (both inner mark (both (name, r) token (both (value, s) led is))) =
     let last : rest ≡ s = ap (λ x. x.1) is in
     let param : p ≡ (name, value) = ap (λ x. x.0) is in
+    -- the semicolon, and then the name with its value
     let found = at value led in (
       mark.1.0,
       found.0,

@@ -174,6 +174,7 @@ same-names fs gs are =
     let i = all-found known_name.CallId "call-id" named-call-id 1 fs gs are in
     let c = all-found known_name.CSeq "cseq" named-cseq 1 fs gs are in
     let l = all-found known_name.ContentLength "content-length" named-content-length 1 fs gs are in
+    -- what the readers find of each name is what the definitions have of it
     subst (λ x. Same Equal (NamesOf fs) (NamesIn x (all "from" gs) (all "to" gs) (all "call-id" gs) (all "cseq" gs) (all "content-length" gs))) v
     (subst (λ x. Same Equal (NamesOf fs) (NamesIn (found known_name.Via fs) x (all "to" gs) (all "call-id" gs) (all "cseq" gs) (all "content-length" gs))) f
     (subst (λ x. Same Equal (NamesOf fs) (NamesIn (found known_name.Via fs) (found known_name.From fs) x (all "call-id" gs) (all "cseq" gs) (all "content-length" gs))) t

@@ -45,6 +45,7 @@ long-name token =
     (two (has "from") (has "f") known_name.From _
     (two (has "to") (has "t") known_name.To _
     (two (has "call-id") (has "i") known_name.CallId _
+    -- the names are told apart one after the other, as the definitions do
     (one (has "cseq") known_name.CSeq _
     (two (has "content-length") (has "l") known_name.ContentLength _
     (two (has "contact") (has "m") known_name.Contact _
@@ -112,9 +113,11 @@ same-canonical a b (s, gs, t) (r, hs, u) one other = (to, from)
     to same =
         let m = kept s gs t in
         let n = kept r hs u in
+        -- messages with one canonical form have the same parts
         let is : message_of m ≡ message_of n =
         same_canon a b (message_of m) (message_of n) (m, tells-text a m (gs, one, refl), refl) (n, tells-text b n (hs, other, refl), refl)
         (same-form m gs refl ∙ same ∙ sym (same-form n hs refl)) in
+        -- so the start line, the fields in full and the body are the same
         record {
           start = ap (λ (k : Message). k.start) is;
           fields = sym (shown-in_full gs) ∙ ap (λ (k : Message). map shown k.fields) is ∙ shown-in_full hs;

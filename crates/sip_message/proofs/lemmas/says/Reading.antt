@@ -57,6 +57,7 @@ parts-tell m start gs body p (start_is, are, body_is) parts =
     let call_id = values-said known_name.CallId "call-id" named-call-id m.fields gs are in
     let cseq = values-said known_name.CSeq "cseq" named-cseq m.fields gs are in
     let route = values-said known_name.Route "route" named-route m.fields gs are in
+    -- each named value that is kept is the one that is said
     record {
       start_is = start_is;
       vias = subst (λ vs. ViasTell vs (map said_via (p.via ∷ p.others))) via (are-said (values known_name.Via m.fields) (p.via ∷ p.others) parts.vias);
@@ -82,11 +83,13 @@ tell-parts m start gs body p s (start_is, are, body_is) parts tells = at es.0 es
         let all_vias : ◌≡◌ {A = List SaidVia} (s.via ∷ s.others) (said_via e ∷ map said_via es) = vias in
         let via : s.via ≡ said_via e = cc in
         let others : s.others ≡ map said_via es = cc in
+        -- each part that is told is that of the message
         let told = parts-tell m start gs body p (start_is, are, body_is) parts in
         let from : s.from ≡ p.from.0 = one-first (said_values "from" gs) s.from p.from.0 tells.from told.from in
         let to : s.to ≡ p.to.0 = one-first (said_values "to" gs) s.to p.to.0 tells.to told.to in
         let start_same : s.start ≡ m.start = tells.start_is ∙ sym start_is in
         let route : s.route ≡ join_with_byte comma (values known_name.Route m.fields) = tells.route_is ∙ sym told.route_is in
+        -- q are the parts with what is said
         let q : Parts = record { via = e; others = es; from = p.from; to = p.to; call_id = s.call_id; cseq = s.cseq } in (
           q,
           record {
@@ -123,6 +126,7 @@ says-reads bytes s (passes y tells (t, fields, is)) = let read = (same-read byte
     at : (a : Outcome Message) → ReadOf bytes a → Alike IsTold a (gives y) → (r : Reading) × Reads bytes r × (s ≡ said_of r)
     at (stops f) read is_told = absurd is_told
     at (gives m) read is_told =
+        -- the message has parts, and these say what was said
         let text = read-text bytes m read in
         let parts = has-parts bytes m text in
         let q = tell-parts m y.0 y.1 y.2 parts.0 s is_told parts.1 (subst (FieldsTell y.0 y.1) (sym (given is)) fields) in (
@@ -159,12 +163,14 @@ pub says-one : (bytes : List ℕ) (a b : Outcome Said) → Says bytes a → Says
 says-one bytes (gives s) (gives t) one other =
     let read = says-reads bytes s one in
     ap (λ x. gives x) (read.2 ∙ sym (said-is bytes read.0 t read.1 other))
+-- bytes that say a message have no fault
 says-one bytes (gives s) (stops f) one other =
     let read = says-reads bytes s one in
     absurd (no_value (one-read bytes (gives read.0.message) (stops f) (text-read bytes read.0.message (tells-text bytes read.0.message read.1.tells)) (says-fault bytes f other)))
 says-one bytes (stops f) (gives s) one other =
     let read = says-reads bytes s other in
     absurd (no_value (one-read bytes (gives read.0.message) (stops f) (text-read bytes read.0.message (tells-text bytes read.0.message read.1.tells)) (says-fault bytes f one)))
+-- both are faults, and the first fault is one
 says-one bytes (stops f) (stops g) one other =
     ap (λ x. stops x) (fault_is (one-read bytes (stops f) (stops g) (says-fault bytes f one) (says-fault bytes g other)))
 

@@ -94,6 +94,7 @@ address-said text a (name_addr fits (b, w1, before, (u, w2, u_is, (g, t, angle, 
       (u, w2, subst profile.Uri (sym u_is) (parts-uri a.uri_text a.uri fits.uri), (g, t, angle, params-of t (a.params, fits.params.0, fits.params.1, any-ok fits.params.0, tail), w2_is), w1_is),
       whole,
     )
+-- an address without angles
 address-said text a (addr_spec fits none bare (u, t, u_is, tail, whole)) =
     inr (
       u,
@@ -112,6 +113,7 @@ said-address text (inl (b, w1, before, (u, w2, uri, (g, t, angle, params, w2_is)
       record { display = display.0; uri_text = u; uri = parts.0; params = tail.0 },
       name_addr (record { display = display.1; uri = parts.1; params = (tail.1, tail.2) }) (b, w1, display.2, (u, w2, refl, (g, t, angle, tail.4, w2_is), w1_is), whole),
     )
+-- an address without angles has no display name
 said-address text (inr (u, t, (uri, bare), params, whole)) =
     let tail = of-params t params in
     let parts = uri-parts u uri in (

@@ -85,6 +85,7 @@ params-said ((n, value) ∷ ps) branch text (m, t, mark, (x, y, param, more, t_i
       (m ++ x, y, (m, x, mark, branch-said x n v same token (subst (λ o. ParamText x (n, o)) value_is param), refl), rest.1, whole ∙ ap (λ z. m ++ z) t_is ∙ sym (append_assoc m x y)),
       branch_is,
     )
+-- the first parameter says no branch, and the others say what they say
 params-said ((n, value) ∷ ps) branch text (m, t, mark, (x, y, param, more, t_is), whole) (inr (differs, others)) =
     let rest = params-said ps branch y more others in (
       None ∷ rest.0,
@@ -102,6 +103,7 @@ said-params (Some b ∷ os) text (u, y, (m, x, mark, said, u_is), more, whole) =
       (m, x ++ y, mark, (x, y, one.4, rest.1, refl), whole ∙ ap (λ z. z ++ y) u_is ∙ append_assoc m x y),
       inl (one.2, one.1, one.3, refl, ap (λ z. Some z) one.5, first_some os, rest.2),
     )
+-- the first parameter is another one
 said-params (None ∷ os) text (u, y, (m, x, mark, said, u_is), more, whole) =
     let one = said-other x said in
     let rest = said-params os y more in (
@@ -126,6 +128,7 @@ via-said text v (fits, (a, w1, a_is, (s, w2, slash1, (b, w3, b_is, (r, w4, slash
     let ps = params-said fits.params.0 v.branch q (tail-params q v.params fits.params.0 fits.params.1 params) fits.params.2 in
     let host : profile.Host h × (host_text v.host ≡ h) = (subst profile.Host (sym h_is) (parts-host (host_text v.host) v.host fits.host), sym h_is) in
     let behind : (profile.Blanks then ((λ t. profile.Host t × (host_text v.host ≡ t)) then (PortSays v.port then SaidParams ps.0))) w5 =
+    -- the branch is what the parameters say, and the parts stand in the order of the text
     (sp, w6, blanks, (h, w7, host, (p, q, port-said v.port p fits.port port, ps.1, w7_is), w6_is), w5_is) in (
       ps.0,
       ps.2,
@@ -147,6 +150,7 @@ said-via text via (os, branch_is, whole_is, (a, w1, a_is, (s, w2, slash1, (b, w3
     let hosts = host-parts h host in
     let ports = said-port via.port p port in
     let host_is : via.host ≡ host_text hosts.0 = h_is ∙ hosts.2 in
+    -- v has the parts of the element
     let v : ViaParts = record { protocol = a; version = b; transport = c; host = hosts.0; port = via.port; params = part.0; branch = first_some os } in (
       v,
       (

@@ -83,6 +83,7 @@ no_token x y m [] token version same = absurd (omega (arith, ap length version))
 no_token x y m (a ∷ []) token version same = absurd (omega (arith, ap length version))
 no_token x y m (a ∷ b ∷ []) token version same = absurd (omega (arith, ap length version))
 no_token x y m (a ∷ b ∷ c ∷ []) token version same = absurd (omega (arith, ap length version))
+-- the token has fewer than four bytes, and the SP stands where the version has a letter or a slash
 no_token x y [] (a ∷ b ∷ c ∷ d ∷ v) token version same =
     absurd (omega (arith, ap (λ t. slice_index t 0) version, ap to_ascii_lowercase (ap (λ t. slice_index t 0) same)))
 no_token x y (k ∷ []) (a ∷ b ∷ c ∷ d ∷ v) token version same =
@@ -91,6 +92,7 @@ no_token x y (k ∷ l ∷ []) (a ∷ b ∷ c ∷ d ∷ v) token version same =
     absurd (omega (arith, ap (λ t. slice_index t 2) version, ap to_ascii_lowercase (ap (λ t. slice_index t 2) same)))
 no_token x y (k ∷ l ∷ m ∷ []) (a ∷ b ∷ c ∷ d ∷ v) token version same =
     absurd (omega (arith, slash_is d (ap (λ t. slice_index t 3) version), ap (λ t. slice_index t 3) same))
+-- a longer token has a slash, which is no byte of a token
 no_token x y (k ∷ l ∷ m ∷ n ∷ more) (a ∷ b ∷ c ∷ d ∷ v) token version same =
     both_ways (is_token_byte n) (ap is_token_byte (ap (λ t. slice_index t 3) same ∙ slash_is d (ap (λ t. slice_index t 3) version))) token.1.1.1.0
 
@@ -111,12 +113,14 @@ same_start line (request m u) (request n v) one other =
     let inner : u ++ space ∷ p.version ≡ v ++ space ∷ q.version = cc in
     let uris = same_by_end u (space ∷ p.version) v (space ∷ q.version) (omega (arith, length-version _ p.is_version, length-version _ q.is_version)) inner in
     ap (λ x. request x u) methods.0 ∙ ap (λ x. request n x) uris.0
+-- a request line and a status line cannot be one line
 same_start line (request m u) (status c r) one other = absurd (no_both line m u r c one other)
 same_start line (status c r) (request m u) one other = absurd (no_both line m u r c other one)
 same_start line (status c r) (status d s) one other =
     let p = status_parts line c r one in
     let q = status_parts line d s other in
     let versions = append_cancel_both p.version _ q.version _ (length-version _ p.is_version ∙ sym (length-version _ q.is_version)) (sym p.whole ∙ q.whole) in
+    -- the digits have three bytes, and so the code and the reason are the same
     let tails : space ∷ (p.digits ++ space ∷ r) ≡ space ∷ (q.digits ++ space ∷ s) = versions.1 in
     let inner : p.digits ++ space ∷ r ≡ q.digits ++ space ∷ s = cc in
     let codes = append_cancel_both p.digits _ q.digits _ (length-code _ c p.is_code ∙ sym (length-code _ d q.is_code)) inner in

@@ -123,6 +123,7 @@ request-read line token rest more at parts read found version uri = (is, only)
       read.0.0,
       (parts, uri),
       (
+        -- the method, SP, the URI, SP and the version stand in a row
         token,
         space ∷ more,
         refl,
@@ -190,6 +191,7 @@ pub code-read : (text rest : List ℕ) (n : ℕ) → 3 ≤ length text → past 
 code-read text rest n long found digits value high low = (is, only)
   where
     is : CodeFront text (n, rest)
+    -- the three digits, SP and the rest
     is = (
       take 3 text,
       drop 3 text,
@@ -226,6 +228,7 @@ status-line line code reason is =
     let whole : line ≡ (p.version ++ space ∷ []) ++ (p.digits ++ space ∷ reason) = p.whole ∙ sym (append_assoc p.version (space ∷ []) (p.digits ++ space ∷ reason)) in
     let len : length (p.version ++ space ∷ []) ≡ 8 = omega (arith, length-append p.version (space ∷ []), size) in
     let long : 8 ≤ length line = omega (arith, ap length whole, length-append (p.version ++ space ∷ []) (p.digits ++ space ∷ reason), len) in
+    -- the first eight bytes are the version and SP
     let same = append_cancel_both (take 8 line) (drop 8 line) (p.version ++ space ∷ []) (p.digits ++ space ∷ reason) (omega (arith, len, length-take-le 8 line long)) (take-append-drop 8 line ∙ whole) in (
       subst (λ t. SameText t (codes "SIP/2.0 ")) (sym same.0) (map-append to_ascii_lowercase p.version (space ∷ []) ∙ ap (λ t. t ++ space ∷ []) p.is_version),
       subst (λ t. CodeFront t (code, reason)) (sym same.1) (p.digits, space ∷ reason, p.is_code, (space ∷ [], reason, refl, refl, refl), refl),

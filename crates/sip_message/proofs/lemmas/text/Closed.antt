@@ -78,6 +78,7 @@ closed-then P Q seam left right u v b w ends opens blanks (p, q, is_p, is_q, who
       is_q,
       ap (λ t. u ++ space ∷ t) rest ∙ sym (append_assoc u (space ∷ []) q),
     )
+    -- the run goes on into q: but no run of blanks crosses the seam
     inner c z p_is (first_longer d y run q_begins) =
         let both : All is_lws_byte ((c ∷ z) ++ d ∷ y) = subst (All is_lws_byte) run blanks in
         elim (seam p q is_p is_q) [
@@ -97,6 +98,7 @@ closed-then P Q seam left right u v b w ends opens blanks (p, q, is_p, is_q, who
     at (same_length front rest) =
         (p, space ∷ v, is_p, right [] v b w tt opens blanks (subst Q rest is_q), ap (λ t. t ++ space ∷ v) (sym front))
     at (first_longer c z p_is rest) = inner c z p_is (two_cuts (b ∷ w) v (c ∷ z) q rest)
+    -- the blanks lie within the text of Q
     at (second_longer c z u_is rest) = (
       p,
       (c ∷ z) ++ space ∷ v,

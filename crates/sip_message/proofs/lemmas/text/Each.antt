@@ -61,6 +61,7 @@ blank_is P sp ht cr lf b is =
         | inl e ↦ subst P (sym (eqb-true b space e)) sp
         | inr e ↦ subst P (sym (eqb-true b tab e)) ht
       ]
+      -- it is CR or LF
       | inr end ↦ elim (or_cases (nat_eq b carriage_return) _ end) [
         | inl e ↦ subst P (sym (eqb-true b carriage_return e)) cr
         | inr e ↦ subst P (sym (eqb-true b line_feed e)) lf

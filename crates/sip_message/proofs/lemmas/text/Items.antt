@@ -63,6 +63,7 @@ item_cut P p u c z ends blank p_is item = at (two_cuts item.front item.back u (c
     at : Cuts item.front item.back u (c ∷ z) → P (u ++ space ∷ []) × All is_lws_byte (c ∷ z)
     at (same_length front back) =
         (subst (λ t. P (t ++ space ∷ [])) front (item.joins c z back), subst (All is_lws_byte) back item.blank)
+    -- the item would be longer by a byte that is a blank and none
     at (first_longer d y longer is) =
         let heads : c ≡ d = cc in
         absurd (not_both d (all_right is_solid u (d ∷ y) (subst (All is_solid) longer item.solid)).0 (subst (λ x. is_lws_byte x ≡ true) heads blank))
@@ -86,9 +87,11 @@ items_run P item (p ∷ us) x v b w ends opens blanks all is =
     at : ((y : List ℕ) → EndsSolid y → concat us ≡ y ++ ((b ∷ w) ++ v) → Many P (y ++ space ∷ v)) → Cuts p (concat us) x ((b ∷ w) ++ v) → Many P (x ++ space ∷ v)
     at later (same_length front back) =
         subst (λ t. Many P (t ++ space ∷ v)) front (many-cons P p (space ∷ v) all.0 (later [] tt back))
+    -- the blanks begin after the first item
     at later (second_longer c z longer back) =
         subst (Many P) (sym (append_assoc p (c ∷ z) (space ∷ v)) ∙ ap (λ t. t ++ space ∷ v) (sym longer))
         (many-cons P p ((c ∷ z) ++ space ∷ v) all.0 (later (c ∷ z) (ends-right p c z (subst EndsSolid longer ends)) back))
+    -- the blanks begin within the first item, and go on after it
     at later (first_longer c z longer back) =
         let heads : b ≡ c = cc in
         let cut = item_cut P p x c z ends (subst (λ t. is_lws_byte t ≡ true) heads blanks.0) longer (item p all.0) in

@@ -166,6 +166,7 @@ solid-uri text (sip p) (scheme, same, fits, whole) =
     at : (secure : Bool) → All S (folded (scheme_name secure))
     at true = (refl, (refl, (refl, (refl, tt))))
     at false = (refl, (refl, (refl, tt)))
+-- a URI of another scheme
 solid-uri text (other scheme rest) (is_scheme, none, some, whole) =
     subst (All S) (sym whole) (all_both S scheme (colon ∷ rest)
     (each-then S _ _ solid-alpha (each-many S _ (solid-one is_scheme_byte refl refl refl refl)) scheme is_scheme)

@@ -56,6 +56,7 @@ fold-front text is =
     at [] cr lf wsp = absurd (omega (arith, cr))
     at (a ∷ []) cr lf wsp = absurd (omega (arith, lf))
     at (a ∷ l ∷ []) cr lf wsp = cc
+    -- CR, LF and a blank are the piece
     at (a ∷ l ∷ b ∷ t) cr lf wsp = (
       crlf ++ (b ∷ []),
       t,

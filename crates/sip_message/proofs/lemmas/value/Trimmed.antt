@@ -33,6 +33,7 @@ sws-whole text n within longest = (
     | inl none ↦ inl (length-none text (sym (eqb-true n (length text) same) ∙ none))
     | inr front ↦ inr (front-whole Blanks text n front (eqb-true n (length text) same))
   ],
+  -- from the other side: all of the text is blanks, or it is empty
   λ sws. elim sws [
     | inl none ↦ eq-eqb n (length text) (omega (arith, within, ap length none))
     | inr blanks ↦
@@ -91,10 +92,12 @@ pub trimmed : (text rest : List ℕ) (n e : ℕ) → n ≡ prefix_len is_lws_byt
 trimmed text rest n e n_is rest_is within blank solid =
     let cut = prefix-at is_lws_byte text n n_is in
     let stops : Stops is_lws_byte rest = subst (Stops is_lws_byte) (sym rest_is) cut.1 in
+    -- the rest is cut into the value and the blanks after it
     let again : take e rest ++ drop e rest ≡ rest = take-append-drop e rest in
     record {
       blanks = cut.0;
       stops = subst (Stops is_lws_byte) (sym again) stops;
+      -- the value ends with its last byte that is no blank
       opens = opens-take rest e stops;
       ends = ends-take rest e within (λ k is. subst (λ i. is_lws_byte (get_or rest i 0) ≡ false) (omega (arith, is)) (solid (omega (arith, is))));
       spaces = all-from is_lws_byte rest e blank;
@@ -153,11 +156,13 @@ one-space [] solid = absurd (both_ways false refl solid)
 one-space (b ∷ value) solid =
     let last : ℕ = length (b ∷ value) - 1 in
     let both = and_parts (nat_lt 0 (length (b ∷ value)) && not (is_lws_byte b)) (not (is_lws_byte (get_or (b ∷ value) last 0))) solid in
+    -- neither the first byte nor the last one is a blank
     let opens : is_lws_byte b ≡ false = not-true (is_lws_byte b) (and_parts (nat_lt 0 (length (b ∷ value))) (not (is_lws_byte b)) (both.0)).1 in
     let end : last ≡ length value = omega arith in
     record {
       opens = opens;
       ends = ends-solid b value (subst (λ i. is_lws_byte (get_or (b ∷ value) i 0) ≡ false) end (not-true _ (both.1)));
+      -- the SP, the value and nothing more are the text
       whole = (
         space ∷ [],
         b ∷ value,

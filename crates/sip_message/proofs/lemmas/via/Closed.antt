@@ -162,6 +162,7 @@ via-set T text v t (fits, (a, w1, a_is, (s, w2, slash1, (b, w3, b_is, (r, w4, sl
     s,
     w2,
     slash1,
+    -- after the slash the version, a slash, and then the transport
     (
       b,
       w3,
@@ -176,6 +177,7 @@ via-set T text v t (fits, (a, w1, a_is, (s, w2, slash1, (b, w3, b_is, (r, w4, sl
           w5,
           subst T (sym c_is) t,
           (
+            -- blanks, and then the host
             sp,
             w6,
             blanks,
@@ -183,6 +185,7 @@ via-set T text v t (fits, (a, w1, a_is, (s, w2, slash1, (b, w3, b_is, (r, w4, sl
               h,
               w7,
               (v.host, fits.host, h_is),
+              -- an optional port, and the parameters
               (
                 p,
                 q,
@@ -210,6 +213,7 @@ set-via : (T : List ℕ → Type 0) (text : List ℕ) → ((u : List ℕ) → T 
 set-via T text token (a, w1, a_is, (s, w2, slash1, (b, w3, b_is, (r, w4, slash2, (c, w5, c_is, (sp, w6, blanks, (h, w7, (host, host_fits, h_is), (p, q, (port, port_fits, port_is), params, w7_is), w6_is), w5_is), w4_is), w3_is), w2_is), w1_is), whole) =
     let tail = set-tail BranchOk q params in
     let branch = ok-branch tail.1 tail.3 in
+    -- v has the parts of the element
     let v : ViaParts = record { protocol = a; version = b; transport = c; host = host; port = port; params = tail.0; branch = branch.0 } in (
       v,
       (

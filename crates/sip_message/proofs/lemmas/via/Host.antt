@@ -150,6 +150,7 @@ pub port-front : (port : Option (List ℕ)) (p rest : List ℕ) → IfSome port 
 port-front None p rest fits p_is next =
     let whole : p ++ rest ≡ rest = ap (λ t. t ++ rest) p_is in
     ((λ inner mark. next-other is_separator colon rest refl refl next inner (subst (λ t. MarkFront colon t inner) whole mark)), sym whole)
+-- a colon and a port, which nothing of a token follows
 port-front (Some port) p rest fits (m, t, mark, t_is, p_is) next = (
   port ++ rest,
   (

@@ -49,6 +49,7 @@ protocol-steps text p is =
     let three = two.3 in
     let four = three.3 in
     let five = four.3 in
+    -- each step reads its part, and ends where the next one begins
     both (p.protocol, one.1) (is.protocol, fail-stops _ (fail-slash _) one.1 two, (p.protocol, one.1, refl, refl, one.4 ∙ ap (λ x. x ++ one.1) one.2))
     (both two.1 (subst StopsBlank (sym (three.4 ∙ ap (λ x. x ++ three.1) three.2)) (token-stops p.version three.1 is.version), (two.0, two.1, two.2, refl, two.4))
     (both (p.version, three.1) (is.version, fail-stops _ (fail-slash _) three.1 four, (p.version, three.1, refl, refl, three.4 ∙ ap (λ x. x ++ three.1) three.2))

@@ -89,6 +89,7 @@ pub via-steps : (text : List ℕ) (e : Element) (rest : List ℕ) → ViaFront t
 via-steps text (whole, v) rest ((fits, (a, w1, a_is, (s, w2, slash1, (b, w3, b_is, (r, w4, slash2, (c, w5, c_is, (sp, w6, blanks, (h, w7, h_is, (p, q, port, params, w7_is), w6_is), w5_is), w4_is), w3_is), w2_is), w1_is), whole_is)), text_is, ends) =
     subst (λ t. ViaSteps t (v, rest)) (sym text_is)
     (both sent (protocol-steps (whole ++ rest) sent (record { protocol = fits.protocol; version = fits.version; transport = fits.transport; stops = stops; whole = spelled }))
+    -- the host, the port and the parameters after it
     (both (v.host, w7 ++ rest) (subst (λ t. HostFront t (v.host, w7 ++ rest)) (sym hosted) (host-front v.host (w7 ++ rest) fits.host after))
     (both (v.port, q ++ rest) (subst (λ t. LedFront colon PortFront t (v.port, q ++ rest)) (sym ported) (port-front v.port p (q ++ rest) fits.port port next))
     (both ((v.params, v.branch), rest) (((fits.params.0, (params-front fits.params.0 q rest texts separated, no-param (λ x. nat_eq x comma) rest refl (ends-next (λ x. nat_eq x comma) rest refl ends)), fits.params.2), (q, refl, behind-part v.params q fits.params.1.0 params)))
@@ -134,6 +135,7 @@ pub steps-via : (text : List ℕ) (v : ViaParts) (rest : List ℕ) → ViaSteps 
 steps-via text v rest (both sent protocol (both (h, r1) host (both (port, r2) led (both ((params, branch), r3) (is_branch, (x, x_is, behind)) (ends, v_is))))) =
     subst (λ y. (whole : List ℕ) × ViaFront text ((whole, y.0), y.1)) (sym v_is) (
       begun.0,
+      -- the parts fit, and stand in the order of the text
       (
         (
           record { protocol = spelled.protocol; version = spelled.version; transport = spelled.transport; host = hosted.0; port = ported.2; params = (is_branch.0, parts.0, is_branch.2) },

@@ -30,6 +30,7 @@ returns-else-first-eq-SUPPORTE c =
     halved-other c.args.text.now c.type_inv.text c.requires.length.0 (
       (λ m n. one-fails c.else-first-eq-CONTENT.either (c.requires.first ∙ m) (c.requires.second ∙ n)),
       (
+        -- each of the four fails by one of its halves
         (λ m n. one-fails c.else-first-eq-CONTENT-3.either (c.requires.first ∙ m) (c.requires.second ∙ n)),
         (
           (λ m n. one-fails c.else-first-eq-CONTENT-2.either (c.requires.first ∙ m) (c.requires.second ∙ n)),

@@ -37,6 +37,7 @@ returns c = λ _.
     let from = c.in-Some.from in
     let same = c.text-text.ensures in
     let less : c.args.at + n < end = omega (arith, c.if-len-end.false) in
+    -- a colon follows the name, which the run of plain bytes spells
     let mark : get_or m (c.args.at + n) 0 ≡ colon = subst (λ t. get_or t (c.args.at + n) 0 ≡ colon) same (omega (arith, c.if-text-at-ne58.false)) in
     let named = plain-named m c.args.at n end c.run_at-len.ensures (omega (arith, c.if-len-eq0.false)) less c.requires.within.1 mark in
     let spelled : name_parts c.quick_name-name.result ≡ name_of (take n (drop c.args.at c.text-text.result.now)) =
@@ -44,6 +45,7 @@ returns c = λ _.
     let name_is : name_parts c.quick_name-name.result ≡ name_of (take n (drop c.args.at m)) = spelled ∙ ap (λ t. name_of (take n (drop c.args.at t))) same in
     let made : List ℕ → Field = λ value. record { name = name_parts c.quick_name-name.result; value = value } in
     record {
+      -- the value stands after it and is one of the row
       field = made (segment from end m);
       is = record {
         rest = segment (c.args.at + n + 1) end m;
@@ -51,6 +53,7 @@ returns c = λ _.
         valued = subst (λ t. ValueText (segment (c.args.at + n + 1) end t) (segment from end t)) same c.in-Some.ensures.value;
         row = c.is_value_at.ensures.row c.if-not-is_value_at.false;
       };
+      -- the field is the last one now, and what is asked for is kept
       pushed = ap (map field_parts) c.in_default-push.ensures.items ∙ map-append field_parts c.args.fields.now.items _ ∙ ap (λ t. fields_parts c.args.fields.now ++ made (segment from end t) ∷ []) same;
       asks = c.is_value_at.ensures.asked c.if-not-is_value_at.false;
     }

@@ -14,6 +14,7 @@ returns-clause-head c =
     let more = drop (length text) front ++ drop (length front) bytes in
     let whole : bytes ≡ text ++ more =
     front-rest bytes front c.front.ensures.front ∙ ap (λ t. t ++ drop (length front) bytes) (front-rest front text c.of-masks.ensures) ∙ append_assoc text (drop (length text) front) (drop (length front) bytes) in
+    -- the start line and the fields were read up to the empty line
     let at = c.in-Some-2.at in
     let start = start_parts c.in-Some-start_up_to.start in
     let fields = fields_parts c.ordinary_fields.new.fields in

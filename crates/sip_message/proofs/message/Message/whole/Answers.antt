@@ -92,6 +92,7 @@ new-requires c =
       is_begun = b.1;
       is_start = c.in-Some-read_start.ensures.0;
       are_fields = c.in_ok-fields.ensures.fields b.0 b.2;
+      -- the named fields and the body are those of the bytes
       are_names = subst (λ xs. NamesOf (map field_parts xs) (gives (names_parts c.in_ok-named.named))) c.deref.ensures.value c.in_ok-named.ensures.names;
       is_body = subst (λ xs. BodyOf (start_parts c.in-Some-read_start.start) ((names_parts c.in_ok-named.named).1) ((names_parts c.in_ok-named.named).0.1) (content_length (map field_parts xs)) c.in-Some.rest.now (gives c.in_ok-body.body.now)) c.deref-2.ensures.value c.in_ok-body.ensures;
       stand = subst (λ xs. Stand (map field_parts xs) (names_of c.in_ok-named.named)) c.deref.ensures.value c.in_ok-named.ensures.stand;
@@ -110,6 +111,7 @@ returns c =
       is_begun = b.1;
       is_start = c.in-Some-read_start.ensures.0;
       are_fields = c.in_ok-fields.ensures.fields b.0 b.2;
+      -- the named fields and the body are those of the bytes
       are_names = subst (λ xs. NamesOf (map field_parts xs) (gives (names_parts c.in_ok-named.named))) c.deref.ensures.value c.in_ok-named.ensures.names;
       is_body = subst (λ xs. BodyOf (start_parts c.in-Some-read_start.start) ((names_parts c.in_ok-named.named).1) ((names_parts c.in_ok-named.named).0.1) (content_length (map field_parts xs)) c.in-Some.rest.now (gives c.in_ok-body.body.now)) c.deref-2.ensures.value c.in_ok-body.ensures;
       stand = subst (λ xs. Stand (map field_parts xs) (names_of c.in_ok-named.named)) c.deref.ensures.value c.in_ok-named.ensures.stand;

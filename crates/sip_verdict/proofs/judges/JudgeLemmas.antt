@@ -43,6 +43,7 @@ stands_on j k e next number moment goes_on es stands (seen, observed, follows) =
   seen,
   observed,
   record {
+    -- it has one entry more, whose moment is the newest
     goes_on = goes_on;
     number = number ∙ next ∙ ap (λ n. n + 1) stands.number ∙ sym (length_push es seen);
     moment = moment ∙ sym (observed_moment es (item e) seen observed);

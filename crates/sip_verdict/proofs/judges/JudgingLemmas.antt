@@ -30,6 +30,7 @@ pub judges_front : (p : Times) (end : LogEnd) (v : Verdict) (before : List (Obse
 judges_front p end v before [] rest [] seen good left = subst (λ fs. IsVerdictAfter p fs rest end v) (append-nil before) left
 judges_front p end v before [] rest (e ∷ es) seen good left = elim seen [ ]
 judges_front p end v before (item ∷ items) rest [] seen good left = elim seen [ ]
+-- the first of the entries is in no trouble, so the verdict is on those after it
 judges_front p end v before (item ∷ items) rest (e ∷ es) seen good left =
     let along = append_assoc before (e ∷ []) es in
     let fine = good before e es refl in (

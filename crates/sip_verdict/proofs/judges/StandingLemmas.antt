@@ -90,6 +90,7 @@ module _ (old new : Texts) (number : ℕ) (bytes : List ℕ) where
         let m = meaning_of machine in (
           s,
           is,
+          -- its machine is the same, and the bytes that its states name are
           record {
             machine_is = leads.machine_is;
             leads = Leads-grow m.names m.seen (seen_by_names_of machine) old number bytes (m.rules p) (events_for t.0 es) (newest_moment es) s.moment s.states leads.leads;
@@ -168,6 +169,7 @@ have_all all = subst (HaveNumbers all (up_to (length all))) (take_all (length al
     front : (n : ℕ) → n ≤ length all → HaveNumbers all (up_to n) (take n all)
     front zero low = tt
     front (suc n) low =
+        -- the last of the numbers is that of the key there
         let key = at_place all n (omega (arith, low)) in
         let before : suc n - 1 ≡ n = omega arith in
         let more : suc n ≡ n + 1 = omega arith in
@@ -205,6 +207,7 @@ module _ (verdict : Option Verdict) (old mid last : Texts) (number : ℕ) (bytes
       → IsJudged t.times (key_keeping last t.times) es e (transactions_of v) verdict)
       → (es : List (Observation KeyParts)) → TablesTrack old es t → count ≡ length es + 1 → newest_moment es ≤ moment
       → (e : Observation KeyParts) × Sees es i e × IsJudged t.times (key_keeping last t.times) es e (transactions_of v) verdict × HaveNumbers v.keys [] e.keys
+  -- e is what is observed of the entry, which has no fault
   unheard_judged t v at tells judged es tracks counts newest =
       let (e, seen, (fine, e_at, none)) = tells es in (
         e,
@@ -223,6 +226,7 @@ module _ (verdict : Option Verdict) (old mid last : Texts) (number : ℕ) (bytes
       → IsJudged u.times (key_keeping last u.times) es e (transactions_of v) verdict)
       → (es : List (Observation KeyParts)) → TablesTrack old es t → count ≡ length es + 1 → newest_moment es ≤ moment
       → (e : Observation KeyParts) × Sees es i e × IsJudged t.times (key_keeping last t.times) es e (transactions_of v) verdict × HaveNumbers v.keys (each numbers) e.keys
+  -- the entry has no fault, and concerns these keys
   heard_judged event concerned numbers t u v long touched apart keys at some tells judged es tracks counts newest = (
     seen,
     (let (e, observed, is) = tells es in subst (Sees es i) is observed),
@@ -255,10 +259,12 @@ module _ (verdict : Option Verdict) (old mid last : Texts) (number : ℕ) (bytes
   restart_judged event t v long apart same is above at tells judged es tracks counts newest =
       let (e, seen, e_is) = tells es in
       let keys : e.keys ≡ t.keys = ap (λ x. x.keys) e_is ∙ sym (sym (keys_are t long) ∙ tracks.keys) in
+      -- a restart has no message, and the book has none under 0
       let silent : [] ≡ text_of mid 0 = sym (text_of_none mid 0 (λ keeps. (let low = above 0 keeps in omega (arith, low)))) in
       let heard : e.event ≡ event_in mid event =
       ap (λ x. x.event) e_is ∙ ap (λ n. (restart_observation n []).event) at
       ∙ ap (λ text. record { moment = moment; action = Restart; text = text; kind = Request Other; reliable = false }) silent ∙ sym (ap (event_in mid) is) in
+      -- all keys hear it
       let here : e.event.moment ≡ moment = ap (λ x. x.moment) heard ∙ ap (λ x. x.moment) is in (
         e,
         seen,

@@ -53,6 +53,7 @@ module _ {M X S : Type 0} (names : S → List ℕ) (InRange : S → Type 0) (see
           (took_waits names InRange seen texts (rules machine) (lawful machine) _ e new.states given) some,
       λ wide. took_narrow names InRange seen texts (rules machine) events from set.moment set.states leads.leads e late low new.states given few wide,
       led (events ++ e ∷ []) e.moment same at taken,
+      -- the new states stand for those in which the runs can stand after the event
       record {
         members = took_after names InRange seen texts (rules machine) events from set.moment set.states leads.leads e late low new.states given;
         distinct = given.distinct;

@@ -84,6 +84,7 @@ module _ {X S : Type 0} (names : S → List ℕ) (InRange : S → Type 0) (seen 
   Leads-take events from moment states leads e late low new gives =
       record {
         known = gives.known;
+        -- to stand after the event is to wait in one of the new states
         runs = λ n x reached later.
             iff_trans
             (Wait-iff r (Contains (map (seen texts) new)) (AfterRun r events e) (λ y. iff_trans (gives.members y) (gives_after names seen texts r events from moment states leads e late low y)) e.moment n x)

@@ -7,6 +7,7 @@ pub split_compare : {A : Type 0} (xs us ys vs : List A) (x y : A) → xs ++ x �
 split_compare [] us [] vs x y e = inl (refl, cc)
 split_compare [] us (b ∷ ys) vs x y e = inr (inl (ys, cc))
 split_compare (a ∷ xs) us [] vs x y e = inr (inr (xs, cc))
+-- both splits have the first element before them, and go on in the rest
 split_compare {A} (a ∷ xs) us (b ∷ ys) vs x y e = go (split_compare xs us ys vs x y (cc))
   where
     go : ((xs ≡ ys) × (x ≡ y)) ⊎ (((zs : List A) × (ys ≡ xs ++ x ∷ zs)) ⊎ ((zs : List A) × (xs ≡ ys ++ y ∷ zs)))

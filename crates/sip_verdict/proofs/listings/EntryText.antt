@@ -102,11 +102,13 @@ module _ (number : List ℕ → ℕ) (texts : Texts) (tells : TellsBook number t
   key_text key n old new concerned ascii low at (k, set, lines, key_at, set_at, lists, is) =
       let same : k ≡ key = (let both : Some k ≡ Some key = sym key_at ∙ at in cc) in
       let count : (n - 1) + 1 ≡ n = omega (arith, low) in
+      -- the transaction stands after the entry with its set
       let stands = All-place (IsStanding (key_keeping texts p) es e) (transactions_of t) (n - 1) (key, set) (zip-place t.keys t.sets (n - 1) key set at set_at) judged.1 in (
         transaction_text n key lines,
         record {
           place = n;
           placed = subst (λ ks. IsFirstKey (λ k. same_key key k ≡ true) ks n) (sym (keys_are t long) ∙ judged.0.keys)
+              -- the place and the lines are those of the key
               (subst (IsFirstKey (λ k. same_key key k ≡ true) t.keys) count (first_place t.keys apart (n - 1) key at));
           lines = lines;
           states = standing_lines number texts p (machine_of_key p.rules key) (events_for key es) e.event set lines (stands concerned)

@@ -63,6 +63,7 @@ module _ (items : List Item) (i : Item) (old : Texts) (a : AreNumbered items old
         differ is same =
             let bytes = (bytes_eq-Decides j.text i.text).0 same in
             let k = kept (λ none. some (none_alike j i bytes is says none)) in
+            -- the bytes of both would be the same, and so would the numbers
             let text : text_of (old ++ (number, i.text) ∷ []) k.0 ≡ text_of (old ++ (number, i.text) ∷ []) number =
             text_of-grow old number i.text k.0 k.1 ∙ k.2 ∙ bytes ∙ sym (text_of-added old number i.text below) in
             let one = book.apart k.0 number (Keeps-grow old number i.text k.0 k.1) (Keeps-added old number i.text) text in
@@ -78,6 +79,7 @@ module _ (items : List Item) (i : Item) (old : Texts) (a : AreNumbered items old
     more_book : AreNumbered (items ++ i ∷ []) (old ++ (number, i.text) ∷ [])
     more_book = record {
       some = λ n keeps. elim (Keeps-grow_cases old number i.text n keeps) [ inl k ↦ a.some n k | inr e ↦ omega (arith, counts, e) ];
+      -- the number of a message is that of the first entry with its bytes
       numbered = λ n keeps. elim (Keeps-grow_cases old number i.text n keeps) [
         | inl k ↦ ap (first_entry (items ++ i ∷ [])) (text_of-grow old number i.text n k) ∙ stay_numbered items (i ∷ []) old a n k
         | inr e ↦
@@ -85,6 +87,7 @@ module _ (items : List Item) (i : Item) (old : Texts) (a : AreNumbered items old
             ∙ (entry_from-next 1 items i i.text (All-weaker (λ j. ¬ ConcernsNone j → (n : ℕ) × Keeps old n × (text_of old n ≡ j.text)) (λ j. carries j i.text ≡ false) absent items a.kept)
             (ap (λ b. b && bytes_eq i.text i.text) says ∙ (bytes_eq-Decides i.text i.text).1 refl) ∙ omega (arith, counts, e))
       ];
+      -- each item that concerns something has its message in the book
       kept = All-push (λ j. ¬ ConcernsNone j → (n : ℕ) × Keeps (old ++ (number, i.text) ∷ []) n × (text_of (old ++ (number, i.text) ∷ []) n ≡ j.text)) items i
           (All-weaker (λ j. ¬ ConcernsNone j → (n : ℕ) × Keeps old n × (text_of old n ≡ j.text))
           (λ j. ¬ ConcernsNone j → (n : ℕ) × Keeps (old ++ (number, i.text) ∷ []) n × (text_of (old ++ (number, i.text) ∷ []) n ≡ j.text))

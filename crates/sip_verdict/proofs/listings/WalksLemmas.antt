@@ -49,6 +49,7 @@ walks_start way start now p texts t none empty read = record {
   items = [];
   es = [];
   observed = tt;
+  -- no entry was read, and the tables are empty
   follows = follows_none way p texts t none empty;
   long = refl;
   counts = refl;
@@ -189,6 +190,7 @@ module _ (way : Aim) (start : Option (List ℕ)) (now : log.ReaderState) (count 
           es = walks.es ++ h.0 ∷ [];
           observed = seen-push [] walks.items walks.es (item e) h.0 walks.observed h.1;
           follows = h.2;
+          -- one entry more was read, and the judge stands after it
           long = length_push walks.items (item e) ∙ ap (λ n. n + 1) walks.long ∙ sym (length_push walks.es h.0);
           counts = number_is ∙ sym (length_push walks.es h.0);
           read = subst (λ p. HasRead start p (walks.items ++ item e ∷ []) new) (sym times) read;
@@ -225,6 +227,7 @@ module _ (way : Aim) (start : Option (List ℕ)) (now : log.ReaderState) (count 
           rest = l.0;
           end = l.1;
           log = l.2;
+          -- up to the entry the log is legal, and the text is that of its transactions
           transactions = length (keys_in (walks.es ++ h.0 ∷ []));
           legal = legal_until t.times (walks.items ++ item e ∷ []) (walks.es ++ h.0 ∷ []) e.number observed h.2.0 (number_is ∙ sym (length_push walks.es h.0));
           front = walks.es;

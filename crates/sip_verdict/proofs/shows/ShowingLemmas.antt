@@ -31,6 +31,7 @@ AreShown-push count [] text e form n number none is =
       refl,
       ap (λ (t : List ℕ). t ++ shown_entry n e form) none ∙ ap (λ k. shown_entry k e form) one ∙ sym (append-nil (shown_entry (count + 1) e form)),
     )
+-- the first entry is shown before the others and this one
 AreShown-push count (x ∷ xs) text e form n number (first, more, is_first, shown, whole) is = (
   first,
   more ++ shown_entry n e form,
@@ -65,6 +66,7 @@ showed_start start now p w on times stands = record {
   times = p;
   items = [];
   text = [];
+  -- nothing was written yet
   shown = refl;
   appends = Appends-nil w;
   on = on;
@@ -92,6 +94,7 @@ module _ (start : Option (List ℕ)) (now : log.ReaderState) (old w : Option (Li
             rest = [];
             end = end;
             log = subst (λ all. LogSays input s.times all end) (sym (append-nil s.items)) (subst (λ o. IfSome o (λ p. LogSays input p s.items end)) same l);
+            -- the text of the entries and the last line are all that was written
             front = s.text;
             entries = s.shown;
             ends = is;
@@ -128,6 +131,7 @@ module _ (start : Option (List ℕ)) (now : log.ReaderState) (old w : Option (Li
     showed_more w2 form is appends = record {
       times = s.times;
       items = s.items ++ item e ∷ [];
+      -- the entry's form stands after the text so far
       text = s.text ++ shown_entry e.number (item e) form;
       shown = AreShown-push 0 s.items s.text (item e) form e.number (omega (arith, number_is)) s.shown is;
       appends = Appends-trans old w w2 s.text (shown_entry e.number (item e) form) s.appends appends;
@@ -146,12 +150,14 @@ module _ (start : Option (List ℕ)) (now : log.ReaderState) (old w : Option (Li
         (λ input. (text : List ℕ) × IsShownOf input text (Malformed e.number fault) × Appends old w2 text) (λ input found.
         let l = subst (λ t. IfSome t (λ q. (more : List Item) × (end : LogEnd) × LogSays input q ((s.items ++ item e ∷ []) ++ more) end)) times found in (
           s.text ++ (last_text (Malformed e.number fault) ++ line_feed ∷ []),
+          -- the text so far is that of the entries before the faulty one
           inr (record {
             times = s.times;
             items = s.items;
             rest = item e ∷ l.0;
             end = l.1;
             log = subst (λ all. LogSays input s.times all l.1) (append_assoc s.items (item e ∷ []) l.0) l.2;
+            -- the text so far and the last line with the fault are all that was written
             front = s.text;
             entries = s.shown;
             ends = (fault, some, is, ap (λ n. Malformed n fault) number_is);

@@ -43,6 +43,7 @@ book_few texts book number below = go (length texts) refl
     go : (count : ℕ) → length texts ≡ count → length texts ≤ number
     go zero size = omega (arith, size)
     go (suc last) size =
+        -- the last message has at least the number of those before it
         let low : last < length texts = omega (arith, size) in
         let kept = get_or texts last (0, []) in
         let high = not_below texts book.rising (0, []) last low in
@@ -128,6 +129,7 @@ module _ (old mid : Texts) (t u : Tabled) (times : u.times ≡ t.times) (number 
       let h = says es follows.tracks counts order in (
         h.0,
         h.1,
+        -- few messages are kept still, as many as were left by the last sweep and as many again
         record {
           tracks = tracks_on es h.0 h.2;
           named = subst (λ p. WereNamed p (es ++ h.0 ∷ []) left) (sym times) (more_named t.times es h.0 left follows.named);
@@ -143,6 +145,7 @@ module _ (old mid : Texts) (t u : Tabled) (times : u.times ≡ t.times) (number 
   followed_swept says texts v same tracks named now is left es follows counts order =
       let h = says es follows.tracks counts order in
       let on = tracks_on es h.0 h.2 in
+      -- as many messages are kept as are named now
       let many = named (es ++ h.0 ∷ []) on (observed_moment es i h.0 h.1) in (
         h.0,
         h.1,

@@ -61,6 +61,7 @@ module _ (t : Tabled) (message : ℕ) where
       | inl its ↦ first_may own cancelled one at its
       | inr also ↦ inr (any_rest (OneMayName t message) own (cancelled ∷ []) (any_first (OneMayName t message) cancelled [] (other, there, also)))
     ],
+    -- from the other side: all may be named, or one of the two
     λ may. elim may [
       | inl all ↦ absurd (false≢true all)
       | inr any ↦ elim (any_cases (OneMayName t message) own (cancelled ∷ []) any) [

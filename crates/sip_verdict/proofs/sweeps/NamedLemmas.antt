@@ -41,6 +41,7 @@ module _ {X S : Type 0} (names : S → List ℕ) (InRange : S → Type 0) (seen 
         let there : Contains (map (text_of texts) (names x)) text = subst (λ ts. Contains ts text) (named texts x) (subst (λ z. Contains (messages z) text) (sym is) has) in
         let (n, in_names, text_is) = Contains-from_map (text_of texts) (names x) text there in
         (n, Contains-flat_map names new x n among in_names, text_is),
+    -- from the other side: a number that a new state names
     λ h. let (n, has, is) = h in
         let (x, among, in_names) = Contains-from_flat_map names new n has in
         let y = seen texts x in (
@@ -56,6 +57,7 @@ module _ {X S : Type 0} (names : S → List ℕ) (InRange : S → Type 0) (seen 
   silent_names from at moment old lawful late low leads rests silent text (y, run, has) = go ((Wait-cases r lawful (Contains (map (seen texts) old)) at moment y).0 ((leads.runs moment y late low).1 run))
     where
       go : StaysFrom r (Contains (map (seen texts) old)) at moment y ⊎ EndsFrom r (Contains (map (seen texts) old)) at moment y → ⊥
+      -- the state is one of the set, which names nothing; or it is the ended one, which names nothing either
       go (inl stays) =
           let (x, among, is) = Contains-from_map (seen texts) old y stays.among in
           let there : Contains (map (text_of texts) (names x)) text = subst (λ ts. Contains ts text) (named texts x) (subst (λ z. Contains (messages z) text) (sym is) has) in

@@ -139,6 +139,7 @@ pub dropped_take : (number : ℕ) (texts_before new : Texts) (t : Tabled) (next 
 dropped_take number texts_before new t next moment (inl same) may = subst (λ texts. MayTake texts t next moment) (sym same) may
 dropped_take number texts_before new t next moment (inr (bytes, is, unnamed)) may =
     let before = subst (λ texts. MayTake texts t next moment) is may in
+    -- no set names the message, so the book has still all that they name
     record {
       passes = record {
         order = before.passes.order;
@@ -146,6 +147,7 @@ dropped_take number texts_before new t next moment (inr (bytes, is, unnamed)) ma
         long = before.passes.long;
       };
       recorded = before.recorded;
+      -- the numbers of the book were there before
       numbered = λ n keeps. before.numbered n (Keeps-grow new number bytes n keeps);
       some = λ n keeps. before.some n (Keeps-grow new number bytes n keeps);
       few = before.few;

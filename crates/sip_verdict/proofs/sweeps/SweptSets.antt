@@ -56,11 +56,13 @@ module _ (texts : Texts) (numbers : List ℕ) (book : IsBook texts) (up : AllPai
       let m = meaning_of machine in
       let (t, new_is, waited) = of_sets (λ X M S m s u. HasWaited m moment s u) machine s new (subst (λ o. SetWaits moment o new) is waits) in
       let not_later : s.moment ≤ moment = subst (λ n. n ≤ moment) (ap moment_of is ∙ moment_is machine s) low in
+      -- the set that has waited leads to the same runs
       let stand = subst (λ q. StandFor m.names m.in_range m.seen texts (Wait (m.rules q) (Contains (map (m.seen texts) s.states)) s.moment moment) t.states) leads.machine_is (waited.states texts book leads.leads.known) in
       let leads_on = waited_leads m.names m.in_range m.seen texts (m.rules p) (lawful_of machine p) events from s.moment moment s.states t.states not_later leads.leads stand in
       let here = subst (λ n. Leads m.names m.seen texts (m.rules p) events from n t.states) (sym waited.at) leads_on in (
         t,
         new_is,
+        -- beside the kept messages its states mean the same
         record {
           machine_is = waited.machine ∙ leads.machine_is;
           leads = kept_leads m.names m.seen (seen_by_names_of machine) texts numbers book up kept (m.rules p) events from t.moment t.states
@@ -69,6 +71,7 @@ module _ (texts : Texts) (numbers : List ℕ) (book : IsBook texts) (up : AllPai
       )
   swept_leads moment old new low (inr (same, silent)) within (s, is, leads) =
       let m = meaning_of machine in (
+        -- the set did not wait, and names nothing
         s,
         same ∙ is,
         record {
@@ -88,6 +91,7 @@ module _ {X S : Type 0} (seen : Texts → S → X) (r : MachineRules X) (lawful 
     where
       go : StaysFrom r (Contains (map (seen a) states)) h m y ⊎ EndsFrom r (Contains (map (seen a) states)) h m y → (y : X) × Wait r (Contains (map (seen b) states)) h m y
       go (inl stays) =
+          -- the state stays, or it ends
           let (x, among, is) = Contains-from_map (seen a) states y stays.among in (
             seen b x,
             Wait-stay r (Contains (map (seen b) states)) h m (seen b x) (record {
@@ -96,6 +100,7 @@ module _ {X S : Type 0} (seen : Texts → S → X) (r : MachineRules X) (lawful 
               waits = subst (IsWithin m) (ap r.until (sym is) ∙ until_same a b x) stays.waits;
             }),
           )
+      -- it ends within its window, which is the same beside both books
       go (inr ends) =
           let (x, among, is) = Contains-from_map (seen a) states ends.start ends.among in (
             r.ended,
@@ -141,10 +146,12 @@ pub swept_agenda : (texts : Texts) → IsBook texts → (moment : ℕ) (old new 
 swept_agenda texts book moment old new low (inr (same, silent)) known limit agenda = subst (IsAgendaOf limit) (sym same) agenda
 swept_agenda texts book moment old new low (inl waits) known limit agenda =
     let (machine, s, is) = some_machine old in
+    -- the set has waited, from the moment s until the moment t
     let m = meaning_of machine in
     let known_s = of_set (λ X M S m s. IsKnown m texts s) machine s (subst (IsKnownSet texts) is known) in
     let (t, new_is, waited) = of_sets (λ X M S m s u. HasWaited m moment s u) machine s new (subst (λ o. SetWaits moment o new) is waits) in
     let not_later : s.moment ≤ moment = subst (λ n. n ≤ moment) (ap moment_of is ∙ moment_is machine s) low in
+    -- the last moment was right before the wait, and so it is after it
     let r = m.rules s.machine in
     let stand = waited.states texts book known_s in
     let was : IsAgenda r (Contains (map (m.seen texts) s.states)) s.moment limit = of_set (λ X M S m s. HasAgenda m limit s) machine s (subst (IsAgendaOf limit) is agenda) texts in

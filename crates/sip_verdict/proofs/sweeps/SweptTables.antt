@@ -50,6 +50,7 @@ module _ (texts : Texts) (book : IsBook texts) (t u : Tabled) (moment : ℕ) (ad
       go old new (All-place (λ set. moment_of set ≤ moment) t.sets n old was may.order) (advances.each n old new was at))
     where
       go : (old new : AnySet) → moment_of old ≤ moment → IsAdvanced moment old new → moment_of new ≤ moment
+      -- a set that has waited is at the moment, and another one is as it was
       go old new low (inl waits) =
           let (machine, s, is) = some_machine old in
           let (v, new_is, waited) = of_sets (λ X M S m s u. HasWaited m moment s u) machine s new (subst (λ o. SetWaits moment o new) is waits) in
@@ -106,6 +107,7 @@ module _ (texts : Texts) (book : IsBook texts) (t u : Tabled) (moment : ℕ) (ad
         let p = t.times in
         subst (λ q. Tracks q (key_keeping (only numbers texts) q) es (transactions_of u)) (sym advances.times) (record {
           keys = keys ∙ tracks.keys;
+          -- each set leads to its runs beside the smaller book
           ready = All-places (IsReady (key_keeping (only numbers texts) p) es) (transactions_of u) (λ n x at.
               let there = place-zip u.keys u.sets n x at in
               let (old, was) = before n x.1 there.1 in

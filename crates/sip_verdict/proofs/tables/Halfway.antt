@@ -90,6 +90,7 @@ module _ (texts : Texts) (p : Times) (es : List (Observation KeyParts)) (e : Obs
             let there = place-zip t.keys t.sets n x at in
             let key = subst (λ ks. slice_get ks n ≡ Some x.0) h.same there.0 in
             let says = h.says n x.0 key refl in
+            -- the key has a run and is not too wide, and its set leads on
             let passed = h.passed refl n x.0 x.1 key there.1 refl in
             record { runs = says.0; narrow = says.1; ready = passed.0; stands = passed.1 }
     halfway_all (all.NoRun number) h = first (λ key. ¬ HasOne key) number h.same h.says
@@ -262,11 +263,13 @@ module _ (texts : Texts) (p : Times) (es : List (Observation KeyParts)) (e : Obs
         record {
           same = refl;
           says = record {
+            -- the first key whose last moment is past has no run
             place = i;
             counts = refl;
             key = key;
             at = at;
             holds = late i key s at here (get_or t.records i None) (slice_get-get_or t.records i None low) late_is;
+            -- the keys before it have one
             earlier = λ n k below there other none. (let (x, was) = set_of_key n k there in
                 none (in_time n k x there was (get_or t.records n None) (slice_get-get_or t.records n None (omega arith)) (earlier n below) other).runs);
           };

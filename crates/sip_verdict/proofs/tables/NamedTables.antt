@@ -75,10 +75,12 @@ many_texts texts book P all named numbers up same kept = record {
       let under : i < length numbers = omega (arith, lt, within) in
       let a = get_or numbers i 0 in
       let b = get_or numbers j 0 in
+      -- equal texts would have one number
       let text_same : text_of texts a ≡ text_of texts b = sym (get_or-map (text_of texts) numbers i 0 d under) ∙ alike ∙ get_or-map (text_of texts) numbers j 0 d within in
       let one : a ≡ b = book.apart a b (kept i 0 under) (kept j 0 within) text_same in
       let less = up i j 0 lt within in
       omega (arith, one, less));
+  -- each of the texts is named by one of the numbers, and there are as many
   just = λ text. (
     λ h. let (n, has, is) = Contains-from_map (text_of texts) numbers text h in (named text).1 (n, (same n).0 has, is),
     λ h. let (n, has, is) = (named text).0 h in subst (Contains (map (text_of texts) numbers)) is (Contains-map (text_of texts) numbers n ((same n).1 has)),
@@ -111,6 +113,7 @@ module _ (texts : Texts) (book : IsBook texts) (p : Times) (moment : ℕ) where
         (waited.states texts book leads.2.leads.known) in
         subst (λ ns. RunNames r (messages_of machine) events moment text ↔ IsNumberOf texts ns text) (sym (ap numbers_of new_is ∙ numbers_are machine t))
         (waited_names m.names m.in_range m.seen (messages_of machine) (named_of machine) texts r events from held.moment moment held.states t.states late not_later leads.2.leads stand text)
+    -- a set that did not wait names nothing, and so do its runs
     by_set (inr (same, silent)) = (
       λ run. absurd (let m = meaning_of machine in
           silent_names m.names m.in_range m.seen (messages_of machine) (named_of machine) texts r events from held.moment moment held.states (lawful_of machine p) late not_later leads.2.leads
@@ -143,6 +146,7 @@ module _ (texts : Texts) (book : IsBook texts) (p : Times) (moment : ℕ) where
     from_key : (key : KeyParts) (text : List ℕ) → StandsNaming p (machine_of_key p.rules key) (events_for key es) moment text
         → (b : Bool) → list_any (same_key key) (keys_in es) ≡ b → IsNumberOf texts (flat_map numbers_of u.sets) text
     from_key key text named false none = absurd (no_events_silent p moment (machine_of_key p.rules key) (events_for key es) text (new_key key es none) named)
+    -- the key is one of the tables, with the set before the wait and after it
     from_key key text named true some =
         let keys : t.keys ≡ keys_in es = sym (keys_are t long) ∙ tracks.keys ∙ ap (λ q. keys_in es) times in
         let (n, low, is) = subst (λ ks. Contains ks key) (sym keys) (among-contains key (keys_in es) some) in
@@ -157,6 +161,7 @@ module _ (texts : Texts) (book : IsBook texts) (p : Times) (moment : ℕ) where
     tables_named text = (
       λ h. from_key h.key text (h.state, subst (λ n. Stands (transaction_of (machine_of_key p.rules h.key)).figure p (events_for h.key es) n h.state) newest h.stands, h.names)
           (list_any (same_key h.key) (keys_in es)) refl,
+      -- a number that a set names is named by the runs of its key
       λ h. let (number, has, text_is) = h in
           let (new, (n, low, is), in_set) = Contains-from_flat_map numbers_of u.sets number has in
           let there : slice_get u.sets n ≡ Some new = slice_get-get_or u.sets n new low ∙ ap Some is in

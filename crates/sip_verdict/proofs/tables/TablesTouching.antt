@@ -94,6 +94,7 @@ module _ (waits : List ℕ) where
     each = λ i s r at here. go i s r (push_place old.sets (start_of old.times key) i s at) (push_place old.records None i r here);
   }
     where
+      -- the set is an old one with its old record, or the new one, whose record may be missing
       go : (i : ℕ) (s : AnySet) (r : Option (Option ℕ)) → (slice_get old.sets i ≡ Some s) ⊎ ((i ≡ length old.sets) × (start_of old.times key ≡ s))
           → (slice_get old.records i ≡ Some r) ⊎ ((i ≡ length old.records) × (None ≡ r)) → IsOnRecord waits (i + 1) s r
       go i s r (inl a) (inl b) = h.each i s r a b
@@ -141,6 +142,7 @@ module _ (texts : Texts) (p : Times) where
     ap transactions_of h.1,
     subst (λ ks. Contains ks key) (sym (keys_are old long)) (number - 1, slice_get_within old.keys (number - 1) key h.0.1, get_or_from_slice_get old.keys (number - 1) key key h.0.1),
   )
+  -- the key is new, and so is its set
   touched key number old new times long (inr h) = inr (
     λ among. absent (subst (λ ks. Contains ks key) (keys_are old long) among),
     ap transactions_of h.2 ∙ zip-push old.keys old.sets key (start_of old.times key) long ∙ ap (λ q. transactions_of old ++ (key, start_of q key) ∷ []) times,
@@ -200,6 +202,7 @@ same_place (u ∷ xs) apart zero zero x a b = refl
 same_place (u ∷ xs) apart zero (suc k) x a b =
     let is : u ≡ x = cc in
     absurd (apart zero (suc k) x (omega arith) (let low = slice_get_within xs k x b in omega arith) (is ∙ sym (get_or_from_slice_get xs k x x b)))
+-- the one place is the first, and the other a later one
 same_place (u ∷ xs) apart (suc i) zero x a b =
     let is : u ≡ x = cc in
     absurd (apart zero (suc i) x (omega arith) (let low = slice_get_within xs i x a in omega arith) (is ∙ sym (get_or_from_slice_get xs i x x a)))
@@ -211,6 +214,7 @@ pub same_numbers : (all : List KeyParts) → AllPairs (λ a b. a ≢ b) all → 
 same_numbers all apart [] [] h n k at = refl
 same_numbers all apart [] (key ∷ ks) h n k at = absurd h
 same_numbers all apart (i ∷ ns) [] h n k at = absurd h
+-- the key is the first one, or among the others
 same_numbers all apart (i ∷ ns) (key ∷ ks) (some, there, rest) n k at = λ j. one j || same_numbers all apart ns ks rest n k at j
   where
     one : same_key k key ≡ nat_eq (n + 1) i

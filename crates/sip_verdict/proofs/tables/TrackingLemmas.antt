@@ -42,6 +42,7 @@ module _ {T : Type 0} (k : Keeping T) (es : List (Observation KeyParts)) where
         known : with_key keys (k.key fresh) ≡ keys
         known = cond-true (list_any (same_key (k.key fresh)) keys) keys (keys ++ k.key fresh ∷ [])
             (contains-among (k.key fresh) keys (subst (λ ks. Contains ks (k.key fresh)) kept.keys h.1))
+    -- the key is new, and its set leads to the runs over no event
     kept_touched (inr h) = record {
       keys = ap (map k.key) h.1 ∙ map-append k.key old (fresh ∷ []) ∙ ap (λ ks. ks ++ k.key fresh ∷ []) kept.keys ∙ sym unknown;
       among = λ key more. kept.among key (among-with_key key keys (k.key fresh) more).0;
@@ -83,6 +84,7 @@ module _ {T : Type 0} (p : Times) (k : Keeping T) where
         record {
           keys = same ∙ before.keys;
           ready = All-weaker (GoesOn p k es e) (IsReady k (es ++ e ∷ [])) (λ t g. g.ready) new goes;
+          -- each transaction has a run over the entry, and is not too wide
           good = good-push p es e before.good (record {
             formed = formed;
             runs = subst (All (RunsOver p (es ++ e ∷ []))) (same ∙ before.keys)

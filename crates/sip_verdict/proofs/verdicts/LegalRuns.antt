@@ -55,6 +55,7 @@ module _ (input : List ℕ) (entries transactions : ℕ) (p : Times) where
     items = done;
     es = es;
     whole = subst (λ all. LogSays input p all Clean) (append-nil done) log;
+    -- each entry is in no trouble, so each key has a run and each message is of the grammar
     seen = seen;
     good = good;
     entries_are = cc;
@@ -64,6 +65,7 @@ module _ (input : List ℕ) (entries transactions : ℕ) (p : Times) where
   }
   legal_end done es [] (Stops fault) log seen good is = cc
   legal_end done es (item ∷ rest) end log seen good (e, sees, inl trouble) = absurd trouble
+  -- the next item is in no trouble, so the log goes on with it
   legal_end done es (item ∷ rest) end log seen good (e, sees, inr (formed, runs, narrow, left)) =
       legal_end (done ++ item ∷ []) (es ++ e ∷ []) rest end (subst (λ all. LogSays input p all end) (sym (append_assoc done (item ∷ []) rest)) log)
       (seen-push [] done es item e seen sees) (good-push p es e good (record { formed = formed; runs = runs; narrow = narrow })) left

@@ -37,9 +37,11 @@ message_one direction item e f (has_fault a has is) (has_fault b has2 is2) =
     let alike : a ≡ b = cc in is ∙ ap (fault_observation item) alike ∙ sym is2
 message_one direction item e f (has_fault a has is) (has_no_cookie s says lacks is2) = absurd (fault_says_none item.text a s has says)
 message_one direction item e f (has_fault a has is) (is_heard s keys says fine concerns is2) = absurd (fault_says_none item.text a s has says)
+-- a fault of the cookie is none of the message, and such a message is not heard
 message_one direction item e f (has_no_cookie s says lacks is) (has_fault b has is2) = absurd (fault_says_none item.text b s has says)
 message_one direction item e f (has_no_cookie s says lacks is) (has_no_cookie t says2 lacks2 is2) = is ∙ sym is2
 message_one direction item e f (has_no_cookie s says lacks is) (is_heard t keys says2 fine concerns is2) = absurd (cookie_once item.text direction s t says says2 lacks fine)
+-- a message that is heard has neither fault
 message_one direction item e f (is_heard s keys says fine concerns is) (has_fault b has is2) = absurd (fault_says_none item.text b s has says)
 message_one direction item e f (is_heard s keys says fine concerns is) (has_no_cookie t says2 lacks is2) = absurd (cookie_once item.text direction t s says2 says lacks fine)
 message_one direction item e f (is_heard s keys says fine concerns is) (is_heard t more says2 fine2 concerns2 is2) =

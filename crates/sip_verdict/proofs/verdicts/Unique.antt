@@ -63,12 +63,15 @@ module _ (p : Times) (front : List (Observation KeyParts)) (e : Observation KeyP
   trouble_is_one (Malformed n f) (Malformed k g) a b = let s : Some f ≡ Some g = sym a.1 ∙ b.1 in let s' : n ≡ k = a.0 ∙ sym b.0 in cc
   trouble_is_one (Malformed n f) (Breach k t) a b = let s : Some f ≡ None = sym a.1 ∙ b.1 in cc
   trouble_is_one (Malformed n f) (Undecided k t) a b = let s : Some f ≡ None = sym a.1 ∙ b.1 in cc
+  -- a breach means that no message has a fault, and names the first key without a run
   trouble_is_one (Breach n t) (Malformed k g) a b = let s : None ≡ Some g = sym a.1 ∙ b.1 in cc
   trouble_is_one (Breach n t) (Breach k u) a b = let s : t ≡ u = first_is_one (λ key. ¬ (Runs key)) keys t u a.2 b.2 in let s' : n ≡ k = a.0 ∙ sym b.0 in cc
   trouble_is_one (Breach n t) (Undecided k u) a b = absurd (first_not_run Runs keys t a.2 b.2)
+  -- undecided means that each key has a run, and names the first key that is too wide
   trouble_is_one (Undecided n t) (Malformed k g) a b = let s : None ≡ Some g = sym a.1 ∙ b.1 in cc
   trouble_is_one (Undecided n t) (Breach k u) a b = absurd (first_not_run Runs keys u b.2 a.2)
   trouble_is_one (Undecided n t) (Undecided k u) a b = let s : t ≡ u = first_is_one Wide keys t u a.3 b.3 in let s' : n ≡ k = a.0 ∙ sym b.0 in cc
+  -- the verdicts on a whole log are none of trouble
   trouble_is_one (Legal n t) w a b = absurd a
   trouble_is_one (LogFault n r) w a b = absurd a
   trouble_is_one v (Legal n t) a b = absurd b

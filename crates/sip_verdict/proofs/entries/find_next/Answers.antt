@@ -58,6 +58,7 @@ returns-clause-found g c = λ es surveyed counts late.
     let new = c.sweep.new.self in
     let swept = c.in_ok-sweep.ensures in
     let h = c.in_ok-find.ensures in
+    -- what was found at the entry before the sweep
     let (e, here, seen, now, found, added, tracks) = h.found es surveyed.tracks counts late in (
       e,
       here,

@@ -88,6 +88,7 @@ returns-in_ok-pass_each-in-Heard-clause-histories g c = λ es e told t_keys coun
     let entry = c.args.entry.now in
     let kept = rw c.in-Heard.is at c.in_ok-told.ensures.kept in
     let noted = c.in_ok-note_each-in-Heard.ensures in
+    -- f is what is observed of the entry, which is the same as e
     let (f, f_seen, f_is) = (rw c.in-Heard.is at c.in_ok-told.ensures.observed) es in
     let is = observes_one es (item entry) e f seen f_seen ∙ f_is in
     heard_histories es e c.args.histories.now c.note_each.new.self entry.number entry.bytes.items s.tables c.touch_each.new.tables (each c.in-Heard.concerned) (each c.in_ok-concerned-in-Heard.concerned)
@@ -155,6 +156,7 @@ returns-in_ok-pass_each-in-Heard-clause-may g c =
     let t = c.pass_each-in-Heard.new.tables in
     let new = c.drop_unnamed.new.self in
     let passed = c.in_ok-pass_each-in-Heard.ensures in
+    -- the book may lack the newest message, which no set names
     subst (λ x. MayTake new.book x (e.number + 1) e.moment) (sym c.drop_unnamed.ensures.tables)
     (dropped_take e.number mid new.book t (e.number + 1) e.moment c.drop_unnamed.ensures.book
     (may_next None s.book mid mid s.tables c.touch_each.new.tables t e.number e.moment e.bytes.items c.requires.may
@@ -177,6 +179,7 @@ returns-in_ok-pass_each-in-Heard-clause-taken g c = λ es fresh tracks late.
     let b = c.pass_each-in-Heard.new.troubled in
     let new = c.drop_unnamed.new.self in
     let dropped = c.drop_unnamed.ensures in
+    -- the new keys have flags, all of them false, and the entry concerns some keys
     let grown = c.in_ok-grow-in-Heard.ensures in
     let is_heard = rw c.in-Heard.is at c.in_ok-told.ensures.heard in
     -- f is what is observed of the entry, and `seen` says that it is seen so. It has no fault and its moment is `now`; the keys are those so far
@@ -190,6 +193,7 @@ returns-in_ok-pass_each-in-Heard-clause-taken g c = λ es fresh tracks late.
       seen,
       fine,
       now,
+      -- after the message was dropped the tables are the same, and each transaction is still passing the entry
       ap (λ x. x.keys) dropped.tables ∙ keys,
       subst (λ x. ArePassing new.book s.tables.times es f (is_among []) x b) (sym dropped.tables) (dropped_passing e.number mid new.book s.tables.times es f t b dropped.book passing),
     )

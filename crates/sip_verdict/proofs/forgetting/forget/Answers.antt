@@ -48,6 +48,7 @@ returns-clause-may g c =
     let new = c.sweep.new.self in
     let mid = c.keep.new.self in
     let swept = c.in_ok-sweep.ensures in
+    -- the next entry may be taken after the wait, after the others were kept, and after the sweep
     let waited = take_waited old.book s.book old.tables s.tables (newest.number + 1) newest.moment c.in_ok-wait.ensures.book c.in_ok-wait.ensures.keys c.in_ok-wait.ensures.may c.in_ok-wait.ensures.recorded c.requires.may in
     let may = subst (λ t. MayTake s.book t (newest.number + 1) newest.moment) (sym c.in_ok-keep.ensures.ok) (take_kept flags s.tables long c.known.ensures.unique s.book (newest.number + 1) newest.moment waited) in
     swept_take s.book new.book mid new.tables (newest.number + 1) newest.moment may swept.may swept.recorded (within_keeps s.book new.book swept.fewer) swept.keys
@@ -90,13 +91,16 @@ returns-clause-forgets g c = λ es surveyed told newest.
     let flags = c.as_slice-flags.result.now in
     let long = ap length c.as_slice-flags.ensures.value ∙ c.in_ok-flags.ensures.long in
     let apart = c.known.ensures.unique in
+    -- each flag says whether its transaction is over
     let says = subst (AreFlags c.args.until t c.args.histories.now) (sym c.as_slice-flags.ensures.value) c.in_ok-flags.ensures in
     let troubled = c.args.troubled.now in
     let deaf = troubled.deaf.items in
+    -- after the wait the tables track the same entries, and what is over has a quiet set
     let (tracks_on, quiet) = c.in_ok-wait.ensures.surveyed es deaf surveyed.tracks newest c.requires.watched.long in
     let waited = watched_waited old.tables t troubled c.in_ok-wait.ensures.keys c.in_ok-wait.ensures.records c.in_ok-wait.ensures.recorded c.requires.watched in
     let kept = kept_by flags t.keys in
     let left = remembered kept es in
+    -- what is left tracks what is remembered, and so it does after the sweep
     let mid = c.keep.new.self in
     let new = c.sweep.new.self in
     let swept = c.in_ok-sweep.ensures in
@@ -104,6 +108,7 @@ returns-clause-forgets g c = λ es surveyed told newest.
     let tracks = subst (TablesSurvey s.book left mid) (sym c.keep-2.ensures.deaf) (subst (λ u. TablesSurvey s.book left u (kept_of flags deaf)) (sym c.in_ok-keep.ensures.ok) (survey_kept flags t long apart s.book es deaf tracks_on)) in
     let watched = subst (λ u. AreWatched [] u c.keep-2.new.self) (sym c.in_ok-keep.ensures.ok) (watched_kept flags t long apart troubled c.keep-2.new.self c.keep-2.ensures.deaf waited) in
     let both = swept.surveyed left now tracks (newest_kept kept es ∙ newest) watched.long in
+    -- the times are the same, and what was forgotten is over
     let times = ap (λ (u : Tabled). u.times) c.in_ok-keep.ensures.ok ∙ c.in_ok-wait.ensures.times in (
       kept,
       subst (λ p. ForgetsUpTo c.args.until p es kept) c.in_ok-wait.ensures.times

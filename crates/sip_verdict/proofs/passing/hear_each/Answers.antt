@@ -17,6 +17,7 @@ returns-in-None-clause-heard g c =
     let h = c.args.hearing.now in
     let hear = c.requires.hear in (
       c.requires.may,
+      -- there are no hearers
       (
         each h.concerned,
         named_hearers t h.concerned (ap is_all c.in-None.is) hear.given hear.apart,
@@ -33,6 +34,7 @@ returns-in_ok-hear_one-in-Own-clause-heard g c =
     let hear = c.requires.hear in
     let heard = c.in_ok-hear_one-in-Own.ensures in (
       heard.may,
+      -- the own transaction is the only hearer
       (
         each h.concerned,
         named_hearers t h.concerned (ap is_all c.in-Own.is) hear.given hear.apart,
@@ -50,6 +52,7 @@ returns-in_ok-hear_one-in-OwnAndCancelled-2-clause-heard g c =
     let hear = c.requires.hear in
     let own = c.in_ok-hear_one-in-OwnAndCancelled in
     let cancelled = c.in_ok-hear_one-in-OwnAndCancelled-2 in (
+      -- the own transaction and the cancelled one are the hearers
       cancelled.ensures.may,
       (
         each h.concerned,

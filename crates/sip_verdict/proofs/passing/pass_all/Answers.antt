@@ -55,6 +55,7 @@ returns-clause-outcome g c =
     let hear = c.requires.hear c.in-Some.hearing c.in-Some.is in
     IfOk-weaker c.hear_each.result _ _
     (λ outcome heard p es e newest told ready.
+    -- the hearers are those of the event, and the last moments of the others are on record
     let told_it = rw c.in-Some.is at told in
     let hearers = heard.1.1 in
     let recorded = recorded_more (each h.concerned) heard.1.0 t hearers.named (rw c.in-Some.is at c.requires.recorded) in

@@ -56,6 +56,7 @@ returns-in-Own-clause-heard g c =
     let u = c.hear_or_release.new.tables in
     let d = c.hear_or_release.new.troubled in
     let h = c.args.hearing.now in
+    -- the own transaction is the only hearer
     let hear = c.requires.hear in
     on_ok_weaker c.hear_or_release.result (λ heard.
     (each h.concerned, named_hearers t h.concerned (ap is_all c.in-Own.is) hear.given hear.apart, subst (λ x. HearsNumbers c.args.book.now h.event (each x) t b u d) (sym c.in-Own.is) (hears_one c.args.book.now h.event c.in-Own.own t b u d heard)))
@@ -78,6 +79,7 @@ returns-in_ok-hear_or_release-in-OwnAndCancelled-clause-heard g c =
     let f = c.hear_or_release-in-OwnAndCancelled-2.new.troubled in
     let h = c.args.hearing.now in
     let hear = c.requires.hear in
+    -- both are hearers, one after the other
     let first = c.in_ok-hear_or_release-in-OwnAndCancelled.ensures in
     on_ok_weaker c.hear_or_release-in-OwnAndCancelled-2.result (λ second. (
       each h.concerned,

@@ -15,6 +15,7 @@ invariant-loop-number g l =
       keys_are : l.tables.keys ≡ l.initial.tables.keys;
       long : length l.troubled.deaf.items ≡ length l.tables.keys;
       may : MayPass l.book l.tables l.event.moment;
+      -- what is watched and what is passing, but for those that are still to hear
       watched : AreWatched l.numbers l.initial.tables l.initial.troubled → AreWatched (drop l.number-index l.numbers) l.tables l.troubled;
       heard : (p : Times) (es : List (Observation KeyParts)) (e : Observation KeyParts) → l.initial.tables.times ≡ p → newest_moment es ≤ l.event.moment
           → AllPairs (λ i k. i ≢ k) l.numbers → AreConcerned l.book p es e l.event l.numbers l.initial.tables.keys

@@ -16,6 +16,7 @@ invariant-loop-number g l =
       times_are : l.tables.times ≡ l.initial.tables.times;
       keys_are : l.tables.keys ≡ l.initial.tables.keys;
       long : length l.troubled.deaf.items ≡ length l.tables.keys;
+      -- what held before the loop holds of the tables and the trouble so far
       may : (texts : Texts) → MayPass texts l.initial.tables l.moment → MayPass texts l.tables l.moment;
       watched : (waits : List ℕ) → AreWatched waits l.initial.tables l.initial.troubled → AreWatched waits l.tables l.troubled;
       released : (texts : Texts) (p : Times) (es : List (Observation KeyParts)) (e : Observation KeyParts) (waits : List ℕ)

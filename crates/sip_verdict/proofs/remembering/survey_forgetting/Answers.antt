@@ -16,6 +16,7 @@ returns-in-Ok-clause-surveyed g c =
     let part = option_copied c.args.part in
     let start = g.R.Source.left c.args.reader.now in
     let state : ProgressState → log.ReaderState = λ place. beside_source place (g.R.Source.left c.read_header.new.reader) (g.R.Source.has_failed c.read_header.new.reader) in
+    -- the header was read, and its times are those of the survey
     let read = rw c.in-Ok.is at c.in_ok-params.ensures.reads in
     let p = c.new-survey.result.tables.times in
     let times : p ≡ c.in-Ok.params = search rules in

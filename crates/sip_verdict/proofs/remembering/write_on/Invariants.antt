@@ -16,6 +16,7 @@ invariant-loop-found g l =
       read : g.R.Source.has_failed l.reader ≡ g.R.Source.has_failed l.fn.reader;
       written : g.W.Sink.has_failed l.writer ≡ g.W.Sink.has_failed l.fn.writer;
       at : IsStreamAt l.survey l.progress;
+      -- the count, the age and what was told
       few : l.count ≤ most_surveyed;
       counts_are : l.count ≡ l.survey.number;
       aged : l.horizon.age ≡ l.fn.age;

@@ -18,6 +18,7 @@ loop-entry-init g c =
     let before = g.R.Source.has_failed c.args.reader.now in
     let after = g.R.Source.has_failed c.open.new.source in
     let progress = c.in-Ok.progress in
+    -- the reader stands after the header
     let opened = Opens-stands start left before after c.in-Ok.field-0-0 progress c.in-Ok.ensures in
     record {
       count = sym opened.count;
@@ -34,6 +35,7 @@ returns-in-Ok-None-clause-shown g c =
     let start = g.R.Source.left c.args.reader.now in
     let old : log.ReaderState = beside_source l.progress (g.R.Source.left l.reader) (g.R.Source.has_failed l.reader) in
     let new : log.ReaderState = beside_source c.next.new.self (g.R.Source.left c.next.new.source) (g.R.Source.has_failed c.next.new.source) in
+    -- what was written before, so far, and with the last line
     let first = g.W.Sink.written c.args.writer.now in
     let before = g.W.Sink.written l.writer in
     let after = g.W.Sink.written c.finish-in-Ok-None.new.writer in
@@ -49,10 +51,12 @@ returns-in-Err-next-clause-shown g c =
     let start = g.R.Source.left c.args.reader.now in
     let old : log.ReaderState = beside_source l.progress (g.R.Source.left l.reader) (g.R.Source.has_failed l.reader) in
     let new : log.ReaderState = beside_source c.next.new.self (g.R.Source.left c.next.new.source) (g.R.Source.has_failed c.next.new.source) in
+    -- what was written before, so far, and with the last line
     let first = g.W.Sink.written c.args.writer.now in
     let before = g.W.Sink.written l.writer in
     let after = g.W.Sink.written c.finish-in-Err-next.new.writer in
     let reason = c.in_ok-reason-in-Err-next.reason in
+    -- the last line tells the fault of the log
     finished c.finish-in-Err-next.result (LogFault (l.count + 1) reason) (Answers start first after) (Appends before after (last_text (LogFault (l.count + 1) reason) ++ line_feed ∷ []))
     c.finish-in-Err-next.ensures.same c.finish-in-Err-next.ensures.text
     (told-fault old.has_failed new.has_failed
@@ -67,6 +71,7 @@ returns-in-Some-clause-shown g c =
     let start = g.R.Source.left c.args.reader.now in
     let old : log.ReaderState = beside_source l.progress (g.R.Source.left l.reader) (g.R.Source.has_failed l.reader) in
     let new : log.ReaderState = beside_source c.next.new.self (g.R.Source.left c.next.new.source) (g.R.Source.has_failed c.next.new.source) in
+    -- what was written before, so far, and with the last line
     let first = g.W.Sink.written c.args.writer.now in
     let before = g.W.Sink.written l.writer in
     let after = g.W.Sink.written c.finish-in-Some.new.writer in
@@ -74,6 +79,7 @@ returns-in-Some-clause-shown g c =
     let fault = c.in-Some.fault in
     let nexts = rw c.in-Ok-Some.field-0-is at c.in-Ok-Some.ensures in
     let shows = rw c.in-Some.is at c.in_ok-fault.ensures in
+    -- the last line tells the fault of the message
     finished c.finish-in-Some.result (Malformed e.number fault) (Answers start first after) (Appends (g.W.Sink.written c.show_entry.new.writer) after (last_text (Malformed e.number fault) ++ line_feed ∷ []))
     c.finish-in-Some.ensures.same c.finish-in-Some.ensures.text
     (λ last. showed_fault start old first before l.invariant.showed new e nexts after fault shows.0 shows.1
@@ -88,6 +94,7 @@ loop-entry-preserved g c =
     let new : log.ReaderState = beside_source c.next.new.self (g.R.Source.left c.next.new.source) (g.R.Source.has_failed c.next.new.source) in
     let e = c.in-Ok-Some.entry in
     let nexts = rw c.in-Ok-Some.field-0-is at c.in-Ok-Some.ensures in
+    -- the entry has its canonical form, which was written
     let shows = rw c.in_default.is at c.in_ok-fault.ensures in
     let counted = Nexts-counted start l.invariant.showed.items old new e nexts in
     record {

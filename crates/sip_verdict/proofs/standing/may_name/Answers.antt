@@ -61,6 +61,7 @@ returns-else-may_name-clause-may g c =
     let two = c.in-OwnAndCancelled in
     let one = c.set-in-OwnAndCancelled in
     let other = c.set-else-may_name in
+    -- some set may name it if one of the two may
     let tells = both_may t number two.own two.cancelled one.result.now other.result.now one.ensures other.ensures in
     let first = c.may_name-in-OwnAndCancelled.ensures.may in
     let second = c.may_name-else-may_name.ensures.may in

@@ -18,6 +18,7 @@ loop-found-init g c = record {
   written = refl;
   at = c.requires.at;
   counts_are = sym c.requires.first;
+  -- no finding and no line was told
   told = (
     [],
     [],
@@ -35,6 +36,7 @@ entry-requires g c = λ goes_on.
     let number = moves.1.number_is in
     let same = c.in_ok-cut_to-in-Entry.ensures.number in
     let moment = c.in_ok-cut_to-in-Entry.ensures.moment in
+    -- the survey has counted the entries, and the cut entry has the number and the moment of the entry
     let counts = l.invariant.at.counts in
     let newest = l.invariant.at.newest in
     let order = moves.1.order in
@@ -64,12 +66,14 @@ loop-found-preserved g c =
       at = record {
         on = moves.0;
         goes_on = search rules;
+        -- the count and the newest moment are those of the entries that were read
         counts = taken.newest.0 ∙ c.in_ok-cut_to-in-Entry.ensures.number ∙ sym moves.2;
         newest = taken.newest.1 ∙ c.in_ok-cut_to-in-Entry.ensures.moment ∙ sym moves.3;
         few = (let number = moves.1.number_is in let count = moves.2 in let low = moves.4 in omega arith);
         room = (let number = moves.1.number_is in let count = moves.2 in let more = taken.keys in let room = l.invariant.at.room in omega arith);
       };
       counts_are = sym (taken.newest.0 ∙ c.in_ok-cut_to-in-Entry.ensures.number);
+      -- the findings and the lines are those before and those at this entry
       told = (
         told.0 ++ items,
         told.1 ++ put.text.0,
@@ -91,10 +95,12 @@ returns-in-End-clause-surveyed g c =
     let l = c.loop-found in
     let part = option_copied c.args.part in
     let old : log.ReaderState = beside_source l.progress (g.R.Source.left l.reader) (g.R.Source.has_failed l.reader) in
+    -- what was told so far
     let told = l.invariant.told in
     let before = g.W.Sink.written c.args.writer.now in
     let mid = g.W.Sink.written l.writer in
     let after = g.W.Sink.written c.finish.new.writer in
+    -- the last line tells the end of the log
     summed c.finish.result l.counts c.unwrap.result c.finish.ensures.sums c.finish.ensures.text (λ summary end findings undecided last start reads.
     let so = told.3 start reads in
     let read = so.read in
@@ -108,10 +114,12 @@ returns-in-Fault-clause-surveyed g c =
     let l = c.loop-found in
     let part = option_copied c.args.part in
     let old : log.ReaderState = beside_source l.progress (g.R.Source.left l.reader) (g.R.Source.has_failed l.reader) in
+    -- what was told so far
     let told = l.invariant.told in
     let before = g.W.Sink.written c.args.writer.now in
     let mid = g.W.Sink.written l.writer in
     let after = g.W.Sink.written c.finish-in-Fault.new.writer in
+    -- the last line tells the fault of the entry
     summed c.finish-in-Fault.result l.counts (LogFault (l.count + 1) c.in-Fault.reason) c.finish-in-Fault.ensures.sums c.finish-in-Fault.ensures.text (λ summary end findings undecided last start reads.
     let so = told.3 start reads in
     let read = so.read in

@@ -15,6 +15,7 @@ invariant-loop-found g l =
       written : g.W.Sink.has_failed l.writer ≡ g.W.Sink.has_failed l.fn.writer;
       at : IsSurveyAt l.survey l.progress;
       counts_are : l.count ≡ l.survey.number;
+      -- the findings and lines so far are those of the entries that were read
       told : (found : List Finding) × (lines : List ℕ) × AreTold found lines l.counts (g.W.Sink.written l.fn.writer) (g.W.Sink.written l.writer)
           × ((start : Option (List ℕ)) → SurveysRead (option_copied l.fn.part) l.fn.survey [] start (beside_source l.fn.progress (g.R.Source.left l.fn.reader) (g.R.Source.has_failed l.fn.reader))
           → ToldSoFar (option_copied l.fn.part) l.survey found lines start (beside_source l.progress (g.R.Source.left l.reader) (g.R.Source.has_failed l.reader)));

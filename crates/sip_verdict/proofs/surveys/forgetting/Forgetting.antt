@@ -45,6 +45,7 @@ module _ (p : Times) (key : KeyParts) (old : List (Observation KeyParts)) (again
       → Stands (transaction_of (machine_of_key p.rules key)).figure p (events_for key (old ++ more)) k y ↔ Stands (transaction_of (machine_of_key p.rules key)).figure p (events_for key more) k y
   stands_new more order k high y =
       let from : All (λ e. 0 ≤ e.event.moment) (old ++ more) = λ i d within. omega arith in
+      -- the old events leave the key idle again, so it is as new for those after them
       let both = idle_is_new (machine_of_key p.rules key) p (events_for key old) (events_for key more) (newest_moment old) k y again
       (events-all key (λ f. f.moment ≤ newest_moment old) old (newest-to 0 old more order))
       (events-all key (λ f. newest_moment old ≤ f.moment) more (newest-before 0 old more from order)) high in
@@ -88,6 +89,7 @@ module _ (p : Times) (key : KeyParts) (old : List (Observation KeyParts)) (again
       let f = (transaction_of (machine_of_key p.rules key)).figure in
       let late = last_late front e [] order in
       let new = stands_new front (order_front front (e ∷ []) order) e.event.moment late in
+      -- what stands over all entries stands over the later ones, and the other way round
       let into : (y : Owing (transaction_of (machine_of_key p.rules key)).Phase) → StandsAfter f p (events_for key (old ++ front)) e.event y → StandsAfter f p (events_for key front) e.event y =
       λ y stands. (stands.0, (new stands.0).0 stands.1, stands.2) in
       let from : (y : Owing (transaction_of (machine_of_key p.rules key)).Phase) → StandsAfter f p (events_for key front) e.event y → StandsAfter f p (events_for key (old ++ front)) e.event y =

@@ -142,6 +142,7 @@ module _ (kept : KeyParts → Bool) (key : KeyParts) (is : kept key ≡ true) wh
         subst (λ m. LeadsOf texts p (machine_of_key p.rules key) [] m set) (sym (newest_cut kept 0 es (remembered kept es) zip)) leads,
         λ sound. unsound ((sound_cut kept key is p es (remembered kept es) zip).1 sound),
       )
+  -- the transaction is in no trouble, and its set leads to the same runs
   followed_kept texts p es set false (leads, sound) =
       let zip = zip_remembered kept es in (
         subst (λ m. LeadsOf texts p (machine_of_key p.rules key) (events_for key (remembered kept es)) m set) (sym (newest_cut kept 0 es (remembered kept es) zip))
@@ -232,6 +233,7 @@ module _ (flags : List Bool) (t : Tabled) (long : length flags ≡ length t.keys
     long = ap length items ∙ kept_long flags b.each.items t.keys (h.long ∙ ap length (sym are)) ∙ ap length (keys_left es are);
     restart = (let low = h.restart in omega (arith, low, restart, long_kept kept es));
     each = λ n key k at here.
+        -- the history under a number is that of the key in the tables before
         let m = place_of flags n in
         let there = subst (λ ks. slice_get ks n ≡ Some key) (sym (keys_left es are)) at in
         subst (λ r. IsHistoryOf (remembered kept es) r key k) (sym restart)

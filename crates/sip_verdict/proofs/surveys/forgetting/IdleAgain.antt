@@ -100,12 +100,14 @@ module _ {X : Type 0} (f : Figure X) (p : Times) (lasts : (m : ℕ) → Lasts f 
       where
         -- no later event was taken, or the last one is e
         go : (more ≡ []) ⊎ ((front : List MachineEvent) × (d : MachineEvent) × (more ≡ front ++ d ∷ [])) → ((front : List MachineEvent) → evs ≡ old ++ front → All (IsFrom m) front → Stands f p front e.moment x) → Stands f p more e.moment z
+        -- no later event was taken, so e is the last one, at the moment m
         go (inl nil) before =
             let whole : evs ++ e ∷ [] ≡ old = is ∙ ap (λ ys. old ++ ys) nil ∙ append-nil old in
             let to = All-middle (IsTo m) evs [] e (subst (All (IsTo m)) (sym whole) past) in
             let same : e.moment ≡ m = omega (arith, to, high) in
             let here : Stands f p old m z = subst (λ n. Stands f p old n z) same (subst (λ es. Stands f p es e.moment z) whole (takes evs e x z stands does)) in
             subst (λ es. Stands f p es e.moment z) (sym nil) (subst (Stands f p [] e.moment) (sym (only z here)) (new e.moment))
+        -- d is the last one, and it is e
         go (inr (front, d, are)) before =
             let both = same_from_push evs (old ++ front) e d (is ∙ ap (λ ys. old ++ ys) are ∙ sym (append_assoc old front (d ∷ []))) in
             let later : All (IsFrom m) front = All-front (IsFrom m) front (d ∷ []) (subst (All (IsFrom m)) are from) in

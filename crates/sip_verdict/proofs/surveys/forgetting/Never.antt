@@ -143,6 +143,7 @@ never_after age part p es (item ∷ items) (x ∷ taken) close found end [] line
 -- one item more, at which nothing is forgotten
 never_after age part p es (item ∷ items) (x ∷ taken) close found end (f ∷ after) lines (one, more) few keys (e, here, later, sees, both, are, left) (saw, seen) text =
     let same : f ≡ e = observes_one es x f e saw sees in
+    -- the text is that of the findings here, and then of the later ones
     let whole : IsTextOf ((es ++ e ∷ []) ++ after) (here ++ later) lines =
     subst (λ xs. IsTextOf xs (here ++ later) lines) (ap (λ x. es ++ x ∷ after) same ∙ sym (append_assoc es (e ∷ []) after)) (subst (λ fs. IsTextOf (es ++ f ∷ after) fs lines) both text) in
     let s = split_text ((es ++ e ∷ []) ++ after) here later lines whole in
@@ -150,6 +151,7 @@ never_after age part p es (item ∷ items) (x ∷ taken) close found end (f ∷ 
     let two = two_more es x e sees in (
       es,
       inl refl,
+      -- there is room for the entry
       inr (
         (omega arith, omega arith),
         (
@@ -160,6 +162,7 @@ never_after age part p es (item ∷ items) (x ∷ taken) close found end (f ∷ 
           s.text,
           s.more,
           one,
+          -- what is found at it, and its text
           sees,
           are,
           text_here (es ++ e ∷ []) after here s.text (λ g has. number_here p es e g ((are.1 g).0 has)) s.first,
@@ -258,9 +261,11 @@ never_part age part input found end text other (inl (lacks, none, ended), (es, i
     inl (lacks, none, ended, whole ∙ ap (λ l. l ++ end_text end (length found)) (subst (λ fs. IsTextOf es fs lines) none are) ∙ ap (λ fs. end_text end (length fs)) none)
 never_part age part input found end text other (inl (lacks, none, ended), (es, inr (q, others, last, taken, says, cut, seen), told)) = absurd (lacks says.format q _ says.header)
 never_part age part input found end text other (inr (p, items, close, cuts, says, cut, is), (es, inl (lacks, empty), told)) = absurd (lacks says.format p _ says.header)
+-- both surveys are of entries of the part
 never_part age part input found end text other (inr (p, items, close, cuts, says, cut, is), (es, inr (q, others, last, taken, say, part_of, seen), (lines, are, whole))) =
     let same : taken ≡ cuts = part_one part items taken cuts (says_same (λ r xs a. IsPartLog part xs taken) input p q items others close last says say part_of) cut in
     let (are_taken, long) = part_taken part items cuts cut in
     let stream = log_streams input p items close says (not_cut_off p items cuts close found end long is other) in
+    -- there is room for all entries
     let few = says.few in
     inr (p, items, close, lines, stream, never_after age (Some part) p [] items cuts close found end es lines are_taken (omega arith) (omega arith) is (subst (λ xs. AreSeen [] xs es) same seen) are, whole)

@@ -258,6 +258,7 @@ module _ (key : KeyParts) where
         go false none any =
             subst (λ b. Stands (transaction_of kind).figure p (map (λ g. g.event) (cond b (e ∷ []) [])) e.event.moment (quiet (transaction_of kind).figure.idle)) (sym none)
             (waits [] 0 e.event.moment (quiet (transaction_of kind).figure.idle) begins zero-le (idle_lasts kind p e.event.moment))
+        -- an entry that concerns it is a restart, over which it stands in idle
         go true some (inl none) = absurd (false≢true (sym none ∙ some))
         go true some (inr is) =
             subst (λ b. Stands (transaction_of kind).figure p (map (λ g. g.event) (cond b (e ∷ []) [])) e.event.moment (quiet (transaction_of kind).figure.idle)) (sym some)
@@ -277,10 +278,12 @@ module _ (key : KeyParts) where
         let f = (transaction_of kind).figure in
         let now = newest_moment-push es e in
         let both = stands_new p key es r.again (e ∷ []) order e.event.moment (late_push es e order) in
+        -- it stands in idle over the entry, and nowhere else
         let idle = quiet f.idle in
         let stands : Stands f p (events_for key (es ++ e ∷ [])) e.event.moment idle = (both idle).1 (idle_here e passes) in
         let only : (x : Owing (transaction_of kind).Phase) → Stands f p (events_for key (es ++ e ∷ [])) e.event.moment x → x ≡ idle =
         λ x there. stands_idle f p (idle_stays kind p) (events_for key (e ∷ [])) e.event.moment x ((both x).0 there) (all_restarts e passes) in
+        -- so it is idle again, and in no trouble
         record {
           again = subst (IsIdleAgain kind p (events_for key (es ++ e ∷ []))) (sym now) (stands, only);
           sound = sound_push p es e key r.sound (idle, subst (λ m. Stands f p (events_for key (es ++ e ∷ [])) m idle) (sym now) stands) (λ wide. narrow only wide);
@@ -337,6 +340,7 @@ module _ (key : KeyParts) where
     later_rests old left [] (g ∷ es) fs order order_left r r_left seen saw front back e f rest more split other long = absurd seen
     later_rests old left (item ∷ items) [] fs order order_left r r_left seen saw front back e f rest more split other long = absurd seen
     later_rests old left (item ∷ items) (g ∷ es) [] order order_left r r_left seen saw front back e f rest more split other long = absurd saw
+    -- the next entries are alike for the key, and then the later ones
     later_rests old left (item ∷ items) (g ∷ es) (h ∷ fs) order order_left r r_left (sees, seen) (saw, seen_left) front back e f rest more split other long =
         by (comes old left item g h item.action sees saw) (λ now now_left.
         later_rests (old ++ g ∷ []) (left ++ h ∷ []) items es fs (subst IsOrdered (sym (append_assoc old (g ∷ []) es)) order) (subst IsOrdered (sym (append_assoc left (h ∷ []) fs)) order_left) now now_left seen seen_left)
@@ -350,6 +354,7 @@ module _ (key : KeyParts) where
         -- the entries that are compared are the next ones, or later ones
         at : Rests (old ++ g ∷ []) → Rests (left ++ h ∷ []) → HasSameTroubleAfter p (old ++ g ∷ []) (left ++ h ∷ []) es fs key
             → (front back : Entries) (e f : Observation KeyParts) (rest more : Entries) → g ∷ es ≡ front ++ e ∷ rest → h ∷ fs ≡ back ++ f ∷ more → length front ≡ length back → Alike (old ++ front) e (left ++ back) f
+        -- the next entries of both logs: nothing is found at either
         at now now_left later [] [] e f rest more split other long =
             let is : g ≡ e = cc in
             let is_left : h ≡ f = cc in
@@ -358,8 +363,10 @@ module _ (key : KeyParts) where
             subst (λ x. Alike (old ++ []) x (left ++ []) f) is (subst (λ x. Alike (old ++ []) g (left ++ []) x) is_left
             (subst (λ xs. Alike xs g (left ++ []) h) (sym (append-nil old)) (subst (λ xs. Alike old g xs h) (sym (append-nil left))
             ((λ b. absurd (none.0 b), λ b. absurd (none_left.0 b)), (λ w. absurd (none.1 w), λ w. absurd (none_left.1 w))))))
+        -- they are later in one log and next in the other, which cannot be
         at now now_left later [] (y ∷ back) e f rest more split other long = absurd (omega (arith, long))
         at now now_left later (x ∷ front) [] e f rest more split other long = absurd (omega (arith, long))
+        -- they are later in both
         at now now_left later (x ∷ front) (y ∷ back) e f rest more split other long =
             let is : g ≡ x = cc in
             let is_left : h ≡ y = cc in

@@ -50,6 +50,7 @@ module _ (texts : Texts) (p : Times) (machine : MachineKind) (events : List Mach
       let at_rest = quiet_in machine held (subst IsQuietSet leads.1 quiet_set) in
       let (x, one, still) = quiet_still p machine texts held at_rest in
       elim at_rest [
+        -- the one state is idle, or it is ended
         | inl first ↦
             let is = ap (λ z. (meaning_of machine).seen texts z) (ap (λ l. get_or l 0 x) (sym one ∙ first)) ∙ first_is_of machine texts p in
             let at = stands x (quiet (transaction_of machine).figure.idle) one still is in

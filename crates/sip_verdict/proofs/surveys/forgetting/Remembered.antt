@@ -101,6 +101,7 @@ module _ (kept : KeyParts → Bool) where
             → filter (same_key key) (cond (kept k) (k ∷ filter kept keys) (filter kept keys)) ≡ cond (same_key key k) (k ∷ filter (same_key key) keys) (filter (same_key key) keys)
         go true e t same rest =
             ap (λ b. filter (same_key key) (cond b (k ∷ filter kept keys) (filter kept keys))) e ∙ ap (λ l. cond (same_key key k) (k ∷ l) l) rest
+        -- a key that is not kept is not equal to a kept one
         go false e true same rest = absurd (false≢true (sym e ∙ ap kept (sym ((same_key-decides key k).0 same)) ∙ is))
         go false e false same rest =
             ap (λ b. filter (same_key key) (cond b (k ∷ filter kept keys) (filter kept keys))) e ∙ rest ∙ ap (λ b. cond b (k ∷ filter (same_key key) keys) (filter (same_key key) keys)) (sym same)

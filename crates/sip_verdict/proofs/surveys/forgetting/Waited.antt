@@ -89,6 +89,7 @@ module _ (texts : Texts) (book : IsBook texts) (p : Times) (machine : MachineKin
         held = t;
         is = new_is;
         leads = record { machine_is = waited.machine ∙ leads.machine_is; leads = subst (λ n. Leads m.names m.seen texts (m.rules p) events from n t.states) (sym waited.at) on };
+        -- its states stand for those of the runs
         stand = record {
           members = λ x. iff_trans (stand.members x) (leads.leads.runs moment x late not_later);
           distinct = stand.distinct;
@@ -107,6 +108,7 @@ module _ (texts : Texts) (book : IsBook texts) (p : Times) (machine : MachineKin
       → (s : Stood) → s.held.states ≡ y ∷ []
   one_state y q is known (some, only) s =
       let f = (transaction_of machine).figure in
+      -- a run stands at the moment where it stands by the steps, and so in q alone
       let by : (x : PhaseOf machine) → Stands f p events moment x ↔ RuledRun (key_rules p machine) events moment x = λ x. stands-runs f (coded_holds machine).is_figure p events moment x in
       let both : (x : PhaseOf machine) → RuledRun (key_rules p machine) events moment x ↔ (x ≡ (meaning_of machine).seen texts y) =
       λ x. (λ run. only x ((by x).1 run) ∙ sym is, λ same. (by x).0 (subst (λ z. Stands f p events moment z) (sym (same ∙ is)) some)) in

@@ -118,9 +118,11 @@ verdict_after : (p : Times) (es : List (Observation KeyParts)) (items : List Ite
     IsVerdictAfter p es items close v → IsSurveyAfter p es items close found end → v ≡ verdict_in found end
 verdict_after p es [] Clean v found end sound a b = a ∙ sym (ap₂ verdict_in b.0 b.1)
 verdict_after p es [] (Stops fault) v found end sound a b = a ∙ sym (ap₂ verdict_in b.0 b.1)
+-- the next item is in trouble, so its first finding is the verdict
 verdict_after p es (item ∷ items) close v found end sound (e, sees, inl trouble) (f, here, later, saw, is, at, more) =
     let same : f ≡ e = observes_one es item f e saw sees in
     trouble_first p es e here (subst (λ g. AreFoundAt p es g here) same at) sound v trouble later end ∙ ap (λ fs. verdict_in fs end) (sym is)
+-- the next item is in no trouble, so nothing is found at it
 verdict_after p es (item ∷ items) close v found end sound (e, sees, inr (formed, runs, narrow, left)) (f, here, later, saw, is, at, more) =
     let same : f ≡ e = observes_one es item f e saw sees in
     let none : here ≡ [] = fine_none p es e here (subst (λ g. AreFoundAt p es g here) same at) formed runs narrow in

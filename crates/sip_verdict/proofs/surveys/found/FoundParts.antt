@@ -99,10 +99,12 @@ module _ (p : Times) (es : List (Observation KeyParts)) (e : Observation KeyPart
   from (Malformed k a) h =
       subst (λ fault. Contains (fault_found n fault ++ others) (Malformed k a)) (sym h.1)
       (subst (λ m. Contains (Malformed n a ∷ others) (Malformed m a)) (is ∙ sym h.0) (Contains-here (Malformed n a) others))
+  -- a breach stands among those after the fault
   from (Breach k t) h =
       subst (λ m. Contains (listed n e.fault broken wide) (Breach m t)) (is ∙ sym h.0)
       (Contains-append_right (fault_found n e.fault) others (Breach n t)
       (Contains-append_left (map (λ u. Breach n u) broken) (map (λ u. Undecided n u) wide) (Breach n t) (Contains-map (λ u. Breach n u) broken t ((breaks.1 t).1 h.1))))
+  -- what is undecided stands after the breaches
   from (Undecided k t) h =
       subst (λ m. Contains (listed n e.fault broken wide) (Undecided m t)) (is ∙ sym h.0)
       (Contains-append_right (fault_found n e.fault) others (Undecided n t)

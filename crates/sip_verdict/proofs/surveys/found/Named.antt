@@ -39,11 +39,13 @@ found_at p done [] close [] found end seen survey [] e more is f at = absurd (cc
 found_at p done [] close [] found end seen survey (g ∷ front) e more is f at = absurd (cc)
 found_at p done [] close (g ∷ es) found end seen survey front e more is f at = absurd seen
 found_at p done (item ∷ items) close [] found end seen survey front e more is f at = absurd seen
+-- it is the entry of the next item
 found_at p done (item ∷ items) close (g ∷ es) found end (sees, seen) (h, here, later, saw, whole, are, rest) [] e more is f at =
     let same : g ≡ e = cc in
     let known : h ≡ e = observes_one done item h g saw sees ∙ same in
     let mine : IsFoundAt p done h f = subst (λ x. IsFoundAt p done x f) (sym known) (subst (λ xs. IsFoundAt p xs e f) (append-nil done) at) in
     subst (λ xs. Contains xs f) (sym whole) (Contains-append_left here later f ((are.1 f).1 mine))
+-- it is a later one
 found_at p done (item ∷ items) close (g ∷ es) found end (sees, seen) (h, here, later, saw, whole, are, rest) (d ∷ front) e more is f at =
     let first : g ≡ d = cc in
     let others : es ≡ front ++ e ∷ more = cc in
@@ -59,6 +61,7 @@ pub found_is : (p : Times) (done : List (Observation KeyParts)) (items : List It
 found_is p done [] Clean es found end seen survey f has = absurd (Contains-none f (subst (λ fs. Contains fs f) survey.0 has))
 found_is p done [] (Stops fault) es found end seen survey f has = absurd (Contains-none f (subst (λ fs. Contains fs f) survey.0 has))
 found_is p done (item ∷ items) close [] found end seen survey f has = absurd seen
+-- it is found at the entry of the next item, or of a later one
 found_is p done (item ∷ items) close (g ∷ es) found end (sees, seen) (h, here, later, saw, whole, are, rest) f has =
     by (Contains-append_cases here later f (subst (λ fs. Contains fs f) whole has)) (found_is p (done ++ g ∷ []) items close es later end seen (subst (λ x. IsSurveyAfter p (done ++ x ∷ []) items close later end) known rest) f)
   where
@@ -88,9 +91,11 @@ pub trouble_is_named : (p : Times) (items : List Item) (close : LogEnd) (es : Li
 trouble_is_named p items close es found end seen survey key unsound never = some_finding p key es unsound by
   where
     by : (front : List (Observation KeyParts)) (e : Observation KeyParts) (more : List (Observation KeyParts)) → es ≡ front ++ e ∷ more → ¬ (Breaks p front e key ⊎ Widens p front e key)
+    -- the key breaks at an entry, so its number is found there
     by front e more is (inl breaks) =
         let (n, named, at) = numbered (Breaks p front e) (keys_in (front ++ e ∷ [])) key (breaks_known p front e key breaks.1) breaks in
         never (length front + 1, inl (front, e, more, n, is, refl, named, found_at p [] items close es found end seen survey front e more is (Breach (length front + 1) n) (refl, at)))
     by front e more is (inr widens) =
+        -- the key is too wide at an entry, so its number is found there
         let (n, named, at) = numbered (Widens p front e) (keys_in (front ++ e ∷ [])) key (concerned-among key front e widens.1.0) widens in
         never (length front + 1, inr (front, e, more, n, is, refl, named, found_at p [] items close es found end seen survey front e more is (Undecided (length front + 1) n) (refl, at)))

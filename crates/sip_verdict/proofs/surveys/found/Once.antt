@@ -42,6 +42,7 @@ pub observed_order : (format : Format) (last : ℕ) (done : List (Observation Ke
 observed_order format last done [] [] order seen = (All-nil (λ e. last ≤ e.event.moment), λ i j d low high. absurd (omega (arith, high)))
 observed_order format last done [] (e ∷ es) order seen = absurd seen
 observed_order format last done (item ∷ items) [] order seen = absurd seen
+-- the next entry has the moment of its item, and the later ones come after it
 observed_order format last done (item ∷ items) (e ∷ es) (low, entry, order) (sees, seen) =
     let at : e.event.moment ≡ item.moment = seen_moment done item e item.action sees in
     let (later, sorted) = observed_order format item.moment (done ++ e ∷ []) items es order seen in (

@@ -119,9 +119,11 @@ restart_histories es e b c number all counts kept newest h =
     record {
       long = ap length kept ∙ h.long ∙ ap length (sym same);
       restart = (let long = length-append es (e ∷ []) in omega (arith, newest, counts));
+      -- each key has its history as before
       each = λ n key k at here.
           let was : slice_get (keys_in es) n ≡ Some key = ap (λ ks. slice_get ks n) (sym same) ∙ at in
           let one = h.each n key k was (ap (λ hs. slice_get hs n) (sym kept) ∙ here) in
+          -- its last entry is the restart, which concerns all keys
           let low = last_low es key (max k.last b.restart) one.last in
           let is : is_of key e ≡ true = contains-among key e.keys
           (subst (λ ks. Contains ks key) (sym all) (n, slice_get_within (keys_in es) n key was, get_or_from_slice_get (keys_in es) n key key was)) in
@@ -141,6 +143,7 @@ IsAt entry text old i h false = slice_get old i ≡ Some h
 module _ (entry : ℕ) (text : List ℕ) where
   -- where a key was looked up and its number noted, there are as many histories as keys, and the number is at most one above those before
   note_long : (key : KeyParts) (n : ℕ) (t u : Tabled) (old new : List History) → Touches key n t u → length old ≡ length t.keys → Notes entry text n old new → (length new ≡ length u.keys) × (0 < n) × (n ≤ length old + 1)
+  -- the key was there, and its history was written anew
   note_long key n t u old new (inl (has, same)) long (inl h) = (
     ap length h.is ∙ length-set old (n - 1) h.after ∙ long ∙ ap (λ x. length x.keys) (sym same),
     has.0,
@@ -148,6 +151,7 @@ module _ (entry : ℕ) (text : List ℕ) where
   )
   note_long key n t u old new (inl (has, same)) long (inr h) = (let within = slice_get_within t.keys (n - 1) key has.1 in let beyond = h.beyond in absurd (omega (arith, long)))
   note_long key n t u old new (inr (none, counts, is)) long (inl h) = (let within = slice_get_within old (n - 1) h.before h.was in absurd (omega (arith, long, counts)))
+  -- the key is new, and so is its history
   note_long key n t u old new (inr (none, counts, is)) long (inr h) = (
     ap length h.is ∙ length-append old (h.begun ∷ []) ∙ ap (λ x. x + 1) long ∙ sym (length-append t.keys (key ∷ [])) ∙ ap (λ x. length x.keys) (sym is),
     omega (arith, counts),
@@ -159,10 +163,12 @@ module _ (entry : ℕ) (text : List ℕ) where
   note_at n old new low high (inl note) i h here = by (nat_eq (i + 1) n) refl (set_place old (n - 1) i note.after h (ap (λ hs. slice_get hs i) (sym note.is) ∙ here))
     where
       by : (b : Bool) → nat_eq (i + 1) n ≡ b → ((i ≡ n - 1) × (note.after ≡ h)) ⊎ ((i ≢ n - 1) × (slice_get old i ≡ Some h)) → IsAt entry text old i h b
+      -- the history under the number is the one that was noted
       by true same (inl (at, is)) = (
         sym (ap (λ k. k.last) is) ∙ note.last,
         inl (note.before, ap (slice_get old) at ∙ note.was, sym (ap (λ k. k.branch.items) is) ∙ note.branch, sym (ap (λ k. k.first) is) ∙ note.first),
       )
+      -- at another place the history is as it was
       by true same (inr (other, was)) = absurd (other (omega (arith, (unsigned_Decides (i + 1) n).0 same)))
       by false other (inl (at, is)) = absurd (false≢true (sym other ∙ (unsigned_Decides (i + 1) n).1 (omega (arith, at, low))))
       by false other (inr (differs, was)) = was
@@ -262,10 +268,12 @@ module _ (es : Entries) (e : Observation KeyParts) (b c : Histories) (number : �
       -- whether the entry is one of the transaction, and whether its key is new
       by : (n : ℕ) (key : KeyParts) (k : History) (is : Bool) → is_of key e ≡ is → IsAt number text b.each.items n k is → (slice_get (keys_in es) n ≡ Some key) ⊎ ((length t.keys ≤ n) × ¬ Contains (keys_in es) key)
           → IsHistoryOf (es ++ e ∷ []) c.restart key k
+      -- the entry is none of the transaction, so its history stays
       by n key k false other was (inl at) =
           let one = h.each n key k at was in
           record { first = first_more es e key k.first k.branch.items one.first; last = subst (λ r. IsLastOf (es ++ e ∷ []) key (max k.last r)) (sym same_restart) (last_more es e key (max k.last b.restart) other one.last) }
       by n key k false other was (inr (beyond, none)) = (let within = slice_get_within b.each.items n k was in absurd (omega (arith, t_long)))
+      -- the entry is its last one now
       by n key k true is (last, inl (o, was, branch, first)) (inl at) =
           let one = h.each n key o at was in
           record {
@@ -273,6 +281,7 @@ module _ (es : Entries) (e : Observation KeyParts) (b c : Histories) (number : �
             last = last_here es e key (max k.last c.restart) is (newest k last);
           }
       by n key k true is (last, inl (o, was, branch, first)) (inr (beyond, none)) = (let within = slice_get_within b.each.items n o was in absurd (omega (arith, t_long)))
+      -- the key is new, so the entry is its first and its last one
       by n key k true is (last, inr (beyond, first, spells)) (inl at) = (let within = slice_get_within (keys_in es) n key at in let long = h.long in absurd (omega arith))
       by n key k true is (last, inr (beyond, first, spells)) (inr (low, none)) =
           record { first = begun key k.branch.items none is spells k.first first; last = last_here es e key (max k.last c.restart) is (newest k last) }

@@ -115,6 +115,7 @@ module _ (texts : Texts) (book : IsBook texts) (t u : Tabled) (moment : ℕ) (ad
       by : (n : ℕ) (key : KeyParts) (new : AnySet) → slice_get u.sets n ≡ Some new → IsNumberOf texts (numbers_of new) text → (old : AnySet) → slice_get t.sets n ≡ Some old → (d : Bool) → IsFollowed texts p es key old d → IsStillNamed p es text
       by n key new there named old was true (leads_it, unsound) =
           absurd (no_events_silent p moment (machine_of_key p.rules key) [] text refl ((names n old new was there key [] leads_it text).1 named))
+      -- a transaction in no trouble has a run whose state names the message
       by n key new there named old was false (leads_it, sound) =
           let (y, run, has_it) = (names n old new was there key (events_for key es) leads_it text).1 named in
           record {

@@ -65,6 +65,7 @@ module _ (chosen : KeyParts → Bool) where
     where
       by : (b : Bool) → chosen k ≡ b → fold with_key (filter chosen keys) (cond (chosen k) (k ∷ filter chosen more) (filter chosen more))
           ≡ fold with_key (fold with_key (filter chosen keys) (cond (chosen k) (k ∷ []) [])) (filter chosen more)
+      -- the next key is chosen, and comes in on both sides; or it is not, and comes in on neither
       by true e = ap (λ b. fold with_key (filter chosen keys) (cond b (k ∷ filter chosen more) (filter chosen more))) e
           ∙ sym (ap (λ b. fold with_key (fold with_key (filter chosen keys) (cond b (k ∷ []) [])) (filter chosen more)) e)
       by false e = ap (λ b. fold with_key (filter chosen keys) (cond b (k ∷ filter chosen more) (filter chosen more))) e
@@ -145,6 +146,7 @@ module _ (chosen : KeyParts → Bool) where
           let f = (transaction_of (machine_of_key p.rules key)).figure in
           let same = events_cut es cs zip in (
             λ wide. let any = concerns_cut e c here ∙ wide.0 in (
+              -- the states over the chosen key's events are the same
               any,
               (
                 wide.1.0,
@@ -153,6 +155,7 @@ module _ (chosen : KeyParts → Bool) where
                 subst (λ event. All (StandsAfter f p (events_for key cs) event) wide.1.0) (sym (event_cut e c here any)) (subst (λ events. All (StandsAfter f p events e.event) wide.1.0) (sym same) wide.1.3),
               ),
             ),
+            -- from the other side
             λ wide. (
               sym (concerns_cut e c here) ∙ wide.0,
               (
@@ -193,6 +196,7 @@ module _ (chosen : KeyParts → Bool) where
               let found = split_left es front c rest (subst (AllZip (IsCutOf chosen) es) is zip) in
               sound.1 found.0 found.1 found.2 found.3 ((wide_cut found.0 front found.1 c found.4 found.5).1 wide),
         ),
+        -- from the other side
         λ sound. (
           (runs_cut es cs zip).1 sound.0,
           λ front e rest is wide.

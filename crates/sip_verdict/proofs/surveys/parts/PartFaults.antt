@@ -30,6 +30,7 @@ record At (chosen : KeyParts → Bool) (done back : List (Observation KeyParts))
   pub cut : Item
   pub others : List Item
   pub cuts_are : cuts ≡ before ++ cut ∷ others
+  -- what was observed of the entries before it, of it, and of those after it
   pub so_far : List (Observation KeyParts)
   pub e : Observation KeyParts
   pub more : List (Observation KeyParts)
@@ -38,6 +39,7 @@ record At (chosen : KeyParts → Bool) (done back : List (Observation KeyParts))
   pub c : Observation KeyParts
   pub cut_more : List (Observation KeyParts)
   pub cs_are : cs ≡ cut_so_far ++ c ∷ cut_more
+  -- in both logs it has the number n
   pub front_long : length front ≡ n
   pub before_long : length before ≡ n
   pub so_far_long : length so_far ≡ n
@@ -63,6 +65,7 @@ at_place chosen done back (item ∷ items) (i ∷ cuts) (e ∷ es) (c ∷ cs) se
       before = [];
       cut = i;
       others = cuts;
+      -- what is observed of the first entries
       cuts_are = refl;
       so_far = [];
       e = e;
@@ -72,6 +75,7 @@ at_place chosen done back (item ∷ items) (i ∷ cuts) (e ∷ es) (c ∷ cs) se
       c = c;
       cut_more = cs;
       cs_are = refl;
+      -- nothing comes before them
       front_long = refl;
       before_long = refl;
       so_far_long = refl;
@@ -92,6 +96,7 @@ at_place chosen done back (item ∷ items) (i ∷ cuts) (e ∷ es) (c ∷ cs) se
       cut = at.cut;
       others = at.others;
       cuts_are = ap (λ xs. i ∷ xs) at.cuts_are;
+      -- what is observed of the first entries comes before
       so_far = e ∷ at.so_far;
       e = at.e;
       more = at.more;
@@ -100,6 +105,7 @@ at_place chosen done back (item ∷ items) (i ∷ cuts) (e ∷ es) (c ∷ cs) se
       c = at.c;
       cut_more = at.cut_more;
       cs_are = ap (λ xs. c ∷ xs) at.cs_are;
+      -- the number is one more than in the logs without their first entries
       front_long = let long = at.front_long in omega (arith, long);
       before_long = let long = at.before_long in omega (arith, long);
       so_far_long = let long = at.so_far_long in omega (arith, long);
@@ -172,6 +178,7 @@ faults_of p chosen items cuts es cs close shut found part end fin seen saw cut w
         by (inl (is, which)) = (
           found_at p [] items close es found end seen whole at.so_far at.e at.more at.es_are (Malformed n fault)
               (number, same_fault at.so_far at.cut_so_far at.item at.e at.c at.sees (subst (λ i. Sees at.cut_so_far i at.c) is at.saw) ∙ fault_is),
+          -- its place in both logs
           (
             at.front,
             at.item,

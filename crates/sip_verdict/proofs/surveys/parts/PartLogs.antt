@@ -47,6 +47,7 @@ module _ (part : PartOf) where
       kept item cut e (falls_into part branch) (subst (All (λ key. Chosen key ≡ falls_into part branch)) (sym (ap (λ f. f.keys) is)) (All-nil (λ key. Chosen key ≡ falls_into part branch))) same
   message_part direction item cut e (has_no_cookie s says lacks is) branch tells same =
       kept item cut e (falls_into part branch) (subst (All (λ key. Chosen key ≡ falls_into part branch)) (sym (ap (λ f. f.keys) is)) (All-nil (λ key. Chosen key ≡ falls_into part branch))) same
+  -- all keys of the message have the branch of its top Via
   message_part direction item cut e (is_heard s keys says has concerns is) branch tells same =
       let told : branch ≡ compared s.via.branch = told_branch item.text s branch says tells in
       let all = All-weaker (λ key. cookie_branch s.via.branch ≡ Some key.branch) (λ key. Chosen key ≡ falls_into part branch)

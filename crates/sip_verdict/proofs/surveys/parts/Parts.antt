@@ -73,6 +73,7 @@ module _ (p : Times) (kind : ℕ → ℕ → Finding) (P : List (Observation Key
           let (front, e, more, is, entry, at) = holds in
           let (back, c, rest, split, zipped, here) = split_right chosen key is_chosen p front cs e more (subst (λ xs. AllZip (IsCutOf chosen) xs cs) is zip) in
           (back, c, rest, split, entry ∙ ap (λ n. n + 1) (zip_long (IsCutOf chosen) front back zipped), (same front back e c zipped here).0 at),
+      -- from the other side
       λ holds.
           let (back, c, more, is, entry, at) = holds in
           let (front, e, rest, split, zipped, here) = split_left chosen key is_chosen p es back c more (subst (AllZip (IsCutOf chosen) es) is zip) in
@@ -87,6 +88,7 @@ module _ (p : Times) (kind : ℕ → ℕ → Finding) (P : List (Observation Key
           let (front, e, rest, split, zipped, here) = split_left chosen key is_chosen p es back c more (subst (AllZip (IsCutOf chosen) es) is zip) in
           let keys = keys_cut chosen (front ++ e ∷ []) (back ++ c ∷ []) (zip_push chosen front back e c zipped here) in
           (front, e, rest, t, split, entry ∙ ap (λ n. n + 1) (sym (zip_long (IsCutOf chosen) front back zipped)), subst (λ ks. HoldsOf (λ k. k ≡ key) ks t) keys named, has),
+      -- from the other side
       λ names.
           let (front, e, more, t, is, entry, named, has) = names in
           let (back, c, rest, split, zipped, here) = split_right chosen key is_chosen p front cs e more (subst (λ xs. AllZip (IsCutOf chosen) xs cs) is zip) in
@@ -112,6 +114,7 @@ pub part_is_whole : (p : Times) (chosen : KeyParts → Bool) (items cuts : List 
 part_is_whole p chosen items cuts es close shut found part end fin seen cut whole some key is n =
     let (cs, saw, zip) = log_cut chosen [] [] tt items es cuts seen cut in (
       named_cut p (λ n t. Breach n t) (Breaks p) (λ front e n t found. found) (λ front e t holds. (refl, holds)) (λ front e key breaks. breaks_known p front e key breaks.1) chosen key is
+          -- breaches, and then what is undecided
           (λ front back e c zip here. (trouble_cut chosen key is p front back e c zip here).0) items cuts es cs close shut found part end fin seen saw zip whole some n,
       named_cut p (λ n t. Undecided n t) (Widens p) (λ front e n t found. found) (λ front e t holds. (refl, holds)) (λ front e key widens. concerned-among key front e widens.1.0) chosen key is
           (λ front back e c zip here. (trouble_cut chosen key is p front back e c zip here).1) items cuts es cs close shut found part end fin seen saw zip whole some n,

@@ -39,6 +39,7 @@ module _ (texts : Texts) (p q : Times) (moment : ℕ) (t u : Tabled) (number : �
     where
       by : ((n ≡ number - 1) × (start_of q own ≡ s)) ⊎ ((n ≢ number - 1) × (slice_get t.sets n ≡ Some s))
           → ((n ≡ number - 1) × ((key : KeyParts) → slice_get t.keys (number - 1) ≡ Some key → LeadsOf texts p (machine_of_key p.rules key) [] moment s)) ⊎ ((n ≢ number - 1) × (slice_get t.sets n ≡ Some s))
+      -- at the place it is the set that started anew
       by (inl (same, is)) = inl (
         same,
         λ key there.
@@ -136,6 +137,7 @@ module _ (texts : Texts) (p : Times) (es : List (Observation KeyParts)) (e : Obs
         let (s, here) = at_place t.sets (number - 1) (let low = in_records in let long = may.long in let as_long = watched.recorded.long in omega arith) in
         let own = h.each (number - 1) key s false at here overdue_hears in
         (own.0, by s own.1 here (slice_index_or t.records (number - 1) None) there past)
+      -- its last moment is on record, and it is past
       where
         by : (s : AnySet) → IsReady k es (key, s) → slice_get t.sets (number - 1) ≡ Some s → (r : Option (Option ℕ)) → slice_get t.records (number - 1) ≡ Some r → is_overdue moment r ≡ true → ¬ RunsOver p (es ++ e ∷ []) key
         by s ready here None on is = absurd (true≢false (sym is))

@@ -88,6 +88,7 @@ module _ (old mid : Texts) (number : ℕ) (bytes : List ℕ) (grown : IsGrown ol
       seen,
       fault_is,
       now,
+      -- the keys are those before, and each transaction passes the entry
       keys ∙ tracks.keys ∙ sym (keys_in-none es e none),
       passes t.times es e refl late now (told_unheard mid t.keys moment e now none)
           (begun_same mid es e t b (grown_survey old mid number bytes grown es t b.deaf.items tracks) long sets (subst (λ n. newest_moment es ≤ n) (sym now) late) fresh),
@@ -113,10 +114,12 @@ module _ (old mid : Texts) (number : ℕ) (bytes : List ℕ) (grown : IsGrown ol
     restart_taken event is above tells passes es tracks late =
         let (e, seen, e_is) = tells es in
         let all : e.keys ≡ keys_in es = ap (λ x. x.keys) e_is in
+        -- a restart has no message, and the book has none under 0
         let silent : [] ≡ text_of mid 0 = sym (text_of_none mid 0 (λ keeps. (let low = above 0 keeps in omega (arith, low)))) in
         let heard : e.event ≡ event_in mid event =
         ap (λ x. x.event) e_is ∙ ap (λ n. (restart_observation n []).event) at
         ∙ ap (λ text. record { moment = moment; action = Restart; text = text; kind = Request Other; reliable = false }) silent ∙ sym (ap (event_in mid) is) in
+        -- the restart has no fault, concerns all keys, and each transaction passes it
         let now : e.event.moment ≡ moment = ap (λ x. x.moment) heard ∙ ap (λ x. x.moment) is in (
           e,
           seen,
@@ -140,6 +143,7 @@ module _ (old mid : Texts) (number : ℕ) (bytes : List ℕ) (grown : IsGrown ol
         (let (e, observed, is) = tells es in subst (Sees es i) is observed),
         refl,
         now,
+        -- the keys are those before with those of the entry, and each transaction passes it
         keys ∙ touched_keys (each concerned) (each numbers) t w touched ∙ ap (λ ks. fold with_key ks (each concerned)) tracks.keys ∙ sym (keys_in-push es seen),
         passes t.times es seen times late now (told_event mid w.keys moment (record { event = event; concerned = numbers }) seen apart some have now refl)
             (begun_touched mid es seen t w b d more (grown_survey old mid number bytes grown es t b.deaf.items tracks) long sets (subst (λ n. newest_moment es ≤ n) (sym now) late) fresh deaf false_all broken wide
@@ -154,6 +158,7 @@ module _ (old mid : Texts) (number : ℕ) (bytes : List ℕ) (grown : IsGrown ol
 pub dropped_passing : (number : ℕ) (before new : Texts) (p : Times) (es : List (Observation KeyParts)) (e : Observation KeyParts) (t : Tabled) (b : Troubled) → DropsUnnamed t.sets number before new
     → ArePassing before p es e (is_among []) t b → ArePassing new p es e (is_among []) t b
 dropped_passing number before new p es e t b (inl same) h = subst (λ texts. ArePassing texts p es e (is_among []) t b) (sym same) h
+-- no transaction is newly in trouble, and each set leads to its runs beside the smaller book
 dropped_passing number before new p es e t b (inr (bytes, is, unnamed)) h =
     let passing = subst (λ texts. ArePassing texts p es e (is_among []) t b) is h in
     record {
@@ -166,6 +171,7 @@ dropped_passing number before new p es e t b (inr (bytes, is, unnamed)) h =
     by : (n : ℕ) (key : KeyParts) (s : AnySet) (d : Bool) → ¬ Contains (numbers_of s) number → IsPassing (new ++ (number, bytes) ∷ []) p es e (is_among []) b (n + 1) key s d
         → IsPassing new p es e (is_among []) b (n + 1) key s d
     by n key s true none (leads, why) = (unnamed_leads number bytes new p (machine_of_key p.rules key) [] e.event.moment s none leads, why)
+    -- a transaction in no trouble goes on
     by n key s false none (sound, goes) = (
       sound,
       record {

@@ -87,10 +87,12 @@ module _ (part : Option PartOf) (start : Option (List ℕ)) (now : log.ReaderSta
         items = read.items ++ item e ∷ [];
         taken = read.taken ++ item cut ∷ [];
         es = read.es ++ seen ∷ [];
+        -- the entry is seen after the others, and the survey stands after it
         are_taken = taken_push part read.items read.taken (item e) (item cut) read.are_taken is_taken;
         seen = seen-push [] read.taken read.es (item cut) seen read.seen observed;
         follows = stands;
         read = subst (λ t. HasRead start t (read.items ++ item e ∷ []) new) (sym times) more;
+        -- with what comes later the findings are those of all
         front = λ rest close later end left.
             let after : IsSurveyAfter p (read.es ++ seen ∷ []) rest close later end = subst (λ t. IsSurveyAfter t (read.es ++ seen ∷ []) rest close later end) times left in
             let whole : IsSurveyAfter p [] (read.taken ++ item cut ∷ rest) close (found ++ (here ++ later)) end =

@@ -18,6 +18,7 @@ horizon_push m es e are later =
     let long = length-append es (e ∷ []) in
     let low = are.inside in
     let below = are.until_inside in
+    -- the first entries are the same, and their newest moment is
     record {
       inside = omega (arith, long, low);
       at = ap newest_moment (take-append-le m.number es (e ∷ []) are.inside) ∙ are.at;
@@ -39,6 +40,7 @@ horizon_kept kept m es are =
     let long = long_kept kept es in
     let low = are.inside in
     let below = are.until_inside in
+    -- the first entries have the same newest moment, whichever transactions are remembered
     record {
       inside = omega (arith, long, low);
       at = same m.number ∙ are.at;
@@ -63,6 +65,7 @@ pub horizon_left : (m n : Horizon) (es : List (Observation KeyParts)) → IsHori
 horizon_left m n es are age until number moment =
     let low = are.inside in
     let below = are.until_inside in
+    -- the first entries are the same, and their newest moment is
     record {
       inside = omega (arith, number, low);
       at = ap (λ i. newest_moment (take i es)) number ∙ are.at ∙ sym moment;

@@ -53,6 +53,7 @@ module _ (age : ℕ) (part : Option PartOf) (p : Times) (start : Option (List �
       → (f k : Surveying) (a b : Horizon) → f.tables.times ≡ s.tables.times → k.tables.times ≡ f.tables.times → f.moment ≤ k.moment
       → ((es : List (Observation KeyParts)) → SurveysFor s es → IsHorizonOf m es
       → (left : List (Observation KeyParts)) × IsLeftOf m.age s.tables.times es left × SurveysFor f left × IsHorizonOf a left)
+      -- what was found at the entry, and the lines that were written
       → HasRoom f.number (length f.tables.keys) → (items : List Finding)
       → ((es : List (Observation KeyParts)) → SurveysFor f es → (seen : Observation KeyParts) × (here : List Finding) × Sees es (item cut) seen
       × AreFoundAt f.tables.times es seen here × (items ≡ here) × SurveysFor k (es ++ seen ∷ []))
@@ -77,6 +78,7 @@ module _ (age : ℕ) (part : Option PartOf) (p : Times) (start : Option (List �
           times = k_times ∙ f_times ∙ so.times;
           follows = k_stands;
           read = more;
+          -- with what comes later the text is that of the whole
           front = λ rest close later end further told.
               let whole : IsToldAfter age part p [] (so.items ++ item e ∷ rest) close (found ++ (items ++ later)) end (lines ++ (text ++ further)) =
               so.front (item e ∷ rest) close (items ++ later) end (text ++ further)
@@ -99,6 +101,7 @@ module _ (age : ℕ) (part : Option PartOf) (p : Times) (start : Option (List �
         let text = lines ++ end_text end (length found) in
         IfSome-map start (λ input. (items : List Item) × (close : LogEnd) × StreamSays input p items close × IsToldAfter age part p [] items close found end lines)
         (λ input. IsWrittenForgetting age part input summary before after)
+        -- the findings and their text, and the sums of the summary
         (λ input w. record {
           found = found;
           text = text;
@@ -126,11 +129,13 @@ module _ (age : ℕ) (part : Option PartOf) (p : Times) (start : Option (List �
         → ¬ (HasRoom f.number (length f.tables.keys)) → (number : ℕ) → number ≡ f.number + 1 → summary.end ≡ ended.LogFault number Limit → Appends mid after (end_text (ended.LogFault number Limit) counts.findings)
         → IfSome start (λ input. IsWrittenForgetting age part input summary before after)
     remembers_full m horizon_is aged e new more f a forgets no_room number next is last =
+        -- what is left after the forgetting fills the room
         let (left, left_is, f_stands, f_horizon) = forgets so.es so.follows horizon_is in
         let is_left : IsLeftOf age p so.es left = subst (λ t. IsLeftOf age t so.es left) so.times (subst (λ n. IsLeftOf n s.tables.times so.es left) aged left_is) in
         let full : ¬ (HasRoom (length left) (length (keys_in left))) =
         subst (λ keys. ¬ (HasRoom (length left) (length keys))) f_stands.follows.tracks.keys (subst (λ n. ¬ (HasRoom n (length f.tables.keys))) f_stands.number no_room) in
         let at : ended.LogFault number Limit ≡ ended.LogFault (length left + 1) Limit = ap (λ n. ended.LogFault n Limit) (next ∙ ap (λ n. n + 1) f_stands.number) in
+        -- the survey ends with the fault Limit at this number
         all_written (ended.LogFault number Limit) is last (IfSome-map start (λ input. (rest : List Item) × (close : LogEnd) × StreamSays input p ((so.items ++ item e ∷ []) ++ rest) close)
         (λ input. (items : List Item) × (close : LogEnd) × StreamSays input p items close × IsToldAfter age part p [] items close found (ended.LogFault number Limit) lines)
         (λ input w. (
@@ -158,6 +163,7 @@ pub remembers_header : (age : ℕ) (part : Option PartOf) (start : Option (List 
     → Appends before after (end_text (ended.LogFault 0 Header) counts.findings) → IfSome start (λ input. IsWrittenForgetting age part input summary before after)
 remembers_header age part start v counts summary before after is none no_findings no_undecided end findings undecided last =
     IfSome-map start (λ input. IsVerdictOf input v) (λ input. IsWrittenForgetting age part input summary before after)
+    -- nothing is found, and the text is the last line
     (λ input verdict. record {
       found = [];
       text = end_text summary.end 0;

@@ -111,6 +111,7 @@ found_text s p es e stands (f ∷ found) text at (line, more, is, are, whole) =
     let here = at f (0, omega arith, refl) in (
       es ++ e ∷ [],
       [],
+      -- the first finding is of the newest entry, and so are the others
       line,
       more,
       sym (append-nil (es ++ e ∷ [])),
@@ -169,12 +170,14 @@ module _ (part : Option PartOf) (start : Option (List ℕ)) (now : log.ReaderSta
   -- where one more item was read and surveyed, and its lines were written, the survey has read and told that item too
   pub surveys_on : (e cut : Entry) (new : log.ReaderState) → HasRead start s.tables.times (read.items ++ item e ∷ []) new → IsTaken part (item e) (item cut) → (k : Surveying) → k.tables.times ≡ s.tables.times
       → (items : List Finding)
+      -- what was found at the entry, and the lines of that
       → ((es : List (Observation KeyParts)) → SurveysFor s es → (seen : Observation KeyParts) × (here : List Finding) × Sees es (item cut) seen
       × AreFoundAt s.tables.times es seen here × (items ≡ here) × SurveysFor k (es ++ seen ∷ []))
       → (text : List ℕ) → AreLinesBy k items text → ToldSoFar part k (found ++ items) (lines ++ text) start new
   unfolding found_on
   surveys_on e cut new more is_taken k times items says text are_lines =
       let (seen, here, observed, are, same, stands) = says read.es read.follows in
+      -- the survey has read the item, and its lines are those before and these
       subst (λ fs. ToldSoFar part k (found ++ fs) (lines ++ text) start new) (sym same) (record {
         read = found_on part start now s found read e cut new more is_taken k times seen here observed are stands;
         lines_are = text_append (read.es ++ seen ∷ []) found here lines text (text_more read.es (seen ∷ []) found lines told_so.lines_are)
@@ -192,6 +195,7 @@ module _ (part : Option PartOf) (start : Option (List ℕ)) (now : log.ReaderSta
         IfSome-map start (λ input. LogSays input s.tables.times read.items close) (λ input. IsWritten part input summary before after)
         (λ input says.
         let survey : IsSurveyIn part input found end = gathered_of part start now s found read close end left input says in
+        -- the survey is that of the input
         record {
           found = found;
           text = text;
@@ -219,6 +223,7 @@ pub surveys_header : (part : Option PartOf) (start : Option (List ℕ)) (v : Ver
     → Appends before after (end_text (ended.LogFault 0 Header) counts.findings) → IfSome start (λ input. IsWritten part input summary before after)
 surveys_header part start v counts summary before after is none no_findings no_undecided end findings undecided last =
     IfSome-map start (λ input. IsVerdictOf input v) (λ input. IsWritten part input summary before after)
+    -- nothing is found, and the text is the last line
     (λ input verdict. record {
       found = [];
       text = end_text summary.end 0;

@@ -35,6 +35,7 @@ loop-standing-init g c =
       fine = c.in_ok-opened.ensures.ok;
       on = reads.on;
       counts = sym (rw c.in-Ok.is at c.in_ok-opened.ensures.first).0;
+      -- no entry was read, and the aim is not entry 0
       few = omega arith;
       left = omega arith;
       before = λ n is.
@@ -79,6 +80,7 @@ returns-in-Some-clause-answer g c =
     let start = g.R.Source.left c.args.reader.now in
     let old : log.ReaderState = beside_source l.progress (g.R.Source.left l.reader) (g.R.Source.has_failed l.reader) in
     let new : log.ReaderState = beside_source c.read_next.new.progress (g.R.Source.left c.read_next.new.reader) (g.R.Source.has_failed c.read_next.new.reader) in
+    -- what was read, and the judge before the entry and after it
     let walks = l.invariant.walks in
     let moves = rw c.in-Entry.is at c.in_ok-entry.ensures.moves in
     let now = c.judge_on.new in
@@ -93,6 +95,7 @@ loop-standing-preserved g c =
     let start = g.R.Source.left c.args.reader.now in
     let old : log.ReaderState = beside_source l.progress (g.R.Source.left l.reader) (g.R.Source.has_failed l.reader) in
     let new : log.ReaderState = beside_source c.read_next.new.progress (g.R.Source.left c.read_next.new.reader) (g.R.Source.has_failed c.read_next.new.reader) in
+    -- the entry has the next number, which is not that of the aim
     let walks = l.invariant.walks in
     let e = c.in-Entry.entry in
     let moves = subst (MovesOn l.progress c.read_next.new.progress) c.in-Entry.is c.in_ok-entry.ensures.moves in
@@ -102,6 +105,7 @@ loop-standing-preserved g c =
       fine = c.in_ok-entry.ensures.ok ∙ l.invariant.fine;
       on = moves.0;
       counts = sym moves.2;
+      -- one entry more was judged, and the next may be taken
       few = (let low = moves.4 in let count = moves.1.number_is in omega (arith, low, count));
       left = c.in_ok-verdict-in-Entry.ensures.left;
       before = λ n is.

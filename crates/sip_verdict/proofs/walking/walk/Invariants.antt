@@ -14,6 +14,7 @@ invariant-loop-standing g l =
       on : l.progress.stage ≡ entries;
       counts : l.count ≡ l.progress.count;
       few : l.count ≤ most_entries;
+      -- the judge stands after the entries that were read
       left : l.left ≤ most_entries + 1;
       before : (n : ℕ) → l.fn.aim ≡ aim.Entry n → l.count < n;
       may : MayTake l.standing.book l.standing.tables (l.count + 1) l.progress.last;

@@ -47,6 +47,7 @@ returns-in-Ok-clause-found g c = λ es surveys.
       observed,
       subst (λ j. AreFoundAt j.tables.times es seen here) is found,
       added,
+      -- the survey stands after one entry more
       record {
         goes_on = c.if-self.false;
         number = comes.next ∙ ap (λ n. n + 1) surveys.number ∙ sym (length_push es seen);

@@ -14,6 +14,7 @@ returns-in-Ok-clause-forgets g c = λ es surveys.
     (sym surveys.moment ∙ ap (λ j. j.moment) (sym is)) in (
       kept,
       subst (λ j. ForgetsUpTo c.args.until j.tables.times es kept) is forgets,
+      -- the survey has as many entries as before, and the same newest moment
       record {
         goes_on = c.if-self.false;
         number = ap (λ j. j.number) is ∙ surveys.number ∙ sym (long_kept kept es);

@@ -37,6 +37,7 @@ returns-clause-judged g c = λ es tracks counts newest.
     let p = c.args.self.now.tables.times in
     let mid = c.take.new.self in
     let new = c.drop_unnamed.new.self in
+    -- what was judged before the drop
     let (e, seen, judged, have) = c.in_ok-taken.ensures.judged es tracks counts newest in (
       e,
       seen,

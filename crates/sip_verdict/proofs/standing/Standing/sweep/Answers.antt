@@ -91,6 +91,7 @@ returns-clause-surveyed g c =
     let u = c.advance_all.new.self in
     let numbers = c.deref.result.now in
     let named = named_is u c.new-named.result.items c.named.new.out.items c.new-named.ensures.items c.in_ok-named.ensures.ok numbers c.deref.ensures.value in
+    -- the book keeps just what the sets name after the wait
     let advances = c.in_ok-advance_all.ensures.ok in
     let kept = swept_kept s.book c.known.ensures s.tables u c.args.moment advances c.requires.may numbers named.0 named.1 in
     λ es deaf tracks newest long. subst (λ b. TablesSurvey b es u deaf × AreMany (IsStillNamed s.tables.times es) (length b)) (sym c.retain_only.ensures) (

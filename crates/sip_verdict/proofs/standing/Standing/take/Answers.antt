@@ -161,6 +161,7 @@ returns-in_ok-verdict-in-Heard-clause-judged g c = λ es tracks counts newest.
     let s = c.args.self.now in
     let e = c.args.entry.now in
     let new = c.pass-in-Heard.new.self in
+    -- the entry concerns some keys, and the verdict is that of the transactions that hear it
     let some = c.in_ok-concerned-in-Heard.ensures.same ∙ (rw c.in-Heard.is at c.in_ok-told.ensures.heard).3 in
     let h = heard_judged c.in_ok-verdict-in-Heard.verdict s.book c.observe.new.book new.book e.number e.bytes.items (rw c.in-Heard.is at c.in_ok-told.ensures.kept).4 (item e) e.moment e.number
     c.in-Heard.event c.in-Heard.concerned c.in_ok-concerned-in-Heard.concerned s.tables c.touch_each.new.tables new.tables

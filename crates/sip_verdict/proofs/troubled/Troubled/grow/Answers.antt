@@ -14,6 +14,7 @@ loop-preserved c =
     let pushed = c.in_ok-push.ensures.items in
     record {
       long = ap length pushed ∙ length-append c.loop.self.deaf.items (false ∷ []) ∙ ap (λ n. n + 1) old.long;
+      -- one flag more is false
       deaf = (
         more ++ false ∷ [],
         pushed ∙ ap (λ ds. ds ++ false ∷ []) old.deaf.1 ∙ append_assoc c.args.self.now.deaf.items more (false ∷ []),

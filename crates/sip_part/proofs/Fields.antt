@@ -124,7 +124,7 @@ other_name name compact full = by (bytes_eq name (codes "v")) (bytes_eq name (co
   where
     by : (v f t i l : Bool) → v ≡ false
         → bytes_eq (if v then codes "via" else if f then codes "from" else if t then codes "to" else if i then codes "call-id" else if l then codes "content-length" else name) (codes "via") ≡ false
-    -- a name is spelled by one letter at most, and where it is by none it stands as it is
+    -- where the name is another single letter its long form is not Via, and where it is none of them it stands as it is
     by true f t i l is = absurd (cc)
     by false true t i l is = refl
     by false false true i l is = refl

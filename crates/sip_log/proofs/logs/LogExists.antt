@@ -148,11 +148,11 @@ action-or-not format b = elim (cases_eq b (letter Sent)) [
         -- neither of these nor a mark
         | inr mark ↦ elim (cases_eq b (letter Restart)) [
           | inl is ↦ restart-or-not format b sent received failed mark is
+          -- none of the five letters
           | inr restart ↦ inr (λ a. elim a as (λ a. IsOf format a → b ≢ letter a) [
             | Sent ↦ λ of. sent
             | Received ↦ λ of. received
             | Failed ↦ λ of. failed
-            -- none of the five letters
             | Mark ↦ λ of. mark
             | Restart ↦ λ of. restart
           ])

@@ -85,7 +85,7 @@ advanced_kept names InRange seen r ended window until machine follows h m xs ys 
         | inl fewer ↦ elim kept.few [
           | inl few ↦ inl (omega arith)
           | inr (most, there) ↦ inr (omega arith, (a.members (ended machine)).1 (IsWithin-none m (until machine (ended machine)) stays, inl there))
-        -- ended was added, so it was not there before
+          -- ended was added, so it was not there before
         ]
         | inr (more, absent, there) ↦ elim kept.few [
           | inl few ↦ inr (omega arith, there)

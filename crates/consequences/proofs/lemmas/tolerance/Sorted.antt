@@ -135,7 +135,7 @@ client-sent p client.Idle (Request Invite) e row h = rw h tt
 client-sent p client.Idle (Request Ack) e row h = rw h tt
 client-sent p client.Idle (Request Cancel) e row h = rw h tt
 client-sent p (client.Calling w) (Request Invite) e row h = rw h.1 tt
--- in proceeding a CANCEL is sent, and after that it only may be
+-- a CANCEL makes nothing owed, whatever the phase
 client-sent p (client.Proceeding reliable request None) (Request Cancel) e row h = rw h tt
 client-sent p (client.Proceeding reliable request (Some first)) (Request Cancel) e row h = rw h tt
 client-sent p (client.Accepted set) (Request Cancel) e row h = rw h tt

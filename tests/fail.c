@@ -13,13 +13,16 @@ enum { PIECE = 4096 };
 /* The scripts ./siptrace and ./sipsurvey give their program that name; on its own it is called siptrace-SOURCES-KIT or sipsurvey-SOURCES-KIT. */
 static int is_named(const char *name) { return strncmp(program_invocation_short_name, name, strlen(name)) == 0; }
 
+/* Whether this is one of the two programs. */
 static int is_ours(void) { return is_named("siptrace") || is_named("sipsurvey"); }
 
+/* Whether the call with this number, from 1 on, is the one that fails, as the variable of this name says. */
 static int is_failed(const char *name, long call) {
   const char *failed = getenv(name);
   return failed && call == atol(failed);
 }
 
+/* Whether the call is interrupted: as many times in a row as INTERRUPTED says, and then the next one is not. */
 static int is_interrupted(void) {
   static long so_far;
   const char *times = getenv("INTERRUPTED");
@@ -29,8 +32,10 @@ static int is_interrupted(void) {
   return so_far != 0;
 }
 
+/* How many bytes of these are read or written in one call. */
 static size_t piece(size_t size) { return size < PIECE ? size : PIECE; }
 
+/* The answer of a call that fails. */
 static ssize_t fail(void) {
   errno = EIO;
   return -1;

@@ -48,6 +48,7 @@ ends p es (item ∷ items) end v (e, sees, inr (formed, runs, narrow, more)) =
     record {
       before = item ∷ later.before;
       front = e ∷ later.front;
+      -- what follows the front is what follows that of the later items
       rest = later.rest;
       whole = ap (λ xs. item ∷ xs) later.whole;
       well = (sees, (formed, runs, narrow), later.well);

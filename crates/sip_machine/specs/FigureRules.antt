@@ -52,6 +52,7 @@ pub record IsFigure {X : Type 0} (f : Figure X) : Type 0 where
   pub idle_stays : (p : Times) → closes_at f p f.idle ≡ []
   pub ended_has_no_end : (p : Times) → f.window p f.ended ≡ None
   pub ended_stays : (p : Times) → closes_at f p f.ended ≡ []
+  -- a row leads to a phase whose timers are not past; the last two are of sends that drop the debts or may leave the state as it is
   pub received_waits : (p : Times) (x : X) (k : Kind) (e : MachineEvent) (y : After X) → All (λ m. e.moment ≤ m) (closes_at f p x) →
       f.Receives p x k e y → All (λ m. e.moment ≤ m) (closes_at f p y.0)
   pub sent_waits : (p : Times) (x : X) (k : Kind) (e : MachineEvent) (y : After X) → All (λ m. e.moment ≤ m) (closes_at f p x) →

@@ -58,6 +58,7 @@ pub via-plain : (text : List ℕ) (at end name first version second transport se
     → LiesWithin (λ u. ColonPort port u × IfSome port Port) text behind end params → ViaParams (segment params end text) branch
     → ViaText (segment at end text) (record { protocol = segment at name text; version = segment first version text; transport = segment second transport text; host = host; port = port; params = segment params end text; branch = branch })
 via-plain text at end name first version second transport sent_by behind params host port branch protocol_is mark_is version_is mark_too transport_is space_is host_is port_is params_is =
+    -- p, v, t and `tail` are the texts of the protocol's name, the version, the transport and the parameters
     let p = segment at name text in
     let v = segment first version text in
     let t = segment second transport text in

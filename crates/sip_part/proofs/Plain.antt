@@ -409,6 +409,7 @@ via_found : (via : SaidVia) (text tail b : List ℕ) → NoToken tail → (branc
 via_found via text tail b ends none never
     (params, is, same, (t1, r1, one, (t2, r2, two, (t3, r3, three, (t4, r4, four, (t5, r5, five, (t6, r6, six, (t7, r7, seven, (t8, r8, eight, each, e8), e7), e6), e5), e4), e3), e2), e1)) found =
     is ∙ params_found branch_from params r8 tail b (from_first b) ends none never each
+    -- from the parameters back to the protocol, the search passes over each part
     (step_from t8 r8 r7 tail b (lack-port-says via.port t8 eight) e8
     (step_from t7 r7 r6 tail b (lack-a-host t7 seven.0) e7
     (step_from t6 r6 r5 tail b (lack-blanks t6 six) e6

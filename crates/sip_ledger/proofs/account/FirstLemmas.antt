@@ -144,6 +144,7 @@ module _ (gains : Gains) (strikes : List Strike) (a : Account) (test : ℕ → B
       (λ k early here pays.
       let parts = pays-parts message t (entry_at entries k) pays in
       found.2 k early here (subst (λ m. test m ≡ true) (sym parts.0) found.1.0, parts.1)) in (
+        -- the debt at the place is the first that is paid
         record {
           before = one.before;
           first = one.first;

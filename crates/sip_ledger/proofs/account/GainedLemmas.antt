@@ -71,7 +71,7 @@ more-gain gains old new a p b debt place is next some passed same print =
     ap (owes_at gains new b) start ∙ others a.start other ∙ is.begins (omega (arith, order, some)))
     print
 
--- an account can gain what was gained last, after all other gains
+-- the newest gain comes after all that an account owes, so the account can gain it next
 pub new-gain : (old new : Gains) (strikes : List Strike) (a : Account) (debt : Debt) → IsGain debt old new → IsAccount old strikes a → IsNextGain new strikes a debt (length (entries_of old))
 new-gain old new strikes a debt gain is = grind (arith, nat_tests, length-append, get_or_push)
 

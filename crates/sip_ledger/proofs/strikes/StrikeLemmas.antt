@@ -125,7 +125,7 @@ pub none-struck : (m k : ℕ) → is_struck [] m k ≡ false
 unfolding is_struck
 none-struck m k = refl
 
--- where the first i strikes do not strike the place, and the next one does not, the first i + 1 do not
+-- where neither the first i strikes nor the next one strikes the place, the first i + 1 do not strike it
 pub struck-more : (xs : List Strike) (i m k : ℕ) (s : Strike) → i < length xs → is_struck (take i xs) m k ≡ false → is_out m k (get_or xs i s) ≡ false →
     is_struck (take (i + 1) xs) m k ≡ false
 struck-more xs i m k s within none not = struck-next xs i m k s within ∙ ap₂ (λ a b. a || b) none not

@@ -110,6 +110,7 @@ line-lacks action moment len low small = elim (message-or-not action) as (λ _. 
       )
 ]
   where
+    -- the decimal text of a moment has at most 13 digits
     size : length (decimal moment) ≤ 13
     size = length-decimal-le 13 moment (omega arith) (omega arith) (omega arith)
 

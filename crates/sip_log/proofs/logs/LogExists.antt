@@ -412,6 +412,7 @@ times-or-not format line = elim (number_after-or-not (codes "t1 ") line) as (λ 
               rest1 = t1.1;
               rest2 = t2.1;
               rest3 = t4.1;
+              -- the numbers are those that were read
               t1_is = t1.2;
               t2_is = t2.2;
               t4_is = t4.2;

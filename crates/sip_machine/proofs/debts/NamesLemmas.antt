@@ -174,6 +174,7 @@ module _ {S : Type 0} (names : S → List ℕ) where
             | inl early ↦ Contains-append_left (flat_map phase_names (take at xs)) (flat_map phase_names ys) n ((first.2 n).0 early)
             | inr here ↦ Contains-append_right (flat_map phase_names (take at xs)) (flat_map phase_names ys) n (named-same ys phase n same long here)
           ]),
+          -- from the other side
           λ there. elim (Contains-append_cases (flat_map phase_names (take at xs)) (flat_map phase_names ys) n (subst (λ ns. Contains ns n) whole there)) [
             | inl early ↦ Contains-append_left first.0 (names phase) n ((first.2 n).1 early)
             | inr here ↦ Contains-append_right first.0 (names phase) n (same-named ys phase n same here)

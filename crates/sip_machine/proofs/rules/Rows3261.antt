@@ -59,6 +59,7 @@ pub within-one : (texts : Texts) (Row : After InviteServerPhase → Type 0) (aga
 within-one texts Row again None none = λ y h. none h.0 h.1
 within-one texts Row again (Some turn) one =
     record {
+      -- the phase to which the row leads is the same, with the flag beside it
       only = λ y. (
         λ h. h.2 ∙ ap (λ (after : After InviteServerPhase). (In after.0 again, after.1)) ((one.only h.0).0 h.1),
         λ same. (turn_seen invite_server_seen texts turn, (one.only (turn_seen invite_server_seen texts turn)).1 refl, same),

@@ -49,6 +49,7 @@ module _ {X S : Type 0} (names : S → List ℕ) (InRange : S → Type 0) (seen 
   AnswersBoth-two P Q apart (Some s) (Some t) one other =
       record {
         members = λ x. (
+          -- what is in the list is the first state or the second
           λ has. elim (Contains-push_cases (seen texts s ∷ []) (seen texts t) x has) [
             | inl first ↦
                 elim (Contains-push_cases [] (seen texts s) x first) [

@@ -181,6 +181,7 @@ among-all low high (n ∷ ns) (m ∷ ms) up up' all few x has le le' =
           let behind = all_behind n m ns ms up up' all other.1 in
           let most = many-among low high ns (m ∷ ms) (rest_rises n ns up) up' behind in
           elim (Contains-cons_cases n ns x has) [
+            -- x is the first number of ns, or among the others
             | inl is ↦
                 let here : between low high n ≡ true = rw is (grind (arith, nat_tests)) in
                 let one : one_of (between low high n) ≡ 1 = ap one_of here in

@@ -214,6 +214,7 @@ module _ (texts : Texts) (runs : List PlaceRun) (key : ℕ × List ℕ) (held : 
       IsPartitionPoint (λ p. compare (key_of texts p) key ≡ Less) (λ p. compare (key_of texts p) key ≡ Greater) (items (get_or runs r d)) place →
       IsGap texts key (places_of runs) (length (places_of (take r runs)) + place)
   gap_in_runs begun r place d low chosen next parts within parted =
+      -- `off` is how many places stand before this run
       let off = length (places_of (take r runs)) in
       let run = get_or runs r d in
       let all = places_of runs in
@@ -234,6 +235,7 @@ module _ (texts : Texts) (runs : List PlaceRun) (key : ℕ × List ℕ) (held : 
             | inr past ↦
                 let top : ordering_index front ≤ 1 = rank_of_begun front (sym (begins texts key run led) ∙ parts.0 r d (omega arith) past) in
                 let lowest : ordering_index front ≤ 0 = elim (eqb_tells place 0) [
+                  -- the first place of this run is not greater than the key, and it is less, since the gap comes after it
                   | inl start ↦ absurd (omega (arith, top, ap ordering_index (parted.1 0 first (omega (arith, start.1)) led.filled)))
                   | inr some ↦ omega (arith, ap ordering_index (parted.0 0 first (omega arith) (omega (arith, some.1))))
                 ] in

@@ -118,6 +118,7 @@ IsBook-grow texts number bytes book above other =
           | inl old_b ↦ book.apart a b old_a old_b (sym (kept_is a old_a) ∙ e ∙ kept_is b old_b)
           | inr new_b ↦ absurd (other a old_a (sym (kept_is a old_a) ∙ e ∙ ap (text_of (texts ++ (number, bytes) ∷ [])) (sym new_b) ∙ added_is))
         ]
+        -- the first number is the new one
         | inr new_a ↦ elim (Keeps-grow_cases texts number bytes b keeps_b) [
           | inl old_b ↦ absurd (other b old_b (sym (kept_is b old_b) ∙ sym e ∙ ap (text_of (texts ++ (number, bytes) ∷ [])) (sym new_a) ∙ added_is))
           | inr new_b ↦ sym new_a ∙ new_b

@@ -75,6 +75,7 @@ pub record IsCoded {X : Type 0} (f : Figure X) (told : X → Told (List ℕ)) (c
   pub window_same : SameWindow f c.seen
   pub closes_same : SameCloses f c.seen
   pub named : TellNames c.seen c.names told
+  -- the phases that stand for idle and ended
   pub idle_is : (texts : Texts) → c.seen texts c.idle ≡ f.idle
   pub ended_is : (texts : Texts) → c.seen texts c.ended ≡ f.ended
   pub ended_decided : (f.ended ≡ f.idle) ⊎ (f.ended ≢ f.idle)

@@ -158,6 +158,7 @@ IsWithoutFirst-alike Q P xs ys same a =
       first = a.first;
       after = a.after;
       whole = a.whole;
+      -- it has Q, so it has P, and none before it has
       holds = here.0 a.holds;
       none_before = both (λ x. ¬ (Q x)) (λ x. Q x ↔ P x) (λ x. ¬ (P x)) (λ x none iff p. none (iff.1 p)) a.before a.none_before front;
       rest = a.rest;

@@ -80,6 +80,7 @@ pub record MessageFits (start : StartLine) (fields : List Field) (rest : List â„
   pub from : HasField known_name.From fields
   pub to_once : IsNotTwice known_name.To fields
   pub to : HasField known_name.To fields
+  -- Call-ID, CSeq and Content-Length
   pub call_id_once : IsNotTwice known_name.CallId fields
   pub call_id : HasField known_name.CallId fields
   pub cseq_once : IsNotTwice known_name.CSeq fields

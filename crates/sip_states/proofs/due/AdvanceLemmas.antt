@@ -271,6 +271,7 @@ marked_names marked marks sets long are members n = (
       let at : slice_get sets index ≡ Some found.0 = slice_get-get_or sets index found.0 found.1.1 ∙ ap Some found.1.2 in
       let low = found.1.1 in
       let here : Contains (numbers_at sets index) n = subst (λ ns. Contains ns n) (sym (numbers_at-is sets index found.0 at)) found.2 in
+      -- the set is marked, or it names nothing
       elim (mark_cases marks index (omega arith)) [
         | inl mark ↦ Contains-flat_map (numbers_at sets) marked index n ((members index).1 mark) here
         | inr none ↦ absurd (Contains-nil n (subst (λ ns. Contains ns n) (are index found.0 at none) found.2))

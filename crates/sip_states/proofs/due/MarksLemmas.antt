@@ -125,6 +125,7 @@ module _ (order places : List ℕ) (count : ℕ) (is : IsPlaced order places cou
                 let i = get_or order k 0 in
                 let was = is.ordered k within in
                 let same_index = at_other order p q k b a 0 not_p.1 not_q.1 in
+                -- its index is neither of the two
                 let not_a : i ≢ a = λ e. not_p.1 (same_place k p within p_low e) in
                 let not_b : i ≢ b = λ e. not_q.1 (same_place k q within q_low e) in
                 ((let low_i = was.0 in let same = size in omega arith), ap (λ j. get_or new_places j 0) same_index ∙ place_of_other i not_a not_b ∙ was.1)

@@ -20,6 +20,7 @@ any_push P xs x = (
     | inl (j, within, at) ↦ inl (j, y, within, at, p)
     | inr e ↦ inr (rw e p)
   ],
+  -- from the other side
   λ some. elim some [
     | inl (k, y, low, is, p) ↦ let (j, within, at) = Contains-append_left xs (x ∷ []) y (k, low, is) in (j, y, within, at, p)
     | inr p ↦ let (j, within, at) = Contains-push xs x in (j, x, within, at, p)

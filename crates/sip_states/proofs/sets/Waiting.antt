@@ -87,6 +87,7 @@ module _ {X : Type 0} (r : MachineRules X) (lawful : IsLawful r) where
       (record {
         start = x;
         among = among;
+        -- it ends at t, which is not after m
         at = t;
         after = low;
         before = let e = rest.1 in let k = stands.reached in omega arith;

@@ -120,6 +120,7 @@ pub label-is : (first : ℕ → Bool) (text : List ℕ) → ((b : ℕ) → first
 label-is first text within (inl one) =
     let alphanumeric = within one.0 one.1 in
     subst (λ t. (is_label t ≡ true) × (first (slice_index t 0) ≡ true)) (sym one.2) (
+      -- one byte, which is no hyphen
       passes_from (one.0 ∷ []) (record {
         long = refl;
         first = no_hyphen one.0 alphanumeric;
@@ -176,6 +177,7 @@ label-yes first (b ∷ text) pass starts = elim (last_byte text) [
         let inner = and_parts (is_label_byte b) (list_all is_label_byte m) bytes.0 in
         let plain : nat_eq e hyphen ≡ false =
         ap (λ x. nat_eq x hyphen) (sym (last_of b e m)) ∙ ap (λ t. nat_eq (slice_index (b ∷ t) (length (b ∷ t) - 1)) hyphen) (sym is) ∙ passes.last in
+        -- the first byte, those between, and the last one
         inr (
           b ∷ [],
           text,

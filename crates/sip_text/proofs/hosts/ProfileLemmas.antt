@@ -112,6 +112,7 @@ parts-uri text (sip p) (scheme, same, fits, whole) =
       scheme,
       colon ∷ sip_text p,
       scheme-named scheme p.secure same,
+      -- the scheme and the colon stand before the rest
       (
         colon ∷ [],
         sip_text p,
@@ -130,6 +131,7 @@ parts-uri text (sip p) (scheme, same, fits, whole) =
               led colon p.port,
               behind,
               led-optional colon Port p.port fits.port,
+              -- the parameters and the headers stand at the end
               (p.params, led question p.headers, fits.params, led-optional question Headers p.headers fits.headers, refl),
               refl,
             ),

@@ -148,6 +148,7 @@ quotes-front text n (u, v, (blanks, t, sws, (first, w, is_first, (items, last, c
   blanks,
   items,
   v,
+  -- the blanks, the pieces and the rest are the text
   record {
     are_blanks = units-sws blanks sws;
     are_items = items-contents items contents;

@@ -91,6 +91,7 @@ run-more P len text n k step front k_is some =
       )
     ]
   where
+    -- k is what `len` measures of the rest
     at_rest : k ≡ len front.1
     at_rest = k_is ∙ ap len (front-rest (Many P) text n front)
 

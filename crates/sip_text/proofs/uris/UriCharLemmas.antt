@@ -69,6 +69,7 @@ chars-cons class b text many =
             let head : byte ≡ b = cc in
             let tail : v ≡ text = cc in
             inl (subst (λ x. IsTrue (is_in class x)) head test, subst (Many (ClassChar class)) tail more)
+        -- an escape begins with a percent sign
         | inr escape ↦
             let (high, low, digits, is) = escaped-bytes u escape in
             let same : b ∷ text ≡ percent ∷ high ∷ low ∷ v = whole ∙ ap (λ t. t ++ v) is in
@@ -110,6 +111,7 @@ run-cut test [] = record { run = []; whole = refl; all = refl; stops = λ b rest
 run-cut test (x ∷ text) = at (run-cut test text) (test x) refl
   where
     at : IsRun test text (drop (prefix_len test text) text) → (passes : Bool) → test x ≡ passes → IsRun test (x ∷ text) (drop (cond passes (1 + prefix_len test text) 0) (x ∷ text))
+    -- the first byte fails, so there is no run
     at more false is = record {
       run = [];
       whole = refl;
@@ -142,6 +144,7 @@ chars-past class text stop rest no_percent run is =
             let here : Many (ClassChar class) (percent ∷ high ∷ low ∷ rest) =
             chars-behind class run.run _ no_percent run.all (subst (Many (ClassChar class)) whole many) in
             elim (chars-cons class percent (high ∷ low ∷ rest) here) [
+              -- the percent sign is no byte of the class, so it begins the escape
               | inl plain ↦ absurd (both_ways (is_in class percent) no_percent plain.0)
               | inr (other, other_is, _, more) ↦
                   let same : other ≡ rest = let taken = strips-escape high low rest digits in cc in

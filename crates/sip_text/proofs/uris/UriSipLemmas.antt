@@ -89,6 +89,7 @@ port-agrees text host (Some port) name parts (Some number) (is_port, there) fits
     let hosts : Some host ≡ Some name =
     sym (before_last-mark colon host port lacks) ∙ ap (before_last colon) same
     ∙ before_last-mark colon name number number_lacks in
+    -- the ports stand after it
     let ports : port ≡ number =
     sym (behind_last-mark colon host port lacks) ∙ ap (behind_last colon) same
     ∙ behind_last-mark colon name number number_lacks in
@@ -294,6 +295,7 @@ parts-fit secure text cut host is info tail fits =
         user = info.0;
         password = info.1;
         owner = info-owner text cut.user cut.password is.rest is.userinfo;
+        -- the host and the port
         host = subst (λ t. HostText t host) (sym spelled) fits;
         port = port-fits hostport cut.host cut.port is.port;
         params = tail.0;

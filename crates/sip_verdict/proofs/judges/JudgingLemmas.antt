@@ -36,6 +36,7 @@ judges_front p end v before (item ∷ items) rest (e ∷ es) seen good left =
     let fine = good before e es refl in (
       e,
       seen.0,
+      -- the entry is formed, each key has a run, and none is too wide
       inr (
         fine.formed,
         fine.runs,

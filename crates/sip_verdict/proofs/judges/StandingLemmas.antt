@@ -257,6 +257,7 @@ module _ (verdict : Option Verdict) (old mid last : Texts) (number : ℕ) (bytes
       → (es : List (Observation KeyParts)) → TablesTrack old es t → count ≡ length es + 1 → newest_moment es ≤ moment
       → (e : Observation KeyParts) × Sees es i e × IsJudged t.times (key_keeping last t.times) es e (transactions_of v) verdict × HaveNumbers v.keys (up_to (length v.keys)) e.keys
   restart_judged event t v long apart same is above at tells judged es tracks counts newest =
+      -- e is what is observed of the restart, with all keys
       let (e, seen, e_is) = tells es in
       let keys : e.keys ≡ t.keys = ap (λ x. x.keys) e_is ∙ sym (sym (keys_are t long) ∙ tracks.keys) in
       -- a restart has no message, and the book has none under 0

@@ -68,6 +68,7 @@ module _ (texts : Texts) (p : Times) (machine : MachineKind) (events : List Mach
         (
           held,
           leads.1,
+          -- its machine is the same, and it leads to the runs over one event more
           record {
             machine_is = leads.2.machine_is;
             leads = record { known = h.2.leads.known; runs = λ n y reached after. iff_trans (same n reached y) (h.2.leads.runs n y reached reached) };

@@ -88,6 +88,7 @@ module _ (start : Option (List ℕ)) (now : log.ReaderState) (old w : Option (Li
     ends end shown is t same logs last =
         IfSome-map start (λ input. IfSome t (λ p. LogSays input p s.items end)) (λ input. (text : List ℕ) × IsShownOf input text shown × Appends old w2 text) (λ input l. (
           s.text ++ (last_text shown ++ line_feed ∷ []),
+          -- all items of the log were shown
           inr (record {
             times = s.times;
             items = s.items;

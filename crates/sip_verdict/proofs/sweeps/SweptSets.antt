@@ -108,6 +108,7 @@ module _ {X S : Type 0} (seen : Texts → S → X) (r : MachineRules X) (lawful 
               start = seen b x;
               among = Contains-map (seen b) states x among;
               at = ends.at;
+              -- it ends at the same moment
               after = ends.after;
               before = ends.before;
               hides = record {

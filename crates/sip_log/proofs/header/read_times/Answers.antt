@@ -47,6 +47,7 @@ returns c =
     let is : TimesLine format line n = record {
       rest1 = c.in_ok-t1.rest.now;
       rest2 = c.in_ok-t2.rest.now;
+      -- the numbers are those that were read
       rest3 = c.in_ok-t4.rest.now;
       t1_is = t1.1;
       t2_is = t2.1;

@@ -49,6 +49,7 @@ returns c =
     let moment_is : IsNumber (take at text) (digits_value 10 (take at text)) = record { digits = (plain.0, c.digits-moment.ensures.run); plain = plain.1; value = refl } in (
       digits_value 10 (take at text),
       len.0,
+      -- the line is the two texts with the blank between them
       record {
         moment_text = take at text;
         len_text = c.in_ok-rest.rest.now;

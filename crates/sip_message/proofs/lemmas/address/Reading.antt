@@ -340,6 +340,7 @@ address-steps text a (name_addr fits (d, w1, before_is, (u, w2, u_is, (g, w3, g_
 
     lacks : Lacks right_angle a.uri_text
     lacks = uri-lacks a.uri_text a.uri fits.uri
+-- a URI without angles ends before a byte that may not stand in it, and has parameters after it
 address-steps text a (addr_spec fits none plain_is (u, w, u_is, tail, whole)) =
     both (make a.display a.uri_text w)
     (plain (has.0, has.1 ++ w, has.2, flat ∙ ap (λ t. t ++ w) has.3 ∙ append_assoc has.0 (colon ∷ has.1) w) none

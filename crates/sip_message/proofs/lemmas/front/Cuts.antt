@@ -128,6 +128,7 @@ parts-mark mark text inner rest (front_stops, (s, t, sws, t_is, whole)) (stops, 
   (
     s ++ mark ∷ after,
     rest,
+    -- the blanks, the mark and the blanks after it stand before the rest
     (s, mark ∷ after, sws, (mark ∷ [], after, refl, after_is, refl), refl),
     refl,
     whole ∙ ap (λ x. s ++ x) (t_is ∙ ap (λ x. mark ∷ x) (inner_is ∙ ap (λ x. after ++ x) r_is)) ∙ sym (append_assoc s (mark ∷ after) rest),

@@ -132,6 +132,7 @@ read-fits start fields rest body names is read =
         cseq_once = cseq_once.1;
         cseq = (cseq.0, cseq_once.2);
         length_once = len.1;
+        -- the method and the length are those that were found
         method = subst (λ m. MethodFits start (m.1.1)) same method.1;
         has_length = subst (λ m. HasLength (m.0.1) (content_length fields)) same has.1;
         enough = enough.1;

@@ -63,6 +63,7 @@ only-elements {m = m} {p = p} {v = v} k = (p.via ∷ p.others, record { is = k.p
     same es are = at es (subst (λ x. AreElements x es) k.via.1 are) are
       where
         at : (es : List Element) → AreElements (v ∷ k.via.0) es → AreElements (values known_name.Via m.fields) es → es ≡ p.via ∷ p.others
+        -- there is at least one element
         at [] ([], more, now_text, later, is) are = absurd now_text
         at [] (e ∷ now, more, now_text, later, is) are =
             let wrong : ◌≡◌ {A = List Element} [] (e ∷ (now ++ more)) = is in

@@ -92,6 +92,7 @@ tell-parts m start gs body p s (start_is, are, body_is) parts tells = at es.0 es
         -- q are the parts with what is said
         let q : Parts = record { via = e; others = es; from = p.from; to = p.to; call_id = s.call_id; cseq = s.cseq } in (
           q,
+          -- the fields have these parts
           record {
             vias = elements;
             from = parts.from;

@@ -133,6 +133,7 @@ via-said text v (fits, (a, w1, a_is, (s, w2, slash1, (b, w3, b_is, (r, w4, slash
       ps.0,
       ps.2,
       refl,
+      -- the protocol, the version, the transport, the host, the port and the parameters
       (
         a,
         w1,

@@ -27,7 +27,7 @@ not_both b solid blank = both_ways true (sym solid ∙ ap not blank) refl
 pub solid_is : (b : ℕ) → is_solid b ≡ true → is_lws_byte b ≡ false
 solid_is b solid = not-true (is_lws_byte b) solid
 
--- a set whose texts have no blanks is closed: they have no run
+-- a set whose texts have no blanks is closed, since there is no run of blanks to replace
 pub closed-solid : (P : List ℕ → Type 0) → Each is_solid P → Closed P
 closed-solid P each u v b w ends opens blanks is =
     absurd (not_both b (all_right is_solid u ((b ∷ w) ++ v) (each _ is)).0 blanks.0)
@@ -71,6 +71,7 @@ closed-then P Q seam left right u v b w ends opens blanks (p, q, is_p, is_q, who
     at (two_cuts p q u ((b ∷ w) ++ v) (sym whole))
   where
     inner : (c : ℕ) (z : List ℕ) → p ≡ u ++ c ∷ z → Cuts (b ∷ w) v (c ∷ z) q → (P then Q) (u ++ space ∷ v)
+    -- the run is what is left of p
     inner c z p_is (same_length run rest) = (
       u ++ space ∷ [],
       q,
@@ -85,6 +86,7 @@ closed-then P Q seam left right u v b w ends opens blanks (p, q, is_p, is_q, who
           | inl solid ↦ absurd (ends_blank u c z (subst EndsSolid p_is solid) (all_left is_lws_byte (c ∷ z) (d ∷ y) both))
           | inr solid ↦ absurd (both_ways (is_lws_byte d) (subst OpensSolid q_begins solid) (all_right is_lws_byte (c ∷ z) (d ∷ y) both).0)
         ]
+    -- the run ends within p
     inner c z p_is (second_longer d y run rest) = (
       u ++ space ∷ (d ∷ y),
       q,

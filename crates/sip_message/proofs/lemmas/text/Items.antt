@@ -98,7 +98,7 @@ items_run P item (p ∷ us) x v b w ends opens blanks all is =
         subst (Many P) (append_assoc x (space ∷ []) v)
         (many-cons P (x ++ space ∷ []) v cut.0 (behind_run P item us v b w c z opens blanks all.1 cut.1 (two_cuts (b ∷ w) v (c ∷ z) (concat us) back)))
 
--- *P is closed where the texts of P are items
+-- any number of texts of P stay so when a run of blanks in them becomes one SP, if each text of P is an item
 pub closed-items : (P : List ℕ → Type 0) → ((u : List ℕ) → P u → IsItem P u) → Closed (Many P)
 closed-items P item u v b w ends opens blanks many =
     items_run P item many.0 u v b w ends opens blanks many.1 (sym many.2)

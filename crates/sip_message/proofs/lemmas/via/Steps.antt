@@ -146,6 +146,7 @@ steps-via text v rest (both sent protocol (both (h, r1) host (both (port, r2) le
       ),
     )
   where
+    -- the text begins with the protocol that the steps read
     spelled : IsProtocol text sent
     spelled = steps-protocol text sent protocol
 

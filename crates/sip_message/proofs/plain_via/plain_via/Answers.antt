@@ -15,6 +15,7 @@ returns c =
     let first = c.in_ok-first.first in
     let version = c.in_ok-version.version in
     let second = c.in_ok-second.second in
+    -- the places at which the parts begin
     let transport = c.in_ok-transport.transport in
     let sent_by = c.in_ok-sent_by.sent_by in
     let behind = c.in_ok-host.behind in

@@ -41,6 +41,7 @@ loop-at-preserved g c =
     let filters = c.loop-at.invariant.filters in
     let in_range = c.loop-at.invariant.in_range in
     let long = filters.long in
+    -- x is the state that is looked at
     let low : at < length ys = omega (arith, long) in
     let d = g.M.Machine.ended m in
     let x = get_or ys at d in

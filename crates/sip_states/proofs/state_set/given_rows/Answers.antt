@@ -24,6 +24,7 @@ module _ (g : Over) (c : After-len g) where
       let m = c.args.machine.now in
       let r = g.M.Machine.rules m in
       let texts = c.args.book.now in
+      -- xs are the states before the event, and `new` those after it
       let xs = c.args.states.now in
       let e = event_in texts c.args.event.now in
       let new = c.find_given.new.pool in

@@ -38,6 +38,7 @@ loop-place-preserved-then-is_empty g c =
     let empty : c.names.new.out.items ≡ [] = nil_from_length c.names.new.out.items none in
     let silent : numbers_of set ≡ [] = names_nothing (numbers_of set) c.clear.new.self.items c.names.new.out.items c.clear.ensures.items empty
     (numbers_appended set c.clear.new.self.items c.names.new.out.items c.in_ok-names.ensures) in
+    -- the mark of the index is gone, and the others stay
     record {
       long = ap length c.unmark_named.ensures.named ∙ length-set marks index false ∙ c.loop-place.invariant.long;
       marked = rw c.unmark_named.ensures.named (unmarked (λ s. numbers_of s ≡ []) marks (values c.args.sets.now) index set c.loop-place.invariant.marked (rw c.loop-place.invariant.same at c.index.ensures) silent);

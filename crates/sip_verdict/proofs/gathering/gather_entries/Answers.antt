@@ -43,6 +43,7 @@ loop-found-preserved g c =
       at = record {
         on = moves.0;
         goes_on = search rules;
+        -- the count, the newest moment and the room are those after the entry
         counts = taken.newest.0 ∙ sym moves.2;
         newest = taken.newest.1 ∙ sym moves.3;
         few = (let number = moves.1.number_is in let count = moves.2 in let low = moves.4 in omega arith);

@@ -20,6 +20,7 @@ loop-number-preserved g c =
     let i = c.loop-number.number-index in
     let heard = c.in_ok-hear_one.ensures in
     let old = c.loop-number.invariant in
+    -- the tables are those after this transaction has heard the event
     record {
       times_are = heard.times ∙ old.times_are;
       keys_are = heard.keys ∙ old.keys_are;

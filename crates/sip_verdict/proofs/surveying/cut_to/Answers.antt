@@ -34,6 +34,7 @@ returns-else-not-branch-clause-cut c =
     let e = c.args.entry.now in
     let part = c.in-Some.part.now in
     let goes : is_none (direction_of e.action) ≡ false = search rules in
+    -- the branch of the message falls into the part
     let falls = c.in_ok-has_message.field-0 in
     let here : falls ≡ true = search rules in
     let text : c.as_slice.result.now ≡ e.bytes.items = search rules in

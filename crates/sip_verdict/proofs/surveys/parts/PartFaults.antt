@@ -88,6 +88,7 @@ at_place chosen done back (item ∷ items) (i ∷ cuts) (e ∷ es) (c ∷ cs) se
 at_place chosen done back (item ∷ items) (i ∷ cuts) (e ∷ es) (c ∷ cs) seen saw cut (suc n) low =
     let at = at_place chosen (done ++ e ∷ []) (back ++ c ∷ []) items cuts es cs seen.1 saw.1 cut.1 n (omega (arith, low)) in
     record {
+      -- the first entries come before it
       front = item ∷ at.front;
       item = at.item;
       rest = at.rest;
@@ -186,6 +187,7 @@ faults_of p chosen items cuts es cs close shut found part end fin seen saw cut w
             at.before,
             at.others,
             at.items_are,
+            -- as many items stand before it in the one log as in the other
             cuts_are is,
             let long = at.front_long in let entry = there.4.0 in omega (arith, long, entry),
             at.front_long ∙ sym at.before_long,

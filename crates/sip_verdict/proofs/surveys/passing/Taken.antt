@@ -137,6 +137,7 @@ module _ (old mid : Texts) (number : ℕ) (bytes : List ℕ) (grown : IsGrown ol
       → Passes mid moment (Some (record { event = event; concerned = numbers })) w d u c → (es : List (Observation KeyParts)) → TablesSurvey old es t b.deaf.items → newest_moment es ≤ moment
       → IsTaken mid t.times es i moment None u c
   heard_taken event concerned numbers t w u b d c more long sets fresh deaf false_all broken wide touched apart keys now some tells passes es tracks late =
+      -- the tables have the keys of the entry, and the same times
       let have = have_numbers (each concerned) (each numbers) t w touched in
       let times = touches_times (each concerned) (each numbers) t w touched in (
         seen,

@@ -112,6 +112,7 @@ loop-standing-preserved g c =
           let low = l.invariant.before n is in
           let apart : e.number ≢ n = λ same. c.is_entry-in-Entry.ensures.is_not c.if-is_entry-2.false (is ∙ ap aim.Entry (sym same)) in
           omega (arith, low, apart, next);
+      -- the walk goes on over the entry
       may = subst (λ m. MayTake now.standing.book now.standing.tables (e.number + 1) m) (sym moves.3) (subst (λ (v : Option Verdict). IfNone v (MayTake now.standing.book now.standing.tables (e.number + 1) e.moment)) c.in_default.is c.in_ok-verdict-in-Entry.ensures.may);
       walks = walks_on c.args.aim start old l.count l.left l.standing.book l.standing.tables walks e next moves.1.order new
           (subst (WalkGives start l.standing.tables.times walks.items new) c.in-Entry.is (c.in_ok-entry.ensures.gives start l.standing.tables.times walks.items walks.read)) now.left now.standing.book now.standing.tables

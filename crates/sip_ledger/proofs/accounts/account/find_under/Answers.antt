@@ -76,6 +76,7 @@ loop-step-preserved c =
     let owes = owes_at g s c.args.account in
     let key = c.args.key in
     let pairs = c.args.index.now in
+    -- the next message under the key, and the next one that is owed
     let message = c.in-Some.message in
     let next = c.in-Some.ensures.found in
     let count = c.loop-step.invariant.1 in

@@ -30,6 +30,7 @@ returns-clause-gives g c =
     let texts = c.args.book.now in
     let p = m.times c.args.machine.now in
     let e = event_in texts c.args.event.now in
+    -- P is what a row leads to, and Q what is given without a row
     let P = LeadsFrom m.figure p m.seen texts e in
     let Q = RestsFrom m.figure p m.seen texts e in
     let old = c.args.pool.now in

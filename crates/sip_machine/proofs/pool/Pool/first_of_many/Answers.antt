@@ -34,6 +34,7 @@ loop-at-preserved g c =
             first-more xs from at rows at_from first
                 (λ x i d low same. true≢false (sym ((repeats x).1 (Any-here xs rows i d at x low same)) ∙ w.if-not-is_repeat.true)),
             more_kept ∙ ap (λ n. n + 1) long ∙ sym more_rows,
+            -- each row has its print, the new one too
             (λ k low. elim (cases_lt k (length rows)) [
               | inl before ↦
                   get_or_append_left kept (print ∷ []) 0 k (omega (arith, before, long)) ∙ told k before

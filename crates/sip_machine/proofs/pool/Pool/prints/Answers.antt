@@ -28,6 +28,7 @@ loop-at-preserved g c =
           mixed-run g.P.Hash.hash_input phases c.args.from old c.loop-at.prints.items c.mix.new.prints (at - c.args.from) (to - c.args.from) c.hash_of.result p mixing (rw c.deref_mut.ensures.value at c.mix.ensures) c.hash_of.ensures
           (omega (arith, order.0))
           (λ k q above below inside.
+          -- the phase at each place of the run is the one whose hash was mixed
           let x : CodeOwing g.row.P.Denot = record { phase = q; owes = [] } in
           let there : c.args.from + k < length xs = omega (arith, below, high) in
           let here : at < length xs = omega (arith, order.0, high) in

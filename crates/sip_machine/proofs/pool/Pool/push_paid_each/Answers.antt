@@ -31,6 +31,7 @@ returns-clause-ok g c =
     let xs = c.args.self.now in
     let from = c.args.from in
     let to = c.args.to in
+    -- the message is sent at the moment t, and q is the phase of the run
     let t = c.args.moment in
     let message = c.args.message in
     let q = c.index-phase.result.now in

@@ -22,6 +22,7 @@ loop-end-preserved g c =
     let xs = c.args.self.now in
     let phases = c.self.inside.phases.items in
     let rows = c.self.inside.dues in
+    -- p is the phase of the next state, and q that of the first
     let p = c.index-in-loop-end.result.now in
     let q = c.index.result.now in
     let was = c.loop-end.invariant in

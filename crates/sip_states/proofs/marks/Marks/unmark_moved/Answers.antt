@@ -46,6 +46,7 @@ returns-then-place-self-clause-named c =
     let p_low = place_low order places moved is c.args.index p from.0 at in
     let few = is.few in
     let under = c.if-place-self.true in
+    -- the named ones stand before p
     let high : named ≤ p = omega (arith, at, from.1) in
     ap (λ ps. marks ps named) c.exchange.ensures.places
     ∙ marked_beside order places moved named p (moved - 1) is p_low (omega (arith, under, few)) (le-ltb p named high ∙ sym (le-ltb (moved - 1) named (omega (arith, under, high))))

@@ -43,6 +43,7 @@ returns-clause-ok g c =
       key = key;
       at = ap (λ (t : Tabled). slice_get t.keys index) c.self.view_is ∙ c.key.ensures;
       endless = start_endless p key;
+      -- the tables are as before, but for this set and its record
       begun = λ i. record {
         times = p;
         keys = (ap keys c.put_at.ensures ∙ keys-with_value_at sets index c.in_ok-set.set) i;

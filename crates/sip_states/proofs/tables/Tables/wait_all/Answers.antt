@@ -33,6 +33,7 @@ invariant_of-self g c =
       marks_long,
       λ index set at unmarked. absurd (false≢true (all_marked marks c.in_ok-marks.ensures.named index false unmarked)),
       moved_long,
+      -- so each set has its second mark too
       record {
         quiet = λ index set at unmarked. absurd (false≢true (all_marked moved c.in_ok-marks.ensures.moved index false unmarked));
         within = marked_within marks moved (marks_long ∙ sym moved_long) c.in_ok-marks.ensures.moved;
@@ -53,6 +54,7 @@ invariant_of-self-2 g c =
       marks_long,
       λ index set at unmarked. absurd (false≢true (all_marked marks c.in_ok-marks.ensures.named index false unmarked)),
       moved_long,
+      -- so each set has its second mark too
       record {
         quiet = λ index set at unmarked. absurd (false≢true (all_marked moved c.in_ok-marks.ensures.moved index false unmarked));
         within = marked_within marks moved (marks_long ∙ sym moved_long) c.in_ok-marks.ensures.moved;

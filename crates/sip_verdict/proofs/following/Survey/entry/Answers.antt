@@ -40,6 +40,7 @@ returns-in-Ok-clause-found g c = λ es surveys.
     let e = c.args.entry.now in
     let is = c.self.view_is in
     let comes = c.requires (ap (λ j. j.failed) (sym is) ∙ c.if-self.false) in
+    -- what was found at the entry, which was appended
     let (seen, here, observed, found, added, follows) =
     c.in-Ok.ensures.found es (subst (λ j. AreSurveyed j.texts j.tables j.deaf j.left es) (sym is) surveys.follows) (comes.next ∙ ap (λ n. n + 1) surveys.number) (omega (arith, comes.order, surveys.moment)) in (
       seen,

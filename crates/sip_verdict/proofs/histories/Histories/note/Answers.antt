@@ -26,6 +26,7 @@ returns-clause-noted c =
     let number = c.args.entry.now.number in
     inr (record {
       begun = record { branch = c.in_ok-branch.branch; first = number; last = number };
+      -- it stands after the others
       beyond = omega (arith, c.if-index-len.false, c.len.ensures);
       is = c.in_ok-push.ensures.items;
       branch = subst (λ t. SpellsBranch t c.in_ok-branch.branch.items) c.as_slice.ensures.value c.in_ok-branch.ensures;

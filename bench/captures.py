@@ -66,6 +66,7 @@ sys.exit(ran.returncode)
 
 
 def measure(path, count, reader, program):
+    """Makes a log of the capture with this reader, has it judged, and prints what each step takes of each message."""
     making = [RECIPES / "to-log", "192.0.2.1:5060"]
     said, numbers = piped([[*making, "--capture", path], [program]] if reader == "to-log" else [[RECIPES / reader, path], making, [program]])
     if said != "legal entries %d transactions %d" % (count, count // 5 * 2):

@@ -41,14 +41,17 @@ def message(start, method, number, end="", tag="", body="", others=OTHERS):
 
 
 def request(method, number, end="", tag="", body="", others=OTHERS):
+    """The text of a request of this method, as message() makes it."""
     return message(f"{method} sip:bob@biloxi.example.com SIP/2.0", method, number, end, tag, body, others)
 
 
 def response(code, method, number, body="", end="", others=OTHERS):
+    """The text of a response with this code, as message() makes it."""
     return message(f"SIP/2.0 {code} Reply", method, number, end, ";tag=a6c85cf", body, others)
 
 
 def small(start, method, number):
+    """The text of a message with the fewest fields there may be."""
     return (
         f"{start}\r\nVia: SIP/2.0/UDP a.example.com;branch=z9hG4bK{number}\r\nFrom: <sip:a@example.com>;tag=1\r\n"
         f"To: <sip:b@example.com>\r\nCall-ID: {number}@a\r\nCSeq: 1 {method}\r\n\r\n"
@@ -93,6 +96,7 @@ def registers(entries):
     challenge = OTHERS + 'WWW-Authenticate: Digest realm="atlanta.example.com", nonce="84a4cc6f3082121f32b42a2187831a9e"\r\n'
 
     def registration(number):
+        """A REGISTER that is challenged by a 401, and the REGISTER with credentials."""
         return [
             (0, "S", request("REGISTER", number)),
             (20, "R", response(401, "REGISTER", number, others=challenge)),
@@ -107,6 +111,7 @@ def options(entries):
     """The log of a client: OPTIONS and 200, as short as they may be."""
 
     def ping(number):
+        """A small OPTIONS and its 200."""
         return [(0, "S", small("OPTIONS sip:b@example.com SIP/2.0", "OPTIONS", number)), (20, "R", small("SIP/2.0 200 OK", "OPTIONS", number))]
 
     return merged((ping(number) for number in range(entries // 2)), 10)
@@ -137,9 +142,11 @@ def proxy(entries):
         record = "\r\nRecord-Route: <sip:proxy.example.com;lr>"
 
         def out(text, own=own):
+            """The text as the proxy sends it: with its own Via on top, and with its Record-Route."""
             return text.replace("\r\nVia:", f"{record}{own}\r\nVia:", 1)
 
         def back(text):
+            """The text as the proxy sends it back: without its own Via, and with its Record-Route."""
             return text.replace("\r\nVia:", f"{record}\r\nVia:", 1)
 
         invite, trying, ringing = request("INVITE", number, body=SDP), response(100, "INVITE", number), response(180, "INVITE", number)
@@ -169,9 +176,11 @@ def mixed(entries):
     """Repeats, refusals, CANCELs, folds and compact names."""
 
     def folded(text):
+        """The text with two of its fields folded."""
         return text.replace(";branch=", "\r\n ;branch=", 1).replace("Supported: replaces, ", "Supported: replaces,\r\n\t")
 
     def compact(text):
+        """The text with the compact forms of field names."""
         names = [("Via", "v"), ("From", "f"), ("To", "t"), ("Call-ID", "i"), ("Contact", "m"), ("Content-Length", "l"), ("Supported", "k")]
         for name, short in names:
             text = text.replace(f"\r\n{name}:", f"\r\n{short}:")
@@ -243,6 +252,7 @@ def one_long_key(entries):
 
 
 def tagged(code, number):
+    """A response with a number as the tag of its To."""
     return message(f"SIP/2.0 {code} Reply", "INVITE", 0, tag=f";tag={number}")
 
 
@@ -384,10 +394,12 @@ RESTARTS = (restarts_after_many, restarts_after_a_million, restarts_between)
 
 
 def name_of(kind):
+    """The name of a kind of log, as it is printed."""
     return kind.__name__.replace("_", " ")
 
 
 def write_entries(path, entries, header="sip-trace 1\nt1 500 t2 4000 t4 5000 tolerance 50\n"):
+    """Writes a header and the entries to the file, and returns how many there are."""
     count = 0
     with path.open("w", newline="", encoding="latin-1") as file:
         file.write(header)
@@ -398,6 +410,7 @@ def write_entries(path, entries, header="sip-trace 1\nt1 500 t2 4000 t4 5000 tol
 
 
 def write_log(path, kind, entries):
+    """Writes a log of this kind, with the header that it needs, and returns how many entries it has."""
     header = "sip-trace 2\nt1 500 t2 4000 t4 5000 early 50 late 50\n"
     if kind not in RESTARTS:
         header = f"sip-trace 1\nt1 500 t2 4000 t4 5000 tolerance {10000 if kind in LONG else 50}\n"
@@ -405,6 +418,7 @@ def write_log(path, kind, entries):
 
 
 def check_legal(kind, entries, text):
+    """Ends the script unless the verdict is that the log is legal with as many entries."""
     if not text.startswith(f"legal entries {entries} ".encode()):
         sys.exit(f"{name_of(kind)}: {text.decode()}")
 
@@ -449,6 +463,7 @@ def print_counted(program, folder):
         entries = many - few
 
         def each(*events):
+            """How much more of these events was counted, for each entry."""
             return sum(after.get(it, 0) - before.get(it, 0) for it in events) / entries
 
         often = {place // LINE for place, count in runs.items() if count - runs_before.get(place, 0) >= entries / 10}
@@ -524,6 +539,7 @@ def print_growth(program, folder):
 
 
 def told_goal(value, goal):
+    """Whether the value meets its goal, in words."""
     return "met" if value <= goal else f"{value / goal:.2f} times its goal"
 
 

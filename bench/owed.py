@@ -26,6 +26,7 @@ def text(start, method="INVITE", branch=1, tag=""):
 
 
 def reply(code, tag="", branch=1, method="INVITE"):
+    """The text of a response with this code."""
     return text(f"SIP/2.0 {code} r", method, branch, tag)
 
 

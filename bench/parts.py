@@ -22,6 +22,7 @@ LOOP = [sys.executable, "-c", "sum(range(20_000_000))"]
 
 
 def part(program, number, log, parts=PARTS):
+    """The command that surveys this part of the log."""
     return [program, "--part", f"{number}/{parts}", log]
 
 

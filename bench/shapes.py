@@ -101,6 +101,7 @@ def shaped(front, unit, end, size):
     """A message with a line of this shape, as long as `size` or a little shorter."""
 
     def with_units(count):
+        """A message whose line has the unit as often as this."""
         line = front + count * unit + end
         return message(line) if line.startswith("OPTIONS ") else message("OPTIONS sip:example.com SIP/2.0", line)
 
@@ -114,6 +115,7 @@ def counted(program, log):
 
 
 def expect(name, text, wanted):
+    """Ends the script unless the text is as wanted."""
     if not re.fullmatch(wanted + r"\n", text):
         sys.exit(f"{name}: {text}")
 

@@ -28,6 +28,7 @@ CALL = [
 
 
 def call(number):
+    """The entries of one call, with its number in them."""
     return [(moment, letter, text.replace(PLACE, str(number))) for moment, letter, text in CALL]
 
 

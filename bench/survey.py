@@ -29,6 +29,7 @@ def commands(programs, log):
 
 
 def check_survey(kind, entries, verdict, survey):
+    """Ends the script unless the log is legal and its survey finds nothing."""
     check_legal(kind, entries, verdict)
     if survey != verdict.replace(b"legal", b"end").rstrip() + b" findings 0\n":
         sys.exit(f"{name_of(kind)}: {survey[:200]!r}")
@@ -60,6 +61,7 @@ def seconds_of(commands):
 
 
 def print_timed(programs, folder):
+    """Prints how long the verdict and the survey of a log of each kind take."""
     print(f"{'seconds':<24} {'verdict':>9} {'survey':>9} {'times':>6}")
     for kind in KINDS:
         log = folder / "log"

@@ -57,6 +57,7 @@ def memory(number):
 
 
 def status_of(number):
+    """The lines of the status of a process, or none where it has ended."""
     try:
         return Path("/proc/%s/status" % number).read_text().splitlines()
     except OSError:
@@ -90,6 +91,7 @@ class Feeding:
         self.hearer.start()
 
     def hear(self):
+        """Notes each line that the watch writes, with the time at which it came."""
         for line in self.watch.stdout:
             self.said.append((time.time(), json.loads(line)))
 
@@ -115,6 +117,7 @@ class Feeding:
         self.watch.wait()
 
     def flush(self, waiting):
+        """Sends what was written to the watch, and notes when."""
         self.watch.stdin.flush()
         now = time.time()
         for moment in waiting:

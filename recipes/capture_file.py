@@ -136,6 +136,7 @@ class Interface:
             at += 4 + length + -length % 4
 
     def moment_of(self, ticks):
+        """The moment of this many ticks of the interface, in nanoseconds."""
         return ticks * SECOND // self.units + self.offset * SECOND
 
 

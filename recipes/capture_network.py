@@ -98,6 +98,7 @@ LINKS = {0: on_loopback, 1: on_ethernet, 12: on_raw, 14: on_raw, 101: on_raw, 10
 # the addresses with the ports; and the length of UDP. Beside it the kind of IPv4, and how far IPv4 begins within the frame.
 
 def ordinary(before, kind):
+    """How the header of an ordinary link is read: its layout, where its kind stands, and how long it is before the addresses."""
     beginning = struct.Struct(">" + before + "BxHxxHBBxx12sH")
     return beginning, kind, beginning.size - 26
 
@@ -249,6 +250,7 @@ class Datagrams:
             ends.ttl = ttl
 
     def other_link(self, link):
+        """Notes that packets of this link can be read by tshark alone."""
         self.needs_tshark("links of type %d" % link)
         return 0, 0
 

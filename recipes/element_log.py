@@ -161,6 +161,7 @@ def behind_what_crossed(messages, skew, told):
     waiting, ready = deque(), []
 
     def settle():
+        """Takes the message that has waited longest, at the moment at which the element can have sent or received it."""
         number, message = waiting.popleft()
         one = placed(number, message, waiting, skew)
         told[MOVED] += one[0] != number

@@ -46,6 +46,7 @@ def shown(page):
 
 
 def kind_of(line):
+    """The kind of a line of help: empty, kept as it is, or text that is wrapped."""
     return "empty" if not line else "as it is" if line.startswith(" ") else "text"
 
 
@@ -53,6 +54,7 @@ class Formatter(argparse.RawDescriptionHelpFormatter):
     """Leaves the lines of a page as they are, and calls recipes in the texts of options as they are called here."""
 
     def _get_help_string(self, action):
+        """The help of an option, with the name by which the script was called."""
         return as_called(action.help) if action.help else action.help
 
 

@@ -42,6 +42,7 @@ class Flow:
 
 
 def address_of(end):
+    """The address without the port."""
     return end.rpartition(":")[0]
 
 
@@ -91,6 +92,7 @@ class Capture:
             die("the capture could not be read: %s" % ran.stderr.decode(errors="replace").strip(), ran.returncode)
 
     def notes_of_tshark(self):
+        """What tshark's reader has noted of the capture."""
         with open(self.notes_file) as file:
             return json.load(file)
 
@@ -103,6 +105,7 @@ class Capture:
             yield from seen_in_lines(file)
 
     def is_seen_twice(self):
+        """Whether so many messages were seen twice that the capture shows each packet twice."""
         return self.twice > MOST_TWICE * self.count
 
     def elements(self):

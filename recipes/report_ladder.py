@@ -63,9 +63,11 @@ class Ladder:
         self.width = begin + LANE * (len(self.lanes) - 1) + 150
 
     def draw(self, name, content="", **attributes):
+        """Draws an element of SVG."""
         self.out.append(tag(name, content, **{key: "%.1f" % value if isinstance(value, float) else value for key, value in attributes.items()}))
 
     def text(self, x, y, content, most=0, **attributes):
+        """Draws a text at this place, shortened where it is too long."""
         self.draw("text", shown(content, most), x=x, y=y, **attributes)
 
     def arrow(self, one, y):

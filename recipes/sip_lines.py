@@ -120,10 +120,12 @@ def seconds_of(moment):
 
 
 def write_line(out, moment, source, target, data, place):
+    """Writes a line of a message: its moment, where it came from and went, its bytes, and its place in the capture."""
     out.write(b"%s %s %s %s %d\n" % (moment.encode(), source.encode(), target.encode(), hexlify(data), place))
 
 
 def print_line(moment, source, target, data, *place):
+    """Prints a line of a message, with its place in the capture if it is known."""
     print(moment, source, target, data.hex(), *place, flush=True)
 
 
@@ -159,6 +161,7 @@ class Element:
         self.known = {}
 
     def has(self, end):
+        """Whether the end is one of the element, by its port or by its address alone."""
         return end in self.names or end.rpartition(":")[0] in self.names
 
     def letters(self, source, target):
@@ -177,14 +180,17 @@ def looks_like_sip(data):
 
 
 def is_response(data):
+    """Whether the message is a response."""
     return data[:4].upper() == b"SIP/"
 
 
 def first_line(data):
+    """The first line of the message as text."""
     return data.split(b"\n", 1)[0].rstrip(b"\r").decode("latin-1")
 
 
 def method_of(request):
+    """The method of the request."""
     return request.split(b" ", 1)[0]
 
 
@@ -206,6 +212,7 @@ def field(data, *names):
 
 
 def call_id(data):
+    """The Call-ID of the message."""
     return field(data, b"call-id", b"i")
 
 
@@ -370,6 +377,7 @@ def entry(letter, moment, data):
 
 
 def mark(moment):
+    """A mark at this moment, as an entry."""
     return entry("M", moment, b"")
 
 

@@ -65,6 +65,7 @@ class Parts:
         yield " ".join(last)
 
     def status(self):
+        """The status that the survey of the whole log would end with."""
         words = {place[1] for place, _, _ in self.findings}
         return STOPPED if next(iter(self.ends.values()))[0] == "log" else 0 if not words else UNDECIDED if words == {RANKS["undecided"]} else FOUND
 

@@ -49,9 +49,11 @@ class Looking:
         return question and (question, json.loads(line) if line else {})
 
     def is_busy(self):
+        """Whether a question is waiting or is being answered."""
         return bool(self.waiting) or any(worker.question for worker in self.workers.values())
 
     def close(self):
+        """Ends all processes."""
         for worker in self.workers.values():
             worker.process.kill()
             worker.process.wait()
@@ -65,6 +67,7 @@ class Worker:
         self.exit, self.text, self.question = self.process.stdout.fileno(), b"", None
 
     def ask(self, question):
+        """Sends the question to the process."""
         self.question = question
         try:
             self.process.stdin.write(json.dumps(question).encode() + b"\n")

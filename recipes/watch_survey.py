@@ -43,6 +43,7 @@ class Running:
             self.put("M", moment)
 
     def is_full(self):
+        """Whether the survey has as many entries as it may have."""
         return self.number >= LAST_ENTRY
 
     def write(self):

@@ -20,6 +20,7 @@ class Count:
         self.passed = self.failed = 0
 
     def check(self, holds, text):
+        """Counts whether something holds, and prints the text where it does not."""
         if holds:
             self.passed += 1
         else:
@@ -27,6 +28,7 @@ class Count:
             print(text)
 
     def end(self):
+        """Prints the counts, and ends the script."""
         print(f"{self.passed} passed, {self.failed} failed")
         sys.exit(self.failed > 0 or self.passed == 0)
 
@@ -59,4 +61,5 @@ def sections_of(page):
 
 
 def sections_of_pages():
+    """The sections of each page of docs/standard."""
     return {page.name: sections_of(page) for page in sorted(PAGES.glob("*.md"))}

@@ -53,6 +53,7 @@ def named_messages():
 def expanded(text):
     """The text with each part in braces as often as it says there."""
     def parts(found):
+        """The part, so many times, each with its number."""
         part, first, last = found[1], int(found[2]), found[3]
         if last is None:
             return part * first
@@ -62,6 +63,7 @@ def expanded(text):
 
 @functools.cache
 def sed(text, change):
+    """The text, changed by sed."""
     command = ["sed", "-z", "-e", change]
     said = subprocess.run(command, input=text, capture_output=True, env={**os.environ, "LC_ALL": "C"})
     if said.returncode:
@@ -75,6 +77,7 @@ def changed(text, change):
 
 
 def unescaped(text):
+    """The bytes that a text with escapes stands for."""
     return expanded(ESCAPE.sub(lambda found: SIGNS.get(found[1]) or chr(int(found[1][1:], 16)), text)).encode("latin-1")
 
 
@@ -115,6 +118,7 @@ class Log:
             self.add(word)
 
     def add(self, word):
+        """Adds what one word of a row says: an entry, some messages, the rules, or an order."""
         letter, _, rest = word.partition(" ")
         if letter == ":":
             self.entries.append((None, unescaped(rest)))
@@ -135,6 +139,7 @@ class Log:
             raise ValueError(f"no entry begins as {word!r} does")
 
     def order(self):
+        """Puts the entries in the order of their moments."""
         if any(moment is None for moment, _ in self.entries):
             raise ValueError("a text has no moment to be put in order by")
         self.entries.sort(key=lambda entry: entry[0])
@@ -147,6 +152,7 @@ class Log:
             self.header += line
 
     def add_messages(self, letter, moments, rest):
+        """Adds an entry for each of these moments."""
         for moment, text in zip(moments, self.texts(rest, len(moments))):
             self.entries.append((moment, b"%s %d %d\n%s\n" % (letter.encode(), moment, len(text), text)))
 
@@ -168,11 +174,13 @@ class Log:
         return [changed(message(first, one, code), change) for one in branches]
 
     def named(self, name):
+        """The message with this name, of the set that the row uses."""
         if (self.set, name) not in named_messages():
             raise ValueError(f"the set {self.set} of tests/worked/messages has no message {name}")
         return named_messages()[self.set, name]
 
     def bytes(self):
+        """The bytes of the log."""
         return self.header + b"".join(entry for _, entry in self.entries)
 
 

@@ -10,6 +10,7 @@ SILENT = ("M", "Z")
 
 
 class Entry(NamedTuple):
+    """An entry of a log, with what the test knows of it."""
     letter: str
     moment: int
     data: bytes = b""
@@ -18,6 +19,7 @@ class Entry(NamedTuple):
     is_malformed: bool = False
 
     def bytes(self):
+        """The bytes of the entry, as a log has them."""
         line = b"%s %d" % (self.letter.encode(), self.moment)
         return line + b"\n" if self.letter in SILENT else b"%s %d\n%s\n" % (line, len(self.data), self.data)
 
@@ -26,11 +28,13 @@ class Entry(NamedTuple):
 
 
 class Log(NamedTuple):
+    """A log: its header, its entries, and what stands after them."""
     header: bytes
     entries: list
     tail: bytes = b""  # bytes that stand after the entries and are no entry
 
     def bytes(self):
+        """The bytes of the log."""
         return self.header + b"".join(entry.bytes() for entry in self.entries) + self.tail
 
     def part(self, stays):
@@ -79,6 +83,7 @@ class Story:
             interval = min(2 * interval, most)
 
     def plain_client(self):
+        """Adds the entries of a client of another method than INVITE."""
         chance, method = self.chance, self.chance.choice(["OPTIONS", "REGISTER"])
         answer = self.start + chance.choice([5, 300, 700, 2000, 5000, 40_000])
         self.repeated(method, self.start, min(answer, self.start + 31_950), 4000)

@@ -83,6 +83,7 @@ class Expected:
             self.look(group)
 
     def verdict(self, log):
+        """The first line that the program writes for the log."""
         lines, status = self.judge.says(log.bytes())
         return lines[0] if lines else f"nothing, status {status}"
 
@@ -115,6 +116,7 @@ class Expected:
                 yield number, self.verdict(self.log.part(lambda it, one=one: it is one))
 
     def end(self, findings):
+        """The last line of the survey: as the log ends, or with the counts."""
         if self.log.tail:
             silent = self.log.part(lambda one: False)._replace(tail=self.log.tail)
             return self.verdict(silent)

@@ -30,14 +30,17 @@ def planted_elsewhere(mention, uses, wanted, definition=PLANTED):
 
 
 def definition(file, old, new, wanted):
+    """A change of a definition, and what is said of it."""
     return at(f"crates/sip_standard/specs/{file}.antt", (old, new)), wanted
 
 
 def page(old, new, wanted):
+    """A change of MACHINES.md, and what is said of it."""
     return at(MACHINES, (old, new)), wanted
 
 
 def words(old, new, wanted):
+    """A change of MACHINE_WORDS.md, and what is said of it."""
     return at("docs/standard/MACHINE_WORDS.md", (old, new)), wanted
 
 
@@ -52,6 +55,7 @@ def tells(file, text):
 
 
 def law(crate, old, new, wanted):
+    """A change of a law, and what is said of it."""
     return at(f"crates/{crate}/src/laws.rt", (old, new)), wanted
 
 

@@ -21,6 +21,7 @@ NUMBERS_OF_ENTRIES = ("request", "last", "final")  # what the listing of states 
 
 
 def is_script(name):
+    """Whether the program is a script, by its first two bytes."""
     with open(name, "rb") as file:
         return file.read(2) == b"#!"
 
@@ -50,6 +51,7 @@ def real_program():
 
 
 def sum_of(name):
+    """The sum of the bytes of a program."""
     with open(name, "rb") as file:
         return hashlib.sha256(file.read()).hexdigest()
 
@@ -106,6 +108,7 @@ class Judge:
         return self.run(log, "states", "/dev/stdin", str(number))[0].splitlines()
 
     def is_possible(self, times, entries):
+        """Whether a log of these entries is legal or undecided."""
         return is_possible(self.verdict(log_of(times, entries)))
 
 
@@ -132,6 +135,7 @@ class History:
         return is_possible(self.judge.verdict(self.prefix + b"".join(entry(*one) for one in more)))
 
     def can_wait(self, moment):
+        """Whether nothing has to be sent up to this moment."""
         return self.allows(("M", moment, b""))
 
     def states(self):

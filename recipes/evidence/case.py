@@ -9,10 +9,12 @@ MOST_CANDIDATES = 8
 
 
 def mark(moment):
+    """A mark at the moment, as an entry."""
     return "M", moment, b""
 
 
 def restart(moment):
+    """A restart at the moment, as an entry."""
     return "Z", moment, b""
 
 
@@ -28,9 +30,11 @@ class Candidate:
         self.what, self.data, self.letter, self.of = what, data, letter, of
 
     def at(self, moment):
+        """The entry with its message sent at this moment."""
         return self.letter, moment, self.data
 
     def told(self, **more):
+        """The entry as data, with what else is told of it."""
         return {"what": self.what, "letter": self.letter, "bytes": latin(self.data), "of": self.of, **more}
 
 
@@ -84,6 +88,7 @@ class Case:
         return [one for one in self.before if self.letters[one.number]]
 
     def as_asked(self, one):
+        """The entry with the letter by which it was asked for."""
         return self.letters.get(one.number, one.letter), one.moment, one.data
 
     def is_shown(self):
@@ -96,9 +101,11 @@ class Case:
         return ([self.breach] if self.breach is not None else []) + self.after
 
     def sends_from_breach(self):
+        """The breach, if it is a send, and the sends after it."""
         return ([self.breach] if self.is_send else []) + [one for one in self.after if one.letter in ("S", "F")]
 
     def first_request(self):
+        """The first request of the transaction, if there is one."""
         return next((one for one in self.before if one.data and is_request(one.data, self.method)), None)
 
     def sent(self):
@@ -127,6 +134,7 @@ class Case:
             yield Candidate("a CANCEL", cancel_for(invite.data))
 
     def of_server(self):
+        """What a server could have sent in place: a response that it sent before, or another one, or a first one."""
         responses = [one for one in self.sent() if is_response(one.data)]
         for one in responses[:MOST_CANDIDATES]:
             yield Candidate("entry %d's %s again" % (one.number, short(one.data)), one.data, of=one.number)

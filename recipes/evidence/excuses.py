@@ -38,6 +38,7 @@ class Excuses:
                           "is_undecided": words[0] == "undecided", "change": change})
 
     def header(self, question, short_form, **change):
+        """Asks whether the log is legal with a changed header."""
         times = self.case.times._replace(**change)
         self.add(question, short_form, self.words([*self.history, self.case.stop], times), change, lambda: self.to_the_end(times))
 
@@ -63,9 +64,11 @@ class Excuses:
         entries = [*self.history, case.stop, *[one[1:] for one in rest]]
 
         def with_tolerance(value):
+            """The times with at least this tolerance."""
             return case.times._replace(format=2, **{side: max(value, getattr(case.times, side)) for side in sides})
 
         def words(value):
+            """The words that ask whether the log is legal with this tolerance."""
             return self.words(entries, with_tolerance(value))
 
         least = least_with(lambda value: is_possible(words(value)), min(getattr(case.times, side) for side in sides), self.facts.get("by"))
@@ -79,6 +82,7 @@ class Excuses:
         return least
 
     def is_silent(self):
+        """Whether the transaction may be over by the moment of the breach."""
         return self.case.history.is_over_by(self.case.moment)
 
     def lacking(self):

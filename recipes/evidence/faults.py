@@ -61,6 +61,7 @@ class Faulty:
         return None
 
     def with_line_ends(self):
+        """The message with whole line ends, and with an empty line at its end."""
         first = re.search(rb"\r(?!\n)|(?<!\r)\n", self.one.data)
         if first:
             head, end, body = self.one.data.partition(HEAD_END)
@@ -68,6 +69,7 @@ class Faulty:
         yield "with an empty line after its last byte", self.one.data + HEAD_END
 
     def with_bytes_changed(self):
+        """The message without one byte of the faulty line, at each place in turn, and without the line."""
         text = self.lines[self.line]
         begin = text.find(b":") + 1 if self.number == 5 else 0  # with a changed name it would be another field
         for place in range(begin, min(len(text), MOST_ASKED)):
@@ -76,9 +78,11 @@ class Faulty:
             yield "without this line", self.with_line(None)
 
     def without_line(self):
+        """The message without the faulty line."""
         yield "without this line", self.with_line(None)
 
     def with_what_lacks(self):
+        """The message with the fields that it lacks."""
         has = {name_of(line) for line in self.lines[1:]}
         method = b"OPTIONS" if is_response(self.one.data) else method_of(self.one.data)
         lacking = [line % method if b"%s" in line else line for name, line in NEEDED.items() if name not in has]
@@ -86,14 +90,17 @@ class Faulty:
         yield what, b"\r\n".join([self.lines[0], *lacking, *self.lines[1:]]) + self.rest
 
     def with_its_method(self):
+        """The message with the method of its request line in its CSeq."""
         right = b"CSeq: %s %s" % (cseq(self.one.data)[0], method_of(self.one.data))
         yield "with %s" % latin(right), with_lines(self.one.data, b"cseq", [right])
 
     def with_its_length(self):
+        """The message with the length of what stands after its head."""
         size = len(self.rest) - len(HEAD_END)
         yield "with Content-Length: %d, which is how many bytes stand after its head" % size, with_lines(self.one.data, b"content-length", [b"Content-Length: %d" % size])
 
     def with_cookie(self):
+        """The message with a branch that begins with the cookie."""
         yield "with z9hG4bK before its branch", with_top_via(self.one.data, rb"(;\s*branch\s*=\s*)", rb"\1z9hG4bK")
         yield "with a branch that begins with z9hG4bK", with_top_via(self.one.data, rb"(?=[,]|$)", rb";branch=z9hG4bKmade")
 
@@ -154,6 +161,7 @@ def undecided(judge, found, at, transaction):
 
 
 def states_of(listing, key):
+    """The lines of a listing that are of this transaction."""
     found, is_mine = [], False
     for line in listing:
         if line.startswith("  "):

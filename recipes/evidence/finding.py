@@ -64,6 +64,7 @@ def mapped(name):
 
 
 def sum_of_branch(branch):
+    """A number of the branch that is never 0 or 1, which have another meaning."""
     return hash(branch) | 2
 
 
@@ -78,6 +79,7 @@ class Index:
         self.place = self.header_end()
 
     def header_end(self):
+        """Where the header ends."""
         end = HEADER.match(self.text).end()
         rules = RULES.match(self.text, end)
         return rules.end() if rules else end
@@ -145,9 +147,11 @@ class Index:
         return None if text is None else key_in(text)
 
     def number_of(self, key):
+        """The number of the transaction with this key."""
         return self.keys[text_of_key(key)]
 
     def entry(self, number):
+        """The entry with this number."""
         place = self.places[number - 1]
         end = self.text.find(b"\n", place)
         words = self.text[place:end].split()

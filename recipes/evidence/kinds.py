@@ -230,6 +230,7 @@ def parts_to_right(case, ack, invite, response, moment, *after):
     right = ack_for(invite, response)
 
     def is_right(parts):
+        """Whether the ACK with these parts of the right one is allowed."""
         return case.history.allows(("S", moment, with_parts(ack, parts, right)), *after)
 
     if is_right(()) or not is_right(ACK_PARTS):
@@ -336,6 +337,7 @@ def over_from(case):
         probe, wait = [("R", asked.data), ("S", response_to(asked.data, 183))], 0
 
     def is_over(moment):
+        """Whether the transaction may be over by this moment."""
         return history.allows(*[(letter, moment, data) for letter, data in probe], mark(moment + wait))
 
     if is_over(history.last) or not is_over(LAST - wait):

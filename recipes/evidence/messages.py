@@ -10,6 +10,7 @@ HEAD_END = b"\r\n\r\n"
 
 
 def latin(data):
+    """The bytes as text, one sign for each byte."""
     return data.decode("latin-1")
 
 
@@ -72,14 +73,17 @@ def first_element(line):
 
 
 def top_via_line(data):
+    """The topmost Via alone, if there is one."""
     return [first_element(line) for line in lines_of(data, b"via")[:1]]
 
 
 def request(method, uri, *lines):
+    """A request with these lines and no body."""
     return b"\r\n".join([method + b" " + uri + b" SIP/2.0", *lines, b"Max-Forwards: 70", b"Content-Length: 0", b"", b""])
 
 
 def uri_of(data):
+    """The Request-URI of the request."""
     return data.split(b" ", 2)[1]
 
 
@@ -90,10 +94,12 @@ def request_with(invite, method, to_lines):
 
 
 def ack_for(invite, response):
+    """The ACK for this response to the INVITE."""
     return request_with(invite, b"ACK", lines_of(response, b"to"))
 
 
 def cancel_for(invite):
+    """The CANCEL of the INVITE."""
     return request_with(invite, b"CANCEL", lines_of(invite, b"to"))
 
 
@@ -157,10 +163,12 @@ def first_difference(one, other):
 
 
 def code(data):
+    """The code of the response, as a number."""
     return int(code_of(data))
 
 
 def is_request(data, *methods):
+    """Whether the message is a request with one of these methods."""
     return not is_response(data) and method_of(data) in methods
 
 

@@ -30,20 +30,24 @@ class Trouble(NamedTuple):
 
     @property
     def role(self):
+        """The role of the transaction in trouble; of a message with a fault, that which its first entry tells."""
         is_client = (self.first.letter in ("S", "F")) != is_response(self.first.data)
         return self.key[0] if self.key else "client" if is_client else "server"
 
     @property
     def method(self):
+        """The method of the transaction in trouble."""
         data = self.first.data
         return latin(self.key[3] if self.key else cseq(data)[1] if is_response(data) else method_of(data))
 
     @property
     def branch(self):
+        """The branch as the first message spells it."""
         return latin(spelled_branch(self.first.data))
 
     @property
     def call(self):
+        """The Call-ID of the first message."""
         return latin(call_id(self.first.data))
 
 

@@ -23,6 +23,7 @@ class Case:
         self.start = self.history[-1].moment if self.history else 0
 
     def entry(self, number):
+        """The entry with this number."""
         return self.entries[number - 1]
 
     def key_of(self, number):
@@ -47,6 +48,7 @@ class Case:
         return own
 
     def is_cancel(self, number):
+        """Whether the entry is a sent CANCEL."""
         letter, _, data = self.entry(number)
         return letter in "SF" and method_of(data) == b"CANCEL"
 
@@ -66,6 +68,7 @@ class Case:
     # What follows are questions that are asked of the judge.
 
     def is_possible(self, entries, times=None):
+        """Whether a log of these entries is legal or undecided."""
         return self.judge.is_possible(times or self.times, entries)
 
     def allows(self, *more):
@@ -73,6 +76,7 @@ class Case:
         return self.is_possible([*self.history, *more])
 
     def can_be_silent_to(self, moment):
+        """Whether nothing has to be sent up to this moment."""
         return self.allows(mark(moment))
 
     def last_silence(self):
@@ -123,6 +127,7 @@ class Case:
         return self.entry(self.at) if self.at in self.own and self.entry(self.at).letter in "SRF" else None
 
     def is_own_send(self):
+        """Whether the breach is an entry that the transaction sent."""
         return self.breach_entry() is not None and self.breach_entry().letter in "SF"
 
     def last_entry(self):

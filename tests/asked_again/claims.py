@@ -23,6 +23,7 @@ SECTIONS = {("client", True): ("3261 section 17.1.1", "3261 section 9.1", "3261 
 
 
 def latin(text):
+    """The text as bytes, one byte for each sign."""
     return text.encode("latin-1")
 
 
@@ -36,6 +37,7 @@ class Claims:
         self.asked, self.wrong = Counter(), []
 
     def holds(self, what, truth, detail=""):
+        """Counts a claim of this kind, and notes it as wrong unless it is true."""
         self.asked[what] += 1
         if not truth:
             self.wrong.append(f"{self.kind}: {what} {detail}".rstrip())
@@ -60,6 +62,7 @@ class Claims:
     # What follows asks whose breach it is.
 
     def of_verdict(self):
+        """Checks what is told of the verdict: its word, its entry and the times."""
         case, told = self.case, self.told
         self.holds("verdict", told["verdict"].split() == case.verdict and told["word"] == "breach" and told["status"] == 1, told["verdict"])
         entry = case.entry(case.at)
@@ -128,9 +131,11 @@ class Claims:
             self.holds(what + (": within" if is_in else ": outside"), is_right(moment) == is_in, moment)
 
     def sends(self, letter, data):
+        """Whether this message may be sent, by its moment."""
         return lambda moment: self.case.allows(Entry(letter, moment, data))
 
     def settling(self, letter, data):
+        """Whether this message settles what was due, by its moment."""
         return lambda moment: self.case.settles(letter, moment, data)
 
     # What follows asks of which kind the breach is, by the meaning of each kind.
@@ -404,6 +409,7 @@ class Claims:
             self.holds("earlier bytes are allowed then", case.allows(Entry(letter, moment, right)))
 
     def first_difference(self, told, data, right):
+        """Checks which line of the two messages differs first, and both texts of it."""
         lines, others = data.split(b"\r\n"), right.split(b"\r\n")
         number = told["line"] - 1
         self.holds("first line that differs", lines[:number] == others[:number] and lines[number:number + 1] != others[number:number + 1], told["line"])
@@ -427,6 +433,7 @@ class Claims:
         self.parts(told["repair"]["parts"], data, right, lambda back: case.allows(Entry("S", moment, back)))
 
     def first_line(self, number):
+        """The first line of the entry's message."""
         return self.case.entry(number).data.split(b"\r\n")[0].decode("latin-1")
 
     def nearly_the_ack(self, moment, data):
@@ -454,10 +461,12 @@ class Claims:
 
     @staticmethod
     def stands_in(text, data):
+        """Whether the pieces of the text stand in the message."""
         pieces = [solid(latin(piece)) for piece in text.split(", ")]
         return text == "none" or all(piece in solid(data) for piece in pieces)
 
     def stray(self):
+        """Checks a response to which no request came, and the response to one that came."""
         case, told = self.case, self.told
         self.holds("no request came before", self.is_stray())
         if told.get("righted"):
@@ -494,6 +503,7 @@ class Claims:
             return
 
         def may_send(other):
+            """Whether another message may be sent at this moment."""
             return other != data and case.allows(Entry("S", moment, other))
 
         for other in {one.data for one in case.history if one.letter in "SF" and method_of(one.data) == case.method}:
@@ -515,6 +525,7 @@ class Claims:
         kept = [one for one in case.before if case.letters[one]]
 
         def is_right(left_out):
+            """Whether the log is right once this entry alone is left out."""
             return case.is_possible([Entry(case.letters[one], *case.entry(one)[1:]) for one in kept if one != left_out] + [case.breach_entry()])
 
         if number is None:
@@ -532,6 +543,7 @@ class Claims:
         probe, after = self.probe_of_end(case.requests()[0])
 
         def is_over(moment):
+            """Whether the transaction may be over by this moment."""
             return case.allows(*[Entry(letter, moment, data) for letter, data in probe], mark(moment + after))
 
         if first is None:

@@ -16,6 +16,7 @@ class Excuses:
         self.claims, self.case, self.told = claims, claims.case, claims.told
 
     def all(self):
+        """Checks each excuse, by the change that it asks about, and that none is left out."""
         for row in self.told["excuses"]:
             change = row["change"]
             asked = next(name for name in ("t1", "rules", "tolerance", "insert", "letter", "order", "drop", "earlier") if name in change)
@@ -42,6 +43,7 @@ class Excuses:
         return self.known
 
     def says(self, what, row, is_excuse, detail=""):
+        """Checks that the row says whether the change is an excuse."""
         self.claims.holds("excuse by " + what, is_excuse == row["helps"], f"{row['question']} {detail}")
         self.claims.holds("excuse that is undecided", not row["is_undecided"] or row["helps"], row["question"])
 
@@ -73,12 +75,15 @@ class Excuses:
         self.claims.holds("excuse to the end of the log", row["to_the_end"] == (words[0] in ("legal", "undecided")), f"{row['question']} {' '.join(words)}")
 
     def with_breach(self):
+        """The entries up to the breach."""
         return [*self.case.history, self.case.last_entry()]
 
     def ask_t1(self, row, change):
+        """Asks about another T1."""
         self.says("T1", row, self.is_gone(self.with_breach(), self.times_with(change)))
 
     def ask_rules(self, row, change):
+        """Asks about the other rules."""
         self.says("rules", row, self.is_gone(self.with_breach(), self.times_with(change)))
 
     def ask_tolerance(self, row, change):
@@ -87,6 +92,7 @@ class Excuses:
         entries = self.with_breach() + [case.entry(number) for number in change.get("entries", [])]
 
         def is_gone(tolerance):
+            """Whether the breach is gone with this tolerance."""
             return self.is_gone(entries, self.times_with({**change, "tolerance": tolerance}))
 
         self.says("tolerance", row, is_gone(change["tolerance"]), change["tolerance"])
@@ -150,6 +156,7 @@ class Excuses:
         self.claims.holds("neighbours alone changed places", len(places) == 2 and places[1] == places[0] + 1 and near)
 
     def ask_drop(self, row, change):
+        """Asks about a packet that was captured twice."""
         case = self.case
         self.says("a packet seen twice", row, case.can_be_silent_to(case.moment))
         twins = [one for one in case.history if one.data == case.entry(case.at).data and case.moment - one.moment <= COPY]

@@ -20,12 +20,14 @@ class FaultClaims:
         self.asked, self.wrong = Counter(), []
 
     def holds(self, what, truth, detail=""):
+        """Counts a claim of this kind, and notes it as wrong unless it is true."""
         self.asked[what] += 1
         if not truth:
             self.wrong.append(f"{self.kind}: {what} {detail}".rstrip())
         return truth
 
     def all(self):
+        """Checks all that is told of the verdict, by its kind, and of the log that shows it again."""
         if self.holds("word of the verdict", self.kind == KINDS.get(self.words[0]) and self.told["verdict"].split() == self.words, self.told["verdict"]):
             {"malformed": self.malformed, "undecided": self.undecided, "log fault": self.unreadable}[self.kind]()
             self.repeat()
@@ -73,6 +75,7 @@ class FaultClaims:
         text, rest = self.lines[line], self.entry.data[len(b"\r\n".join(self.lines)):]
 
         def lacks(size):
+            """Whether the fault is another one with so many bytes of the line."""
             return self.fault_of(b"\r\n".join([*self.lines[:line], text[:size], *self.lines[line + 1:]]) + rest)[:2] != self.fault[:2]
 
         if length is not None:

@@ -22,12 +22,14 @@ class Times(NamedTuple):
 
 
 class Entry(NamedTuple):
+    """An entry of a log: its letter, its moment and the bytes of its message."""
     letter: str
     moment: int
     data: bytes
 
 
 def mark(moment):
+    """A mark at this moment."""
     return Entry("M", moment, b"")
 
 

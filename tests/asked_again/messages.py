@@ -21,6 +21,7 @@ def name_of(line):
 
 
 def lines_named(data, name):
+    """The lines of the head that have this name."""
     return [line for line in head_lines(data)[1:] if name_of(line) == name]
 
 
@@ -30,14 +31,17 @@ def values(data, name):
 
 
 def value(data, name):
+    """The first value of the fields with this name, or nothing."""
     return next(iter(values(data, name)), b"")
 
 
 def is_response(data):
+    """Whether the message is a response."""
     return data[:8].upper().startswith(b"SIP/2.0 ")
 
 
 def code_of(data):
+    """The code of the response."""
     return int(data[8:11])
 
 

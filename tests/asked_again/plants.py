@@ -42,6 +42,7 @@ class Answer(NamedTuple):
     more: int = 0
 
     def number(self, told):
+        """The number that is told at this place, and as much more as is planted."""
         for step in self.place:
             told = told[step]
         return told + self.more if self.place else 0
@@ -134,6 +135,7 @@ class Plants:
         return outcome.wrong
 
     def stub_variables(self, way, number):
+        """The variables by which the stub knows what to answer."""
         return {"SIPTRACE": str(self.stub), "STUB_PROGRAM": self.program, "STUB_WAY": way, "STUB_NUMBER": str(number)}
 
     def answer(self, answer):
@@ -176,6 +178,7 @@ class Plants:
 
 
 def log_of(words):
+    """The log that these words make."""
     return subprocess.run([HERE.parent / "log", *words.split("; ")], stdout=subprocess.PIPE, check=True).stdout
 
 

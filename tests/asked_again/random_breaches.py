@@ -33,19 +33,23 @@ class Spelling:
         self.second_via = chance.choice([[], [], ["Via: SIP/2.0/UDP c.example.com;branch=z9hG4bKbelow"]])
 
     def via_lines(self, branch=None):
+        """The topmost Via, as this transaction writes it."""
         return [f"{self.via}:{self.fold or ' '}SIP/2.0/{self.transport} {self.host};branch={branch or self.branch}{self.after}"]
 
     def head(self, first, vias, to_tag, method, more=()):
+        """The bytes of a message with this first line."""
         tag = f";tag={to_tag}" if to_tag else ""
         lines = [first, *vias, f"{self.sender}: {self.name}<sip:bob@example.com>;tag=f", f"{self.to}: <sip:al@example.com>{tag}", f"{self.call}: {self.call_id}",
                  f"CSeq: {self.number} {method}", *more, f"{self.length}: 0", "", ""]
         return "\r\n".join(lines).encode()
 
     def request(self, method, to_tag="", branch=None, more=()):
+        """A request of the transaction."""
         vias = self.via_lines(branch) + (self.second_via if method not in ("ACK", "CANCEL") else [])
         return self.head(f"{method} {self.user} SIP/2.0", vias, to_tag, method, [*self.extra, *more])
 
     def response(self, method, code, tag):
+        """A response of the transaction."""
         return self.head(f"SIP/2.0 {code} {PHRASES[code]}", self.via_lines() + self.second_via, tag if code > 100 else "", method)
 
 
@@ -87,6 +91,7 @@ class Walk:
         return moment if now <= moment <= now + 40_000 else now + self.chance.choice([0, 1, 20])
 
     def tag(self):
+        """A tag, mostly the same one."""
         return self.chance.choice(["t", "t", "t", "u"])
 
     def client_entry(self):
@@ -150,6 +155,7 @@ class Walk:
         return self.entry()
 
     def verdict(self, entries):
+        """The verdict on these entries."""
         return self.judge.verdict(write_log(self.times, entries, self.format))[0]
 
     def lead(self, steps):

@@ -42,6 +42,7 @@ def windows_in(told):
 
 
 def value_at(told, names):
+    """The value at the end of these names, or None where one of them is missing."""
     for name in names:
         told = told.get(name) if isinstance(told, dict) else None
     return told

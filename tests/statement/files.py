@@ -11,10 +11,12 @@ INSTEAD = {}
 
 
 def text_of(path):
+    """The text of the file, or what stands in place of it."""
     return INSTEAD.get(str(path.relative_to(TOP))) or path.read_text()
 
 
 def flat(text):
+    """The text with one blank in place of each run of blanks."""
     return " ".join(text.split())
 
 

@@ -43,6 +43,7 @@ def pieces_of(item):
 
 
 def inside(text):
+    """The text without the parentheses around it."""
     return text[1:-1] if text.startswith("(") and text.endswith(")") else text
 
 

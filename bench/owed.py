@@ -34,7 +34,7 @@ ASK = ("R", 0, text(INVITE))
 
 
 def widened(states, branch=1):
-    """An INVITE server that stands in so many states: it owes two responses, and may have paid each of their debts, or repeated what it last sent."""
+    """An INVITE server that stands in this many states: it owes two responses, and may have paid each of their debts, or repeated what it last sent."""
     ask = ("R", 0, text(INVITE, branch=branch))
     entries = [ask]
     sent = [("S", 0, reply(code, "w", branch)) for code in (181, 182)]
@@ -47,7 +47,7 @@ def widened(states, branch=1):
 
 
 def owing(count):
-    """A server that owes so many different 180s: each is sent, and then asked for again."""
+    """A server that owes this many different 180s: each is sent, and then asked for again."""
     return [it for number in range(count) for it in (("S", 0, reply(180, f"o{number}")), ASK)]
 
 
@@ -73,12 +73,12 @@ def repeats_and_sends(count, _):
 
 
 def repeats(count, states):
-    """Repeats of the INVITE to so many states."""
+    """Repeats of the INVITE to this many states."""
     yield from [*widened(states), *count * [ASK]]
 
 
 def repeats_apart(count, states):
-    """Repeats of the INVITE to so many states, each a millisecond after the one before."""
+    """Repeats of the INVITE to this many states, each a millisecond after the one before."""
     yield from widened(states)
     for number in range(count):
         yield "R", number, ASK[2]
@@ -95,7 +95,7 @@ def equal_then_plain(count, states):
 
 
 def wide_sets_and_plain(count, states):
-    """100 transactions in so many states, then messages of another key."""
+    """100 transactions in this many states, then messages of another key."""
     for number in range(100):
         yield from widened(states, f"e{number}")
     yield from plain(count)
@@ -182,7 +182,7 @@ def hundreds_then_past(count, states):
 
 
 def two_that_meet(count, _):
-    """Two states that parted before so many debts, and meet again and again."""
+    """Two states that parted before this many debts, and meet again and again."""
     yield from [ASK, ("S", 0, reply(180, "k")), ASK, ("S", 0, reply(180, "k"))]
     yield from owing(count)
     for _ in range(50):

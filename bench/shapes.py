@@ -137,7 +137,7 @@ def print_shapes(program, log):
 
 
 def print_repeated(program, log, name, begun, again, states):
-    """Prints what each of the entries `again` takes, after the entries `begun` that lead to so many states."""
+    """Prints what each of the entries `again` takes, after the entries `begun` that lead to this many states."""
     costs = []
     for count in ENTRIES:
         write_entries(log, begun + count * again)
@@ -158,7 +158,7 @@ def server(first, second, third):
 
 
 def client(owed):
-    """An INVITE client that owes so many ACKs, the last of them to a response of its own tag."""
+    """An INVITE client that owes this many ACKs, the last of them to a response of its own tag."""
     invite, ack = (message(f"{method} sip:example.com SIP/2.0", "", method, tag) for method, tag in (("INVITE", ""), ("ACK", ";tag=3")))
     ringing, busy, last = (("R", 0, message(f"SIP/2.0 {code} Reply", "", "INVITE", f";tag={tag}")) for code, tag in ((180, 2), (486, 2), (486, 3)))
     return [("S", 0, invite), *(owed - 1) * [busy], last], [ringing], [("S", 0, ack), last]

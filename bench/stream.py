@@ -45,7 +45,7 @@ def most_memory(process):
 
 
 def print_memory(command, measured):
-    """The most memory after so many entries, what the program wrote at last, and how many entries a second it took."""
+    """The most memory after this many entries, what the program wrote at last, and how many entries a second it took."""
     began = time.monotonic()
     with subprocess.Popen(command, stdin=subprocess.PIPE, stdout=subprocess.PIPE) as process:
         process.stdin.write(HEADER.encode())

@@ -131,7 +131,7 @@ def moment_of(one):
 
 
 def measure(rate, counts):
-    """Feeds a watch so many messages a second, and prints how late it told the troubles and what it used."""
+    """Feeds a watch this many messages a second, and prints how late it told the troubles and what it used."""
     before = resource.getrusage(resource.RUSAGE_CHILDREN)
     beat = subprocess.Popen([sys.executable, "-c", BEAT, str(SECONDS)], stdout=subprocess.PIPE)
     fed = Feeding(rate, counts)

@@ -63,7 +63,7 @@ class Window:
             die("cannot read %s: %s" % (self.name, error.strerror), 4)
 
     def has(self, length):
-        """Whether so many bytes are there. Reads on where they are not there yet."""
+        """Whether this many bytes are there. Reads on where they are not there yet."""
         while len(self.data) - self.at < length:
             piece = self.piece()
             if not piece:

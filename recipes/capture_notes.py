@@ -33,7 +33,7 @@ class Notes:
         return (address, ttl) in self.known
 
     def refusal(self, number, source, target, length):
-        """Hears from packet `number` that a datagram between these ends, with so many bytes, was refused."""
+        """Hears from packet `number` that a datagram between these ends, with this many bytes, was refused."""
         if len(self.refusals) < MOST_REFUSALS:
             self.refusals.append((number, source, target, length))
 

@@ -30,7 +30,7 @@ POLICY = "default-src 'none'; style-src 'unsafe-inline'; base-uri 'none'; form-a
 
 
 def shown(text, most=0):
-    """A text as HTML: what cannot be printed is spelled, and nothing in it is markup. Where `most` is given, it has at most so many characters of the text."""
+    """A text as HTML: what cannot be printed is spelled, and nothing in it is markup. Where `most` is given, it has at most this many characters of the text."""
     text = text if isinstance(text, str) else text.decode("latin-1")
     text = "".join(sign if sign in "\n\t" or sign.isprintable() and ord(sign) < 0x250 else "\\x%02x" % ord(sign) for sign in text)
     return html.escape(text[:most - 2] + ".." if most and len(text) > most else text)

@@ -53,7 +53,7 @@ def named_messages():
 def expanded(text):
     """The text with each part in braces as often as it says there."""
     def parts(found):
-        """The part, so many times, each with its number."""
+        """The part, this many times, each with its number."""
         part, first, last = found[1], int(found[2]), found[3]
         if last is None:
             return part * first
@@ -157,7 +157,7 @@ class Log:
             self.entries.append((moment, b"%s %d %d\n%s\n" % (letter.encode(), moment, len(text), text)))
 
     def texts(self, rest, count):
-        """The messages that these words tell, for so many entries."""
+        """The messages that these words tell, for this many entries."""
         first, _, rest = rest.partition(" ")
         if first.startswith("="):
             return [changed(self.named(first[1:]), rest)] * count

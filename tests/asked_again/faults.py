@@ -75,7 +75,7 @@ class FaultClaims:
         text, rest = self.lines[line], self.entry.data[len(b"\r\n".join(self.lines)):]
 
         def lacks(size):
-            """Whether the fault is another one with so many bytes of the line."""
+            """Whether the fault is another one with this many bytes of the line."""
             return self.fault_of(b"\r\n".join([*self.lines[:line], text[:size], *self.lines[line + 1:]]) + rest)[:2] != self.fault[:2]
 
         if length is not None:

@@ -159,7 +159,7 @@ class Walk:
         return self.judge.verdict(write_log(self.times, entries, self.format))[0]
 
     def lead(self, steps):
-        """Leads the transaction on by so many legal entries."""
+        """Leads the transaction on by this many legal entries."""
         for _ in range(MOST_TRIES * steps):
             one = self.entry()
             if self.verdict([*self.entries, one]) == "legal":

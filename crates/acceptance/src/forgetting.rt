@@ -77,8 +77,8 @@ fn push_count(survey: &Survey<Hasher>, left: &mut Vec<u64>) -> Result<(), AllocE
     Ok(())
 }
 
-/// Takes the entries of a log, and after each one forgets the transactions that are over and that none of so many newest entries concerns. After
-/// each it notes how many transactions are left.
+/// Takes the entries of a log. After each one it forgets the transactions that are over and that none of the newest `behind` entries concerns, and
+/// notes how many transactions are left.
 fn takes_and_forgets(
     rt: &impl Abort,
     surveyed: &mut Surveyed<'_>,

@@ -30,7 +30,7 @@ fn judges_a_long_message_in_single_bytes(rt: HostRuntime) -> Result<(), Fail> {
     Ok(())
 }
 
-/// The log of so many OPTIONS at moment 0, each with a branch of its own.
+/// The log of this many OPTIONS at moment 0, each with a branch of its own.
 fn requests(alloc: Global, count: u64) -> Result<String, Fail> {
     let mut log = header(alloc, "tolerance 50")?;
     for before in 0..count {
@@ -39,7 +39,7 @@ fn requests(alloc: Global, count: u64) -> Result<String, Fail> {
     Ok(log)
 }
 
-/// Checks the verdict on the log of so many OPTIONS, judged with this hasher of keys.
+/// Checks the verdict on the log of this many OPTIONS, judged with this hasher of keys.
 fn judges_by<H: BuildHasher + Drop>(
     rt: &(impl Abort + AllocGlobal),
     count: u64,

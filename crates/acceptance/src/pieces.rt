@@ -41,7 +41,7 @@ impl<'a> Pieces<'a> {
         }
     }
 
-    /// A source that hands out pieces of one size, and fails after so many calls.
+    /// A source that hands out pieces of one size, and fails after this many calls.
     pub(crate) fn failing_in(bytes: &'a [u8], size: usize, calls: usize) -> Pieces<'a>
         ensures { ⟦<Pieces<'a> as Source>⟧.has_failed result ≡ false }
     {

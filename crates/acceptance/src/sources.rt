@@ -75,7 +75,7 @@ fn judges_before_a_read_fails(
     Ok(())
 }
 
-/// Checks that the answer says that a read failed, where the source fails after so many calls.
+/// Checks that the answer says that a read failed, where the source fails after this many calls.
 fn fails_to_read(rt: &impl Abort, answer: &Result<String, JudgeError>, calls: usize) {
     let has_failed = matches!(answer, Err(JudgeError::Io));
     holds_at(rt, has_failed, ("calls:", calls));
@@ -115,7 +115,7 @@ fn reads_nothing_after_a_breach(rt: HostRuntime) -> Result<(), Fail> {
     judges_single_bytes(&rt, faulty.as_str().as_bytes(), "log fault 0 20 Header")
 }
 
-/// Checks that a listing answers a failed read, where the bytes come one by one and the source fails after so many calls.
+/// Checks that a listing answers a failed read, where the bytes come one by one and the source fails after this many calls.
 fn answers_io(rt: &(impl Abort + AllocGlobal), bytes: &[u8], calls: usize, entry: u64) {
     let answer = listing_failing(rt.alloc(), bytes, (1, calls), entry);
     fails_to_read(rt, &answer, calls);

@@ -66,14 +66,14 @@ const MOST_ENTRIES: u64 = 1_000_000_000_000_000;
 /// The most transactions that a survey has at a time.
 const MOST_TRANSACTIONS: u64 = 2_000_000;
 
-/// Whether a survey of so many entries and transactions has room for one entry more, which may begin two transactions.
+/// Whether a survey of this many entries and transactions has room for one entry more, which may begin two transactions.
 fn is_room(entries: u64, transactions: u64) -> bool
     ensures { IsTrue result ↔ HasRoom entries transactions }
 {
     entries < MOST_ENTRIES && transactions <= MOST_TRANSACTIONS - 2
 }
 
-/// Whether the entry may come after one of this number and moment, where there are so many transactions.
+/// Whether the entry may come after one of this number and moment, where there are this many transactions.
 fn may_follow(number: u64, moment: u64, transactions: u64, entry: &Entry) -> bool
     ensures { IsTrue result ↔ MayFollow number moment transactions entry.now.number entry.now.moment }
 {

@@ -127,7 +127,7 @@ is_gone gains strikes k = not (is_left gains k) || is_struck strikes (entry_at (
 unfoldable pub owes_at : Gains → List Strike → Account → ℕ → Bool
 owes_at gains strikes account k = nat_le account.start k && (nat_lt k account.end && not (is_gone gains (strikes_of strikes account) k))
 
--- whether the account must send what was gained at place k
+-- whether the account must send what was gained at place k: the index `musts` has all its places under 0
 unfoldable pub must_at : Gains → Account → ℕ → Bool
 must_at gains account k = holds gains.musts 0 k && nat_le account.soft k
 

@@ -81,10 +81,11 @@ receives_6026 = record {
   idle = λ p k e y h. h;
   ended = λ p k e y h. h;
   accepted = λ p set k e y h. h;
-  -- before the end each row is that of the table, and a response of 300 to 699 has its row
+  -- in calling, in proceeding and in completed each row is one of the table
   calling = calling_6026;
   proceeding = proceeding_6026;
   completed = completed_6026;
+  -- a response of 300 to 699 has a row in each of the three
   takes_calling = λ p w code e h. inr (inr (h, refl));
   takes_proceeding = λ p reliable request cancel code e h. inr (h, refl);
   takes_completed = λ p reliable request set code e h. (h, refl);
@@ -110,10 +111,11 @@ receives_3261 = record {
   idle = λ p k e y h. h;
   ended = λ p k e y h. h;
   accepted = λ p set k e y h. h;
-  -- before the end each row is that of the table, and a response of 300 to 699 has its row
+  -- in calling, in proceeding and in completed each row is one of the table
   calling = calling_3261;
   proceeding = proceeding_3261;
   completed = completed_6026;
+  -- a response of 300 to 699 has a row in each of the three
   takes_calling = λ p w code e h. inr (inr (h, refl));
   takes_proceeding = λ p reliable request cancel code e h. inr (h, refl);
   takes_completed = λ p reliable request set code e h. (h, refl);

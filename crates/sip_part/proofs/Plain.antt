@@ -362,6 +362,7 @@ seen_after after x b sws seen = by (sws_open after sws)
 
 -- What follows is of parameters, one after another.
 
+-- the text is parameters, each of which says one of these
 abbrev Params : List (Option (List ℕ)) → List ℕ → Type 0
 Params params = EachSays (λ param. Mark ";" then ParamSays param) params
 

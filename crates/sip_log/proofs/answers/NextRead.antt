@@ -79,6 +79,7 @@ front-stops format last rest fault (inr (line, behind, front, at)) = inr (line, 
 
 -- What follows is of entries.
 
+-- a moment in decimals has no line feed
 lacks-decimal : (n : ℕ) → n ≤ last_moment → Lacks line_feed (decimal n)
 lacks-decimal n low = IsNumber-no_line_feed (decimal n) n (number-decimal n (omega (arith, low, powers 13 64 (omega arith))))
 

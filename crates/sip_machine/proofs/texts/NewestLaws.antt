@@ -136,6 +136,7 @@ newest_placed texts runs now newest position is at put =
 
 -- What follows is of what a book keeps, and of the order in which it stands.
 
+-- these messages are a book, they stand in the runs, and each To is that of one of them
 abbrev pub IsKept : Texts → List PlaceRun → Option Loose → List To → Type 0
 IsKept texts runs loose tos = IsBook texts × StandInRuns texts runs loose × AreTos texts tos
 

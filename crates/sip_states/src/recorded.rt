@@ -1,6 +1,7 @@
 //! What is on record of an index, in 8 bytes.
 ghost use Rattle.std.specs.Prelude.{◌≡◌, IfOk, None, Some};
 
+use crate::moment::Moment;
 use std::alloc::AllocError;
 use std::marker::Model;
 
@@ -9,7 +10,7 @@ use std::marker::Model;
 #[derive(Debug, Drop)]
 pub(crate) struct Recorded {
     /// 0 where it is not settled, 1 where it has no last moment, and else its last moment raised by 2.
-    raised: u64,
+    raised: Moment,
 }
 
 impl Model for Recorded {
@@ -26,7 +27,9 @@ impl Recorded {
     pub(crate) fn unsettled() -> Recorded
         ensures { result ≡ None }
     {
-        Recorded { raised: 0 }
+        Recorded {
+            raised: Moment::zero(),
+        }
     }
 
     /// An index that was settled with this last moment. The last two moments that a number can be are refused, as memory is: no log comes
@@ -38,14 +41,14 @@ impl Recorded {
             None => 1,
             Some(last) => last.checked_add(2).ok_or(AllocError)?,
         };
-        Ok(Recorded { raised })
+        Ok(Recorded { raised: Moment::new(raised)? })
     }
 
     /// Its last moment, once it was settled.
     pub(crate) fn limit(&self) -> Option<Option<u64>>
         ensures { result ≡ self.now }
     {
-        match self.raised {
+        match self.raised.get() {
             0 => None,
             1 => Some(None),
             raised => Some(Some(raised - 2)),

@@ -13,6 +13,7 @@ ghost use Rattle.sip_states.specs.Naming.{MayName};
 ghost use Rattle.sip_states.specs.Runs.{Wait, RunGives, IsAgenda, IsWide, widest};
 ghost use Rattle.sip_states.specs.inner.Ways.{GivesAfter};
 
+use crate::moment::Moment;
 use crate::ends::{advance_states, last_of_all};
 use crate::steps::{find_given, step_alone};
 use sip_machine::{Book, Event, Machine, Phases, Pool};
@@ -50,7 +51,7 @@ impl From<AllocError> for TakeError {
 #[derive_where(Debug; M, M::Phase)]
 pub struct StateSet<M: Machine> {
     machine: M,
-    moment: u64,
+    moment: Moment,
     states: Pool<M::Phase>,
 }
 
@@ -74,7 +75,7 @@ impl<M: Machine> StateSet<M> {
         states.push(machine.first())?;
         Ok(StateSet {
             machine,
-            moment: 0,
+            moment: Moment::zero(),
             states,
         })
     }
@@ -89,8 +90,9 @@ impl<M: Machine> StateSet<M> {
         ensures one_more { OnOk result (length self.new.states ≤ length self.old.states + 1) }
         ensures err { OnErr result (self.new ≡ self.old) }
     {
-        advance_states(&self.machine, &mut self.states, self.moment, moment)?;
-        self.moment = moment;
+        let at = Moment::new(moment)?;
+        advance_states(&self.machine, &mut self.states, self.moment.get(), moment)?;
+        self.moment = at;
         Ok(())
     }
 
@@ -132,9 +134,10 @@ impl<M: Machine> StateSet<M> {
         ensures other { IfOk result (λ taken. OnFalse taken (self.new ≡ self.old)) }
         ensures err { OnErr result (self.new ≡ self.old) }
     {
-        let stepped = step_alone(&self.machine, book, &mut self.states, self.moment, event)?;
+        let at = Moment::new(event.moment())?;
+        let stepped = step_alone(&self.machine, book, &mut self.states, self.moment.get(), event)?;
         if stepped {
-            self.moment = event.moment();
+            self.moment = at;
         }
         Ok(stepped)
     }
@@ -156,11 +159,12 @@ impl<M: Machine> StateSet<M> {
         ensures err { OnErr result (self.new ≡ self.old) }
     {
         book.known();
+        let at = Moment::new(event.moment())?;
         let before = self.states.len();
-        match given_rows(&self.machine, book, &mut self.states, self.moment, event) {
+        match given_rows(&self.machine, book, &mut self.states, self.moment.get(), event) {
             Ok(rows) => {
                 self.states.keep(&rows);
-                self.moment = event.moment();
+                self.moment = at;
                 Ok(())
             }
             Err(error) => {
@@ -190,7 +194,7 @@ impl<M: Machine> StateSet<M> {
         requires { self.now.states ≢ [] }
         ensures { (texts : Texts) → IsAgenda (M.rules self.now.machine) (Contains (map (M.seen texts) self.now.states)) self.now.moment result }
     {
-        last_of_all(&self.machine, &self.states, self.moment)
+        last_of_all(&self.machine, &self.states, self.moment.get())
     }
 
     /// Appends the numbers of the messages that the states name, each at least once.

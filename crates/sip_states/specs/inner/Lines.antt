@@ -1,4 +1,4 @@
-use Rattle.std.specs.Prelude.{◌≡◌, ◌↔◌, ◌⊎◌, ◌==◌, ◌-◌, if◌then◌else◌, ℕ, true, Option, None, Some, slice_get}
+use Rattle.std.specs.Prelude.{◌≡◌, ◌↔◌, ◌⊎◌, ◌==◌, ◌+◌, ◌*◌, ◌-◌, if◌then◌else◌, ℕ, true, Option, None, Some, slice_get}
 use Rattle.std.specs.Ordering.{nat_cmp, ordering_then}
 use Rattle.std.specs.declared.cmp.Ordering.{Ordering}
 use Rattle.std.specs.BTreeSet.{BTreeSet, contains}
@@ -9,6 +9,10 @@ use Rattle.sip_states.specs.Agenda.{Records}
 -- what is on record where this number stands for it: 0 for an index that is not settled, 1 for no last moment, and another one for the last moment that is 2 below it
 abbrev pub recorded : ℕ → Option (Option ℕ)
 recorded raised = if raised == 0 then None else if raised == 1 then Some None else Some (Some (raised - 2))
+
+-- the moment for which three numbers of 16 bits stand, the highest first
+abbrev pub whole_moment : ℕ → ℕ → ℕ → ℕ
+whole_moment high middle low = high * 4294967296 + middle * 65536 + low
 
 -- the order of lines: by last moment, and then by index
 abbrev pub line_cmp : ℕ × ℕ → ℕ × ℕ → Ordering

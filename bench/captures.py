@@ -19,10 +19,14 @@ sys.dont_write_bytecode = True
 import judge
 
 TOP = Path(__file__).resolve().parent.parent
+# The recipes that are measured.
 RECIPES = Path(os.environ.get("RECIPES", TOP / "recipes"))
 ELEMENT, OTHER = b"\xc0\x00\x02\x01", b"\xc6\x33\x64\x02"  # 192.0.2.1 and 198.51.100.2
+# The addresses and the kind of an Ethernet frame of IPv4.
 ETHERNET = b"\x02\0\0\0\0\x01\x02\0\0\0\0\x02\x08\0"
+# When the first packet was seen, in milliseconds.
 BEGIN = 1_700_000_000_000
+# How many entries a log may have.
 MOST_ENTRIES = 1_000_000
 
 
@@ -68,6 +72,7 @@ sys.exit(ran.returncode)
 def measure(path, count, reader, program):
     """Makes a log of the capture with this reader, has it judged, and prints what each step takes of each message."""
     making = [RECIPES / "to-log", "192.0.2.1:5060"]
+    # `numbers` has the seconds and the megabytes of each step; to-log reads a capture by itself, in one step less.
     said, numbers = piped([[*making, "--capture", path], [program]] if reader == "to-log" else [[RECIPES / reader, path], making, [program]])
     if said != "legal entries %d transactions %d" % (count, count // 5 * 2):
         sys.exit("%s: %s" % (reader, said))
@@ -79,6 +84,7 @@ def measure(path, count, reader, program):
 def main():
     counts = [int(word) // 5 * 5 for word in sys.argv[1:]] or [10_000, 100_000, 1_000_000]
     program = os.environ.get("SIPTRACE") or TOP / "siptrace"
+    # The program is run once, so that it is there when it is measured.
     subprocess.run([program], input=(TOP / "crates/siptrace/stdin").read_bytes(), stdout=subprocess.DEVNULL)
     print("%9s  %-13s %31s   %20s" % ("", "", "microseconds a message by", "MB of"))
     print("%9s  %-13s %7s %7s %7s %7s   %6s %6s %6s" % ("messages", "reader", "reader", "to-log", "verdict", "all", "reader", "to-log", "verdict"))

@@ -17,15 +17,19 @@ CALLGRIND = (
     "valgrind --tool=callgrind --dump-instr=yes --compress-pos=no --compress-strings=no --cache-sim=yes --branch-sim=yes "
     "--I1=32768,8,64 --D1=32768,8,64 --LL=4194304,16,64"
 ).split()
+# The length of a line of the caches, in bytes.
 LINE = 64
+# The body of an INVITE and of its 200, in SDP.
 SDP = (
     "v=0\r\no=alice 2890844526 2890844526 IN IP4 pc33.atlanta.example.com\r\ns=-\r\n"
     "c=IN IP4 192.0.2.101\r\nt=0 0\r\nm=audio 49172 RTP/AVP 0\r\na=rtpmap:0 PCMU/8000\r\n"
 )
+# The fields that each message has beside those that SIP asks for.
 OTHERS = (
     "Max-Forwards: 70\r\nUser-Agent: Example Phone 2.1 (build 20261122)\r\n"
     "Allow: INVITE, ACK, CANCEL, OPTIONS, BYE, REFER, NOTIFY\r\nSupported: replaces, timer\r\n"
 )
+# The two ends of the calls, as From and To have them.
 ALICE = "\"Alice\" <sip:alice@atlanta.example.com>;tag=19283017"
 BOB = "Bob <sip:bob@biloxi.example.com>"
 
@@ -60,6 +64,7 @@ def small(start, method, number):
 
 def merged(transactions, step):
     """The entries of transactions in the order of their moments. A transaction begins each `step` milliseconds."""
+    # `open_ones` is a heap of entries that are still to come: each by its moment and then by its transaction and place, which are not yielded.
     open_ones = []
     for number, entries in enumerate(transactions):
         start = step * number
@@ -188,6 +193,7 @@ def mixed(entries):
 
     def call(number):
         """The messages of the call with this number: spelled in one of four ways, some repeated, cancelled or refused."""
+        # `form` spells each message of the call. Each entry has its moment within the call, its direction and its message.
         form = [str, str, folded, compact][number % 4]
         invite = form(request("INVITE", number, body=SDP))
         ack = form(request("ACK", number, tag=";tag=a6c85cf"))
@@ -206,6 +212,7 @@ def mixed(entries):
         refresh, fine = form(request("REGISTER", number)), form(response(200, "REGISTER", number))
         return [(0, "S", refresh), (500, "S", refresh), (600, "R", fine)]
 
+    # Five calls in a row have 8, 6, 7, 4 and 3 entries, which are 28.
     return merged((call(number) for number in range(entries * 5 // 28)), 20)
 
 
@@ -218,7 +225,7 @@ def widening(number):
 
 
 def wide(entries):
-    """Servers that stand in 1,024 states, with up to 62 debts, when they answer."""
+    """Servers that stand in 1,024 states, with up to 62 debts, when they answer. Each has 128 entries: 127 that widen it, and its 200."""
     for number in range(max(1, entries // 128)):
         for place, (letter, text) in enumerate(widening(number) + [("S", response(200, "INVITE", number))]):
             yield letter, 200 * number + place, text
@@ -374,6 +381,7 @@ LOST = 1.03
 # The most processor time of a log, in shares of what the program of 27 November 2026 takes for it; and the most memory, in MB, of a log of 1,000,000 entries.
 SHARES, SHARE, SHARE_OF_SHOW = {calls: 0.45, proxy: 0.45, keys: 0.45}, 0.55, 0.6
 PEAKS = {calls: 60, many_live_keys: 320}
+# The two lengths of a log, in entries, between which the instructions are counted; a log of wide sets has shorter ones.
 COUNTED = (2000, 6000)
 COUNTED_WIDE = (128, 256)
 # The worst cases, each with the share of the entries of the kinds that it takes.
@@ -466,6 +474,7 @@ def print_counted(program, folder):
             """How much more of these events was counted, for each entry."""
             return sum(after.get(it, 0) - before.get(it, 0) for it in events) / entries
 
+        # `often` are the lines of code that ran for at least every tenth entry, and `code` is how many kilobytes they are.
         often = {place // LINE for place, count in runs.items() if count - runs_before.get(place, 0) >= entries / 10}
         code = len(often) * LINE / 1024
         told = told_goal(each("Ir"), goal)
@@ -549,15 +558,19 @@ def print_beside(program, other, folder, size):
     print(f"{'beside':<18} {'entries':>8}   {'seconds':>8} {'peak MB':>8}   {'other':>8} {'peak MB':>8}   {'times':>6} {'goal':>5}")
     log = folder / "log"
     for kind in [*KINDS, many_live_keys]:
+        # A wide transaction takes more time for each entry, so that its log is a tenth as long.
         entries = write_log(log, kind, size // 10 if kind is wide else size)
         for verb in ["check", "show"] if kind is calls else ["check"]:
+            # `runs` has the seconds and the memory of the runs of each program.
             runs = {it: [] for it in (program, other)}
             for _ in range(5):
                 for it, told in runs.items():
+                    # A verdict that is not legal ends the measurement.
                     text, seconds, peak, _ = measured([it, verb, log])
                     if verb == "check":
                         check_legal(kind, entries, text)
                     told.append((seconds, peak))
+            # The fewest seconds and the most memory of the runs, of the program and of the other.
             (own, own_peak), (others, others_peak) = ((min(it[0] for it in told), max(it[1] for it in told)) for told in runs.values())
             goal = SHARE_OF_SHOW if verb == "show" else SHARES.get(kind, SHARE)
             told = told_goal(own / others, goal)
@@ -572,6 +585,7 @@ def main():
     program, *words = sys.argv[1:]
     with tempfile.TemporaryDirectory() as name:
         folder = Path(name)
+        # `beside` compares two programs, `growth` prints how the time grows with the log, and otherwise the goals are measured.
         if words[:1] == ["beside"]:
             print_beside(program, words[1], folder, int(words[2]) if words[2:] else 1_000_000)
             return
@@ -582,6 +596,7 @@ def main():
             print_counted(program, folder)
         else:
             print("not counted: there is no valgrind, which is a package of this name")
+        # Each other word is a number of entries.
         for size in map(int, words or ["10000", "100000"]):
             print()
             print_timed(program, folder, "check", {kind: 1 / 10 if kind is wide else 1 for kind in KINDS}, size)

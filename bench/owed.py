@@ -10,12 +10,17 @@ from pathlib import Path
 
 from judge import measured, name_of, write_entries
 
+# After how many seconds a run is ended.
 SECONDS = 20
+# A time below this many seconds is too short to be compared with the next one.
 LEAST = 0.04
+# A log grows in line where twice its length takes at most this many times as long.
 IN_LINE = 2.3
+# The start lines of the requests that the logs have.
 INVITE = "INVITE sip:b SIP/2.0"
 OTHER = "OPTIONS sip:b SIP/2.0"
-# In how many states a set stands, and how often each of two responses is owed that lead it there.
+# In how many states a set stands, and how often each of two responses is owed that lead it there. Of n equal debts 0 to n may be paid, so that n + 1
+# states stand, and with m of the other response (n + 1) * (m + 1).
 SETS = {1: (0, 0), 2: (1, 0), 100: (99, 0), 1024: (31, 31)}
 
 
@@ -30,6 +35,7 @@ def reply(code, tag="", branch=1, method="INVITE"):
     return text(f"SIP/2.0 {code} r", method, branch, tag)
 
 
+# The entry with which the INVITE comes. An entry is its letter, its moment and the text of its message.
 ASK = ("R", 0, text(INVITE))
 
 
@@ -102,7 +108,8 @@ def wide_sets_and_plain(count, states):
 
 
 def refused(count, tags, order, between=False):
-    """A client whose INVITE is refused so often, with these tags, and its ACKs in this order."""
+    """A client whose INVITE is refused so often, with these tags, and its ACKs in this order. Where `between` says so, an OPTIONS is sent after each
+    refusal."""
     yield "S", 0, text(INVITE)
     for number in range(count):
         yield "R", 0, reply(486, tags(number))
@@ -134,8 +141,18 @@ def acks_of_one_to(count, _):
     yield from count * [("S", 0, text("ACK sip:b SIP/2.0", "ACK", 1, "t"))]
 
 
+def acks_in_turn(count, _):
+    """Refusals that differ, whose two Tos come in turn, and the ACKs of one To before those of the other."""
+    yield "S", 0, text(INVITE)
+    for number in range(count):
+        yield "R", 0, reply(f"486 {number}", f"t{number % 2}")
+    for number in range(count):
+        yield "S", 0, text("ACK sip:b SIP/2.0", "ACK", 1, "t1" if number < count // 2 else "t0")
+
+
 def acks_mixed(count, _):
     """The ACKs of refusals in a mixed order."""
+    # A prime that divides no count of these logs, so that each refusal has its ACK once.
     step = 7919
     yield from refused(count, lambda it: f"t{it}", lambda them: (it * step % len(them) for it in them))
 
@@ -191,6 +208,7 @@ def two_that_meet(count, _):
 
 # The logs: what makes each, the least count, and the sets for which it is made.
 LOGS = [
+    # Responses that are sent and asked for again.
     (fresh_after_debts, 500, (2, 100, 1024)),
     (repeats_and_sends, 125, (1,)),
     (repeats, 1000, (2, 100, 1024)),
@@ -198,11 +216,14 @@ LOGS = [
     (fresh_and_repeats, 250, (2, 100, 1024)),
     (equal_then_plain, 6000, (2, 100, 1024)),
     (wide_sets_and_plain, 1000, (2, 100, 1024)),
+    # ACKs of an INVITE client, for responses with few Tos or with many.
     (acks_of_pairs, 4000, (1,)),
     (acks_with_others_between, 4000, (1,)),
     (acks_of_one_to, 4000, (1,)),
+    (acks_in_turn, 4000, (1,)),
     (acks_mixed, 4000, (1,)),
     (acks_of_long_tos, 4000, (1,)),
+    # Debts that are equal, paid by all states at once, or past.
     (equal_debts, 25000, (1, 1024)),
     (debts_paid_by_all, 500, (2, 100, 1024)),
     (debt_and_payment, 1500, (128,)),
@@ -213,10 +234,12 @@ LOGS = [
 
 def timed(program, log):
     """The verdict, the least processor seconds of some runs, and the most megabytes; or none, where a run is over."""
+    # A run ends where it takes more seconds of a processor than SECONDS.
     command = ["prlimit", f"--cpu={SECONDS}", program, "check", log]
     verdict, seconds, peak, _ = measured(command)
     if not verdict:
         return None
+    # A short run is repeated, since its time varies by more than it should.
     for _ in range(2 if seconds < 1 else 0):
         seconds = min(seconds, measured(command)[1])
     return verdict.decode(errors="replace"), seconds, peak / 1000
@@ -224,15 +247,18 @@ def timed(program, log):
 
 def main():
     program, *names = sys.argv[1:]
+    # `steep` has a line for each log whose time more than doubles where its length doubles.
     steep = []
     print(f"{'log':<25} {'states':>6}   " + "".join(f"{'entries':>9} {'seconds':>8} {'times':>6} {'peak MB':>8}   " for _ in range(3)))
     with tempfile.TemporaryDirectory() as folder:
         log = Path(folder) / "log"
+        # `make` writes a log of so many entries over so many states, `least` is the shortest length, and `sets` has the numbers of states.
         for make, least, sets in LOGS:
             name = name_of(make)
             if names and name not in names:
                 continue
             for states in sets:
+                # `told` has the columns of a row, and `before` the seconds of the log half as long.
                 told, before = [], None
                 for count in (least, 2 * least, 4 * least):
                     entries = write_entries(log, make(count, states), "sip-trace 1\nt1 500 t2 4000 t4 5000 tolerance 10000\n")
@@ -244,6 +270,7 @@ def main():
                     verdict, seconds, peak = run
                     if not verdict.startswith("legal "):
                         sys.exit(f"{name}: {verdict}")
+                    # The quotient of two times is told where the shorter one is long enough to be measured.
                     times = f"{seconds / before:.2f}" if before and before >= LEAST else ""
                     told.append(f"{entries:>9} {seconds:>8.3f} {times:>6} {peak:>8.1f}")
                     if times and float(times) > IN_LINE:

@@ -15,9 +15,13 @@ from pathlib import Path
 from judge import COUNTED, calls, write_log
 from survey import instructions
 
+# Into how many parts a log is cut.
 PARTS = 4
+# How many entries a log has that is timed.
 TIMED = 1_000_000
+# How often each run is timed: the least time counts.
 ROUNDS = 5
+# A program that only counts, which shows what four processes at once lose to one another.
 LOOP = [sys.executable, "-c", "sum(range(20_000_000))"]
 
 
@@ -58,11 +62,13 @@ def print_timed(program, folder, entries):
     log = folder / "log"
     write_log(log, calls, entries)
     log.read_bytes()  # so that it is in memory
+    # What is run at once, by its name: the whole log, a part of it, four of them, and a loop that tells how the machine does meanwhile.
     whole, numbers = [program, log], range(1, PARTS + 1)
     runs = {"the whole": [whole], "a part": [part(program, 1, log)], "four parts at once": [part(program, number, log) for number in numbers],
             "four wholes at once": [whole] * PARTS, "a loop": [LOOP], "four loops at once": [LOOP] * PARTS}
     got = {name: [] for name in runs}
     for _ in range(ROUNDS):
+        # The kinds take turns, so that what else the machine does weighs on all of them alike.
         for name, commands in runs.items():
             got[name].append(at_once(commands))
     print(f"{'seconds, ' + str(entries) + ' entries':<24} {'by the clock, middle':>22} {'fewest, most':>14} {'of a processor, middle':>24} {'fewest, most':>14}")

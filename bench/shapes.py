@@ -10,22 +10,27 @@ from judge import write_entries
 
 # The lengths of a message. What a byte takes is told by the difference to the first length.
 SIZES = (1024, 4096, 65535)
+# The two numbers of entries between which the instructions of a message are counted.
 ENTRIES = (20, 60)
+# The fields that each message must have, with their values.
 FIELDS = {
     "Via": "SIP/2.0/UDP a.example.com;branch=z9hG4bK1", "From": "<sip:bob@example.com>;tag=1", "To": "<sip:bob@example.com>", "Call-ID": "c1@a",
     "CSeq": "1 OPTIONS",
 }
+# How lines of the shapes begin: within a quoted string, a host, a parameter and a URI.
 STRING = 'Via: SIP/2.0/UDP a;x="'
 HOST = "Via: SIP/2.0/UDP "
 PARAM = "Via: SIP/2.0/UDP a"
 URI = "From: <"
 # For each shape: its name; a line of a message, as the text before the unit, the unit, and the text after it; and what is wrong with the line.
+# Within a parameter of Via, between parameters and at the end of a line.
 SHAPES = [
     ("token", PARAM + ";x=", "a-1.", "", None),
     ("blanks", PARAM, " \t", ";x", None),
     ("folds before a comma", PARAM, "\r\n ", ", SIP/2.0/UDP a", None),
     ("folds at a line's end", "s: a", "\r\n ", "", None),
     ("folds in a line", "s: a", "\r\n ", "b", None),
+    # Within a string that is closed, and within one that is not (the fault is Value).
     ("quoted letters", STRING, "abcd", '"', None),
     ("quoted blanks", STRING, " \t", '"', None),
     ("quoted folds", STRING, "\r\n ", '"', None),
@@ -33,8 +38,10 @@ SHAPES = [
     ("unclosed letters", STRING, "abcd", "", "Value"),
     ("unclosed folds", STRING, "\r\n ", "a", "Value"),
     ("unclosed pairs", STRING, '\\"', "", "Value"),
+    # Before the address of From.
     ("a quoted display name", 'From: "', "abcd", '" <sip:a@b>', None),
     ("display words", "From: a", " a", " <sip:a@b>", None),
+    # Within a host: labels, IPv6 addresses and what looks like them.
     ("short labels", HOST, "1.", "a", None),
     ("ordinary labels", HOST, "example.", "a", None),
     ("one label", HOST + "a", "-1", "a", None),
@@ -44,6 +51,7 @@ SHAPES = [
     ("IPv6 pairs of colons", HOST + "[", "1::", "a]", "Value"),
     ("IPv6 colons", HOST + "[", ":", "a]", "Value"),
     ("brackets", HOST + "[", "]", "a]", "Value"),
+    # Within a URI: its parameters, its user, its port and its headers.
     ("parameters of a URI", URI + "sip:bob:pw@b.c:5060", ";transport=udp", ">", None),
     ("short parameters", URI + "sip:b", ";a", ">", None),
     ("semicolons", URI + "sip:b", ";", "a>", "Value"),
@@ -59,13 +67,16 @@ SHAPES = [
     ("labels in a URI", URI + "sip:u@", "a.", "a:5060>", None),
     ("escapes in an other URI", URI + "x:", "%41", ">", None),
     ("a long scheme", URI + "x", "+.-1", ":b>", None),
+    # In the start line and among parameters.
     ("a long request line", "OPTIONS sip:b", ";a", " SIP/2.0", None),
     ("parameters of a Via", PARAM, ";a", "", None),
     ("parameters of From", URI + "sip:a@b>", ";a", "", None),
     ("groups of a value", PARAM + ";x=a", ":a", "", None),
     ("no groups of a value", PARAM + ";x=a", ":a", "g", "Value"),
+    # Values of parameters with colons and brackets.
     ("values with colons", PARAM, ";x=::1", "", None),
     ("values in brackets", PARAM, ";x=[::1]", "", None),
+    # Lists of values, and many lines.
     ("commas", PARAM, ",", "", "Value"),
     ("commas of a Route", "Route: a", ",", "", None),
     ("Via elements", PARAM, ", SIP/2.0/UDP a", "", None),
@@ -73,6 +84,7 @@ SHAPES = [
     ("tiny lines", "s: a", "\r\na:", "", None),
     ("tiny known lines", "s: a", "\r\ns:", "", None),
     ("repeated lines", "s: a", "\r\nt:sip:a", "", "Repeated"),
+    # Numbers, and what is no value.
     ("zeros of CSeq", "CSeq: 0", "0", "1 OPTIONS", None),
     ("digits of Content-Length", "l: 0", "9", "", "ShortBody"),
     ("a Call-ID", "Call-ID: a", "a", "@a", None),
@@ -80,7 +92,8 @@ SHAPES = [
     ("one name", "a", "a", ": a", None),
     ("line ends without LF", "s: a", "\r", "", "BareLineEnd"),
 ]
-# How many of each of three responses a server owes, of which it then sends the last two as often; and in how many states it stands then.
+# How many of each of three responses a server owes, of which it then sends the last two as often; and in how many states it stands then: (n + 1) * (m + 1),
+# where n and m are how often it owed these two, since each send may have paid a debt or not.
 SERVERS = [
     (62, 0, 0, 1), (61, 0, 1, 2), (48, 7, 7, 64), (0, 31, 31, 1024), (1, 0, 0, 1), (100, 0, 0, 1), (10000, 0, 0, 1), (0, 0, 1, 2), (99, 0, 1, 2),
     (9999, 0, 1, 2),
@@ -159,6 +172,8 @@ def server(first, second, third):
 
 def client(owed):
     """An INVITE client that owes this many ACKs, the last of them to a response of its own tag."""
+    # `last` is the response of the tag 3, which the ACK pays. The three lists begin the client, repeat what changes nothing, and pay a debt and owe it
+    # again.
     invite, ack = (message(f"{method} sip:example.com SIP/2.0", "", method, tag) for method, tag in (("INVITE", ""), ("ACK", ";tag=3")))
     ringing, busy, last = (("R", 0, message(f"SIP/2.0 {code} Reply", "", "INVITE", f";tag={tag}")) for code, tag in ((180, 2), (486, 2), (486, 3)))
     return [("S", 0, invite), *(owed - 1) * [busy], last], [ringing], [("S", 0, ack), last]

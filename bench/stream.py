@@ -11,13 +11,21 @@ import time
 
 from judge import SDP, merged, request, response
 
+# The moment of the first entry.
 FIRST = 1_795_000_000_000
+# How many milliseconds lie between two calls.
 STEP = 5
+# After how many milliseconds the survey forgets what is over.
 AGE = "60000"
+# After how many entries the memory is measured.
 MEASURED = [250_000, 500_000, 1_000_000, 4_000_000]
+# How many entries one log may have. A stream may have more.
 LOG_HOLDS = 1_000_000
+# Where the number of the call stands in its messages.
 PLACE = "<number>"
+# The header of the logs.
 HEADER = "sip-trace 1\nt1 500 t2 4000 t4 5000 tolerance 50\n"
+# The entries of a call: the letter, how long after its begin, and the message.
 CALL = [
     (0, "S", request("INVITE", PLACE, body=SDP)),
     (20, "R", response(100, "INVITE", PLACE)),
@@ -49,6 +57,7 @@ def print_memory(command, measured):
     began = time.monotonic()
     with subprocess.Popen(command, stdin=subprocess.PIPE, stdout=subprocess.PIPE) as process:
         process.stdin.write(HEADER.encode())
+        # Some numbers of entries are marks at which the memory is told.
         for number, entry in zip(range(1, measured[-1] + 1), stream()):
             process.stdin.write(entry)
             if number in measured:
@@ -65,6 +74,7 @@ def main():
     measured = [int(number) for number in numbers] or MEASURED
     print(f"sipsurvey --forget {AGE}")
     print_memory([program, "--forget", AGE], measured)
+    # Without --forget a survey reads no more entries than a log holds.
     print("sipsurvey")
     print_memory([program], [it for it in measured if it <= LOG_HOLDS])
 

@@ -9,9 +9,13 @@ from pathlib import Path
 
 from judge import COUNTED, COUNTED_WIDE, KINDS, check_legal, measured, name_of, small, wide, write_entries, write_log
 
+# What counts the instructions of a program.
 VALGRIND = ["valgrind", "--tool=callgrind", "--callgrind-out-file=/dev/null"]
+# How many transactions a log has that all fall silent at one moment.
 CLIENTS = 100_000
+# How many entries a log has that is timed.
 TIMED = 100_000
+# How often each run is timed: the least time counts.
 ROUNDS = 5
 
 
@@ -77,6 +81,7 @@ def print_silent(programs, folder):
     for log, moment in zip(logs, (550, 551)):
         requests = (("S", 0, small("OPTIONS sip:b@example.com SIP/2.0", "OPTIONS", number)) for number in range(CLIENTS))
         write_entries(log, [*requests, ("M", moment, "")])
+    # By 550 all may be silent, and at 551 all are late at once.
     verdict, *surveys = [commands(programs, logs[0])[0], *(commands(programs, log)[1] for log in logs)]
     (judged, legal, silent), (_, text, found) = seconds_of([verdict, *surveys])
     if not text.startswith(b"end ") or not found.startswith(f"breach {CLIENTS + 1} transaction 1 client OPTIONS ".encode()):

@@ -24,8 +24,11 @@ from pathlib import Path
 sys.dont_write_bytecode = True
 import judge
 
+# The recipe that is timed.
 WATCH = Path(os.environ.get("RECIPES", Path(__file__).resolve().parent.parent / "recipes")) / "watch"
+# How many seconds a run lasts, the seconds of --quiet, and one in how many calls is bad.
 SECONDS, QUIET, BAD = int(os.environ.get("SECONDS", 20)), os.environ.get("QUIET", "100"), int(os.environ.get("BAD", 100))
+# Further words for the recipe.
 OPTIONS = os.environ.get("OPTIONS", "").split()
 
 
@@ -39,6 +42,7 @@ def call(number):
 
 def lines(rate):
     """Seconds from the beginning, and the line without its moment, of all messages."""
+    # A call has five messages (a bad one four), so that one begins each `step` seconds; `due` has the messages still to come.
     step, due = 5 / rate, []
     for number in range(int(SECONDS * rate / 5)):
         while due and due[0][0] <= number * step:
@@ -70,6 +74,7 @@ def half_and_all(delays):
     return "%.0f, %.0f, %.0f (%d over 100)" % (*(1000 * delays[min(len(delays) - 1, int(len(delays) * part))] for part in (0.5, 0.99, 1)), sum(one > 0.1 for one in delays))
 
 
+# A process that sleeps again and again and tells how late it is woken.
 BEAT = """import sys, time
 most, late, before, end = 0, 0, time.time(), time.time() + float(sys.argv[1])
 while before < end:
@@ -132,6 +137,7 @@ def moment_of(one):
 
 def measure(rate, counts):
     """Feeds a watch this many messages a second, and prints how late it told the troubles and what it used."""
+    # `before` and `used` are what child processes took that had ended before the measurement, and after it; the beat is a process that tells how late it is woken.
     before = resource.getrusage(resource.RUSAGE_CHILDREN)
     beat = subprocess.Popen([sys.executable, "-c", BEAT, str(SECONDS)], stdout=subprocess.PIPE)
     fed = Feeding(rate, counts)
@@ -139,14 +145,19 @@ def measure(rate, counts):
     most, stops = beat.communicate()[0].decode().split()
     used = resource.getrusage(resource.RUSAGE_CHILDREN)
     share = (used.ru_utime + used.ru_stime - before.ru_utime - before.ru_stime) / SECONDS
+    # The watch writes its counts as lines NAME VALUE.
     counted = dict(line.rsplit(None, 1) for line in Path(counts).read_text().splitlines()[1:])
     late = counted.get('siptrace_watch{what="late messages"}', "0")
+    # `due` has the branches of the transactions that break, every BAD-th; `told` has the breaches that were told, each with the moment it was heard.
     due = {"z9hG4bK776as%d" % number for number in range(0, int(SECONDS * rate / 5), BAD)}
     told = [(heard, one) for heard, one in fed.said if one["word"] == "breach"]
+    # The moment in the log of each breach, by its number, which its evidence names again.
     moments = {one["trouble"]: moment_of(one) for _, one in told}
+    # How many seconds late each breach was heard: after its entry was written, and after the moment of its entry.
     after_entry = [heard - fed.written.get(moment_of(one), moment_of(one) / 1000) for heard, one in told]
     after_moment = [heard - moment_of(one) / 1000 for heard, one in told]
     evidence = [heard - moments[one["trouble"]] / 1000 for heard, one in fed.said if one["word"] == "evidence" and one["kind"] == "never came"]
+    # `wrong` counts what is neither a breach nor evidence, or is of a branch that is not to break.
     wrong = sum(one["word"] not in ("breach", "evidence") or one.get("branch", next(iter(due))) not in due for _, one in fed.said)
     print("%6d a second for %d s: %3.0f %% of a processor; %d of %d breaches; half, 99 of 100 and all of them told so many ms after their entry was written: %s; "
           "after its moment: %s; with evidence %d: %s; %d wrong; %s messages came late; processes %s; %s MB; load %s; a process that sleeps 10 ms at a time woke %s ms late at most, and %s times more than 100" % (

@@ -12,16 +12,22 @@ import zlib
 
 from sip_lines import SECOND, die
 
+# How many bytes are read at once.
 PIECE = 1 << 20
 MOST_FRAME = 1 << 18  # the longest frame that tcpdump and Wireshark write
+# The longest block of pcapng that is read, and the most interfaces.
 MOST_BLOCK = 1 << 24
 MOST_INTERFACES = 1 << 16
 MICROSECONDS, NANOSECONDS = 10**6, 10**9  # how many there are in a second
+# How a file of pcap begins: its byte order, and how many of its units of time are in a second.
 PCAP = {b"\xd4\xc3\xb2\xa1": ("<", MICROSECONDS), b"\xa1\xb2\xc3\xd4": (">", MICROSECONDS),
         b"\x4d\x3c\xb2\xa1": ("<", NANOSECONDS), b"\xa1\xb2\x3c\x4d": (">", NANOSECONDS)}
+# How a file of pcapng begins.
 PCAPNG = b"\x0a\x0d\x0d\x0a"
 LINK = 0x3FFFFFF  # the bits above these tell of frame check sequences
+# The kinds of blocks of pcapng that are read.
 SECTION, INTERFACE, OLD_PACKET, SIMPLE_PACKET, PACKET = 0x0A0D0D0A, 1, 2, 3, 6
+# The byte order of a section, by its mark.
 BYTE_ORDER = {b"\x4d\x3c\x2b\x1a": "<", b"\x1a\x2b\x3c\x4d": ">"}
 TIME_RESOLUTION, TIME_OFFSET = 9, 14  # the options of an interface that are read
 
@@ -94,6 +100,7 @@ class Pcap:
 
     def frames(self):
         """The packets of a pcap file, each as the numbers that say where it lies."""
+        # `window` is the part of the file that was read, and `at` the place of the next packet in its bytes.
         window, read, link, scale, number = self.window, self.header.unpack_from, self.link, SECOND // self.units, 0
         while window.has(16 + self.length_of_next(number)):
             data, at = window.data, window.at
@@ -124,6 +131,8 @@ class Interface:
     """What a block of a pcapng says of an interface."""
 
     def __init__(self, order, block):
+        # The link stands after 8 bytes of kind and length, and the options begin at 16, each with a code, a length and a value. The block ends with its
+        # length once more, in 4 bytes.
         self.link, = struct.unpack_from(order + "H", block, 8)
         self.units, self.offset, at = MICROSECONDS, 0, 16
         while at + 4 <= len(block) - 4:

@@ -10,6 +10,7 @@ from capture_network import Datagrams
 from capture_notes import Notes
 from sip_lines import die, nanoseconds, read_lines, say
 
+# The recipe that reads what tshark tells of a capture.
 FROM_TSHARK = os.path.join(os.path.dirname(os.path.realpath(__file__)), "from-tshark")
 
 

@@ -11,19 +11,25 @@ from capture_file import Unread
 from capture_notes import CUT, LACKS_FRAGMENTS, TLS, TLS_RECORDS, WRONG_LENGTH
 from sip_lines import looks_like_sip
 
+# The kinds of Ethernet frames of IP, and of those with a VLAN's tag.
 IPV4, IPV6 = 0x0800, 0x86DD
 VLANS = (0x8100, 0x88A8, 0x9100)
 CARRIERS = {0x8864: "PPPoE", 0x8847: "MPLS", 0x8848: "MPLS"}  # kinds of Ethernet frames that have IP inside
 FAMILIES = {2: IPV4, 10: IPV6, 24: IPV6, 28: IPV6, 30: IPV6}  # kinds of a loopback device, by system
+# The protocols inside IP that are told apart.
 ICMP, TCP, UDP, ICMPV6 = 1, 6, 17, 58
 TUNNELS = {4: "tunnels", 41: "tunnels", 47: "tunnels"}  # protocols inside IP: IPv4 and IPv6, and GRE
 TUNNEL_PORTS = (1701, 2152, 3544, 4789, 6081, 8472, 37008)  # ports of L2TP, GTP, Teredo, VXLAN, Geneve, VXLAN and TZSP
+# The headers of IPv6 that may stand before that of a protocol.
 HOP_BY_HOP, ROUTING, FRAGMENT, AUTHENTICATION, DESTINATION = 0, 43, 44, 51, 60
 EXTENSIONS = (HOP_BY_HOP, ROUTING, FRAGMENT, AUTHENTICATION, DESTINATION)
+# The types of ICMP that say that something was not reached.
 UNREACHABLE = {ICMP: 3, ICMPV6: 1}
+# The fields of headers that are read.
 IPV4_HEADER = struct.Struct(">BxHHHBBxx4s4s")
 IPV6_HEADER = struct.Struct(">IHBB16s16s")
 UDP_HEADER = struct.Struct(">4sHxx")
+# How many flows are told apart, how many datagrams wait for fragments, and how long a datagram may be.
 MOST_FLOWS, MOST_WAITING, MOST_DATAGRAM = 1 << 16, 1 << 10, 65_535
 
 
@@ -91,6 +97,7 @@ def on_raw(frame):
     return (IPV6 if frame[:1] >= b"\x60" else IPV4), 0
 
 
+# What reads a frame, by the type of its link.
 LINKS = {0: on_loopback, 1: on_ethernet, 12: on_raw, 14: on_raw, 101: on_raw, 108: on_loopback, 113: on_cooked, 228: on_raw, 229: on_raw, 276: on_cooked_2}
 
 
@@ -103,6 +110,7 @@ def ordinary(before, kind):
     return beginning, kind, beginning.size - 26
 
 
+# How ordinary frames are read, by the number of their link.
 ORDINARY = {1: ordinary("12x2s", b"\x08\0"), 113: ordinary("14x2s", b"\x08\0"), 276: ordinary("2s18x", b"\x08\0"), 0: ordinary("4s", b"\2\0\0\0"),
             12: ordinary("0s", b""), 101: ordinary("0s", b""), 228: ordinary("0s", b"")}
 NONE = ordinary("0s", None)  # links of any other type have no ordinary frame
@@ -141,8 +149,11 @@ def behind_extensions(packet):
     while protocol in EXTENSIONS and not fragment:
         if len(data) < at + 8:
             return None
+        # The second byte says how long a header is: an authentication header in units of 4 bytes, less 2; any other one in units of 8, less 1.
         length = 4 * (data[at + 1] + 2) if protocol == AUTHENTICATION else 8 if protocol == FRAGMENT else 8 * (data[at + 1] + 1)
         if protocol == FRAGMENT:
+            # The upper 13 bits of `place` are the offset in units of 8 bytes, so that with the others cleared they are bytes; the last bit says whether
+            # more follow. A fragment that has neither is the whole packet.
             place, identification = struct.unpack_from(">HI", data, at + 2)
             fragment = (identification, place & 0xFFF8, bool(place & 1)) if place & 0xFFF9 else None
         protocol, at = data[at], at + length
@@ -218,22 +229,27 @@ class Datagrams:
 
     def among(self, frames):
         """The datagrams of these frames. An ordinary frame is read at once, and any other one step by step."""
+        # `beginning` unpacks the headers of an ordinary frame of this link at once; `offset` says how long the link's own header is.
         flows, number, moment, last_link, beginning, ordinary_kind, offset = self.flows, 0, None, None, None, b"", 0
         try:
             for number, moment, link, data, begin, end, is_cut in frames:
                 if link != last_link:
                     last_link, (beginning, ordinary_kind, offset) = link, ORDINARY.get(link, NONE)
+                # An ordinary frame is of IPv4 without options (0x45), of UDP, no fragment (0x3FFF) and whole.
                 if end - begin >= beginning.size:
                     kind, first, total, fragment, ttl, protocol, key, length = beginning.unpack_from(data, begin)
                     at = begin + offset
                     if (kind == ordinary_kind and first == 0x45 and protocol == UDP and not fragment & 0x3FFF and 8 < length <= total - 20 and at + total <= end
                             and not is_cut):
+                        # The payload stands after 20 bytes of IPv4 and 8 of UDP. `flows` has the ends for the bytes of a frame that have the addresses and the ports (`key`).
                         ends, payload = flows.get(key) or self.flow(key, key[:4], key[4:8], key[8:]), data[at + 28:at + 20 + length]
                         if ttl != ends.ttl:
+                            # A message that came with another TTL may be one that was seen twice.
                             self.hear_ttl(ends, ttl, payload)
                         if not ends.is_tunnel or self.is_no_tunnel(payload):
                             yield number, moment, ends, payload
                         continue
+                # Any other frame is read header by header.
                 one = self.datagram(number, link, data[begin:end], is_cut)
                 if one:
                     yield number, moment, *one
@@ -308,6 +324,7 @@ class Datagrams:
 
     def tcp(self, packet):
         """Looks at a segment of TCP. Where it has data tshark has to read it, unless it is of TLS, whose messages nobody can read without the keys."""
+        # The first four bytes of the header are the ports, and the upper half of byte 12 its length in units of 4 bytes.
         header = packet.data[:20]
         data = packet.data[4 * (header[12] >> 4):] if len(header) == 20 else b""
         if not data:
@@ -321,6 +338,7 @@ class Datagrams:
 
     def refusal(self, number, packet):
         """Finds which datagram a packet of ICMP says was refused."""
+        # The refused packet stands after the 8 bytes of the ICMP header, as much of it as the refusal has.
         refused = packet_in(IPV4 if packet.protocol == ICMP else IPV6, packet.data, 8)
         if refused and refused.protocol == UDP and len(refused.data) >= UDP_HEADER.size:
             ports, length = UDP_HEADER.unpack_from(refused.data)

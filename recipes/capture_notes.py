@@ -10,6 +10,7 @@ MOST_REFUSALS = 1 << 16  # how many refusals are kept one by one
 
 TLS_RECORDS = (b"\x14\x03", b"\x15\x03", b"\x16\x03", b"\x17\x03")  # how a record of TLS begins, by its kind
 
+# What is told of packets, each with its count before it.
 CUT = "UDP packets were cut when they were captured, and are left out: capture with -s 0"
 LACKS_FRAGMENTS = "datagrams lack fragments, as with a capture filter by port: capture `udp or tcp or ip6` or all"
 HOLES = "streams have a hole, and what stands after it is left out"

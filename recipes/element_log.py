@@ -12,6 +12,7 @@ from typing import NamedTuple, Optional
 from sip_lines import (MILLISECOND, MOST_BYTES, MOST_ENTRIES, RESTART, SECOND, Times, branch_of, code_of, cseq, die, entry, is_response, looks_like_sip, mark,
                        method_of, nanoseconds, part_of, read_lines, say, seconds_of)
 
+# What is told of messages that were moved by --skew.
 MOVED = "received messages moved after a send that they crossed"
 PATIENCE = SECOND  # how far a message may stand after a later one
 
@@ -78,6 +79,7 @@ def in_order(messages, out_of_order):
     """The messages by their moments. Those with one moment stay as they came. Most stand in order and wait in a queue, and only the late ones
     in a heap. Where one stands after a later one by more than PATIENCE, the script ends with the words of `out_of_order`."""
     queue, heap, late = deque(), [], 0
+    # `given` is the moment of the last message that was handed on, and up to `patient` no later one is waited for.
     newest = given = patient = float("-inf")
     for message in messages:
         moment = message.moment
@@ -89,6 +91,7 @@ def in_order(messages, out_of_order):
         else:
             late += 1
             heapq.heappush(heap, (moment, late, message))
+        # The first of both, the queue and the heap, is handed on while it is old enough.
         while queue[0].moment <= patient or heap and heap[0][0] <= patient:
             first = heapq.heappop(heap)[2] if heap and heap[0][0] < queue[0].moment else queue.popleft()
             given = first.moment
@@ -111,6 +114,7 @@ def once_each(messages, span, told):
             moment, old = recent.popleft()
             if seen[old] == moment:
                 del seen[old]
+        # The letter, the bytes and both ends.
         same = message[1:5]
         if same in seen:
             told["copies"] += 1
@@ -152,6 +156,7 @@ def placed(number, message, later, skew):
             if other.letter == "Z":
                 break
             if other.moment - message.moment <= skew and crossed(message, other):
+                # Its place is after that send, and before what comes next.
                 place, moment, seconds = other_number + 0.5, other.moment, other.seconds
     return place, number, message._replace(moment=moment, seconds=seconds)
 
@@ -208,15 +213,18 @@ def write(out, messages, start, making):
     """Writes the log, and the side file where one is named. Answers the number of its entries."""
     side = side_file(making.side) if making.side else None
     out.write(making.times.header())
+    # `count` and `moment` are those of the newest entry.
     count = moment = 0
     for message in messages:
         moment, count = int((message.moment - start) // MILLISECOND), count + 1
         out.write(entry(message.letter, moment, message.data))
         if side and message.data:
+            # The side file has the seconds as the lines spell them, where they came in lines.
             seconds = seconds_of(message.moment) if message.seconds is None else message.seconds
             side.write("%d %d %s %s %s %s\n" % (count, moment, seconds, message.source, message.target, message.place or "-"))
         if count == MOST_ENTRIES + 1:
             say("this log has more than %d entries: cut it with split-by-branch, or use by-branch" % MOST_ENTRIES)
+    # A mark at the end tells how long the element lived on.
     if making.tail is not None:
         moment += making.tail
     if making.end is not None:
@@ -232,6 +240,7 @@ def write(out, messages, start, making):
 def make(seen, element, out, making, told):
     """Makes the log of an element from what was seen. Answers the number of its entries, or None where nothing was seen of the element and the log is no part.
     `told` counts what is left out or moved."""
+    # Each step takes the messages of the one before: those of the part, restarts between them, each once, and from the start on.
     messages = messages_of(element, seen, making.has_restarts, told)
     messages = in_order(of_part(messages, *making.part) if making.part else messages, making.out_of_order)
     messages = with_restarts(messages, making.restarts) if making.restarts else messages

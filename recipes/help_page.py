@@ -11,9 +11,13 @@ import sys
 import textwrap
 from itertools import groupby
 
+# The folder of the recipes.
 FOLDER = os.path.dirname(os.path.realpath(__file__))
+# How the name of a recipe begins where the package is installed.
 PREFIX = "siptrace-"
+# How wide a page is at most.
 MOST_COLUMNS = 100
+# The files beside the recipes that pages name, and a part of a page that they name.
 FILE = re.compile(r"(?<![\w./-])(schema/\w+\.json|siptrace\.lua|from-siptrace-db\.sql)")
 SECTION = re.compile(r"README\.md, `[^`]*`")
 

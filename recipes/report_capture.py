@@ -17,6 +17,7 @@ from capture_messages import Reading
 from element_log import make, seen_in_lines
 from sip_lines import MILLISECOND, Element, Log, die, entry, keys_of, looks_like_sip, nanoseconds
 
+# The folder of the recipes.
 HERE = os.path.dirname(os.path.realpath(__file__))
 TWICE = MILLISECOND  # within this time a message with the same bytes and ends is a packet that was seen twice
 MOST_TWICE = 0.05  # the share of all messages from which on packets are taken to have been seen twice
@@ -66,6 +67,7 @@ class Capture:
 
     def count_messages(self, reading, progress):
         """Counts the messages of each flow, and those that were seen twice. Where a reading is given, only the messages before tshark's are counted."""
+        # `recent` has the hashes of the messages seen within TWICE, and `moments` when each of them was seen, the oldest first.
         self.flows, self.count, self.twice = {}, 0, 0
         flows, recent, moments = self.flows, set(), deque()
         for _, moment, source, target, data, *_ in reading.messages(False) if reading else self.messages():
@@ -153,9 +155,11 @@ def write_log(capture, name, path, making, told):
 def refused_sends(refusals, path, element):
     """The entries that ICMP says were refused, and after which their transaction sent nothing more: the element took the refusals for errors of its transport.
     An element that went on took no notice."""
+    # A refusal is known by both ends and the length of what was refused.
     ends = {(source, target, length) for _, source, target, length in refusals if element.has(source)}
     if not ends:
         return set()
+    # `sends` has the sent messages by ends and length, and `last` the last entry that each transaction sent.
     sends, last = {}, {}
     with open(path + ".side") as side:
         for number, letter, _, data in Log(path):
@@ -168,6 +172,7 @@ def refused_sends(refusals, path, element):
                 if (source, target, len(data)) in ends:
                     sends.setdefault((source, target, len(data)), []).append((int(place), number, key[0]))
     found = set()
+    # A refusal belongs to the last such message before it, and counts where its transaction sent nothing after that.
     for packet, *of in refusals:
         alike = sends.get(tuple(of), [])
         at = bisect_left(alike, (packet,)) - 1  # the last such message before the refusal

@@ -4,8 +4,11 @@ from typing import NamedTuple, Optional
 
 from report_page import shown, tag
 
+# The lengths of a ladder, in pixels: its left edge, a window's width, its top, and the breadth of a lane and of a row.
 LEFT, WINDOW, TOP, LANE, ROW = 84, 17, 46, 250, 34
+# How many windows and lanes a ladder has at most.
 MOST_WINDOWS, MOST_LANES = 6, 5
+# The letters by which the windows of a ladder are named.
 LETTERS = "abcdef"
 CHARACTER = 6.6  # about how wide a character is
 
@@ -75,6 +78,7 @@ class Ladder:
         if one.source not in self.x or one.target not in self.x:
             return
         start, end = self.x[one.source], self.x[one.target]
+        # The head of the arrow has this width, to the side from which the line comes. A refused message ends halfway.
         side = 9 if start < end else -9
         if one.is_refused:
             end = (start + end) / 2

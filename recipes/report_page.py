@@ -1,6 +1,7 @@
 """HTML for a report: elements in which nothing of a message is markup, and the page around them. No script, and nothing from elsewhere."""
 import html
 
+# The style of the page.
 STYLE = """
 :root{--paper:#fff;--ink:#1b1f24;--soft:#57606a;--line:#d0d7de;--box:#f6f8fa;--bad:#b3001b;--badbox:#ffeef0;--must:#8a4b00;--mustbox:#ffd9a0;
 --may:#0a5a8a;--maybox:#cfe8fa;--good:#116329;color-scheme:light dark}
@@ -26,6 +27,7 @@ svg .may{fill:var(--maybox);stroke:var(--may);stroke-width:1.5;stroke-dasharray:
 @media print{body{max-width:none;padding:0;font-size:10pt}.scroll{overflow:visible}td:first-child{white-space:normal}section{break-before:page}figure,.say,tr,li{break-inside:avoid}a{color:inherit;text-decoration:none}pre{font-size:8pt}
 svg{max-height:22cm;max-width:100%;width:auto}}
 """
+# What a browser may load for the page: nothing but its own styles.
 POLICY = "default-src 'none'; style-src 'unsafe-inline'; base-uri 'none'; form-action 'none'"
 
 

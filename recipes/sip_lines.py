@@ -18,18 +18,23 @@ from typing import NamedTuple
 
 from help_page import shown
 
+# The limits of a log: its entries, the bytes of a message, and a tolerance in milliseconds.
 MOST_ENTRIES = 1_000_000
 MOST_BYTES = 65_535
 MOST_TOLERANCE = 10_000
+# How a branch begins that is unique (RFC 3261 section 8.1.1.7), in lower case.
 COOKIE = b"z9hg4bk"
+# The letters of entries.
 LETTERS = ("S", "R", "F", "M", "Z")
 SILENT = ("M", "Z")  # the letters of entries without a message
+# What stands in place of the target in a line that tells a restart.
 RESTART = "restart"
 MOST_KNOWN = 1 << 16  # how many pairs of ends are kept
 PIECE = 1 << 16  # how many bytes are read or written at once
 SECOND, MILLISECOND = 10**9, 10**6  # how many nanoseconds they have
 
 ORDINARY_START = re.compile(rb"(?:SIP/2\.0 [1-6]|[A-Z]+ [^\s]+ SIP/2\.0\r)[^\n]*\n")  # the first line of most messages; START_LINE takes all
+# The start line of a message, a later one within a payload, a Content-Length, a quoted string, and a fold.
 START_LINE = re.compile(rb"\A(?:SIP/\d[^\r\n]*|[^\s]+ [^\r\n]*SIP/\d+\.\d+[ \t]*)[\r\n]", re.I)
 LATER_START = re.compile(rb"\r\n(?=SIP/2\.0 \d{3} |[^\s]+ [^\s]+ SIP/2\.0\r\n)", re.I)
 LENGTH = re.compile(rb"\r\n(?:content-length|l)[ \t]*:[ \t]*(\d+)", re.I)
@@ -88,6 +93,7 @@ def waits(number):
 
 def lines_as_they_come(file, idle):
     """The lines of a file as bytes. `idle` is called each time before more has to be waited for."""
+    # `begun` has the pieces of a line whose end has not come yet. A line goes from `begin` up to `end` in the newest piece.
     number, begun = file.fileno(), []
     while True:
         if waits(number):
@@ -265,9 +271,11 @@ def keys_of(letter, data):
     responding = is_response(data)
     method = cseq(data)[1] if responding else method_of(data)
     method = b"INVITE" if method == b"ACK" and not responding else method
+    # Who sends a response, or receives a request, is the server.
     if (letter in "SF") == responding:
         return [("server", branch, sent_by_of(data), method)]
     key = ("client", branch, b"", method)
+    # A CANCEL that a client sends concerns the transaction of its INVITE too.
     is_cancel = letter in "SF" and method == b"CANCEL"
     return [key, key[:3] + (b"INVITE",)] if is_cancel else [key]
 
@@ -328,6 +336,7 @@ class Times(NamedTuple):
         return "tolerance %d" % self.late if self.early == self.late else "early %d, late %d" % (self.early, self.late)
 
 
+# The first two lines of a log, and the line of rules.
 HEADER = re.compile(rb"sip-trace (?:1\nt1 (\d+) t2 (\d+) t4 (\d+) tolerance (\d+)|2\nt1 (\d+) t2 (\d+) t4 (\d+) early (\d+) late (\d+))\n")
 RULES = re.compile(rb"rules (3261|6026)\n")
 
@@ -356,6 +365,7 @@ class Log:
         while self.line:
             number, words = number + 1, self.line.split()
             letter = words[0].decode("latin-1") if words else ""
+            # An entry with a message has a third word, its length. The message and a line feed follow the line.
             has_message = letter not in SILENT
             if letter not in LETTERS or len(words) != 2 + has_message or letter == "Z" and self.times.format == 1:
                 die("entry %d cannot be read: see `siptrace check`" % number, 2)

@@ -5,6 +5,7 @@ from sip_lines import die, surveyor
 
 RANKS = {"malformed": 0, "breach": 1, "undecided": 2}  # findings of one entry stand in this order
 FOUND, UNDECIDED, STOPPED, NO_ANSWER = 1, 3, 2, 4  # statuses of a survey
+# Into how many parts a log may be cut.
 MOST_PARTS = 100_000
 
 

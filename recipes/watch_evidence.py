@@ -8,7 +8,9 @@ from collections import deque
 
 AT_ONCE = 2  # how many processes there are
 MOST_WAITING = 1_000  # how many troubles may wait for their evidence
+# What is told of a trouble whose evidence was not looked for.
 NOT_LOOKED_FOR = "Not looked for: too many troubles came at once."
+# How much less the processes that look for evidence take of the processor.
 NICE = 10
 
 
@@ -90,6 +92,7 @@ def evidence(question):
     from evidence.data import evidence_of
     from evidence.side import Side
     from evidence.text import text_of
+    # `told` is the evidence of the kept log, which has to show the same trouble of the same transaction.
     told = evidence_of(question["log"], Side(question["log"] + ".side", False))
     transaction = told.get("transaction", {})
     if told["word"] != question["word"] or transaction and (transaction["role"], transaction["method"]) != (question["role"], question["method"]):
@@ -101,6 +104,7 @@ def main():
     from evidence.asking import real_program
     os.nice(NICE)
     os.environ["SIPTRACE"] = real_program()  # so that the program is looked for once
+    # Each line of the standard input is a question, and its answer is a line of JSON.
     for line in sys.stdin.buffer:
         try:
             answer = evidence(json.loads(line))

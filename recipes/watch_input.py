@@ -8,7 +8,9 @@ from sip_lines import SECOND
 
 PIECE, PIPE = 1 << 18, 1 << 20  # how many bytes are read at once, and how many may wait to be read
 PASS = SECOND // 2  # after a pass that took longer, nobody knows that nothing came
+# How long the longest delay of a line is remembered.
 REMEMBERED = 30 * SECOND
+# The longest delay of a line that counts.
 MOST_LAG = 10 * SECOND
 STEP = SECOND // 100  # the clock differs by so much where it was set, and not where it was not
 GONE_BACK = 10  # after so many lines in a row that lie further back than the most lag, their clock was set

@@ -5,6 +5,7 @@ from array import array
 
 from sip_lines import MOST_ENTRIES, die, entry, surveyor
 
+# How many bytes are read at once.
 PIECE = 1 << 16
 MARK = 50  # how many milliseconds may pass without an entry
 MOST_UNWRITTEN = 1 << 20  # how many bytes may wait for the program before no more input is read

@@ -1,6 +1,7 @@
 """Frames and captures made by hand for the tests, by the standards and by nothing of the recipes."""
 import struct
 
+# A message, a long one, and the addresses of two elements.
 TEXT = b"OPTIONS sip:b@example.com SIP/2.0\r\nVia: SIP/2.0/UDP a;branch=z9hG4bK1\r\n\r\n"
 LONG = TEXT[:-2] + b"Subject: " + b"x" * 3000 + b"\r\n\r\n"
 FOUR, SIX = (b"\x0a\x00\x00\x01", b"\x0a\x00\x00\x02"), (bytes(15) + b"\x01", b"\x20\x01\x0d\xb8" + bytes(11) + b"\x02")

@@ -7,6 +7,7 @@ import subprocess
 import sys
 from pathlib import Path
 
+# The folder of the checkout, and that of the pages of the standard.
 TOP = Path(__file__).resolve().parent.parent
 PAGES = TOP / "docs/standard"
 # The status of the program by the first words of what it says last.

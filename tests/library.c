@@ -1,11 +1,11 @@
 /* Calls libsiptrace on the log in each file that it is given, with each growth of memory refused in turn.
 
-     library judge FILE..    a line for each log: how many growths are refused, and the numbers of its verdict
-     library survey FILE..   a line for each log: how many growths are refused, and the numbers of its summary. Before, each log is surveyed with room
-                             for none of its findings, for one, and so on up to two more than it has
+     library judge FILE..    a line for each log: how many refused growths the call answers with SIPTRACE_NO_MEMORY, and the numbers of its verdict
+     library survey FILE..   a line for each log: the same of a survey, with the numbers of its summary. Before, each log is surveyed with room for none
+                             of its findings, for one, and so on up to two more than it has
 
-   The status is 1 where a refused growth is not answered so, or changes what it was given, where a call keeps memory, or where another part of the
-   room is written than what the call says. */
+   std does without some growths that are refused; such a call gives its whole answer. The status is 1 where a call with a refused growth answers
+   anything else or changes what it was given, where a call keeps memory, or where another part of the room is written than what the call says. */
 #include "siptrace.h"
 
 #include <fcntl.h>
@@ -25,6 +25,7 @@ extern void __libc_free(void *old);
 static long before_refusal, growths, held;
 static int is_counting;
 
+/* Whether the growth that is asked for is the one to refuse. Only growths within a call are counted. */
 static int is_refused(void) { return is_counting && growths++ == before_refusal; }
 
 void *malloc(size_t size) {
@@ -49,6 +50,7 @@ void free(void *old) {
 /* Numbers that no call tells, which stand where a call has written nothing. */
 static const struct siptrace_verdict untold = {77, 77, 77, 77, 77, 77, 77, 77};
 
+/* Whether no call has written to the verdict. */
 static int is_as_it_was(const struct siptrace_verdict *it) {
   return it->kind == 77 && it->entries == 77 && it->transactions == 77 && it->entry == 77 && it->transaction == 77 && it->reason == 77 &&
          it->unit == 77 && it->line == 77;
@@ -56,6 +58,7 @@ static int is_as_it_was(const struct siptrace_verdict *it) {
 
 static const struct siptrace_seed seed = {{1, 2, 3, 4, 5, 6, 7, 8, 9, 10, 11, 12, 13, 14, 15, 16}};
 
+/* Judges a log with each growth refused in turn, and prints the line of the log. The answer is 1 where something is not as it should be. */
 static int judge_with_refusals(const char *path, const uint8_t *log, size_t length) {
   long refused = 0;
   for (before_refusal = 0;; before_refusal++) {
@@ -87,19 +90,24 @@ static int judge_with_refusals(const char *path, const uint8_t *log, size_t leng
 /* A call tells at most so many findings here, and has room for two more. */
 enum { MOST_FINDINGS = 4096, MORE_ROOM = 2 };
 
+/* A summary that no call gives, which stands where a call has written nothing. */
 static const struct siptrace_summary unsaid = {77, 77, 77, 77, 77, 77};
 
+/* Whether no call has written to the summary. */
 static int is_unsaid(const struct siptrace_summary *it) {
   return it->findings == 77 && it->end == 77 && it->entries == 77 && it->transactions == 77 && it->entry == 77 && it->reason == 77;
 }
 
+/* Whether two verdicts are the same. */
 static int are_alike(const struct siptrace_verdict *a, const struct siptrace_verdict *b) {
   return a->kind == b->kind && a->entries == b->entries && a->transactions == b->transactions && a->entry == b->entry &&
          a->transaction == b->transaction && a->reason == b->reason && a->unit == b->unit && a->line == b->line;
 }
 
+/* The findings of a call with room for all, and those of another call. */
 static struct siptrace_verdict whole[MOST_FINDINGS + MORE_ROOM], part[MOST_FINDINGS + MORE_ROOM];
 
+/* Makes all places as they are where no call has written. */
 static void clear(struct siptrace_verdict *findings) {
   for (size_t at = 0; at < MOST_FINDINGS + MORE_ROOM; at++) findings[at] = untold;
 }
@@ -123,6 +131,7 @@ static int is_part(const uint8_t *log, size_t length, size_t room, const struct 
          said.entry == summary->entry && said.reason == summary->reason;
 }
 
+/* Surveys a log with room for all findings, and then for none, one and so on. The answer is 1 where the calls differ. */
 static int survey_in_rooms(const char *path, const uint8_t *log, size_t length) {
   struct siptrace_summary summary = unsaid;
   clear(whole);
@@ -138,6 +147,7 @@ static int survey_in_rooms(const char *path, const uint8_t *log, size_t length) 
   return 0;
 }
 
+/* Surveys a log with each growth refused in turn, and prints the line of the log. The answer is 1 where something is not as it should be. */
 static int survey_with_refusals(const char *path, const uint8_t *log, size_t length) {
   long refused = 0;
   if (survey_in_rooms(path, log, length)) return 1;

@@ -1,7 +1,8 @@
 """The notation of small logs, in which each word is an entry. The times are those of RFC 3261 table 4, and the tolerance is 50 ms.
 
   'S 0 REGISTER b'            the request REGISTER with the branch z9hG4bKb, sent at moment 0; with F its send was refused
-  'R 700 REGISTER b 200'      the response 200 to it, received at moment 700. An ACK has the To of a response
+  'R 700 REGISTER b 200'      the response 200 to it, received at moment 700. Responses have a tag in To, and an
+                              ACK has the same one
   'M 6000'                    the log has reached moment 6000
   'Z 6000'                    the element was started anew
   ': M 0\\n'                   this text, in which \\n is a line feed
@@ -23,11 +24,14 @@ import re
 import subprocess
 from pathlib import Path
 
+# The times of a log, and the folder of messages that logs name.
 TIMES = "t1 500 t2 4000 t4 5000"
 MESSAGES = Path(__file__).resolve().parent / "worked/messages"
+# How the notation spells repeats, escapes and moments.
 REPEATED = re.compile(r"\{([^{}]*)\*(\d+)(?:\.\.(\d+))?\}")
 ESCAPE = re.compile(r"\\([\\nrt]|x[0-9a-fA-F]{2})")
 MOMENTS = re.compile(r"\d+(?:(?:\.\.|\*)\d+)?(?:,\d+(?:(?:\.\.|\*)\d+)?)*")
+# The escapes of one letter, and what each stands for.
 SIGNS = {"\\": "\\", "n": "\n", "r": "\r", "t": "\t"}
 
 
@@ -120,6 +124,7 @@ class Log:
     def add(self, word):
         """Adds what one word of a row says: an entry, some messages, the rules, or an order."""
         letter, _, rest = word.partition(" ")
+        # A text of its own, the rules, messages of another set, the order by moments, and a cut.
         if letter == ":":
             self.entries.append((None, unescaped(rest)))
         elif letter == "rules":
@@ -130,6 +135,7 @@ class Log:
             self.order()
         elif letter == "cut":
             self.header, self.entries = self.bytes()[: int(rest)], []
+        # A mark or a restart, at one or more moments; and messages that were sent, received or refused.
         elif letter in ("M", "Z"):
             self.entries += [(moment, f"{letter} {moment}\n".encode()) for moment in moments_of(rest)]
         elif letter in ("S", "R", "F"):
@@ -158,6 +164,7 @@ class Log:
 
     def texts(self, rest, count):
         """The messages that these words tell, for this many entries."""
+        # The words are `=NAME CHANGE`, or `METHOD BRANCH CODE CHANGE`, of which code and change may be missing.
         first, _, rest = rest.partition(" ")
         if first.startswith("="):
             return [changed(self.named(first[1:]), rest)] * count

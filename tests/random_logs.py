@@ -6,6 +6,7 @@ from typing import NamedTuple
 
 from notation import message
 
+# The letters of entries without a message.
 SILENT = ("M", "Z")
 
 
@@ -24,6 +25,7 @@ class Entry(NamedTuple):
         return line + b"\n" if self.letter in SILENT else b"%s %d\n%s\n" % (line, len(self.data), self.data)
 
     def mark(self):
+        """The entry of a mark at the moment of this one."""
         return Entry("M", self.moment)
 
 
@@ -95,6 +97,7 @@ class Story:
         """A client's INVITE with what follows it."""
         chance = self.chance
         answer = self.start + chance.choice([5, 300, 700, 2000, 40_000])
+        # Timer A doubles without a bound, and timer B may end it all 64 times T1 later, less 50.
         self.repeated("INVITE", self.start, min(answer, self.start + 31_950), 1 << 20)
         self.add("R", answer, "INVITE", chance.choice([100, 180]))
         final = answer + chance.choice([10, 1000])
@@ -129,6 +132,7 @@ class Story:
         if chance.random() < 0.5:
             self.add("S", final, "INVITE", 200)
             return
+        # By timer G the 486 is sent again until its ACK came, but over TCP.
         moment, interval, acked = final, 500, final + chance.choice([40, 700, 2200])
         while moment < acked:
             self.add("S", moment, "INVITE", 486)
@@ -176,18 +180,22 @@ def damaged(chance, one):
 def random_log(seed, number):
     """The random log with this number, by the seed."""
     chance = random.Random(f"{seed} {number}")
+    # Every fiftieth log is of a wide transaction, whose tolerances are the greatest.
     is_wide = number % 50 == 0
     early, late = (10_000, 10_000) if is_wide else chance.choice([(50, 50)] * 4 + [(0, 0), (0, 100), (100, 0), (10, 10)])
     of_two = early != late or chance.random() < 0.4
+    # Where the tolerances differ the log is of format 2; else it is of either.
     tolerance = f"early {early} late {late}" if of_two else f"tolerance {early}"
     rules = chance.choice(["", "", "rules 6026\n", "rules 3261\n"])
     header = f"sip-trace {2 if of_two else 1}\nt1 500 t2 4000 t4 5000 {tolerance}\n{rules}".encode()
     entries, branches = [], [f"b{place}" for place in range(chance.choice([1, 2, 3, 4]))]
+    # Each story is of a transaction of some kind, and is then spoiled at some place.
     for place in range(chance.choice([1, 2, 3, 4, 5])):
         story = Story(chance, late, early, chance.choice(branches), chance.choice([0, 0, 100, 549, 2000, 33_000]))
         kinds = [story.plain_client, story.invite_client, story.plain_server, story.invite_server]
         (story.wide_server if is_wide and not place else chance.choice(kinds))()
         entries += story.spoil()
+    # Marks and restarts among the entries, and a mark at the end.
     last = max((one.moment for one in entries), default=0)
     entries += [Entry("M", chance.randint(0, last + 700)) for _ in range(chance.choice([0, 1, 2]))]
     if of_two and chance.random() < 0.3:

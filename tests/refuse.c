@@ -4,6 +4,7 @@
 extern void *__libc_malloc(size_t size);
 extern void *__libc_realloc(void *old, size_t size);
 
+/* Counts one growth more, and tells whether it is the one to refuse. */
 static int is_refused(void) {
   static long growth;
   const char *refused = getenv("REFUSED_GROWTH");

@@ -10,6 +10,7 @@ from random_logs import SILENT, random_log
 
 PATIENCE = 60  # seconds for which a program may be silent
 ENVIRONMENT = dict(os.environb)  # posix_spawn would decode and encode os.environ at each call
+# A CANCEL, wherever it stands in a message.
 CANCEL = re.compile(rb"(?<![\w-])CANCEL")
 
 
@@ -124,6 +125,7 @@ class Expected:
 
     def lines(self, said):
         """The lines of the survey. Where no verdict tells of a transaction, the line that the survey says is taken, if it can be right."""
+        # At one entry a fault stands first, then breaches and then what is undecided, by the numbers of their transactions.
         found = [((number, 0, 0), line) for number, line in self.faults()]
         for key, at in self.unknown.items():
             told = [line.split() for line in said if line.split()[2:4] == ["transaction", str(self.numbers[key])]]
@@ -165,6 +167,7 @@ def shares_faults(surveyor, told, log, lines, count):
     """The faults of the surveys of the parts of a log, beside that of the whole: each finding of a transaction has to be told by its part, under its number
     among the transactions of the part, and each malformed message by one part."""
     keys, wanted, malformed = sorted(numbers_of(log), key=numbers_of(log).get), defaultdict(list), []
+    # `ranks` has the number of each transaction among those of its part.
     ranks = {key: [share_of(it, count) for it in keys[:at + 1]].count(share_of(key, count)) for at, key in enumerate(keys)}
     for line in lines[:-1]:
         word, entry, rest = line.split(" ", 2)
@@ -187,20 +190,24 @@ def faults_of(judge, surveyor, number, log):
     told = f"random log {number}"
     if not lines:
         return [f"{told}: nothing is said, status {status}"], []
+    # `wanted` are the lines that follow from the verdicts of the branches, each judged alone.
     expected = Expected(judge, log)
     wanted, faults = expected.lines(lines), []
     if lines != wanted or status != status_of_survey(wanted):
         faults.append(f"{told}: wanted {wanted}\n  says {lines}, status {status}")
+    # The first finding is the verdict of the whole.
     verdict = judge.says(log.bytes())[0][0]
     first = verdict_in(lines[0]) if not lines[0].startswith("end ") else f"legal {lines[0].removeprefix('end ').removesuffix(' findings 0')}"
     if first != verdict:
         faults.append(f"{told}: the verdict is {verdict}, and the survey begins with {lines[0]}")
+    # The log of each branch alone has the findings of this branch, and of no other.
     whole = by_branch(log, lines)
     for branch in {one.branch for one in log.entries if one.letter not in SILENT}:
         part = log.part(lambda one, branch=branch: one.branch == branch)
         found = by_branch(part, surveyor.says(part.bytes())[0])
         if found != ({branch: whole[branch]} if branch in whole else {}):
             faults.append(f"{told}: the log of branch {branch} has {found}, and the whole {whole.get(branch)}")
+    # The log is surveyed in 2 to 5 parts, by its number.
     faults += shares_faults(surveyor, told, log, lines, number % 4 + 2)
     return faults, lines
 

@@ -1,14 +1,17 @@
 """What tests/trusted-sabotage does to a copy of the checkout: by name the edits, and a text of the line that tests/trusted must say of them."""
 
+# The files that are edited, and the texts in them that are replaced.
 KIND, PROFILE, TEXT, PLAIN_CLIENT = (f"crates/sip_standard/specs/{it}.antt" for it in ("Kind", "Profile", "Text", "PlainClient"))
 TEXTS, NAMING = (f"crates/sip_machine/specs/{it}.antt" for it in ("Texts", "Naming"))
 MACHINES, VERDICT_LIB, STANDARD_LIB = "docs/standard/MACHINES.md", "crates/sip_verdict/src/lib.rt", "crates/sip_standard/src/lib.rt"
 VERDICT, FORMAT = (f"crates/sip_standard/src/{it}.rt" for it in ("verdict", "format"))
 JUDGING, STAGE = (f"crates/sip_verdict/src/{it}.rt" for it in ("judging", "stage"))
+# What stands above and below the definition IsFinal in Kind.antt, and the definition that is planted there.
 HEAD = "use Rattle.sip_standard.specs.declared.kind.Kind.{Kind}\n"
 ABOVE_FINAL = "-- a final response, section 7.2: 2xx to 6xx\n"
 FINAL, END_OF_FINAL = "IsFinal code = (200 ≤ code) × ", "(code ≤ 699)\n\n-- a success"
 PLANTED = "abbrev pub planted : ℕ → Type 0\nplanted code = code ≤ 699\n\n"
+# What tests/trusted says of a form that it does not read.
 UNREAD, UNREAD_MARK = "neither a definition nor imports", "a mark that is not read"
 IN_VERDICT, IN_FORMAT = "`sip_standard/src/verdict.rt`", "`sip_standard/src/format.rt`"
 
@@ -59,7 +62,9 @@ def law(crate, old, new, wanted):
     return at(f"crates/{crate}/src/laws.rt", (old, new)), wanted
 
 
+# Changes of definitions.
 DEFINITIONS = {
+    # A definition in a form that is not read, or in a place that is not looked at.
     "a definition in an anonymous module": plant("module _ {X : Type 0} where\n  " + PLANTED.replace("\np", "\n  p"), wanted=UNREAD),
     "a module in an anonymous module": plant("module _ {X : Type 0} where\n  module _ {Y : Type 0} where\n    " + PLANTED.replace("\np", "\n    p"), wanted=UNREAD),
     "a clause below an empty line": (at(KIND, ("kind_of (status", "\nkind_of (status")), UNREAD),
@@ -68,6 +73,7 @@ DEFINITIONS = {
         at(PROFILE, ('Lit "\\"" then Many', 'Lit "\\"" then planted then Many'), ("-- domainlabel", "abbrev pub planted : List ℕ → Type 0\nplanted text = text ≡ []\n\n-- domainlabel")),
         "`planted`",
     ),
+    # A name that is spelled or set so that a reader of the text could miss it.
     "a name after two hyphens in a string": plant(PLANTED, '(let x : String = "-- a" in planted code)'),
     "mutual definitions": plant("abbrev mutual\n  pub planted : ℕ → Type 0\n  planted code = code ≤ 699\n\n", wanted=UNREAD),
     "a record that is opened": plant("open r use {limit as planted}\n\n", wanted=UNREAD),
@@ -76,6 +82,7 @@ DEFINITIONS = {
     "a signature over two lines": plant(PLANTED.replace(" : ℕ", "\n  : ℕ"), wanted=UNREAD),
     "a name of letters and marks": plant(PLANTED.replace("planted", "planted+more"), "planted+more code", "`planted+more`"),
     "a name with two hyphens": plant(PLANTED.replace("planted", "planted--more"), "planted--more code", UNREAD_MARK),
+    # An operator, a helper and comments.
     "an operator of another file": planted_elsewhere(
         "(code upto 699)", "use Rattle.sip_machine.specs.Naming.{◌upto◌}\n", UNREAD, "infixr 50 ◌upto◌\nabbrev pub ◌upto◌ : ℕ → ℕ → Type 0\n(a upto b) = a ≤ b\n\n"),
     "the fixity of an operator": (at(TEXT, ("infixr 30 ◌or◌\n", ""), ("-- P Q:", "infixr 60 ◌or◌\n-- P Q:")), UNREAD),
@@ -85,10 +92,12 @@ DEFINITIONS = {
     "an escaped name": plant(PLANTED, "«planted» code", UNREAD_MARK),
     "a letter that looks like a space": plant("", "(code\u00a0≤ 699)", "a letter U+00A0"),
     "a letter that turns a comment round": plant("", "(code ≤ 699) -- a\u202eb", "a letter U+202E"),
+    # A name by a path, and rules.
     "a name right after a dot": plant(PLANTED, "(λ n.planted n) code"),
     "a set of rules": plant(PLANTED + "pub ruleset R = planted\n\n", wanted=UNREAD),
     "a path without a use line": planted_elsewhere("Rattle.sip_machine.specs.Naming.planted code", "", "a path that is not read"),
     "a path from the package on": planted_elsewhere("package.Rattle.sip_machine.specs.Naming.planted code", "", "a path that is not read"),
+    # Names that come by lines `use` of a form that is not read, or under the name of another.
     "a use line through another": planted_elsewhere("planted code", "use Rattle.sip_machine.specs.Naming as Q\nuse Q.{planted}\n", UNREAD),
     "a path through a module": planted_elsewhere("Naming.planted code", "use Rattle.sip_machine.specs.Naming\n", UNREAD),
     "a path through a folder": planted_elsewhere("Q.Naming.planted code", "use Rattle.sip_machine.specs as Q\n", UNREAD),
@@ -103,12 +112,15 @@ DEFINITIONS = {
     ),
 }
 
+# Texts of the sources of the types, and what is planted beside them.
 LAST = "    LogFault { entry: u64, reason: LogReason },\n}\n"
 FAULT, USE_FAULT = "Malformed { entry: u64, fault: Fault }", "use crate::fault::Fault;"
 VIEW = " {\n    ghost Value = { Verdict };\n\n    ghost view = { λ v. v };\n}\n"
 TYPE = "/// What is planted.\npub struct Planted {\n    pub first: u8,\n}\n\n"
 TOP_OF_STAGE = "//! "
+# Changes of types.
 TYPES = {
+    # An `impl` that would change what a contract sees of a type.
     "an impl Model on a type": (at(VERDICT, (LAST, LAST + "\nimpl Model for Verdict" + VIEW)), IN_VERDICT),
     "an impl Model under the name From": (
         at(VERDICT, (USE_FAULT, USE_FAULT + "\nuse std::marker::Model as From;"), (LAST, LAST + "\nimpl From for Verdict" + VIEW)), IN_VERDICT),
@@ -120,6 +132,7 @@ TYPES = {
         at(VERDICT, (LAST, LAST + "\nmod inside {\n    impl Model for Verdict {\n        ghost Value = { Verdict };\n    }\n}\n")),
         IN_VERDICT,
     ),
+    # A type that is not declared in the file that is read.
     "a type by its path": (
         at(VERDICT, (FAULT, FAULT.replace(" }", ", planted: crate::format::Planted }"))) + at(FORMAT, (TOP_OF_STAGE, TYPE + TOP_OF_STAGE)), "`Planted`"),
     "a type in a module of a file": (
@@ -130,6 +143,7 @@ TYPES = {
         at(VERDICT, (USE_FAULT, "use crate::{format::{Planted}};\n" + USE_FAULT), (FAULT, FAULT.replace(" }", ", planted: Planted }"))) + at(FORMAT, (TOP_OF_STAGE, TYPE + TOP_OF_STAGE)),
         "`Planted`",
     ),
+    # Lines that are not followed, and a second judge.
     "all types of a module": (at(VERDICT, (USE_FAULT, USE_FAULT + "\nuse crate::format::*;")), "* is not followed"),
     "a comment of another form": (at(VERDICT, ("//! What is said", "/* a comment */\n//! What is said")), IN_VERDICT),
     "a module from another file": (at(STANDARD_LIB, ("mod verdict;", '#[path = "format.rt"]\nmod verdict;')), "path is not followed"),
@@ -142,20 +156,26 @@ TYPES = {
     ),
 }
 
+# The files of the functions whose contracts are compared.
 SHOWING, JUDGES = "crates/sip_verdict/src/showing.rt", "crates/sip_standard/src/judges.rt"
 LISTING, RUNNING = "crates/sip_verdict/src/listing.rt", "crates/sip_program/src/running.rt"
+# Changes of contracts.
 CONTRACTS = {
+    # A premise more, or a clause less, of a public function.
     "a premise of show": (at(SHOWING, ("-> Result<Shown, ShowError>\n    ensures shown", "-> Result<Shown, ShowError>\n    requires { R.has_failed reader.old ≡ false }\n    ensures shown")), "show has another contract"),
     "a clause of judge_bytes less": (at(JUDGING, ("    ensures io { IsErrOf result JudgeError.Io → ⊥ }\n", "")), "judge_bytes has another contract"),
     "a clause of states_at less": (at(LISTING, ("    ensures ok { OnOk result (R.has_failed reader.new ≡ false) }\n", "")), "states_at has another contract"),
     "a clause of run less": (at(RUNNING, ("    ensures words { IsErrOf result Usage → IfSome (S.words system.old) (λ words. IsAskedBy words None) }\n", "")), "run has another contract"),
     "a clause of the trait less": (at(JUDGES, ("        ensures ok { OnOk result (R.has_failed reader.new ≡ false) }\n", "")), "judge has another contract"),
+    # What is named and is not there, and what is there and is not named.
     "a function of the trait that there is not": (at(JUDGES, ("    fn show<R", "    fn shows<R")), "not one function shows"),
     "a definition that is gone": definition("Window", "-- the window of a timer that was set at s for d\nabbrev pub window_at : Times → ℕ → ℕ → Option (ℕ × Option ℕ)\nwindow_at p s d = Some (open_at p s d, Some (close_at p s d))\n", "", "- | `sip_standard/specs/Window.antt` | `open_at`, `close_at`, `window_at` |"),
     "a definition that nothing needs": plant(PLANTED, "(code ≤ 699)", "nothing needs planted"),
 }
 
+# Changes of tables, in the definitions, the pages and the words.
 TABLES = {
+    # A timer that is changed in the definition, or in the page.
     "timer K, in the definition": definition(
         "PlainClient", "(if reliable then 0 else p.t4)", "(if reliable then 0 else 64 * p.t1)", says("PlainClient", "no words for timer_window p (Completed")),
     "timer F, in the page": page("timer F: 64*T1 from", "timer F: T4 from", tells("PlainClient", "| trying | may end | timer F: T4 from")),
@@ -163,12 +183,14 @@ TABLES = {
         "PlainClient", "interval = p.t2 })", "interval = p.t1 })", "does not say what the page says: | proceeding | the same bytes"),
     "timer E's close, in the definition": definition(
         "PlainClient", "sends_by p (Proceeding w) = if w.reliable then [] else close_at p w.set w.interval ∷ []\n", "", tells("PlainClient", "| proceeding | has to send")),
+    # Sends that the transport refused, and where a machine ends.
     "refused sends of the plain client, in the definition": definition(
         "PlainClient", "λ x k. true", "λ x k. false", says("PlainClient", "A send that the transport refused counts as sent.")),
     "refused sends of the plain client, in the page": page("| 8 | any |", "| 8 | idle, trying |", tells("PlainClient", "| idle, trying | a send that would be allowed")),
     "where the plain client ends, in the definition": definition("PlainClient", "ended = Ended;", "ended = Idle;", says("PlainClient", "The **end** leads back to idle.")),
     "a phase of the plain client, in the page": page(
         "are idle (nothing was sent), trying, proceeding,", "are idle (nothing was sent), trying,", says("PlainClient", "The phases (`PlainClientPhase`) are")),
+    # The same of the server.
     "timer J, in the definition": definition(
         "PlainServer", "if reliable then 0 else 64 * p.t1", "if reliable then 64 * p.t1 else 0", says("PlainServer", "no words for timer_window p (Completed")),
     "refused sends of the plain server, in the page": page(
@@ -250,6 +272,7 @@ TABLES = {
     "words that nothing has": words("drops ⇒", "hardens ⇒ what was owed is due\ndrops ⇒", "no definition of all has hardens"),
 }
 
+# Changes of laws.
 LAWS = {
     "a law that is private": law("sip_states", "pub fn by_waiting_and_stepping()", "fn by_waiting_and_stepping()", "the law by_waiting_and_stepping is not public"),
     "a law that its crate keeps": (at(VERDICT_LIB, ("a_legal_log_has_runs, ", "")), "the law a_legal_log_has_runs is not public"),
@@ -261,6 +284,7 @@ LAWS = {
     "a law for its crate alone": law("sip_key", "pub fn keys_are_equal_by", "pub(crate) fn keys_are_equal_by", "the law keys_are_equal_by_their_parts is not public"),
     "a law without a clause": law("sip_log", "    ensures { (input : List ℕ)", "    requires { (input : List ℕ)", "stands among laws and is none"),
 }
+# The files of the two programs and of the platform, and changes of their lines.
 MAIN, SURVEYOR, PLATFORM = "crates/siptrace/src/main.rt", "crates/sipsurvey/src/main.rt", "crates/sip_platform/src/platform.rt"
 LINES = {
     "a member of the platform": (at(PLATFORM, ("    type File = File;\n", "    type File = File;\n\n    fn moment(&self) -> u64 {\n        0\n    }\n")), "+ fn moment"),
@@ -273,4 +297,5 @@ LINES = {
         "+ ExitCode::from(status)"),
     "another platform": (at("crates/sip_platform/src/lib.rt", ("pub use platform::StdPlatform;", "pub use other::StdPlatform;")), "+ pub use other::StdPlatform;"),
 }
+# All changes, by name.
 ALL = {**DEFINITIONS, **TYPES, **CONTRACTS, **TABLES, **LAWS, **LINES}

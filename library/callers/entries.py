@@ -5,6 +5,7 @@
 import subprocess
 import sys
 
+# The request that the example hands over.
 REQUEST = b"""OPTIONS sip:bob@biloxi.example.com SIP/2.0\r
 Via: SIP/2.0/UDP client.atlanta.example.com;branch=z9hG4bK74bf9\r
 From: <sip:alice@atlanta.example.com>;tag=9fxced76sl\r

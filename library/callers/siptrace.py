@@ -8,10 +8,12 @@ import ctypes
 import os
 import sys
 
+# The numbers of library/siptrace.h: of a status, a kind, a unit and an end, and then the names of its reasons.
 ANSWERED, NO_MEMORY, NO_ROOM = range(3)
 LEGAL, MALFORMED, BREACH, UNDECIDED, LOG_FAULT = range(1, 6)
 HEAD, LINE, BODY = range(1, 4)
 END_OF_LOG, END_AT_FAULT = range(1, 3)
+# The names of the reasons of a message and of a log, in the order of their numbers.
 MESSAGE_REASONS = "NoHeadEnd BareLineEnd StartLine FieldLine Value Repeated Missing MethodMismatch NoLength ShortBody LongBody NoCookie"
 LOG_REASONS = "Header EntryLine Truncated Order Limit"
 REASONS = dict([*enumerate(MESSAGE_REASONS.split(), 1), *enumerate(LOG_REASONS.split(), 20)])
@@ -99,6 +101,7 @@ class Siptrace:
 
 def main():
     siptrace = Siptrace(sys.argv[1])
+    # With --survey each log is surveyed, and else judged.
     is_survey = sys.argv[2:3] == ["--survey"]
     for path in sys.argv[2 + is_survey :]:
         with open(path, "rb") as file:

@@ -165,6 +165,7 @@ class History:
         if "points" not in self.kept:
             moments, intervals, deadlines = self.numbers_of_states()
             lengths = {0, *LENGTHS, 64 * self.times.t1, self.times.t4} | intervals
+            # From `opens` on a timer may fire that was set at one of the moments for one of the lengths, and from `closes` on it is too late, as it is for a debt.
             opens = {moment + max(0, length - self.times.early) for moment in moments for length in lengths}
             closes = {moment + length + self.times.late + 1 for moment in moments for length in lengths} | {deadline + 1 for deadline in deadlines}
             self.kept["points"] = sorted(moment for moment in {self.last} | opens | closes if self.last <= moment <= LAST)

@@ -5,6 +5,7 @@ from .asking import LAST, History
 from .finding import keys_or_none
 from .messages import ack_for, cancel_for, code, is_request, latin, response_to, short
 
+# How many messages are tried as what was due.
 MOST_CANDIDATES = 8
 
 
@@ -44,7 +45,7 @@ def sent_as(one):
 
 
 def each_once(entries):
-    """The entries whose message no entry before them has, the newest first."""
+    """The first entry of each message. The message that stands last in the entries comes first."""
     first = {}
     for one in entries:
         first.setdefault(one.data, one)
@@ -59,6 +60,7 @@ class Case:
         self.judge, self.found, self.times, self.at, self.number = judge, found, found.times, at, number
         self.role, self.branch, self.sent_by, self.method = found.key
         self.is_invite = self.method == b"INVITE"
+        # `own` are the entries of the transaction and the restarts, from its first message on; `stop` is the breach itself, or a mark of its moment.
         own = [one for one in found.entries if one.letter == "Z" or found.key in keys_or_none(one.letter, one.data)]
         begin = next((place for place, one in enumerate(own) if one.data), len(own))
         own = own[begin:]  # a restart before the first message of the transaction changes nothing

@@ -15,6 +15,7 @@ from .messages import latin, transport_of
 from .rules import rule_for
 from .sentences import of_breach, of_log_fault, of_malformed, of_undecided
 
+# The number of the form in which the evidence is told as data.
 FORMAT = 1
 MOST_HEADER = 200  # the longest header, in bytes
 
@@ -88,6 +89,7 @@ def tell_legal(judge, index, name, side, entries, transactions):
     return {"sentence": "Nothing is wrong in these %s entries." % entries}
 
 
+# The forms of the program's last line, each with what tells it.
 FORMS = [(re.compile(form), tell) for form, tell in (
     (r"breach (\d+) transaction (\d+)", tell_breach), (r"malformed (\d+) (head|body|line \d+) (\d+) \w+", tell_malformed),
     (r"undecided (\d+) transaction (\d+)", tell_undecided), (r"log fault (\d+) (\d+) \w+", tell_log_fault),

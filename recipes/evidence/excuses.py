@@ -7,7 +7,9 @@ from .messages import latin, request_for
 
 SKEW = 3  # in milliseconds: so close to each other two entries may stand the wrong way round
 COPY = 50  # milliseconds within which a copy of a message may be the trace's
+# The longer T1 that are asked about, in milliseconds.
 LATER_T1 = (1000, 2000)
+# How many sends may have come before the log began.
 EARLIER_SENDS = range(1, 6)
 GAPS = 6  # in how many places of the history a message may be missing
 
@@ -139,6 +141,7 @@ class Excuses:
         """Asks whether neighbours within SKEW ms were noted the wrong way round, one of them being sent and the other received."""
         case = self.case
         own = [one for one in case.before + case.own_from_breach()[:3] if case.letters.get(one.number, one.letter)]
+        # The last five pairs of neighbours are asked about.
         for one, other in list(zip(own, own[1:]))[-5:]:
             if "Z" in (one.letter, other.letter) or (one.letter == "R") == (other.letter == "R") or other.moment - one.moment > SKEW:
                 continue
@@ -167,6 +170,7 @@ class Excuses:
         first = case.before[0] if case.before else None
         if first is None or case.role != "client" or first.letter != "S" or first.moment > 64 * case.times.t1:
             return
+        # `gaps` are the waits from send to send. With `count` sends before it the first entry moves by `shift`.
         gaps = [case.times.t1 * 2 ** n if case.is_invite else min(case.times.t1 * 2 ** n, case.times.t2) for n in range(max(EARLIER_SENDS))]
         for count in EARLIER_SENDS:
             moments = [sum(gaps[:n]) for n in range(count)]

@@ -11,8 +11,10 @@ MOST_ASKED = 300  # the longest line, in bytes, whose places are asked about
 MOST_LINES = 12  # the most lines of a head that are shown
 MOST_THERE = 100  # the most bytes that are shown of a log that cannot be read
 STAGES = {1: 1, 2: 2, 3: 3, 4: 4, 5: 4, 6: 5, 7: 5, 8: 6, 9: 7, 10: 7, 11: 7, 12: 8}  # by the number of a reason, when its fault is looked for
+# A line for each field that a message must have, by its name.
 NEEDED = {b"via": b"Via: SIP/2.0/UDP made.invalid;branch=z9hG4bKmade", b"from": b"From: <sip:made@example.invalid>;tag=made",
           b"to": b"To: <sip:made@example.invalid>", b"call-id": b"Call-ID: made", b"cseq": b"CSeq: 1 %s"}
+# The shorter tolerances that are asked about where too many states are possible, in milliseconds.
 TOLERANCES = (5000, 2000, 1000, 500, 200, 100, 50, 20, 10, 5, 2, 1, 0)
 MOST_STATES = 1024  # how many states the program follows
 GROWTH = 6  # of how many entries the numbers of states are told
@@ -105,6 +107,7 @@ class Faulty:
         yield "with a branch that begins with z9hG4bK", with_top_via(self.one.data, rb"(?=[,]|$)", rb";branch=z9hG4bKmade")
 
 
+# What is changed of a message, by the number of its reason.
 CHANGES = {1: Faulty.with_line_ends, 2: Faulty.with_line_ends, 3: Faulty.with_bytes_changed, 4: Faulty.with_bytes_changed, 5: Faulty.with_bytes_changed,
            6: Faulty.without_line, 7: Faulty.with_what_lacks, 8: Faulty.with_its_method, 9: Faulty.with_its_length, 10: Faulty.with_its_length,
            11: Faulty.with_its_length, 12: Faulty.with_cookie}

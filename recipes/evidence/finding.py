@@ -18,6 +18,7 @@ LINE = rb"([SRF]) (\d+) (\d+)\n(?:SIP/2\.0 |([^ /\r\n]+) )[^\n]*\n"
 PLAIN = (rb'SIP/2\.0/[A-Za-z]+ ([^\s;:,"\[\]]+)(?::(\d{1,5}))?(?:;(?![Bb][Rr])[^\s;,"]*)*;branch=([^\s;,"]+)(?=[;\r])')
 VIA_FIRST = re.compile(LINE + rb"(?:Via|v): " + PLAIN)
 VIA_LATER = re.compile(LINE + rb"(?:(?![Vv][Ii][Aa][ \t]*:|[Vv][ \t]*:|[ \t\r])[^\r\n]*\r\n)*(?:Via|v): " + PLAIN)
+# The method of a message in its CSeq, and the line of an entry.
 CSEQ = re.compile(rb"\nCSeq: \d+ ([!-~]+)\r\n(?![ \t])")
 ENTRY_LINE = re.compile(rb"([SRFMZ]) (\d{1,13})(?: (\d{1,5}))?\n")
 BATCH = 50_000  # how many entries are read between two looks at the program
@@ -87,20 +88,25 @@ class Index:
     def read(self, most=BATCH):
         """Reads up to `most` entries more. Answers whether there may be others. All that a large log costs is this loop, so that it calls little."""
         text, size, place, keys = self.text, len(self.text), self.place, self.keys
+        # Methods that the loop calls for each entry are looked up once: where a first or a later Via stands in a line, and where the method stands in CSeq.
         first, later, cseq_in = VIA_FIRST.match, VIA_LATER.match, CSEQ.search
         add_place, add_moment, add_branch = self.places.append, self.moments.append, self.branches.append
         malformed = self.malformed
         for _ in range(min(most, MOST_ENTRIES - len(self.places))):
+            # `found` is None for an entry that is not plain; such an entry is read by `odd_entry`.
             found = first(text, place) or later(text, place)
             if malformed and len(self.places) + 1 in malformed:
                 found = None
             if found:
                 letter, moment, length, method, host, port, branch = found.groups()
+                # The message begins after the line's LF, which follows the length, and ends at `stop`, where an LF of its own stands.
                 stop = found.end(3) + 1 + int(length)
+                # A client sends requests, which have a method in their first line, and receives responses; a server does the other.
                 is_client = (letter == b"R") is (method is None)
                 if method is None:
                     cseq = cseq_in(text, found.end(), stop)
                     method = cseq[1] if cseq else b""
+                # The ACK of a final response of 300 to 699 belongs to the transaction of its INVITE.
                 elif method == b"ACK":
                     method = b"INVITE"
                 branch = branch.lower()
@@ -108,6 +114,7 @@ class Index:
                     key = b"client " + branch + b" " + method
                 else:
                     key = b"server %b %b %b:%d" % (branch, method, host.lower(), int(port or 5060))
+                # A new key gets the next number; a message without the cookie, and one at the end of a log that is cut, is read by `odd_entry`.
                 if method == b"CANCEL" or not method:  # a CANCEL that was sent has two keys
                     found = None
                 elif key not in keys:
@@ -130,9 +137,11 @@ class Index:
         """The branch, the moment and the end of an entry that is not plain. An entry that cannot be read ends where the log does."""
         found = ENTRY_LINE.match(self.text, place)
         letter, moment, length = found.groups() if found else (b"", 0, None)
+        # A mark and a restart have no length, and each message has one.
         if not found or (letter in b"MZ") is (length is not None):
             return NO_BRANCH, 0, len(self.text)
         if length is None:
+            # A restart is of all branches, and a mark of none.
             return OF_ALL if letter == b"Z" else NO_BRANCH, moment, found.end() - 1
         stop = found.end() + int(length)
         data = self.text[found.end():stop]
@@ -160,6 +169,7 @@ class Index:
 
     def of_branch(self, branch, last):
         """The entries of a branch up to entry `last`, with each restart among them."""
+        # Two branches may have one sum, so that the branch itself is looked at too.
         wanted = sum_of_branch(branch), OF_ALL
         mine = [self.entry(number) for number, one in enumerate(islice(self.branches, last), 1) if one in wanted]
         return [one for one in mine if one.letter == "Z" or branch_of(one.data) == branch]
@@ -167,10 +177,12 @@ class Index:
     def mentions(self, text, after, most, reach):
         """The numbers of up to `most` entries in which a text stands, among the `reach` entries after entry `after`."""
         number, found = after, []
+        # `limit` is where the last of these entries ends, and `number` is that of the entry that begins at `place` or before it.
         last = min(after + reach, len(self.places))
         limit = self.places[last] if last < len(self.places) else self.place
         place = self.places[after] if after < len(self.places) else limit
         while len(found) < most and (place := self.text.find(text, place, limit)) >= 0:
+            # The entry in which the text stands is the last one that begins no later.
             while number < len(self.places) and self.places[number] <= place:
                 number += 1
             found.append(number)

@@ -12,6 +12,7 @@ from .messages import (ACK_PARTS, ack_for, compared_part, first_difference, is_r
 
 SAMPLES = 12  # at how many moments between the guessed ones a send is asked about
 REACH = 50_000  # among how many entries others of the same call are looked for
+# How many messages near the breach are told.
 MOST_NEAR = 4
 
 
@@ -54,6 +55,7 @@ def requests_of_call(case):
     before = [find.entry(number) for number in numbers if number < case.at]
     asked = [one for one in before if one.letter == "R" and not is_request(one.data, b"ACK") and not is_response(one.data)
              and call_id(one.data) == call and cseq(one.data)[0] == cseq(data)[0]]
+    # The last three, the newest first.
     return asked[:-4:-1]
 
 
@@ -331,6 +333,8 @@ def over_from(case):
     history, asked = case.history, case.first_request()
     if asked is None or case.role == "client" and not case.is_invite:
         return None
+    # A client that is not over has to acknowledge a new final response within `late`, so that silence after that is a breach. A server that is not over owes
+    # its final response, and a 183 is none; one that is over takes the request for a new one, to which a 183 may be sent.
     if case.role == "client":
         probe, wait = [("R", response_to(asked.data, 698))], case.times.late + 1
     else:

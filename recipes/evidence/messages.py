@@ -4,8 +4,10 @@ import re
 
 from sip_lines import code_of, cseq, field, first_line, is_response, method_of
 
+# The compact names of fields (RFC 3261 section 7.3.3).
 COMPACT = {b"v": b"via", b"f": b"from", b"t": b"to", b"i": b"call-id", b"l": b"content-length"}
 ACK_PARTS = ("Request-URI", "Call-ID", "From", "To", "CSeq number", "Route", "Via")  # RFC 3261 section 17.1.1.3
+# What stands after the head of a message.
 HEAD_END = b"\r\n\r\n"
 
 

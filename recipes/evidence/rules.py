@@ -1,6 +1,7 @@
 """What RFC 3261 and RFC 6026 say of each thing that a transaction may have done wrong: the timer, the section, and its meaning in a sentence. Words
 alone: nothing is judged by them, and no moment is told from them."""
 
+# How a rule begins that is cited, and the rules that several breaches cite.
 RFC_3261, RFC_6026 = "RFC 3261 section ", "RFC 6026 section "
 OVER = "A transaction that is over sends nothing again."
 ACK_AT_ONCE = ("Each 3xx to 6xx to an INVITE gets its ACK at once, with the Request-URI, Call-ID, From, CSeq number, Route and top Via of the INVITE and the To "
@@ -42,6 +43,7 @@ RULES = {
     ("server", True, "no request"): ("", RFC_3261 + "17.2", RESPONSE_BELONGS),
     ("server", False, "no request"): ("", RFC_3261 + "17.2", RESPONSE_BELONGS),
 }
+# What is told where no row of the rules fits: of a message that the transaction does not name, of a reliable transport, and of a restart.
 NOT_NAMED = ("", RFC_3261 + "17", "What a transaction does not name is not sent.")
 RELIABLE = ("", RFC_3261 + "17", "Over TCP, TLS and any other reliable transport no timer sends a message again.")
 RESTARTED = ("", "no RFC, but the Z of the log", "What an element had begun is forgotten when it is started anew: nothing more is sent in that transaction.")

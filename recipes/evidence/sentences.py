@@ -1,8 +1,10 @@
 """The verdict in a sentence, with the kind and the size of a breach. It is made of the data alone."""
 from collections import Counter
 
+# The kinds of a breach, each as the title of its text.
 TITLES = {"too early": "TOO EARLY", "too late": "TOO LATE", "never came": "NEVER CAME", "not the same bytes": "NOT THE SAME BYTES",
           "not the ACK": "NOT THE ACK OF THAT RESPONSE", "not begun": "A RESPONSE TO WHAT THE LOG DOES NOT BEGIN", "not allowed": "ALLOWED AT NO MOMENT"}
+# How many windows a sentence tells.
 MOST_WINDOWS = 3
 
 

@@ -17,6 +17,7 @@ from .messages import is_request, latin
 from .rules import fault_told
 from .sentences import of_breach, of_malformed, of_undecided
 
+# The number of the form in which the evidence of a survey is told as data.
 FORMAT = 1
 
 
@@ -83,6 +84,7 @@ class Survey:
         self.judge, self.index = Judge(), read_whole(Index(name))
         self.check_order()
         found = survey.findings()
+        # Malformed entries are left out of the index that is asked.
         self.malformed = {int(words[1]) for words in found if words[0] == "malformed"}
         if self.malformed:
             self.index = read_whole(Index(name, self.malformed))

@@ -7,6 +7,7 @@ import textwrap
 from .rules import phase_in_words
 from .sentences import listed, spans
 
+# How wide the text is, and how many lines, rows, states and near messages it shows at most.
 WIDTH = 118
 MOST_LINES = 40
 MOST_ROWS = 9  # how many entries are shown: the first ones and the last ones
@@ -14,6 +15,7 @@ FIRST_ROWS = 3
 MOST_STATES = 3
 MOST_NEAR = 3
 NO_CLOCK = 1000  # milliseconds: a tolerance above that is no clock's
+# How an entry is drawn, by its letter.
 ARROWS = {"S": "--->", "F": "--x ", "R": "<---", "M": "    ", "Z": "    "}
 
 
@@ -61,11 +63,13 @@ def breach(told):
 def details(told):
     """The lines on what is wrong in the message that was sent, and on when it was allowed or what was allowed in its place."""
     sent, seen = told.get("sent", {}), []
+    # What is told already, by the sentence or by a line above, is not told twice.
     for one in told.get("due", []) + told.get("together", []):
         if one["bytes"] == sent.get("bytes") and one["windows"] == sent.get("windows") or one in seen:
             continue  # the sentence tells this, or the line above
         seen.append(one)
         yield "%s was allowed %s." % (one["what"][0].upper() + one["what"][1:], spans(one["windows"]))
+    # What each other part of the evidence has is told by a line of its own: what would be right in place of what was sent.
     if told.get("instead"):
         yield from difference(told["instead"], "Entry %d is not %s:" % (told["instead"]["entry"], told["instead"]["wanted"]))
     if "repair" in told:
@@ -133,6 +137,7 @@ def ladder(told):
     has_date = len(dates) == 1
     date = "; %s, UTC, # packet" % dates.pop() if has_date else "; UTC, # packet" if dates else ""
     yield Row("    entry   moment   since  (milliseconds; ---> sent, --x its transport refused, <--- received, ! in question%s)" % date)
+    # Of many rows the first FIRST_ROWS are shown and so many of the last ones that they are MOST_ROWS together; one line tells which are left out between them.
     cut = len(rows) > MOST_ROWS + 1
     for place, one in enumerate(rows):
         if cut and place == FIRST_ROWS:

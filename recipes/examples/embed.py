@@ -4,6 +4,7 @@ as they come, and tells each trouble when its entry passes."""
 import subprocess
 import threading
 
+# The header of the log.
 HEADER = b"sip-trace 1\nt1 500 t2 4000 t4 5000 tolerance 50\n"
 
 

@@ -12,6 +12,7 @@ from judge import LAST, Entry, mark, read_log
 from messages import (PARTS_OF_ACK, ack_of, cancel_of, code_of, is_response, is_same_kind, keys_of, method_of, over_udp, response_to, right_ack, solid, top_via,
                       value, with_branch, with_part_of, wrong_parts)
 
+# The kinds of a breach.
 NEVER, EARLY, LATE, BYTES, ACK, STRAY, NONE = "never came", "too early", "too late", "not the same bytes", "not the ACK", "not begun", "not allowed"
 KINDS = (NEVER, EARLY, LATE, BYTES, ACK, STRAY, NONE)
 MOST_LATER = 3  # how many sends after the breach may be the one that was due
@@ -28,7 +29,8 @@ def latin(text):
 
 
 class Claims:
-    """The evidence of a breach, held against the judge. `wrong` has the sentences that contradict it, `asked` how many claims of each sort were asked."""
+    """The evidence of a breach, held against the judge. `told` is the evidence as it was read from its JSON, and `case` the same breach as the checker
+    reads it by itself. `wrong` has the sentences that contradict it, `asked` how many claims of each sort were asked."""
 
     def __init__(self, judge, log, told, chance, density):
         self.judge, self.case = judge, Case(judge, log, chance)
@@ -206,6 +208,7 @@ class Claims:
     def of_rows(self):
         """Checks the rows of the ladder against the entries."""
         case, before = self.case, None
+        # `first_with` has the number of the first own entry with these bytes.
         first_with = {}
         for number, entry in enumerate(case.entries, 1):
             if entry.data and (number in case.own):
@@ -337,6 +340,7 @@ class Claims:
             rights = [right_ack(data, case.requests()[0], response) for response in case.refusals()] if is_ack else []
             self.holds("near entry is nothing that was due", not any(case.settles("S", min(moment, case.end()), right) for right in rights), row["entry"])
             return
+        # What the message would be, had it been right and in time.
         would_be, until = row["would_be"], case.end()
         when, right = moment - would_be["late_by"], latin(would_be["bytes"])
         self.holds("near entry put right settles it", when <= until and case.settles("S", when, right), row["entry"])
@@ -487,8 +491,10 @@ class Claims:
             self.holds("allowed then and another message", latin(one["bytes"]) != data or one["letter"] != letter, one["what"])
         self.all_allowed_then(moment, data)
         self.without(told["without"])
+        # With a branch of its own an ACK would be that of a 2xx, which is no part of the transaction.
         is_own = case.role == "client" and method_of(data) == b"ACK" and case.allows(Entry(letter, moment, with_branch(data, b"z9hG4bKanother")))
         self.holds("with a branch of its own", bool(told["own_branch"]) == is_own)
+        # Over UDP throughout, the messages would be possible up to the breach.
         entries = [*case.history, case.breach_entry()]
         is_over_udp = any(one.data and top_via(one.data)[1].upper() != b"UDP" for one in entries) and case.is_possible(
             [one._replace(data=over_udp(one.data)) for one in entries])

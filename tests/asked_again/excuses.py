@@ -191,6 +191,7 @@ class Excuses:
     def all_are_asked(self):
         """Checks that the evidence asks every question that the breach calls for."""
         case, told, holds = self.case, self.told, self.claims.holds
+        # `changes` are what was asked about, each as what would be changed in the log.
         changes = [row["change"] for row in told["excuses"]]
         for t1 in (1000, 2000):
             holds("T1 is asked about", t1 <= case.times.t1 or any(change.get("t1") == t1 for change in changes), t1)

@@ -6,6 +6,7 @@ from collections import Counter
 from judge import Entry, read_log, write_log
 from messages import head_lines, keys_of, top_via
 
+# The kind of a trouble by the first word of the verdict.
 KINDS = {"malformed": "malformed", "undecided": "undecided", "log": "log fault"}
 MOST_ASKED = 300  # the longest line, in bytes, of which each front is asked about
 
@@ -43,21 +44,25 @@ class FaultClaims:
     def malformed(self):
         """Checks what is told of a malformed message."""
         told = self.told
+        # The verdict has the number and the name of the fault, and its unit, perhaps a line.
         number, name = self.words[-2:]
         unit, line = self.words[2], int(self.words[3]) if self.words[2] == "line" else None
         self.times, entries = read_log(self.log)
         at = int(self.words[1])
         self.entry = one = entries[at - 1]
         self.fault = self.words[2:]
+        # The entry, and whose message it is, are those of the log.
         self.holds("malformed entry", told["entry"] == {"number": at, "letter": one.letter, "moment": one.moment, "bytes": one.data.decode("latin-1")})
         self.holds("whose it is", told["whose"] == ("received" if one.letter == "R" else "sent"), told["whose"])
         self.holds("number and name of the fault", (str(told["fault"]["number"]), told["fault"]["name"]) == (number, name))
         self.holds("place of the fault", (told["unit"], told["line"]) == (unit, line))
         self.holds("the fault of the message alone", self.fault_of(one.data) == self.fault)
+        # The lines that are shown are those of the head.
         self.lines = head_lines(one.data)
         for place, text in told["lines"]:
             self.holds("a line that is shown", text.encode("latin-1") == self.lines[place], place)
         self.front(line, told["front"])
+        # A change that is told to take the fault away does so.
         if told["mended"]:
             mended = told["mended"]["bytes"].encode("latin-1")
             self.holds("the change takes the fault away", self.fault_of(mended) != self.fault and mended != one.data, told["mended"]["what"])

@@ -5,8 +5,10 @@ from typing import NamedTuple
 
 LAST = 9_999_999_999_999  # the last moment that a log can tell
 MOST_KEPT = 20_000  # how many answers are kept, so that no log is asked about twice
+# The letters of entries without a message.
 SILENT = ("M", "Z")
 
+# The first two lines of a log, and the line of rules.
 HEADER = re.compile(rb"sip-trace (?:1\nt1 (\d+) t2 (\d+) t4 (\d+) tolerance (\d+)|2\nt1 (\d+) t2 (\d+) t4 (\d+) early (\d+) late (\d+))\n")
 RULES = re.compile(rb"rules (3261|6026)\n")
 
@@ -73,6 +75,7 @@ class Judge:
         if self.owner != os.getpid():  # another process has an input of its own
             self.file, self.owner = os.memfd_create("log"), os.getpid()
         self.asked += 1
+        # The log goes in by a file in memory, and what the program writes comes out of a pipe.
         os.lseek(self.file, 0, os.SEEK_SET)
         os.truncate(self.file, 0)
         os.write(self.file, log)

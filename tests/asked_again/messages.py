@@ -2,10 +2,14 @@
 this is the checker's own and has nothing of recipes/."""
 import re
 
+# How a branch begins that is unique, in lower case.
 COOKIE = b"z9hg4bk"
+# The names of fields, by their compact forms.
 LONG_NAMES = {b"v": b"via", b"f": b"from", b"t": b"to", b"i": b"call-id", b"l": b"content-length"}
+# A quoted string, and the first element of a list.
 QUOTED = re.compile(rb'"(?:[^"\\]|\\.)*"', re.S)
 FIRST_ELEMENT = re.compile(rb'(?:[^",]|"(?:[^"\\]|\\.)*")*', re.S)
+# What an ACK has from its INVITE, or from the response (RFC 3261 section 17.1.1.3).
 PARTS_OF_ACK = ("Request-URI", "Call-ID", "From", "To", "CSeq number", "Route", "Via")
 
 

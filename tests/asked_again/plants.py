@@ -11,6 +11,7 @@ from typing import NamedTuple
 
 from running import run
 
+# The folder of this script.
 HERE = Path(__file__).resolve().parent
 
 # Logs in breach, in the words of tests/log.
@@ -48,6 +49,7 @@ class Answer(NamedTuple):
         return told + self.more if self.place else 0
 
 
+# The wrong answers of the stub: what each is, the way in which it answers, the log, and the place in the evidence of the number that it is given.
 ANSWERS = [
     Answer("a verdict turned at the first moment of a window", "turned", "early", ("sent", "windows", 0, 0)),
     Answer("a verdict turned at the last moment of silence", "turned", "never", ("deadline",)),
@@ -62,8 +64,10 @@ ANSWERS = [
     Answer("a verdict on the log that names another entry", "entry", "none"),
     Answer("a verdict on the log that names another transaction", "key", "none"),
 ]
+# Ways of a false answer to one question, each with the log whose evidence asks it.
 KTH = [("legal", "none"), ("breach", "early"), ("legal", "never"), ("breach", "ack"), ("legal", "late"), ("breach", "two late")]
 QUESTIONS = (3, 8, 14)  # these questions of each of these logs are answered falsely, one at a time
+# How many moments are asked about beside the edges of windows.
 DENSITY = 12
 
 
@@ -76,23 +80,28 @@ class Fault(NamedTuple):
     logs: tuple
 
 
+# The faults that are planted: what each is, the file, its text and what stands in its place, and the logs at which it must be seen.
 FAULTS = [
+    # Windows and sizes that are told wrong.
     Fault("a window that begins one later", "evidence/asking.py", "edge(is_right, points[place - 1], moment) + 1 if place", "edge(is_right, points[place - 1], moment) + 2 if place", ("early",)),
     Fault("a window that ends one later", "evidence/asking.py", "windows.append((start, edge(is_right, points[place - 1], moment)))",
           "windows.append((start, 1 + edge(is_right, points[place - 1], moment)))", ("between",)),
     Fault("a last moment of silence one earlier", "evidence/asking.py", "return edge(is_right, points[low], points[high]", "return -1 + edge(is_right, points[low], points[high]", ("never",)),
     Fault("a size from the first window on", "evidence/kinds.py", 'return {"by": one.moment - windows[-1][1], "sent"', 'return {"by": one.moment - windows[0][0], "sent"', ("late",)),
     Fault("early and late turned about", "evidence/kinds.py", 'return {"kind": "too early", "by": early}', 'return {"kind": "too late", "by": early}', ("early",)),
+    # Parts of an ACK, and what is told as due.
     Fault("all parts of an ACK named", "evidence/kinds.py", "parts = rest if is_right(rest) else parts", "parts = parts", ("ack",)),
     Fault("parts of an ACK that were not put right", "evidence/kinds.py", '"bytes": latin(with_parts(ack, parts, right))}', '"bytes": latin(with_parts(ack, parts[1:], right))}', ("ack",)),
     Fault("messages told as due together of which one is enough", "evidence/kinds.py", "due = due_alone(case)\n", "due = []\n", ("never", "late", "two late")),
     Fault("what came late told as what never came", "evidence/kinds.py", "late = came_late(case) or", "late = None and", ("late",)),
     Fault("the ACK and the bytes not looked at", "evidence/kinds.py", "(ack_put_right(case) or bytes_put_right(case) or allowed_at_no_moment(case))", "allowed_at_no_moment(case)", ("ack", "bytes")),
     Fault("another entry that took the send away", "evidence/kinds.py", "return asked[place].number", "return asked[0].number", ("none",)),
+    # What may be sent later, and what is told to excuse.
     Fault("an end one later", "evidence/kinds.py", "return history.windows(is_over, LAST - wait)[-1][0]", "return history.windows(is_over, LAST - wait)[-1][0] + 1", ("over",)),
     Fault("what is not allowed told as allowed", "evidence/kinds.py", "if one.data != data and history.allows(one.at(moment))]", "if one.data != data]", ("over",)),
     Fault("the least tolerance one too great", "evidence/excuses.py", "return high\n        high -= 1", "return high + 1\n        high -= 1", ("early",)),
     Fault("no excuse told as one", "evidence/excuses.py", "helps = is_possible(words)\n", "helps = words[0] != 'legal'\n", ("early",)),
+    # Sentences and texts that do not say what the data says.
     Fault("another sentence than the data", "evidence/text.py", 'told["sentence"], *writer(told)]', 'told["sentence"].replace("1", "2"), *writer(told)]', ("early",)),
     Fault("another number in the sentence", "evidence/sentences.py", 'return "%s; it was allowed %s." % (sent_at(sent), spans(sent["windows"]))',
           'return "%s; it was allowed %s." % (sent_at(sent), spans([[first - 7, last] for first, last in sent["windows"]]))', ("early",)),

@@ -8,9 +8,12 @@ import random
 
 from judge import Entry, Times, mark, write_log
 
+# The transactions of a log: of each role, for INVITE and another method, and by both rules.
 TRANSACTIONS = [(role, method, rules) for rules in (0, 3261) for role in ("client", "server") for method in ("INVITE", "OPTIONS")]
+# How many moments are drawn to find one at which a message may be sent again.
 MOST_TRIES = 12
 WAYS = ("silence", "repeat", "repeat", "bytes", "ACK", "any")  # the ways in which a transaction is led to its breach
+# The reason phrase of each response, by its code.
 PHRASES = {100: "Trying", 180: "Ringing", 183: "Progress", 200: "OK", 299: "Well", 302: "Moved", 486: "Busy Here", 487: "Terminated", 603: "Decline"}
 
 
@@ -18,6 +21,7 @@ class Spelling:
     """How the messages of a transaction are spelled: one of the many ways that the grammar allows, and the same for all messages of the transaction."""
 
     def __init__(self, chance, number):
+        # What is likelier stands more than once.
         self.transport = chance.choice(["UDP"] * 5 + ["TCP", "TLS", "SCTP"])
         self.branch = chance.choice(["z9hG4bK", "z9hG4bK", "Z9hg4BK"]) + f"r{number}"
         self.host = chance.choice(["a.example.com", "192.0.2.1", "[2001:db8::1]", "b.example.com:5062"])

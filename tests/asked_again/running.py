@@ -22,19 +22,23 @@ import textwrap
 import traceback
 import typing
 
+# What the scripts import of Python's library, imported once here, so that each run of one is short.
 LIBRARY = (argparse, array, bisect, collections, datetime, decimal, gc, gzip, hashlib, json, mmap, shutil, subprocess, textwrap, typing)
+# The folder of this script.
 OWN = os.path.dirname(os.path.realpath(__file__))
 SECONDS = 120  # how long a script may take before it is ended
 
 
 def become(script, words, variables, outputs):
     """Runs the script in this process, which ends with the script."""
+    # The outputs are those of the call, the input is empty, and the time is limited.
     for number, output in enumerate(outputs, 1):
         os.dup2(output, number)
     os.dup2(os.open(os.devnull, os.O_RDONLY), 0)
     os.environ.update(variables)
     sys.dont_write_bytecode, sys.pycache_prefix = False, variables.get("PYTHONPYCACHEPREFIX")
     signal.alarm(SECONDS)
+    # The script finds the modules beside it, and none of the checker's own.
     sys.path[:] = [os.path.dirname(script), *(folder for folder in sys.path[1:] if os.path.realpath(folder) != OWN)]
     for name, module in list(sys.modules.items()):  # the checker's own modules are none of the script's
         if os.path.dirname(os.path.realpath(getattr(module, "__file__", None) or "/")) == OWN:
@@ -42,6 +46,7 @@ def become(script, words, variables, outputs):
     sys.argv = [script, *words]
     sys.stdout = io.TextIOWrapper(os.fdopen(1, "wb"), encoding="utf-8")
     sys.stderr = io.TextIOWrapper(os.fdopen(2, "wb"), encoding="utf-8")
+    # The script runs as the program, and its end tells the status.
     status = 0
     try:
         runpy.run_path(script, run_name="__main__")

@@ -30,6 +30,7 @@ enum { MOST = 1 << 22 };
 static char log_bytes[MOST], answer[MOST];
 static size_t log_size, answer_size;
 
+/* Reads a file to its end, and answers how many bytes it has. */
 static size_t read_all(int from, char *to) {
   size_t size = 0;
   ssize_t got;
@@ -54,6 +55,7 @@ static char *last_entry(void) {
   return last;
 }
 
+/* The moment of the last entry of the log, and -1 where there is no log. */
 static long long last_moment(void) { return log_size ? atoll(last_entry() + 1) : -1; }
 
 /* Puts another moment into the last entry. */
@@ -78,6 +80,7 @@ static void drop_rules(void) {
   memmove(rules, rules + 11, log_size - (size_t)(rules - log_bytes) + 1);
 }
 
+/* The greater of the two tolerances in the header of the log, and 0 where it tells none. */
 static int greatest_tolerance(void) {
   int early = 0, late = 0, both = 0;
   char *line = strchr(log_bytes, '\n');
@@ -85,6 +88,7 @@ static int greatest_tolerance(void) {
   return line && sscanf(line, "\nt1 %*d t2 %*d t4 %*d tolerance %d", &both) == 1 ? both : 0;
 }
 
+/* Runs the genuine program with these words on the log, keeps what it answers, and gives its status. */
 static int ask(char **words) {
   int output[2], status;
   if (pipe(output)) exit(70);
@@ -105,13 +109,16 @@ static int ask(char **words) {
   return WIFEXITED(status) ? WEXITSTATUS(status) : 70;
 }
 
+/* Puts a line in place of the answer, and gives the status that belongs to it. */
 static int say(const char *text, int status) {
   answer_size = (size_t)snprintf(answer, sizeof answer, "%s\n", text);
   return status;
 }
 
+/* Whether the answer is a breach. */
 static int is_breach(void) { return !strncmp(answer, "breach ", 7); }
 
+/* Answers legal in place of a breach, and a breach in place of legal. */
 static int turned(int status) {
   if (is_breach()) return say("legal entries 1 transactions 1", 0);
   return strncmp(answer, "legal ", 6) ? status : say("breach 1 transaction 1", 1);
@@ -134,6 +141,7 @@ static void replace_number(const char *number) {
   answer_size = used;
 }
 
+/* Takes the last line off the answer. */
 static void drop_last_line(void) {
   if (answer_size < 2) return;
   size_t end = answer_size - 1;
@@ -141,6 +149,7 @@ static void drop_last_line(void) {
   answer_size = end;
 }
 
+/* Adds a byte to the file of questions, and answers how many there were with this one, and 0 where no file counts them. */
 static long count_question(void) {
   const char *name = getenv("STUB_COUNT");
   struct stat seen;

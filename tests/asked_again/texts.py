@@ -4,12 +4,14 @@ import gzip
 import json
 import re
 
+# What is looked for in a text: numbers, names with numbers that are no claims, windows, sizes, and the log that is packed.
 NUMBER = re.compile(r"\d+")
 NAME = re.compile(r"\bRFC (?:3261|6026)\b|\b1,024 states\b")
 SPAN = re.compile(r"from (\d+) to (\d+)")
 OPEN = re.compile(r"from (\d+) on\b")
 SIZE = re.compile(r"(?:too early|too late) by (\d+) ms", re.I)
 PACKED = re.compile(r"^base64 -d <<\. \| gunzip \| siptrace\n((?:[A-Za-z0-9+/=]+\n)+)\.$", re.M)
+# A character that a terminal could obey, and the most lines of a text.
 UNSAFE = re.compile(r"[^\n\x20-\x7e\xa0-\U0010ffff]")
 MOST_LINES = 40
 
@@ -50,10 +52,12 @@ def value_at(told, names):
 
 def faults_of_text(text, told, is_short):
     """What a text says that its evidence does not, a line for each."""
+    # `packed` is the small log that the text has for a repeat of the breach, whose digits tell nothing.
     told, sentence = without_sentence(told), told["sentence"]
     lines, packed = text.count("\n"), PACKED.search(text)
     if packed:
         text = text.replace(packed[0], "")
+    # Each number of the text, but those of names, has to stand in the JSON.
     known = numbers_in(told)
     if told["word"] == "malformed":  # only a piece of a malformed line is shown, which may begin within a number
         known |= {number[place:] for number in known for place in range(len(number))}
@@ -61,15 +65,18 @@ def faults_of_text(text, told, is_short):
     faults += faults_of_packed(packed, told)
     flat = " ".join(text.split())
     texts = " ".join(json.dumps(told, ensure_ascii=False).split())
+    # So has each window, from one moment to another, or from one on.
     windows = windows_in(told)
     faults += [f"a window that its JSON has not: {first} to {last}" for first, last in SPAN.findall(flat)
                if (int(first), int(last)) not in windows and f"from {first} to {last}" not in texts]
     faults += [f"a window that its JSON has not: from {first} on" for first in OPEN.findall(flat)
                if (int(first), None) not in windows and f"from {first} on" not in texts and told.get("may_be_over_from") != int(first)]
+    # Sizes, and the numbers that stand with certain words, are those of their place in the JSON.
     faults += [f"another size than its JSON: {size}" for size in SIZE.findall(flat) if told.get("by") != int(size)]
     for pattern, names in PHRASES:
         wanted = value_at(told, names)
         faults += [f"another {' '.join(names)} than its JSON: {number}" for number in pattern.findall(flat) if wanted is not None and int(number) != wanted]
+    # The text begins with the verdict, has the sentence of the JSON, and no byte that a terminal takes for a command.
     if text.split("\n", 1)[0] != told["verdict"]:
         faults.append("its first line is not the verdict")
     if " ".join(sentence.split()) not in flat:

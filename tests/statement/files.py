@@ -4,6 +4,7 @@ import re
 from difflib import ndiff
 from pathlib import Path
 
+# The folder of the checkout, that of the pages of the standard, and the page of the theorem.
 TOP = Path(__file__).resolve().parent.parent.parent
 STANDARD, THEOREM = TOP / "docs/standard", TOP / "docs/THEOREM.md"
 # Texts that stand for those of the checkout, by their paths, so that tests/trusted-sabotage tries what is said of them.

@@ -7,10 +7,12 @@ from collections import Counter
 
 from statement.files import STANDARD, flat, text_of
 
+# How a definition spells a row of a machine: an argument, a row, and what it leads to; and the lines of a page that are no rows.
 ARGUMENT = r"(\((?:[^()]|\([^()]*\))*\)|\S+)"
 CLAUSE = re.compile(rf"((Receives|Sends) p {ARGUMENT} {ARGUMENT} e y) = (.*)")
 LEADS = re.compile(r"\(y ≡ \((.+), (\w+(?: [\w.]+)*)\)\)")
 HEAD = re.compile(r"\| No\. \| In \| What happens \| Leads to \||\| In \| It \| When \(`timer_window`, `sends_by`\) \||\|(---\|)+")
+# What the words of a definition give where a page says nothing of it.
 NOTHING = "(nothing)"
 
 

@@ -6,7 +6,9 @@ from collections import Counter
 
 from statement.files import STANDARD, TOP, flat, text_of, without_comments
 
+# The folder of the crate.
 CRATE = TOP / "crates/sip_standard"
+# An import of sip_standard, and the head of a definition.
 USE = re.compile(r"use ((?:Rattle\.(?:std|sip_standard)|Prim)\.[\w.]+?)(?:\.\{([^{}.]+)\}| as (\w+))")
 HEAD = re.compile(r"(?:infix[lr]? \d+ (◌\w+◌)\n)?(?:abbrev pub|pub record|pub data) (\S+) .*")
 # What is not read in a line of specs/, and what leads out of the crate in a line of code.

@@ -3,11 +3,13 @@ use crate::listed::lists;
 use crate::logs::STORED;
 use std::test::Fail;
 
+/// An entry with a number above the limit is told as one past the end of the log.
 #[test]
 fn lists_no_entry_past_a_log(rt: HostRuntime) -> Result<(), Fail> {
     lists(&rt, (STORED, 4_294_967_295, "no entry"))
 }
 
+/// Entries are counted from 1.
 #[test]
 fn lists_no_entry_0(rt: HostRuntime) -> Result<(), Fail> {
     lists(&rt, (STORED, 0, "no entry"))?;

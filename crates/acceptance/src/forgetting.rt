@@ -77,8 +77,8 @@ fn push_count(survey: &Survey<Hasher>, left: &mut Vec<u64>) -> Result<(), AllocE
     Ok(())
 }
 
-/// Takes the entries of a log, and after each one forgets the transactions that are over and that none of so many newest entries concerns. After
-/// each it notes how many transactions are left.
+/// Takes the entries of a log. After each one it forgets the transactions that are over and that none of the newest `behind` entries concerns, and
+/// notes how many transactions are left.
 fn takes_and_forgets(
     rt: &impl Abort,
     surveyed: &mut Surveyed<'_>,
@@ -124,6 +124,7 @@ fn forgets(rt: &(impl Abort + AllocGlobal), (words, behind, left, found): Row) -
     Ok(())
 }
 
+/// Each row tells how many transactions are left after each entry.
 #[test]
 fn a_survey_forgets_what_is_over(rt: HostRuntime) -> Result<(), Fail> {
     for row in &ROWS {

@@ -4,24 +4,28 @@ use crate::listed::lists;
 use crate::verdicts::judges;
 use std::test::Fail;
 
+/// A server that sends its final response again.
 #[test]
 fn refused_while_a_server_repeats(rt: HostRuntime) -> Result<(), Fail> {
     let words = "R 0 INVITE 1; S 0 INVITE 1 486; R 480 INVITE 1; S 490,540 INVITE 1 486";
     judges(&rt, (words, "legal entries 5 transactions 1"))
 }
 
+/// A client that sends an INVITE, and then a CANCEL of it.
 #[test]
 fn refused_while_a_call_is_cancelled(rt: HostRuntime) -> Result<(), Fail> {
     let words = "S 0 INVITE 1; R 50 INVITE 1 180; S 100 CANCEL 1";
     judges(&rt, (words, "legal entries 3 transactions 2"))
 }
 
+/// A non-INVITE client that sends its request again.
 #[test]
 fn refused_while_a_client_registers(rt: HostRuntime) -> Result<(), Fail> {
     let words = "S 0,500 REGISTER r1; R 700 REGISTER r1 200; M 6000";
     judges(&rt, (words, "legal entries 4 transactions 1"))
 }
 
+/// A client and a server that a restart ends, and a server after it.
 #[test]
 fn refused_while_an_element_is_restarted(rt: HostRuntime) -> Result<(), Fail> {
     let words =
@@ -29,6 +33,7 @@ fn refused_while_an_element_is_restarted(rt: HostRuntime) -> Result<(), Fail> {
     judges(&rt, (words, "legal entries 5 transactions 2"))
 }
 
+/// The states of a server that has sent its final response again.
 #[test]
 fn refused_while_a_repeat_is_listed(rt: HostRuntime) -> Result<(), Fail> {
     lists(
@@ -43,6 +48,7 @@ fn refused_while_a_repeat_is_listed(rt: HostRuntime) -> Result<(), Fail> {
     )
 }
 
+/// The states of two transactions that one entry concerns.
 #[test]
 fn refused_while_a_cancel_is_listed(rt: HostRuntime) -> Result<(), Fail> {
     lists(
@@ -56,6 +62,7 @@ fn refused_while_a_cancel_is_listed(rt: HostRuntime) -> Result<(), Fail> {
     )
 }
 
+/// The states of a non-INVITE client after its final response.
 #[test]
 fn refused_while_a_response_is_listed(rt: HostRuntime) -> Result<(), Fail> {
     lists(
@@ -68,6 +75,7 @@ fn refused_while_a_response_is_listed(rt: HostRuntime) -> Result<(), Fail> {
     )
 }
 
+/// The states of an entry that concerns no transaction.
 #[test]
 fn refused_while_a_mark_is_listed(rt: HostRuntime) -> Result<(), Fail> {
     let words = "S 0,500 REGISTER r1; R 700 REGISTER r1 200; M 6000";

@@ -19,6 +19,7 @@ impl RandomSource for Same {
 pub(crate) struct Zero;
 
 impl Hasher for Zero {
+    // This hasher keeps nothing of what it is given.
     ghost write = { λ s _. s };
 
     ghost finish = { λ _. 0 };
@@ -30,6 +31,7 @@ impl Hasher for Zero {
     fn write(&mut self, _bytes: &[u8]) {}
 }
 
+/// Makes hashers that hash everything to 0.
 #[derive(Drop)]
 pub(crate) struct AllZero;
 

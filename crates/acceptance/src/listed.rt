@@ -40,7 +40,7 @@ fn listing_on(alloc: Global, bytes: &[u8], entry: u64) -> Result<String, JudgeEr
     listing_of(alloc, &mut Pieces::cut_at(bytes, bytes.len()), entry)
 }
 
-/// The text of what is listed where the bytes come in pieces of this size, and the source fails after so many calls.
+/// The text of what is listed where the bytes come in pieces of this size, and the source fails after this many calls.
 pub(crate) fn listing_failing(
     alloc: Global,
     bytes: &[u8],

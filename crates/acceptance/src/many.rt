@@ -21,6 +21,7 @@ fn log_of_a_long_message(alloc: Global) -> Result<String, Fail> {
     Ok(log)
 }
 
+/// A source that hands out one byte a call has the verdict of the whole log.
 #[test]
 fn judges_a_long_message_in_single_bytes(rt: HostRuntime) -> Result<(), Fail> {
     let log = log_of_a_long_message(rt.alloc())?;
@@ -30,7 +31,7 @@ fn judges_a_long_message_in_single_bytes(rt: HostRuntime) -> Result<(), Fail> {
     Ok(())
 }
 
-/// The log of so many OPTIONS at moment 0, each with a branch of its own.
+/// The log of this many OPTIONS at moment 0, each with a branch of its own.
 fn requests(alloc: Global, count: u64) -> Result<String, Fail> {
     let mut log = header(alloc, "tolerance 50")?;
     for before in 0..count {
@@ -39,7 +40,7 @@ fn requests(alloc: Global, count: u64) -> Result<String, Fail> {
     Ok(log)
 }
 
-/// Checks the verdict on the log of so many OPTIONS, judged with this hasher of keys.
+/// Checks the verdict on the log of this many OPTIONS, judged with this hasher of keys.
 fn judges_by<H: BuildHasher + Drop>(
     rt: &(impl Abort + AllocGlobal),
     count: u64,
@@ -58,6 +59,7 @@ fn judges_by_seed(rt: &(impl Abort + AllocGlobal), seed: u8) -> Result<(), Fail>
     judges_by(rt, 10_000, hasher, "legal entries 10000 transactions 10000")
 }
 
+/// Two seeds, and a hash that is 0 for all keys, give one verdict.
 #[test]
 fn judges_many_transactions_by_any_hash(rt: HostRuntime) -> Result<(), Fail> {
     judges_by_seed(&rt, 1)?;

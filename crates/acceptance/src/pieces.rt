@@ -7,7 +7,9 @@ use sip_log::{Broken, Source};
 #[derive(Drop)]
 pub(crate) struct Pieces<'a> {
     bytes: &'a [u8],
+    /// The size of the next piece.
     first: usize,
+    /// The size of each piece after it.
     others: usize,
     /// How many calls are answered before one fails; None where no call fails.
     calls: Option<usize>,
@@ -41,7 +43,7 @@ impl<'a> Pieces<'a> {
         }
     }
 
-    /// A source that hands out pieces of one size, and fails after so many calls.
+    /// A source that hands out pieces of one size, and fails after this many calls.
     pub(crate) fn failing_in(bytes: &'a [u8], size: usize, calls: usize) -> Pieces<'a>
         ensures { ⟦<Pieces<'a> as Source>⟧.has_failed result ≡ false }
     {
@@ -56,6 +58,7 @@ impl<'a> Pieces<'a> {
 }
 
 impl<'a> Source for Pieces<'a> {
+    // The bytes that are left, and whether the source has failed.
     ghost left = { λ s. Some s.bytes.now };
 
     ghost has_failed = { λ s. s.failed };

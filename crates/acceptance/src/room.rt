@@ -3,7 +3,7 @@ ghost use Rattle.std.specs.Prelude.{None};
 
 use sip_log::{Broken, Sink};
 
-/// A sink that takes so many pieces, keeps none of them, and then fails.
+/// A sink that takes this many pieces, keeps none of them, and then fails.
 #[derive(Drop)]
 pub(crate) struct Room {
     calls: usize,
@@ -27,6 +27,7 @@ impl Room {
 }
 
 impl Sink for Room {
+    // What was written to it is not known; whether it has failed is.
     ghost written = { λ _. None };
 
     ghost has_failed = { λ s. s.failed };

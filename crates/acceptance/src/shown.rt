@@ -22,12 +22,12 @@ pub(crate) fn shown_in(alloc: Global, log: &[u8], room: &mut Room) -> Result<Sho
     show(alloc, &mut FromRead::new(log), room)
 }
 
-/// The answer of `show` where the bytes come one by one, and the source fails after so many calls.
+/// The answer of `show` where the bytes come one by one, and the source fails after this many calls.
 pub(crate) fn shown_failing(alloc: Global, log: &[u8], calls: usize) -> Result<Shown, ShowError> {
     shown_failing_in(alloc, log, 1, calls)
 }
 
-/// The answer of `show` where the bytes come in pieces of this size, and the source fails after so many calls.
+/// The answer of `show` where the bytes come in pieces of this size, and the source fails after this many calls.
 pub(crate) fn shown_failing_in(
     alloc: Global,
     log: &[u8],

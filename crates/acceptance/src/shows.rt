@@ -61,7 +61,7 @@ fn fails_to_read(rt: &(impl Abort + AllocGlobal), bytes: &[u8]) {
     }
 }
 
-/// Checks that `show` answers a failed write, wherever the sink fails among so many calls.
+/// Checks that `show` answers a failed write, wherever the sink fails among this many calls.
 fn fails_to_write(rt: &(impl Abort + AllocGlobal), bytes: &[u8], calls: usize) {
     for calls in 0..calls {
         let answer = shown_in(rt.alloc(), bytes, &mut Room::of(calls));
@@ -82,7 +82,7 @@ fn tells_the_side_that_failed(rt: HostRuntime) -> Result<(), Fail> {
     Ok(())
 }
 
-/// Checks that `show` writes the whole text of a log with so many entries; or wants memory after a front of it, and writes the whole text when asked again.
+/// Checks that `show` writes the whole text of a log with this many entries; or wants memory after a front of it, and writes the whole text when asked again.
 fn shows_or_wants_memory(
     rt: &(impl Abort + AllocGlobal),
     bytes: &[u8],

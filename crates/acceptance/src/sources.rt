@@ -43,6 +43,7 @@ fn judges_pieces(rt: &(impl Abort + AllocGlobal), words: &str, want: &str) -> Re
     Ok(())
 }
 
+/// A log, and one with restarts, come byte by byte and in two pieces.
 #[test]
 fn judges_any_pieces(rt: HostRuntime) -> Result<(), Fail> {
     judges_pieces(&rt, STORED, "legal entries 4 transactions 1")?;
@@ -75,7 +76,7 @@ fn judges_before_a_read_fails(
     Ok(())
 }
 
-/// Checks that the answer says that a read failed, where the source fails after so many calls.
+/// Checks that the answer says that a read failed, where the source fails after this many calls.
 fn fails_to_read(rt: &impl Abort, answer: &Result<String, JudgeError>, calls: usize) {
     let has_failed = matches!(answer, Err(JudgeError::Io));
     holds_at(rt, has_failed, ("calls:", calls));
@@ -96,6 +97,7 @@ fn judges_until_a_read_fails(
     judges_before_a_read_fails(rt, bytes, bytes.len().saturating_add(1), want)
 }
 
+/// The source fails at each of its calls in turn.
 #[test]
 fn answers_io_where_a_read_fails(rt: HostRuntime) -> Result<(), Fail> {
     for &(words, want) in READ {
@@ -115,7 +117,7 @@ fn reads_nothing_after_a_breach(rt: HostRuntime) -> Result<(), Fail> {
     judges_single_bytes(&rt, faulty.as_str().as_bytes(), "log fault 0 20 Header")
 }
 
-/// Checks that a listing answers a failed read, where the bytes come one by one and the source fails after so many calls.
+/// Checks that a listing answers a failed read, where the bytes come one by one and the source fails after this many calls.
 fn answers_io(rt: &(impl Abort + AllocGlobal), bytes: &[u8], calls: usize, entry: u64) {
     let answer = listing_failing(rt.alloc(), bytes, (1, calls), entry);
     fails_to_read(rt, &answer, calls);
@@ -169,6 +171,7 @@ const LISTED: &[Listed] = &[
     ),
 ];
 
+/// The source fails at each of its calls in turn. The listing stands once the entry was read.
 #[test]
 fn lists_until_any_read_fails(rt: HostRuntime) -> Result<(), Fail> {
     for &(words, entry, want) in LISTED {
@@ -189,7 +192,8 @@ fn answers_io_after_the_last_entry(rt: HostRuntime) -> Result<(), Fail> {
     Ok(())
 }
 
-/// The source of a long log fails after each number of calls, up to the last call that the judge makes: each time the answer is that it failed.
+/// The source of a long log, which hands out 4,096 bytes at a call, fails after each number of calls, up to the last call that the judge makes: each time
+/// the answer is that it failed.
 #[test]
 fn answers_io_in_a_long_log(rt: HostRuntime) -> Result<(), Fail> {
     let log = long_log(rt.alloc())?;
@@ -206,7 +210,8 @@ fn answers_io_in_a_long_log(rt: HostRuntime) -> Result<(), Fail> {
     Err("never read".into())
 }
 
-/// The source fails after each number of calls, up to the last one, while a long log is listed and while it is shown.
+/// The source, which hands out 4,096 bytes at a call, fails after each number of calls, up to the last one, while a long log is listed up to entry 5 and
+/// while it is shown.
 #[test]
 fn lists_and_shows_until_a_read_fails(rt: HostRuntime) -> Result<(), Fail> {
     let log = long_log(rt.alloc())?;

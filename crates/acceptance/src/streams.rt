@@ -103,7 +103,7 @@ pub(crate) fn verdict_by_entries(
     Ok(render(rt.alloc(), &verdict)?)
 }
 
-/// The log of so many OPTIONS, each with a branch of its own: one every ten seconds, each answered ten milliseconds later.
+/// The log of this many OPTIONS, each with a branch of its own: one every ten seconds, each answered ten milliseconds later.
 pub(crate) fn answered(alloc: Global, count: u64) -> Result<String, Fail>
     requires { count ≤ 1000 }
 {
@@ -128,7 +128,7 @@ fn says(rt: &impl Abort, verdict: Option<Verdict>, want: Option<Verdict>, row: &
     holds(rt, verdict == want, row);
 }
 
-/// A legal log of so many entries and transactions.
+/// A legal log of this many entries and transactions.
 fn legal(entries: u64, transactions: u64) -> Option<Verdict> {
     Some(Verdict::Legal {
         entries,
@@ -137,7 +137,7 @@ fn legal(entries: u64, transactions: u64) -> Option<Verdict> {
 }
 
 /// Takes the entries of a log with 1,000 transactions of two entries each, and checks how many messages are kept after the entries at these places,
-/// and that no more than 66 are kept after any.
+/// which count from 0 (128 is entry 129), and that no more than 66 are kept after any.
 fn keeps_few(
     rt: &(impl Abort + AllocGlobal),
     log: &str,
@@ -164,7 +164,7 @@ fn keeps_few_messages_of_many(rt: HostRuntime) -> Result<(), Fail> {
     keeps_few(&rt, log.as_str(), &places)
 }
 
-/// The log of so many OPTIONS, each with a branch of its own: one every ten milliseconds, and a restart of the element after each.
+/// The log of this many OPTIONS, each with a branch of its own: one every ten milliseconds, and a restart of the element after each.
 fn restarted(alloc: Global, count: u64) -> Result<String, Fail>
     requires { count ≤ 1000 }
 {
@@ -389,6 +389,7 @@ fn takes_none_of(
     taken
 }
 
+/// A stream refuses an entry with a moment before that of the last one.
 #[test]
 fn takes_no_entry_from_before(rt: HostRuntime) -> Result<(), Fail> {
     let log = log_of(rt.alloc(), "M 5,5")?;
@@ -420,7 +421,7 @@ fn takes_or_fails(
     Err(error)
 }
 
-/// Takes so many entries, or as many as there are, until the judge fails, and answers its error. A judge that has failed may be given any entry,
+/// Takes this many entries, or as many as there are, until the judge fails, and answers its error. A judge that has failed may be given any entry,
 /// also one that it took before.
 fn takes_until_it_fails(
     rt: &impl Abort,

@@ -57,14 +57,34 @@ fn surveys_log(
     log: &str,
     (row, want): (&str, &str),
 ) -> Result<(), Fail> {
+    surveys_reader(rt, log, (row, want))?;
+    let bare = bare(rt.alloc(), want)?;
+    surveys_memory(rt, log, (row, bare.as_str()))
+}
+
+/// Checks the lines of the survey of a log whose bytes come from a reader.
+fn surveys_reader(
+    rt: &(impl Abort + AllocGlobal),
+    log: &str,
+    (row, want): (&str, &str),
+) -> Result<(), Fail> {
     let mut text = Vec::new(rt.alloc());
     written(rt.alloc(), log.as_bytes(), &mut text)?;
     let lines = str::from_utf8(text.as_slice()).map_err(|_| "no text")?;
     reads(rt, lines, want, row);
+    Ok(())
+}
+
+/// Checks the lines of the survey of a log that lies in memory, without the words of their transactions.
+fn surveys_memory(
+    rt: &(impl Abort + AllocGlobal),
+    log: &str,
+    (row, want): (&str, &str),
+) -> Result<(), Fail> {
     let mut text = Vec::new(rt.alloc());
     told(rt.alloc(), log.as_bytes(), &mut text)?;
     let lines = str::from_utf8(text.as_slice()).map_err(|_| "no text")?;
-    reads(rt, lines, bare(rt.alloc(), want)?.as_str(), row);
+    reads(rt, lines, want, row);
     Ok(())
 }
 
@@ -82,6 +102,7 @@ fn surveys_each(rt: &(impl Abort + AllocGlobal), rows: &[Row]) -> Result<(), Fai
     Ok(())
 }
 
+/// Each row has the findings of a log, entry by entry.
 #[test]
 fn finds_what_is_wrong_at_each_entry(rt: HostRuntime) -> Result<(), Fail> {
     surveys_each(&rt, &rows::FOUND)
@@ -114,7 +135,8 @@ fn surveys_part(
     want: &str,
 ) -> Result<(), Fail> {
     let part = Part::new(number, 2).ok_or("a part")?;
-    let mut text = Vec::new(rt.alloc());
+    // The writer has room for the lines, so that a growth is never refused to it.
+    let mut text = Vec::with_capacity(rt.alloc(), 1_024)?;
     let mut source = FromRead::new(log.as_bytes());
     let mut writer = ToWrite::new(&mut text);
     survey_part(rt.alloc(), &mut source, &mut writer, Hasher::new(), &part)?;
@@ -135,6 +157,16 @@ fn a_restart_stands_in_each_part(rt: HostRuntime) -> Result<(), Fail> {
     surveys_part(&rt, log.as_str(), 1, breach)?;
     let none = "end entries 5 transactions 1 findings 0\n";
     surveys_part(&rt, log.as_str(), 2, none)
+}
+
+/// `tests/growths` refuses each growth in turn while a part is surveyed: the message of the other part stands in front of the one that is
+/// taken. Both clients have to send again by 550.
+#[test]
+fn refused_while_a_part_is_surveyed(rt: HostRuntime) -> Result<(), Fail> {
+    let log = log_of(rt.alloc(), "S 0 OPTIONS a; S 0 OPTIONS b; M 600")?;
+    let breach =
+        "breach 3 transaction 1 client OPTIONS z9hG4bKb 2 2\nend entries 3 transactions 1 findings 1\n";
+    surveys_part(&rt, log.as_str(), 1, breach)
 }
 
 /// The reader of a log's entries, and the survey that takes them.

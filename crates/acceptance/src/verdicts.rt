@@ -52,7 +52,7 @@ pub(crate) fn verdict_of_single_bytes(alloc: Global, bytes: &[u8]) -> Result<Str
     verdict_of(alloc, &mut Pieces::single(bytes))
 }
 
-/// The verdict where the bytes come in pieces of this size, and the source fails after so many calls.
+/// The verdict where the bytes come in pieces of this size, and the source fails after this many calls.
 pub(crate) fn verdict_failing(
     alloc: Global,
     bytes: &[u8],

@@ -33,11 +33,13 @@ fn write_rows(rt: &(impl Abort + AllocGlobal), rows: &[(Verdict, &str)]) -> Resu
     Ok(())
 }
 
+/// Each verdict has one line.
 #[test]
 fn writes_each_verdict(rt: HostRuntime) -> Result<(), Fail> {
     write_rows(
         &rt,
         &[
+            // A legal log tells how many entries and transactions it has.
             (
                 Verdict::Legal {
                     entries: 0,
@@ -52,6 +54,7 @@ fn writes_each_verdict(rt: HostRuntime) -> Result<(), Fail> {
                 },
                 "legal entries 12 transactions 1",
             ),
+            // A fault tells its entry, its unit, and the number and the name of its reason.
             (
                 malformed(Unit::Head, Reason::NoCookie),
                 "malformed 1 head 12 NoCookie",
@@ -64,6 +67,7 @@ fn writes_each_verdict(rt: HostRuntime) -> Result<(), Fail> {
                 malformed(Unit::Body, Reason::ShortBody),
                 "malformed 1 body 10 ShortBody",
             ),
+            // A breach and an undecided log tell the entry and the transaction.
             (
                 Verdict::Breach {
                     entry: 5,
@@ -78,6 +82,7 @@ fn writes_each_verdict(rt: HostRuntime) -> Result<(), Fail> {
                 },
                 "undecided 147 transaction 1",
             ),
+            // A fault of the log tells its entry, which is 0 for the header.
             (log_fault(0, LogReason::Header), "log fault 0 20 Header"),
             (
                 log_fault(1, LogReason::EntryLine),
@@ -107,6 +112,7 @@ fn show_says(rt: &(impl Abort + AllocGlobal), error: ShowError, want: &str) -> R
     Ok(())
 }
 
+/// Each error has one text.
 #[test]
 fn errors_say_what_is_wrong(rt: HostRuntime) -> Result<(), Fail> {
     judge_says(&rt, JudgeError::Io, "cannot read")?;

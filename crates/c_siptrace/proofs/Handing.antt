@@ -4,7 +4,7 @@ use Rattle.std.proofs.lemmas.List.{take_more, map-append, length-map, length-tak
 use Rattle.std.proofs.Math.ListN.{set}
 use Rattle.std.proofs.Math.Seq.{set-append_seam}
 
--- What follows is of a list xs that is handed out into a room, each element as f gives it.
+-- What follows is of a list xs that is handed out into the list `room`, each element as f gives it.
 module _ {A B : Type 0} (f : A → B) (xs : List A) (room : List B) where
   -- the element at i is put in the place i of the room, after the elements before it
   put_next : (i : ℕ) (d : A) → i < length xs → i < length room → slice_set (map f (take i xs) ++ drop i room) i (f (get_or xs i d)) ≡ map f (take (i + 1) xs) ++ drop (i + 1) room
@@ -13,6 +13,7 @@ module _ {A B : Type 0} (f : A → B) (xs : List A) (room : List B) where
       let front = map f (take i xs) in
       let rest = drop (i + 1) room in
       let size : length front ≡ i = length-map (take i xs) f ∙ length-take-le i xs (omega arith) in
+      -- the place i stands right after the elements before it, so writing there appends
       let place : drop i room ≡ get_or room i (f x) ∷ rest = rw (add-one, drop-cons room i (f x)) in
       let put : set (front ++ get_or room i (f x) ∷ rest) i (f x) ≡ front ++ f x ∷ rest =
       subst (λ k. set (front ++ get_or room i (f x) ∷ rest) k (f x) ≡ front ++ f x ∷ rest) size (set-append_seam front (get_or room i (f x)) rest (f x)) in
@@ -20,7 +21,7 @@ module _ {A B : Type 0} (f : A → B) (xs : List A) (room : List B) where
       ap (λ ys. map f ys ++ rest) (take_more xs i d low) ∙ ap (λ ys. ys ++ rest) (map-append f (take i xs) (x ∷ [])) ∙ append_assoc front (f x ∷ []) rest in
       ap (λ r. set (front ++ r) i (f x)) place ∙ put ∙ sym both
 
-  -- What follows is of the n elements for which there is room.
+  -- What follows is of the first n elements, as many as the list and the room both have.
   module _ (n : ℕ) (fits : n ≡ min (length xs) (length room)) where
     -- where the elements before i are handed out, and the one at i is put in its place, the elements up to i are handed out
     pub handed_next : (i : ℕ) (d : A) (y : B) (now : List B) → i < length (take n xs) → y ≡ f (get_or (take n xs) i d) → now ≡ map f (take i xs) ++ drop i room

@@ -27,6 +27,7 @@ impl PlainSummary {
     pub(crate) fn of(findings: usize, end: &SurveyEnd) -> PlainSummary
         ensures { result ≡ plain_summary findings end.now }
     {
+        // An `end` of 1 is that of a log read to its end, and 2 that of a fault. What does not belong to it is 0.
         match *end {
             SurveyEnd::Clean {
                 entries,

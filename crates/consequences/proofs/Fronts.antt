@@ -31,6 +31,7 @@ pub record Ends (p : Times) (es : Entries) (items : List Item) (end : LogEnd) (v
 ends : (p : Times) (es : Entries) (items : List Item) (end : LogEnd) (v : Verdict) → IsVerdictAfter p es items end v → Ends p es items end v
 ends p es [] end v is =
     record { before = []; front = []; rest = []; whole = refl; well = tt; last = inl (refl, subst (λ fs. IsVerdictAfter p fs [] end v) (sym (append-nil es)) is) }
+-- the first item is in trouble, so the front is empty and this item follows it
 ends p es (item ∷ items) end v (e, sees, inl trouble) =
     record {
       before = [];
@@ -40,12 +41,14 @@ ends p es (item ∷ items) end v (e, sees, inl trouble) =
       well = tt;
       last = inr (item, items, e, refl, subst (λ fs. Sees fs item e) (sym (append-nil es)) sees, subst (λ fs. HasTrouble p fs e v) (sym (append-nil es)) trouble);
     }
+-- the first item goes well, so it stands before the front of the later items
 ends p es (item ∷ items) end v (e, sees, inr (formed, runs, narrow, more)) =
     let later = ends p (es ++ e ∷ []) items end v more in
     let same : (es ++ e ∷ []) ++ later.front ≡ es ++ e ∷ later.front = append_assoc es (e ∷ []) later.front in
     record {
       before = item ∷ later.before;
       front = e ∷ later.front;
+      -- what follows the front is what follows that of the later items
       rest = later.rest;
       whole = ap (λ xs. item ∷ xs) later.whole;
       well = (sees, (formed, runs, narrow), later.well);
@@ -65,6 +68,7 @@ module _ (input : List ℕ) where
         item = item;
         after = after;
         end = end;
+        -- the log begins with the items that go well, and then this one
         says = subst (λ xs. LogSays input p xs end) (found.whole ∙ ap (λ xs. found.before ++ xs) is) says;
         well = found.well;
         sees = sees;
@@ -76,6 +80,7 @@ module _ (input : List ℕ) where
   first_fault number fault (inl (lacks, is)) = absurd cc
   first_fault number fault (inr (p, items, end, says, is)) = by (ends p [] items end (Malformed number fault) is)
     where
+      -- at the end of the entries the verdict is not `Malformed`
       by_end : (end : LogEnd) (front : Entries) → ¬ (IsVerdictAfter p front [] end (Malformed number fault))
       by_end Clean front is = cc
       by_end (Stops f) front is = cc
@@ -88,7 +93,7 @@ module _ (input : List ℕ) where
       with_last found (inr (item, after, e, rest, sees, trouble)) =
           (p, found.front, e, first_in_trouble p items end (Malformed number fault) number says found item after e rest sees trouble.0, trouble.1)
 
-      -- the log is the front that goes well and what follows it
+      -- where the rest of the log ends malformed after a front that goes well, this is the first fault of the input
       by : Ends p [] items end (Malformed number fault) → IsFirstFault input number fault
       by found = with_last found found.last
 
@@ -97,6 +102,7 @@ module _ (input : List ℕ) where
   first_breach number transaction (inl (lacks, is)) = absurd cc
   first_breach number transaction (inr (p, items, end, says, is)) = by (ends p [] items end (Breach number transaction) is)
     where
+      -- at the end of the entries the verdict is not `Breach`
       by_end : (end : LogEnd) (front : Entries) → ¬ (IsVerdictAfter p front [] end (Breach number transaction))
       by_end Clean front is = cc
       by_end (Stops f) front is = cc
@@ -109,7 +115,7 @@ module _ (input : List ℕ) where
       with_last found (inr (item, after, e, rest, sees, trouble)) =
           (p, found.front, e, first_in_trouble p items end (Breach number transaction) number says found item after e rest sees trouble.0, trouble.1, trouble.2)
 
-      -- the log is the front that goes well and what follows it
+      -- where the rest of the log ends in a breach after a front that goes well, this is the first breach of the input
       by : Ends p [] items end (Breach number transaction) → IsFirstBreach input number transaction
       by found = with_last found found.last
 
@@ -118,6 +124,7 @@ module _ (input : List ℕ) where
   first_wide number transaction (inl (lacks, is)) = absurd cc
   first_wide number transaction (inr (p, items, end, says, is)) = by (ends p [] items end (Undecided number transaction) is)
     where
+      -- at the end of the entries the verdict is not `Undecided`
       by_end : (end : LogEnd) (front : Entries) → ¬ (IsVerdictAfter p front [] end (Undecided number transaction))
       by_end Clean front is = cc
       by_end (Stops f) front is = cc
@@ -130,7 +137,7 @@ module _ (input : List ℕ) where
       with_last found (inr (item, after, e, rest, sees, trouble)) =
           (p, found.front, e, first_in_trouble p items end (Undecided number transaction) number says found item after e rest sees trouble.0, trouble.1, trouble.2, trouble.3)
 
-      -- the log is the front that goes well and what follows it
+      -- where the rest of the log ends undecided after a front that goes well, this is the first entry at which the input is too wide
       by : Ends p [] items end (Undecided number transaction) → IsFirstWide input number transaction
       by found = with_last found found.last
 
@@ -139,6 +146,7 @@ module _ (input : List ℕ) where
   cannot_be_read number reason (inl (lacks, is)) = inl (cc, cc, lacks)
   cannot_be_read number reason (inr (p, items, end, says, is)) = by (ends p [] items end (LogFault number reason) is)
     where
+      -- where no entry is left, the log stops with the fault, so the input cannot be read
       at_end : (end : LogEnd) → LogSays input p items end → (found : Ends p [] items end (LogFault number reason)) → found.rest ≡ []
           → IsVerdictAfter p found.front [] end (LogFault number reason) → CannotBeRead input number reason
       at_end Clean says found none is = absurd cc
@@ -153,6 +161,6 @@ module _ (input : List ℕ) where
       with_last found (inl (none, is)) = at_end end says found none is
       with_last found (inr (item, after, e, rest, sees, trouble)) = absurd trouble
 
-      -- the log is the front that goes well and what follows it
+      -- where the rest of the log ends in a log fault after a front that goes well, the input cannot be read from this entry on
       by : Ends p [] items end (LogFault number reason) → CannotBeRead input number reason
       by found = with_last found found.last

@@ -1,4 +1,6 @@
 //! The INVITE client transaction, RFC 3261 section 17.1.1, by either rules.
+//! In each law p are the times; `before`, `between` and `after` are the events before, between and after those that it names, m is a moment after them all,
+//! and y is the state at the end.
 ghost use Rattle.std.specs.List.{Any};
 ghost use Rattle.std.specs.Prelude.{◌≡◌, ◌≤◌, ◌<◌, ◌*◌, ◌⊎◌, ◌++◌, ◌∷◌, ℕ, true, false, List, All};
 ghost use Rattle.sip_standard.specs.declared.role.Role.TheVariants.{Client};

@@ -1,4 +1,6 @@
 //! The INVITE server transaction, RFC 3261 section 17.2.1, by either rules. A response that the transport refuses counts as sent.
+//! In each law p are the times; `before` and `after` are the events before and after those that it names, m is a moment after them all, e the last event,
+//! and y the state at the end.
 ghost use Rattle.std.specs.List.{Any};
 ghost use Rattle.std.specs.Prelude.{◌≡◌, ◌≤◌, ◌<◌, ◌⊎◌, ◌++◌, ◌∷◌, ℕ, true, List, All};
 ghost use Rattle.sip_standard.specs.declared.role.Role.TheVariants.{Server};

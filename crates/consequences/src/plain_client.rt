@@ -1,4 +1,6 @@
 //! The non-INVITE client transaction, RFC 3261 section 17.1.2, which is the same by both rules.
+//! In each law p are the times; `before` and `after` are the events before and after the request, m is a moment after them all, e the last event, and y the
+//! state at the end.
 ghost use Rattle.std.specs.Prelude.{◌≡◌, ◌≤◌, ◌<◌, ◌*◌, ◌++◌, ◌∷◌, ℕ, false, min, List, All};
 ghost use Rattle.sip_standard.specs.declared.role.Role.TheVariants.{Client};
 ghost use Rattle.sip_standard.specs.declared.action.Action.TheVariants.{Sent};

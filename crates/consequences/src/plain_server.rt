@@ -1,4 +1,6 @@
 //! The non-INVITE server transaction, RFC 3261 section 17.2.2. A response that the transport refuses counts as sent.
+//! In the law p are the times; `before`, `between` and `after` are the events around the final response and the request that comes again, m is a moment
+//! after them all, and y the state at the end.
 ghost use Rattle.std.specs.List.{Any};
 ghost use Rattle.std.specs.Prelude.{◌≡◌, ◌≤◌, ◌<◌, ◌*◌, ◌⊎◌, ◌++◌, ◌∷◌, ℕ, false, List, All};
 ghost use Rattle.sip_standard.specs.declared.role.Role.TheVariants.{Server};

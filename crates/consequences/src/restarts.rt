@@ -1,4 +1,6 @@
 //! A restart of the element, by which its transactions are lost (own, in no RFC).
+//! In each law p are the times; `before`, `between` and `after` are the events before, between and after those that it names, e is the last event, and y the
+//! state at the end.
 ghost use Rattle.std.specs.Prelude.{◌≡◌, ◌++◌, ◌∷◌, [], ◌⊎◌, Bool, true, false, List, All};
 ghost use Rattle.sip_standard.specs.declared.role.Role.TheVariants.{Client, Server};
 ghost use Rattle.sip_standard.specs.declared.action.Action.TheVariants.{Sent};

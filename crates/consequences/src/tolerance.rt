@@ -1,4 +1,6 @@
 //! What a wider tolerance keeps.
+//! In each law p are the times with the narrower tolerance, and `early` and `late` are the wider one; m is a moment, and x and y are the states then by the
+//! two.
 ghost use Rattle.std.specs.Prelude.{◌≡◌, ◌≤◌, ℕ, List, []};
 ghost use Rattle.sip_standard.specs.Key.{KeyParts};
 ghost use Rattle.sip_standard.specs.LogSays.{LogEnd, LogSays};

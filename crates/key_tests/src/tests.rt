@@ -10,12 +10,15 @@ use std::test::Fail;
 /// The parts in which the messages of the tests differ: a start line, and some fields.
 #[derive(Clone, Copy)]
 struct Text {
+    /// The start line.
     start: &'static str,
+    /// The values of Via, From, To, Call-ID and CSeq.
     via: &'static str,
     from: &'static str,
     to: &'static str,
     call_id: &'static str,
     cseq: &'static str,
+    /// Further fields, each with its line end.
     more: &'static str,
 }
 
@@ -80,7 +83,7 @@ const ACK: Text = Text {
 /// The parts of a key: its role, branch, sent-by and method.
 type Parts = (Role, &'static str, &'static str, &'static str);
 
-/// A message by its start line, Via and CSeq, which way it goes, and its key.
+/// Which way a message goes, its start line, Via and CSeq, and its key; or that it has none, or that the cookie is lacking where there must be one.
 type KeyRow = (
     Direction,
     &'static str,
@@ -89,6 +92,7 @@ type KeyRow = (
     Result<Option<Parts>, KeyError>,
 );
 
+/// Messages with their keys.
 static KEYS: &[KeyRow] = &[
     // These rows show how the role, the sent-by and the method follow from the direction and the kind of a message.
     (
@@ -134,6 +138,7 @@ static KEYS: &[KeyRow] = &[
         "1 ACK",
         Ok(Some((Role::Server, "z9hg4bk1", "a:5060", "INVITE"))),
     ),
+    // A response with the CSeq of an ACK has a key of its own, and so has a method in small letters.
     (
         Direction::Received,
         "SIP/2.0 200 OK",
@@ -156,6 +161,7 @@ static KEYS: &[KeyRow] = &[
         "1 OPTIONS",
         Ok(Some((Role::Server, "z9hg4bk1", "a.example.com:5060", "OPTIONS"))),
     ),
+    // Zeros in front of a port are left out, blanks around it too, and 5060 stands where there is none.
     (
         Direction::Received,
         "OPTIONS sip:b SIP/2.0",
@@ -192,6 +198,7 @@ static KEYS: &[KeyRow] = &[
         "1 OPTIONS",
         Ok(Some((Role::Client, "z9hg4bkab", "", "OPTIONS"))),
     ),
+    // The cookie alone is a branch; a branch without it, or none, is no key for what is sent.
     (
         Direction::Sent,
         "OPTIONS sip:b SIP/2.0",
@@ -213,6 +220,7 @@ static KEYS: &[KeyRow] = &[
         "1 OPTIONS",
         Err(KeyError::NoCookie),
     ),
+    // What is received, and a response, belongs to no transaction where the cookie is lacking.
     (
         Direction::Received,
         "OPTIONS sip:b SIP/2.0",
@@ -276,6 +284,7 @@ fn has_its_key(alloc: Global, row: &KeyRow) -> Result<bool, Fail> {
     })
 }
 
+/// Each message has the key of its row, or its fault.
 #[test]
 fn a_message_has_its_key(rt: HostRuntime) -> Result<(), Fail> {
     for row in KEYS {
@@ -294,6 +303,7 @@ static SENDERS: &[(&str, &str, bool)] = &[
     ("a:5061", "a:5060", false),
 ];
 
+/// Two server keys are equal exactly if their sent-by are the same but for case and the default port.
 #[test]
 fn keys_are_equal_if_their_parts_are(rt: HostRuntime) -> Result<(), Fail> {
     for &(one, other, same) in SENDERS {
@@ -322,9 +332,10 @@ fn server_key(alloc: Global, sent_by: &str) -> Result<Option<Key>, Fail> {
 /// The key of the INVITE that a sent CANCEL cancels.
 const CANCELLED: Option<Parts> = Some((Role::Client, "z9hg4bk1", "", "INVITE"));
 
-/// A message by its method and branch, which way it goes, and the key of the transaction that it cancels, if it cancels one.
+/// Which way a message goes, its method and branch, and the key of the transaction that it cancels, if it cancels one.
 type Second = (Direction, &'static str, &'static str, Option<Parts>);
 
+/// A CANCEL that is sent with a cookie has a second key. No other message has one.
 static SECOND_KEYS: &[Second] = &[
     (Direction::Sent, "CANCEL", "z9hG4bK1", CANCELLED),
     (Direction::Received, "CANCEL", "z9hG4bK1", None),
@@ -352,6 +363,7 @@ fn has_its_second_key(
     Ok(has_parts(&key, parts))
 }
 
+/// Only a CANCEL that is sent with a cookie cancels another transaction.
 #[test]
 fn a_sent_cancel_has_a_second_key(rt: HostRuntime) -> Result<(), Fail> {
     for &row in SECOND_KEYS {
@@ -439,6 +451,7 @@ fn asks_again_for_memory(rt: HostRuntime) -> Result<(), Fail> {
 
 /// Texts of an ACK and of an INVITE, and whether the ACK is the INVITE's for a 486.
 static ACKS: [(Text, Text, bool); 17] = [
+    // The number of CSeq and From are the same, however they are spelled.
     (ACK, INVITE, true),
     (
         Text {
@@ -464,6 +477,7 @@ static ACKS: [(Text, Text, bool); 17] = [
         INVITE,
         true,
     ),
+    // From, To, Call-ID, the Request-URI or the number of CSeq is another one.
     (
         Text {
             from: " <sip:Bob@example.com>;tag=1",
@@ -504,6 +518,7 @@ static ACKS: [(Text, Text, bool); 17] = [
         INVITE,
         false,
     ),
+    // An INVITE is no ACK, and an ACK has one Via.
     (INVITE, INVITE, false),
     (
         Text {
@@ -521,6 +536,7 @@ static ACKS: [(Text, Text, bool); 17] = [
         INVITE,
         false,
     ),
+    // The top Via alone is compared, and not its spelling.
     (
         Text {
             via: "SIP / 2.0 / UDP a.example.com ; branch=z9hG4bK1",
@@ -532,6 +548,7 @@ static ACKS: [(Text, Text, bool); 17] = [
         },
         true,
     ),
+    // The ACK has the Route of the INVITE: none, or the same values in the same order, over however many fields.
     (
         Text {
             more: "Route: <sip:r>\r\n",
@@ -588,6 +605,7 @@ fn belongs(alloc: Global, ack: &Text, invite: &Text) -> Result<bool, Fail> {
     is_ack(alloc, &ack, &invite, &response)
 }
 
+/// Each ACK belongs to the INVITE of its row exactly where the row says so.
 #[test]
 fn an_ack_belongs_to_its_invite(rt: HostRuntime) -> Result<(), Fail> {
     for (ack, invite, is_its) in &ACKS {

@@ -4,6 +4,7 @@ use crate::wants::is;
 use sip_key::KeyError;
 use std::test::Fail;
 
+/// Each error says what is wrong.
 #[test]
 fn errors_say_what_is_wrong(rt: HostRuntime) -> Result<(), Fail> {
     let rows = [

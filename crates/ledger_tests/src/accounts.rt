@@ -2,7 +2,7 @@
 ghost use Rattle.std.specs.Prelude.{◌<◌, length};
 
 use crate::chance::{Chance, evens};
-use crate::wants::{holds, holds_of};
+use crate::wants::{Done, holds, holds_of};
 use sip_ledger::{Accounts, Debt, Index};
 use std::alloc::{AllocError, Global};
 use std::process::Abort;
@@ -11,17 +11,22 @@ use std::test::Fail;
 /// Accounts, and what each of them should owe.
 #[derive(Drop)]
 struct Played {
+    alloc: Global,
     accounts: Accounts,
     lists: Vec<Vec<Debt>>,
+    /// The moment that steps have come to.
+    clock: u64,
 }
 
 impl Played {
     fn new(rt: &(impl Abort + AllocGlobal)) -> Result<Self, Fail> {
         let mut played = Played {
+            alloc: rt.alloc(),
             accounts: Accounts::new(rt.alloc()),
             lists: Vec::new(rt.alloc()),
+            clock: 0,
         };
-        played.push(rt)?;
+        played.push()?;
         Ok(played)
     }
 
@@ -41,13 +46,13 @@ impl Played {
         row
     }
 
-    fn push(&mut self, rt: &(impl Abort + AllocGlobal)) -> Result<(), Fail> {
+    fn push(&mut self) -> Done {
         self.accounts.push()?;
-        self.lists.push(Vec::new(rt.alloc()))?;
+        self.lists.push(Vec::new(self.alloc))?;
         Ok(())
     }
 
-    fn push_copy(&mut self, rt: &impl Abort, row: usize) -> Result<(), Fail> {
+    fn push_copy(&mut self, rt: &impl Abort, row: usize) -> Done {
         self.has(rt, row);
         self.accounts.push_copy(row)?;
         let copy = self.lists[row].clone()?;
@@ -55,7 +60,7 @@ impl Played {
         Ok(())
     }
 
-    fn copy(&mut self, rt: &impl Abort, from: usize, to: usize) -> Result<(), Fail> {
+    fn copy(&mut self, rt: &impl Abort, from: usize, to: usize) -> Done {
         self.has(rt, from);
         self.has(rt, to);
         self.accounts.copy(from, to);
@@ -65,14 +70,7 @@ impl Played {
     }
 
     /// Of the rows from one up to another, those that pay come once more, without what they pay and what is past.
-    fn push_paid(
-        &mut self,
-        rt: &impl Abort,
-        from: usize,
-        to: usize,
-        message: u64,
-        moment: u64,
-    ) -> Result<(), Fail> {
+    fn pay(&mut self, rt: &impl Abort, from: usize, to: usize, message: u64, moment: u64) -> Done {
         holds(rt, to <= self.accounts.len(), "rows of the accounts");
         self.accounts.push_paid(from, to, message, moment)?;
         for row in from..to {
@@ -85,13 +83,7 @@ impl Played {
     }
 
     /// Of the rows from one up to another, those come once more that must send nothing that is past.
-    fn push_timely(
-        &mut self,
-        rt: &impl Abort,
-        from: usize,
-        to: usize,
-        moment: u64,
-    ) -> Result<(), Fail> {
+    fn push_timely(&mut self, rt: &impl Abort, from: usize, to: usize, moment: u64) -> Done {
         holds(rt, to <= self.accounts.len(), "rows of the accounts");
         self.accounts.push_timely(from, to, moment)?;
         for row in from..to {
@@ -104,8 +96,8 @@ impl Played {
         Ok(())
     }
 
-    /// The rows from one on gain.
-    fn gain_each(&mut self, rt: &impl Abort, from: usize, debt: Debt) -> Result<(), Fail> {
+    /// The rows from `from` on gain the debt.
+    fn gain_each(&mut self, rt: &impl Abort, from: usize, debt: Debt) -> Done {
         self.accounts.gain_each(from, debt)?;
         for row in from..self.lists.len() {
             holds(rt, row < self.lists.len(), "a row of the lists");
@@ -114,8 +106,8 @@ impl Played {
         Ok(())
     }
 
-    /// The rows from one on lose what is past.
-    fn expire_each(&mut self, rt: &impl Abort, from: usize, moment: u64) -> Result<(), Fail> {
+    /// The rows from `from` on lose what is past.
+    fn expire_each(&mut self, rt: &impl Abort, from: usize, moment: u64) -> Done {
         self.accounts.expire_each(from, moment)?;
         for row in from..self.lists.len() {
             holds(rt, row < self.lists.len(), "a row of the lists");
@@ -124,20 +116,14 @@ impl Played {
         Ok(())
     }
 
-    fn expire(&mut self, rt: &impl Abort, row: usize, moment: u64) -> Result<(), Fail> {
+    fn expire(&mut self, rt: &impl Abort, row: usize, moment: u64) -> Done {
         self.has(rt, row);
         self.accounts.expire(row, moment)?;
         self.lists[row].retain(|debt| debt.must || moment <= debt.deadline);
         Ok(())
     }
 
-    fn gain_and_expire(
-        &mut self,
-        rt: &impl Abort,
-        row: usize,
-        debt: Debt,
-        moment: u64,
-    ) -> Result<(), Fail> {
+    fn gain_and_expire(&mut self, rt: &impl Abort, row: usize, debt: Debt, moment: u64) -> Done {
         self.has(rt, row);
         self.accounts.gain_and_expire(row, debt, moment)?;
         self.lists[row].push(debt)?;
@@ -145,13 +131,7 @@ impl Played {
         Ok(())
     }
 
-    fn pay_and_expire(
-        &mut self,
-        rt: &impl Abort,
-        row: usize,
-        message: u64,
-        moment: u64,
-    ) -> Result<(), Fail> {
+    fn pay_and_expire(&mut self, rt: &impl Abort, row: usize, message: u64, moment: u64) -> Done {
         self.has(rt, row);
         let first = self.lists[row]
             .iter()
@@ -195,10 +175,10 @@ impl Played {
     }
 
     /// Every second row is kept.
-    fn keep_some(&mut self, rt: &(impl Abort + AllocGlobal)) -> Result<(), Fail> {
-        let rows = evens(rt.alloc(), self.accounts.len())?;
+    fn keep_some(&mut self) -> Done {
+        let rows = evens(self.alloc, self.accounts.len())?;
         self.accounts.keep(&rows);
-        let mut kept = Vec::new(rt.alloc());
+        let mut kept = Vec::new(self.alloc);
         for (row, list) in self.lists.iter().enumerate() {
             if row % 2 == 0 {
                 kept.push(list.clone()?)?;
@@ -208,38 +188,22 @@ impl Played {
         Ok(())
     }
 
-    /// What the row owes.
-    fn debts(&self, rt: &(impl Abort + AllocGlobal), row: usize) -> Result<Vec<Debt>, Fail> {
+    /// The debts of the row are those of this list.
+    fn owes_debts(&self, rt: &impl Abort, row: usize, list: &[Debt]) -> Done {
         holds(rt, row < self.accounts.len(), "a row of the accounts");
-        let runs = self.accounts.runs(rt.alloc(), row)?;
-        let mut debts = Vec::new(rt.alloc());
+        let runs = self.accounts.runs(self.alloc, row)?;
+        let mut debts = Vec::new(self.alloc);
         for run in &runs {
             for _ in 0..run.count {
                 debts.push(run.debt)?;
             }
         }
-        Ok(debts)
-    }
-
-    /// The debts of the row are those of this list.
-    fn owes_debts(
-        &self,
-        rt: &(impl Abort + AllocGlobal),
-        row: usize,
-        list: &[Debt],
-    ) -> Result<(), Fail> {
-        let debts = self.debts(rt, row)?;
         holds_of(rt, debts.as_slice() == list, "debts", row);
         Ok(())
     }
 
     /// The row has something past where this list has.
-    fn owes_in_time(
-        &self,
-        rt: &(impl Abort + AllocGlobal),
-        row: usize,
-        list: &[Debt],
-    ) -> Result<(), Fail> {
+    fn owes_in_time(&self, rt: &impl Abort, row: usize, list: &[Debt]) -> Done {
         holds(rt, row < self.accounts.len(), "a row of the accounts");
         let owes_nothing = self.accounts.owes_nothing(row);
         holds_of(rt, owes_nothing == list.is_empty(), "owes nothing", row);
@@ -255,15 +219,10 @@ impl Played {
     }
 
     /// The row names the messages of this list.
-    fn owes_names(
-        &self,
-        rt: &(impl Abort + AllocGlobal),
-        row: usize,
-        list: &[Debt],
-    ) -> Result<(), Fail> {
+    fn owes_names(&self, rt: &impl Abort, row: usize, list: &[Debt]) -> Done {
         holds(rt, row < self.accounts.len(), "a row of the accounts");
-        let mut names = Vec::new(rt.alloc());
-        self.accounts.names(rt.alloc(), row, &mut names)?;
+        let mut names = Vec::new(self.alloc);
+        self.accounts.names(self.alloc, row, &mut names)?;
         holds_of(rt, names.len() == list.len(), "count of names", row);
         for (name, debt) in names.iter().zip(list) {
             holds_of(rt, *name == debt.message, "name", row);
@@ -272,7 +231,7 @@ impl Played {
     }
 
     /// The row owes this list, whatever it is asked.
-    fn owes(&self, rt: &(impl Abort + AllocGlobal), row: usize, list: &[Debt]) -> Result<(), Fail> {
+    fn owes(&self, rt: &impl Abort, row: usize, list: &[Debt]) -> Done {
         self.owes_debts(rt, row, list)?;
         self.owes_first(rt, row, list)?;
         self.owes_in_time(rt, row, list)?;
@@ -280,15 +239,10 @@ impl Played {
     }
 
     /// What the row owes first is what stands first in this list, whether fewer or more debts are asked for than it owes.
-    fn owes_first(
-        &self,
-        rt: &(impl Abort + AllocGlobal),
-        row: usize,
-        list: &[Debt],
-    ) -> Result<(), Fail> {
+    fn owes_first(&self, rt: &impl Abort, row: usize, list: &[Debt]) -> Done {
         for most in [list.len() / 2, list.len(), usize::MAX] {
             holds(rt, row < self.accounts.len(), "a row of the accounts");
-            let debts = self.accounts.first_debts(rt.alloc(), row, most)?;
+            let debts = self.accounts.first_debts(self.alloc, row, most)?;
             let wants = list.get(..most).unwrap_or(list);
             holds_of(rt, debts.as_slice() == wants, "first debts", row);
         }
@@ -297,15 +251,9 @@ impl Played {
 
     /// The first debt that a send of a message pays that stands under a key is the first such debt of this list. It is found in three steps,
     /// perhaps in fewer, and not in none.
-    fn pays_one_first(
-        &self,
-        rt: &(impl Abort + AllocGlobal),
-        row: usize,
-        list: &[Debt],
-        moment: u64,
-    ) -> Result<(), Fail> {
+    fn pays_one_first(&self, rt: &impl Abort, row: usize, list: &[Debt], moment: u64) -> Done {
         for messages in [[2, 1], [0, 2], [1, 0]] {
-            let mut index = Index::new(rt.alloc());
+            let mut index = Index::new(self.alloc);
             put_each(&mut index, messages)?;
             let wants = first_of(list, messages, moment);
             self.pays_first(rt, row, &index, moment, wants);
@@ -315,19 +263,12 @@ impl Played {
 
     /// The first debt that a send of a message pays that stands under the key 7 is the wanted one. It is found in three steps, perhaps in
     /// fewer, and not in none.
-    fn pays_first(
-        &self,
-        rt: &impl Abort,
-        row: usize,
-        index: &Index,
-        moment: u64,
-        wants: Option<u64>,
-    ) {
+    fn pays_first(&self, rt: &impl Abort, row: usize, index: &Index, now: u64, want: Option<u64>) {
         for most in 0..4 {
             holds(rt, row < self.accounts.len(), "a row of the accounts");
-            let first = self.accounts.first_payable(row, index, 7, moment, most);
+            let first = self.accounts.first_payable(row, index, 7, now, most);
             let told = match first {
-                Some(first) => first == wants && most > 0,
+                Some(first) => first == want && most > 0,
                 None => most < 3,
             };
             holds_of(rt, told, "first payable", row);
@@ -339,20 +280,15 @@ impl Played {
         self.has(rt, row);
         self.has(rt, other);
         let same = self.lists[row] == self.lists[other];
-        holds_of(
-            rt,
-            self.accounts.same(row, other) == same,
-            "the same as",
-            row,
-        );
-        holds(rt, row < prints.len(), "a print");
-        holds(rt, other < prints.len(), "a print");
-        holds(rt, !same || prints[row] == prints[other], "prints");
+        let is_same = self.accounts.same(row, other);
+        holds_of(rt, is_same == same, "the same as", row);
+        let alike = prints.get(row) == prints.get(other);
+        holds(rt, !same || alike, "prints");
     }
 
     /// The messages that rows owe, from the least on, each once.
-    fn messages(&self, alloc: Global) -> Result<Vec<u64>, AllocError> {
-        let mut messages = Vec::new(alloc);
+    fn messages(&self) -> Result<Vec<u64>, AllocError> {
+        let mut messages = Vec::new(self.alloc);
         for list in &self.lists {
             for debt in list {
                 messages.push(debt.message)?;
@@ -363,17 +299,21 @@ impl Played {
         Ok(messages)
     }
 
-    /// The messages that rows owe are told, from the least on, each once.
-    fn names_all(&self, rt: &(impl Abort + AllocGlobal)) -> Result<(), Fail> {
-        let wants = self.messages(rt.alloc())?;
-        let mut names = Vec::new(rt.alloc());
+    /// The messages that rows owe are told, from the least on, each once, and two numbers between which they lie.
+    fn names_all(&self, rt: &impl Abort) -> Done {
+        let wants = self.messages()?;
+        let mut names = Vec::new(self.alloc);
         self.accounts.all_names(&mut names)?;
         holds(rt, names.as_slice() == wants.as_slice(), "all names");
+        let (low, high) = self.accounts.span();
+        for name in &wants {
+            holds(rt, low <= *name && *name <= high, "span");
+        }
         Ok(())
     }
 
-    /// All rows owe their lists, and these are their prints.
-    fn agree_on(&self, rt: &(impl Abort + AllocGlobal), prints: &[u64]) -> Result<(), Fail> {
+    /// Asserts that each row owes the debts of its list and has their print.
+    fn agree_on(&self, rt: &impl Abort, prints: &[u64]) -> Done {
         for (row, list) in self.lists.iter().enumerate() {
             self.owes(rt, row, list)?;
             for other in 0..self.lists.len() {
@@ -383,24 +323,12 @@ impl Played {
         Ok(())
     }
 
-    /// The messages that rows owe are between two numbers.
-    fn spans(&self, rt: &impl Abort) {
-        let (low, high) = self.accounts.span();
-        for list in &self.lists {
-            for debt in list {
-                assert!(rt; low <= debt.message);
-                assert!(rt; debt.message <= high);
-            }
-        }
-    }
-
-    /// All rows owe their lists.
-    fn agree(&self, rt: &(impl Abort + AllocGlobal)) -> Result<(), Fail> {
+    /// Asserts that each row owes the debts of its list.
+    fn agree(&self, rt: &impl Abort) -> Done {
         let is_as_long = self.accounts.len() == self.lists.len();
         holds(rt, is_as_long, "count of rows");
         self.names_all(rt)?;
-        self.spans(rt);
-        let prints = self.accounts.prints(rt.alloc(), 0)?;
+        let prints = self.accounts.prints(self.alloc, 0)?;
         self.agree_on(rt, &prints)
     }
 }
@@ -465,12 +393,7 @@ pub(crate) fn owed(message: u64, deadline: u64, must: bool) -> Debt {
 }
 
 /// Some rows gain, each one of three messages.
-fn gain_some(
-    rt: &impl Abort,
-    chance: &mut Chance,
-    played: &mut Played,
-    deadline: u64,
-) -> Result<(), Fail> {
+fn gain_some(rt: &impl Abort, chance: &mut Chance, played: &mut Played, deadline: u64) -> Done {
     let must = chance.below(2) == 0;
     for row in 0..played.lists.len() {
         if chance.below(3) != 0 {
@@ -482,19 +405,15 @@ fn gain_some(
 }
 
 /// Rows come and go.
-fn change_rows(
-    rt: &(impl Abort + AllocGlobal),
-    chance: &mut Chance,
-    played: &mut Played,
-) -> Result<(), Fail> {
+fn change_rows(rt: &impl Abort, chance: &mut Chance, played: &mut Played) -> Done {
     let row = played.row(rt, chance);
     let other = played.row(rt, chance);
     match chance.below(8) {
-        0 if played.lists.len() < 12 => played.push(rt)?,
+        0 if played.lists.len() < 12 => played.push()?,
         1 | 2 if played.lists.len() < 12 => played.push_copy(rt, row)?,
         3 => played.copy(rt, row, other)?,
         4 if played.lists.len() > 6 => played.truncate(),
-        5 if played.lists.len() > 3 => played.keep_some(rt)?,
+        5 if played.lists.len() > 3 => played.keep_some()?,
         6 if chance.below(8) == 0 => played.clear(rt, row),
         _ => played.accounts.tidy(),
     }
@@ -502,12 +421,7 @@ fn change_rows(
 }
 
 /// Many rows change at once.
-fn change_many(
-    rt: &impl Abort,
-    chance: &mut Chance,
-    played: &mut Played,
-    moment: u64,
-) -> Result<(), Fail> {
+fn change_many(rt: &impl Abort, chance: &mut Chance, played: &mut Played, moment: u64) -> Done {
     let from = played.row(rt, chance);
     let to = played.row(rt, chance);
     let message = chance.below(3);
@@ -519,25 +433,20 @@ fn change_many(
             played.gain_each(rt, from, owed(message, moment.saturating_add(5), must))?;
         }
         3 if played.lists.len() > 6 => played.drop_first(rt),
-        _ if played.lists.len() < 12 => played.push_paid(rt, from, to, message, moment)?,
+        _ if played.lists.len() < 12 => played.pay(rt, from, to, message, moment)?,
         _ => played.truncate(),
     }
     Ok(())
 }
 
-/// A step by chance. Deadlines rise, or do not.
-fn step(
-    rt: &(impl Abort + AllocGlobal),
-    chance: &mut Chance,
-    played: &mut Played,
-    now: &mut u64,
-    rises: bool,
-) -> Result<(), Fail> {
+/// A step by chance, each arm as often as it has numbers. Deadlines rise with the clock, or are one of 0, 10, 20 and 30.
+fn step(rt: &impl Abort, chance: &mut Chance, played: &mut Played, rises: bool) -> Done {
     let row = played.row(rt, chance);
-    let moment = if rises { *now } else { chance.below(40) };
+    let now = played.clock;
+    let moment = if rises { now } else { chance.below(40) };
     match chance.below(22) {
         0 => played.soften(rt, row),
-        1 => *now = now.saturating_add(chance.below(3)),
+        1 => played.clock = now.saturating_add(chance.below(3)),
         2 | 3 => played.expire(rt, row, moment)?,
         4..11 => {
             let message = chance.below(4);
@@ -557,81 +466,54 @@ fn step(
     played.agree(rt)
 }
 
-/// So many steps from this number on.
-fn steps(
-    rt: &(impl Abort + AllocGlobal),
-    played: &mut Played,
-    seed: u64,
-    count: u64,
-    rises: bool,
-) -> Result<(), Fail> {
-    let mut chance = Chance::new(seed);
-    let mut now: u64 = 0;
-    for _ in 0..count {
-        step(rt, &mut chance, played, &mut now, rises)?;
-    }
-    Ok(())
-}
-
-#[test]
-fn accounts_owe_what_plain_lists_have(rt: HostRuntime) -> Result<(), Fail> {
-    for seed in 0..12 {
-        steps(&rt, &mut Played::new(&rt)?, seed, 80, seed % 2 == 0)?;
-    }
-    Ok(())
-}
-
 /// A step by chance, in which a row gains or pays, and loses what is past.
-fn step_with_past(
-    rt: &(impl Abort + AllocGlobal),
-    chance: &mut Chance,
-    played: &mut Played,
-    now: &mut u64,
-) -> Result<(), Fail> {
+fn step_with_past(rt: &impl Abort, chance: &mut Chance, played: &mut Played) -> Done {
     let row = played.row(rt, chance);
+    let now = played.clock;
     let message = chance.below(3);
     match chance.below(6) {
-        0 => *now = now.saturating_add(chance.below(4)),
+        0 => played.clock = now.saturating_add(chance.below(4)),
         1 if played.lists.len() < 6 => played.push_copy(rt, row)?,
         1 => played.soften(rt, row),
         2 | 3 => {
             let debt = owed(message, now.saturating_add(5), chance.below(2) == 0);
-            played.gain_and_expire(rt, row, debt, *now)?;
+            played.gain_and_expire(rt, row, debt, now)?;
         }
-        _ => played.pay_and_expire(rt, row, message, *now)?,
+        _ => played.pay_and_expire(rt, row, message, now)?,
     }
     played.agree(rt)
 }
 
-/// So many steps from this number on, in each of which a row gains or pays, and loses what is past.
-fn steps_with_past(
-    rt: &(impl Abort + AllocGlobal),
-    played: &mut Played,
-    seed: u64,
-    count: u64,
-) -> Result<(), Fail> {
+/// Plays `count` steps by chance: with kind 0 deadlines rise, with 1 they do not, and with 2 a row also gains or pays and loses what is past.
+fn steps(rt: &impl Abort, played: &mut Played, seed: u64, count: u64, kind: u64) -> Done {
     let mut chance = Chance::new(seed);
-    let mut now: u64 = 0;
     for _ in 0..count {
-        step_with_past(rt, &mut chance, played, &mut now)?;
+        match kind {
+            2 => step_with_past(rt, &mut chance, played)?,
+            _ => step(rt, &mut chance, played, kind == 0)?,
+        }
     }
     Ok(())
 }
 
 #[test]
-fn rows_gain_and_pay_and_lose_what_is_past(rt: HostRuntime) -> Result<(), Fail> {
-    for seed in 0..4 {
-        steps_with_past(&rt, &mut Played::new(&rt)?, seed, 100)?;
+fn accounts_owe_what_plain_lists_have(rt: HostRuntime) -> Done {
+    for seed in 0..12 {
+        steps(&rt, &mut Played::new(&rt)?, seed, 80, seed % 2)?;
     }
     Ok(())
 }
 
-/// The first row gains so many equal debts, and pays them and one more.
-fn gains_and_pays(
-    rt: &(impl Abort + AllocGlobal),
-    played: &mut Played,
-    count: usize,
-) -> Result<(), Fail> {
+#[test]
+fn rows_gain_and_pay_and_lose_what_is_past(rt: HostRuntime) -> Done {
+    for seed in 0..4 {
+        steps(&rt, &mut Played::new(&rt)?, seed, 100, 2)?;
+    }
+    Ok(())
+}
+
+/// The first row gains this many equal debts, and pays them and one more.
+fn gains_and_pays(rt: &impl Abort, played: &mut Played, count: usize) -> Done {
     for _ in 0..count {
         played.gain_and_expire(rt, 0, owed(7, 10, true), 0)?;
     }
@@ -645,7 +527,7 @@ fn gains_and_pays(
 
 /// A row owes equal debts as often as it gained them, also about the counts at which a word of 64 bits would end.
 #[test]
-fn equal_debts_count_as_often_as_they_were_gained(rt: HostRuntime) -> Result<(), Fail> {
+fn equal_debts_count_as_often_as_they_were_gained(rt: HostRuntime) -> Done {
     for count in [0, 1, 63, 64, 65] {
         gains_and_pays(&rt, &mut Played::new(&rt)?, count)?;
     }
@@ -653,7 +535,7 @@ fn equal_debts_count_as_often_as_they_were_gained(rt: HostRuntime) -> Result<(),
 }
 
 /// A moment at which debts come to both rows, and the rows pay or let others expire.
-fn lives(rt: &(impl Abort + AllocGlobal), played: &mut Played, moment: u64) -> Result<(), Fail> {
+fn lives(rt: &impl Abort, played: &mut Played, moment: u64) -> Done {
     let debt = owed(moment % 5, moment.saturating_add(3), moment % 7 == 0);
     played.gain_and_expire(rt, 0, debt, 0)?;
     played.gain_and_expire(rt, 1, debt, 0)?;
@@ -667,7 +549,7 @@ fn lives(rt: &(impl Abort + AllocGlobal), played: &mut Played, moment: u64) -> R
 
 /// Two rows to which debts come at each moment, and that pay them or let them expire: what was gained long ago is dropped.
 #[test]
-fn what_is_owed_is_told_after_a_long_life(rt: HostRuntime) -> Result<(), Fail> {
+fn what_is_owed_is_told_after_a_long_life(rt: HostRuntime) -> Done {
     let mut played = Played::new(&rt)?;
     played.push_copy(&rt, 0)?;
     for moment in 0..150 {
@@ -677,7 +559,7 @@ fn what_is_owed_is_told_after_a_long_life(rt: HostRuntime) -> Result<(), Fail> {
 }
 
 /// The first row comes to owe a hundred messages, and pays them in a mixed order.
-fn pays_in_any_order(rt: &(impl Abort + AllocGlobal), played: &mut Played) -> Result<(), Fail> {
+fn pays_in_any_order(rt: &impl Abort, played: &mut Played) -> Done {
     for message in 0..100 {
         played.gain_and_expire(rt, 0, owed(message, 10, message % 2 == 0), 0)?;
     }
@@ -691,7 +573,7 @@ fn pays_in_any_order(rt: &(impl Abort + AllocGlobal), played: &mut Played) -> Re
 
 /// One row that owes many messages, and pays them in a mixed order.
 #[test]
-fn one_row_pays_in_any_order(rt: HostRuntime) -> Result<(), Fail> {
+fn one_row_pays_in_any_order(rt: HostRuntime) -> Done {
     let mut played = Played::new(&rt)?;
     pays_in_any_order(&rt, &mut played)
 }

@@ -9,7 +9,7 @@ use std::test::Fail;
 pub(crate) struct Chance(u64);
 
 impl Chance {
-    /// Those that begin with this one.
+    /// The random numbers that begin with this seed.
     pub(crate) fn new(seed: u64) -> Self {
         Chance(seed)
     }

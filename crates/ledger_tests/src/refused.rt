@@ -1,18 +1,13 @@
 //! Calls on accounts in which a growth is refused. `tests/growths` refuses each growth in turn: the test then fails with want of memory, once it has
 //! seen that the call left all as it was, and that the same call succeeds with memory.
 use crate::accounts::owed;
-use crate::wants::{holds, holds_of, is};
+use crate::wants::{Done, holds, holds_of, is};
 use sip_ledger::Accounts;
 use std::alloc::AllocError;
 use std::process::Abort;
-use std::test::Fail;
 
 /// Asserts that two accounts have the same rows.
-fn alike(
-    rt: &(impl Abort + AllocGlobal),
-    accounts: &Accounts,
-    twin: &Accounts,
-) -> Result<(), Fail> {
+fn alike(rt: &(impl Abort + AllocGlobal), accounts: &Accounts, twin: &Accounts) -> Done {
     is(rt, accounts.len(), twin.len());
     for row in 0..accounts.len() {
         holds(rt, row < twin.len(), "a row of the twin");
@@ -23,7 +18,10 @@ fn alike(
     Ok(())
 }
 
-/// Does what the step with this number does: a row comes, gains, or pays one of three messages.
+/// Does what the step with this number does, by what is left of it after division by 8. 0: a row comes that owes nothing; 1: a copy of row 0.
+/// 2, 3 and 4: row 0, or row 1, owes one more debt. 5: row 0 pays one of the three messages. After 2, 3 and 5 it has lost what expired before
+/// the moment. 6: of each of the rows that must send nothing that is past and can pay the message, a new row comes that has paid it.
+/// 7: of each that must send nothing that is past, a copy comes.
 fn step(rt: &impl Abort, accounts: &mut Accounts, number: u32) -> Result<(), AllocError> {
     let moment = u64::from(number);
     let message = moment % 3;
@@ -47,7 +45,7 @@ fn step_again(
     accounts: &mut Accounts,
     twin: &mut Accounts,
     number: u32,
-) -> Result<(), Fail> {
+) -> Done {
     let done = step(rt, accounts, number);
     if done.is_err() {
         alike(rt, accounts, twin)?;
@@ -59,7 +57,7 @@ fn step_again(
 }
 
 /// Asks for the messages that rows owe, by a second call where memory was refused.
-fn names_again(rt: &(impl Abort + AllocGlobal), accounts: &Accounts) -> Result<(), Fail> {
+fn names_again(rt: &(impl Abort + AllocGlobal), accounts: &Accounts) -> Done {
     let mut names = Vec::new(rt.alloc());
     let asked = accounts.all_names(&mut names);
     if asked.is_err() {
@@ -73,11 +71,7 @@ fn names_again(rt: &(impl Abort + AllocGlobal), accounts: &Accounts) -> Result<(
 }
 
 /// Does 48 steps on two rows, each by a second call where memory was refused, and keeps the rows few.
-fn go_on(
-    rt: &(impl Abort + AllocGlobal),
-    accounts: &mut Accounts,
-    twin: &mut Accounts,
-) -> Result<(), Fail> {
+fn go_on(rt: &(impl Abort + AllocGlobal), accounts: &mut Accounts, twin: &mut Accounts) -> Done {
     for _ in 0..2 {
         accounts.push()?;
         twin.push()?;
@@ -96,7 +90,7 @@ fn go_on(
 }
 
 #[test]
-fn accounts_are_as_before_after_a_refused_growth(rt: HostRuntime) -> Result<(), Fail> {
+fn accounts_are_as_before_after_a_refused_growth(rt: HostRuntime) -> Done {
     let mut accounts = Accounts::new(rt.alloc());
     let mut twin = Accounts::new(rt.alloc());
     go_on(&rt, &mut accounts, &mut twin)

@@ -3,20 +3,24 @@ ghost use Rattle.std.specs.Prelude.{IsTrue};
 
 use std::fmt::Debug;
 use std::process::Abort;
+use std::test::Fail;
 
-/// What is found is what is wanted.
+/// What a step of a test comes to: nothing, or why it failed.
+pub(crate) type Done = Result<(), Fail>;
+
+/// Asserts that what is found is what is wanted.
 pub(crate) fn is<T: PartialEq + Debug + Drop>(rt: &impl Abort, found: T, want: T) {
     assert_eq!(rt; found, want);
 }
 
-/// Something is so, as the words say.
+/// Asserts that something is so, which the words tell.
 pub(crate) fn holds(rt: &impl Abort, is_so: bool, words: &str)
     ensures { IsTrue is_so }
 {
     assert!(rt; is_so, "{words}");
 }
 
-/// Something is so of the row, as the words say.
+/// Asserts that something is so of the row, which the words tell.
 pub(crate) fn holds_of(rt: &impl Abort, is_so: bool, words: &str, row: usize)
     ensures { IsTrue is_so }
 {

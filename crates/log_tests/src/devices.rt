@@ -6,11 +6,15 @@ use sip_log::{Broken, Sink, Source};
 /// Hands out bytes in pieces: the first piece of one size, and each later one of another size.
 #[derive(Drop)]
 pub(crate) struct Pieces<'a> {
+    /// The bytes that were not handed out yet.
     bytes: &'a [u8],
+    /// The size of the next piece.
     first: usize,
+    /// The size of each piece after it.
     others: usize,
     /// How many calls are answered before one fails. Without a number none fails.
     calls: Option<usize>,
+    /// Whether a call has failed.
     failed: bool,
 }
 
@@ -81,12 +85,16 @@ impl<'a> Source for Pieces<'a> {
 /// Takes this many pieces, keeps none of them, and then fails.
 #[derive(Drop)]
 pub(crate) struct Room {
+    /// How many pieces are taken before a call fails.
     calls: usize,
+    /// How many pieces were taken.
     taken: usize,
+    /// Whether a call has failed.
     failed: bool,
 }
 
 impl Room {
+    /// A sink that takes this many pieces, and fails at the next one.
     pub(crate) fn of(calls: usize) -> Room {
         Room {
             calls,

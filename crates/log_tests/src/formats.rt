@@ -35,29 +35,34 @@ fn told(alloc: Global, bytes: &[u8]) -> Option<Told> {
 /// Entries of a log of format 2, with restarts among them.
 static RESTARTS: &[Row] = &[
     (b"", 0, None),
+    // Restarts alone, and among other entries, up to the last moment.
     (b"Z 100\n", 1, None),
     (b"S 0 5\nhello\nZ 100\nM 5000\n", 3, None),
     (b"Z 9999999999999\nZ 9999999999999\n", 2, None),
+    // A restart has the faults that a mark has.
     (b"Z 10000000000000\n", 0, Some(LogError::Limit)),
     (b"M 5\nZ 4\n", 1, Some(LogError::Order)),
     (b"Z 0", 0, Some(LogError::Truncated)),
     (b"z 0\n", 0, Some(LogError::EntryLine)),
 ];
 
+/// Restarts after a header of format 2.
 #[test]
 fn restarts_in_any_pieces(rt: HostRuntime) -> Result<(), Fail> {
     is(&rt, first_other(rt.alloc(), HEADER_2, RESTARTS)?, None);
     Ok(())
 }
 
-/// Entries that begin as a restart, and are none.
+/// Entries that begin like a restart and are none.
 static NO_RESTARTS: &[Row] = &[
+    // A restart has no message, and its moment is a number behind one blank.
     (b"Z 0 5\nhello\n", 0, Some(LogError::EntryLine)),
     (b"Z 00\n", 0, Some(LogError::EntryLine)),
     (b"Z  0\n", 0, Some(LogError::EntryLine)),
     (b"Z\n", 0, Some(LogError::EntryLine)),
 ];
 
+/// Lines that are almost a restart, after a header of format 2.
 #[test]
 fn lines_that_are_no_restart_in_any_pieces(rt: HostRuntime) -> Result<(), Fail> {
     is(&rt, first_other(rt.alloc(), HEADER_2, NO_RESTARTS)?, None);
@@ -84,10 +89,12 @@ fn format_1_has_no_restarts(rt: HostRuntime) -> Result<(), Fail> {
 
 /// Rows of the line of rules, which say the same after a header of either format.
 static RULES: &[Row] = &[
+    // Either rules may be told, with entries after them or none.
     (b"rules 3261\n", 0, None),
     (b"rules 6026\n", 0, None),
     (b"rules 3261\nM 0\n", 1, None),
     (b"rules 6026\nM 0\n", 1, None),
+    // Other rules, a line that is cut, another end of a line, a blank at the end, and rules that are told twice or after an entry.
     (b"rules 9999\n", 0, Some(LogError::EntryLine)),
     (b"rules 3261", 0, Some(LogError::Truncated)),
     (b"rules 3261\r\n", 0, Some(LogError::EntryLine)),
@@ -97,6 +104,7 @@ static RULES: &[Row] = &[
     (b"r", 0, Some(LogError::Truncated)),
 ];
 
+/// Lines of rules, after a header of each format.
 #[test]
 fn rules_in_any_pieces(rt: HostRuntime) -> Result<(), Fail> {
     is(&rt, first_other(rt.alloc(), HEADER, RULES)?, None);
@@ -106,12 +114,14 @@ fn rules_in_any_pieces(rt: HostRuntime) -> Result<(), Fail> {
 
 /// Headers of format 2, and what is wrong in them.
 static HEADERS_OF_FORMAT_2: &[Row] = &[
+    // The greatest and the least numbers are within the limits.
     (
         b"sip-trace 2\nt1 10000 t2 60000 t4 60000 early 10000 late 10000\n",
         0,
         None,
     ),
     (b"sip-trace 2\nt1 1 t2 1 t4 1 early 0 late 0\n", 0, None),
+    // The tolerances of the other format, one that is missing, or both in the other order.
     (
         b"sip-trace 2\nt1 500 t2 4000 t4 5000 tolerance 50\n",
         0,
@@ -132,6 +142,7 @@ static HEADERS_OF_FORMAT_2: &[Row] = &[
         0,
         Some(LogError::Header),
     ),
+    // A tolerance outside its limits, a format that there is not, and a line that does not end.
     (
         b"sip-trace 2\nt1 500 t2 4000 t4 5000 early 10001 late 0\n",
         0,
@@ -154,6 +165,7 @@ static HEADERS_OF_FORMAT_2: &[Row] = &[
     ),
 ];
 
+/// Headers of format 2, right ones and wrong ones.
 #[test]
 fn headers_of_format_2_in_any_pieces(rt: HostRuntime) -> Result<(), Fail> {
     is(
@@ -164,6 +176,7 @@ fn headers_of_format_2_in_any_pieces(rt: HostRuntime) -> Result<(), Fail> {
     Ok(())
 }
 
+/// A header tells the times and the rules of its element.
 #[test]
 fn what_a_header_tells(rt: HostRuntime) -> Result<(), Fail> {
     let rows: [(&[u8], Told); 6] = [
@@ -231,6 +244,7 @@ fn written(rt: &(impl Abort + AllocGlobal), params: &Params) -> Vec<u8> {
     text
 }
 
+/// A written log of format 2 has these bytes, and is read again.
 #[test]
 fn what_is_written_in_format_2(rt: HostRuntime) -> Result<(), Fail> {
     let params = times(0, 100, Rules::R3261).ok_or("refused")?;
@@ -260,6 +274,7 @@ fn header_of(alloc: Global, format: u8, params: &Params) -> Result<Option<Vec<u8
 #[test]
 fn headers_that_are_written(rt: HostRuntime) -> Result<(), Fail> {
     let rows: [(u8, u64, u64, Rules, Option<&[u8]>); 6] = [
+        // Each row has a format, how early and how late the element may be, its rules, and the header, if one is written.
         (1, 50, 50, Rules::R6026, Some(HEADER)),
         (
             1,
@@ -315,7 +330,7 @@ fn what_is_not_written(rt: HostRuntime) -> Result<(), Fail> {
 /// A source fails at each of its calls in turn. The entries before are told, then `Io`, and then `Failed`.
 #[test]
 fn a_source_that_fails(rt: HostRuntime) -> Result<(), Fail> {
-    // The last call finds the end.
+    // Each call hands out one byte, and the last call finds the end. The entries end with the bytes 75, 79 and 83.
     for calls in 0..=WRITTEN.len() {
         let whole = match calls {
             0..=74 => 0,

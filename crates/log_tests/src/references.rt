@@ -16,6 +16,7 @@ fn gives<S: Source + Drop>(mut source: S, buf: &mut [u8]) -> (Option<usize>, boo
     (given, !source.has_failed())
 }
 
+/// A sink that is used through a reference takes what it is given.
 #[test]
 fn a_sink_takes_all_through_a_reference(rt: HostRuntime) {
     let mut text = Vec::new(rt.alloc());
@@ -25,6 +26,7 @@ fn a_sink_takes_all_through_a_reference(rt: HostRuntime) {
     is(&rt, text.as_slice(), b"M 5\nZ 6\n".as_slice());
 }
 
+/// A sink that is used through a reference fails where it would, and says so.
 #[test]
 fn a_sink_fails_through_a_reference(rt: HostRuntime) {
     let mut room = Room::of(1);
@@ -34,6 +36,7 @@ fn a_sink_fails_through_a_reference(rt: HostRuntime) {
     assert!(rt; room.has_failed());
 }
 
+/// A source that is used through a reference gives its bytes in order, up to its end.
 #[test]
 fn a_source_gives_through_a_reference(rt: HostRuntime) {
     let mut source = b"M 5\n".as_slice();
@@ -45,6 +48,7 @@ fn a_source_gives_through_a_reference(rt: HostRuntime) {
     is(&rt, gives(&mut source, &mut buf), (Some(0), true));
 }
 
+/// A source that is used through a reference fails where it would, and says so.
 #[test]
 fn a_source_fails_through_a_reference(rt: HostRuntime) {
     let mut source = Pieces::failing(b"M 5\n", 1);

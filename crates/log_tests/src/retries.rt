@@ -8,7 +8,9 @@ use std::io::Read;
 /// Gives one byte at each call, once the first calls have failed.
 #[derive(Drop)]
 struct OneByOne {
+    /// How many calls are still to fail.
     failures: u8,
+    /// The kind of error with which they fail.
     kind: io::ErrorKind,
 }
 
@@ -26,6 +28,7 @@ impl Read for OneByOne {
     }
 }
 
+/// A read that is interrupted is tried again, and does not count as failed.
 #[test]
 fn tries_an_interrupted_read_again(rt: HostRuntime) {
     let mut source = FromRead::new(OneByOne {
@@ -37,6 +40,7 @@ fn tries_an_interrupted_read_again(rt: HostRuntime) {
     assert!(rt; !source.has_failed());
 }
 
+/// A read that fails otherwise is told as failed.
 #[test]
 fn tells_any_other_error(rt: HostRuntime) {
     let mut source = FromRead::new(OneByOne {
@@ -53,6 +57,7 @@ fn fill_through<S: Source + Drop>(mut source: S, buf: &mut [u8]) -> Option<usize
     source.fill(buf).ok()
 }
 
+/// A buffer of each length up to 256 is filled, as far as there are bytes.
 #[test]
 fn fills_buffers_of_every_length(rt: HostRuntime) {
     let bytes = [b'x'; 300];
@@ -82,7 +87,9 @@ fn fills_buffers_of_every_length(rt: HostRuntime) {
 /// Tells its end once, and fails at every later call.
 #[derive(Drop)]
 struct OnceEnded<'a> {
+    /// The bytes that were not handed out yet.
     bytes: &'a [u8],
+    /// Whether the end was told.
     ended: bool,
 }
 

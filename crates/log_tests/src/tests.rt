@@ -75,12 +75,14 @@ pub(crate) fn first_other(
 
 /// Entries that are read to the end of the log.
 static ENTRIES: &[Row] = &[
+    // No entry, entries with and without a message, messages of line feeds alone, and the last moment.
     (b"", 0, None),
     (b"S 0 5\nhello\nM 0\n", 2, None),
     (b"R 7 1\n\n\nF 7 2\n\n\n\n", 2, None),
     (b"M 9999999999999\nM 9999999999999\n", 2, None),
 ];
 
+/// Entries of each action.
 #[test]
 fn entries_in_any_pieces(rt: HostRuntime) -> Result<(), Fail> {
     is(&rt, first_other(rt.alloc(), HEADER, ENTRIES)?, None);
@@ -89,6 +91,7 @@ fn entries_in_any_pieces(rt: HostRuntime) -> Result<(), Fail> {
 
 /// Lines of entries with a fault, and the error of each.
 static FAULTS_OF_A_LINE: &[Row] = &[
+    // A line that has no end yet is cut off. With 32 bytes it is too long to be a line.
     (
         b"1111111111111111111111111111111",
         0,
@@ -104,10 +107,12 @@ static FAULTS_OF_A_LINE: &[Row] = &[
         0,
         Some(LogError::EntryLine),
     ),
+    // A message ends in a line feed.
     (b"S 0 5\nhelloX", 0, Some(LogError::EntryLine)),
     (b"S 0 5\nhell", 0, Some(LogError::Truncated)),
 ];
 
+/// Lines that begin no entry.
 #[test]
 fn faults_of_a_line_in_any_pieces(rt: HostRuntime) -> Result<(), Fail> {
     is(
@@ -120,13 +125,17 @@ fn faults_of_a_line_in_any_pieces(rt: HostRuntime) -> Result<(), Fail> {
 
 /// Entries with a fault in their message or its length, and the error of each.
 static FAULTS_OF_A_MESSAGE: &[Row] = &[
+    // The message is cut off before its line feed.
     (b"S 0 5\nhello", 0, Some(LogError::Truncated)),
+    // A message has 1 to 65535 bytes.
     (b"S 0 0\n", 0, Some(LogError::Limit)),
     (b"S 0 65536\n", 0, Some(LogError::Limit)),
+    // A mark has no message.
     (b"M 0 \n", 0, Some(LogError::EntryLine)),
     (b"M 0 1\n", 0, Some(LogError::EntryLine)),
 ];
 
+/// Messages that are cut off, or do not end with LF.
 #[test]
 fn faults_of_a_message_in_any_pieces(rt: HostRuntime) -> Result<(), Fail> {
     is(
@@ -139,16 +148,21 @@ fn faults_of_a_message_in_any_pieces(rt: HostRuntime) -> Result<(), Fail> {
 
 /// Entries with a fault in a number, in the letter or in the order, and the error of each.
 static FAULTS_OF_NUMBERS: &[Row] = &[
+    // A moment has at most thirteen digits.
     (b"M 10000000000000\n", 0, Some(LogError::Limit)),
+    // Letters are capitals, and one blank stands between two words.
     (b"s 0 5\n", 0, Some(LogError::EntryLine)),
     (b"S 0  5\nhello\n", 0, Some(LogError::EntryLine)),
+    // A number above its limit is told as that, and one with a zero in front is none.
     (b"S 10000000000000 199\n", 0, Some(LogError::Limit)),
     (b"S 99999999999999999999999 99\n", 0, Some(LogError::Limit)),
     (b"S 00 199\n", 0, Some(LogError::EntryLine)),
+    // Moments never fall.
     (b"M 5\nM 4\n", 1, Some(LogError::Order)),
     (b"M 5\nS 4 9\n", 1, Some(LogError::Order)),
 ];
 
+/// Numbers of an entry that are above the limits, or out of order.
 #[test]
 fn faults_of_numbers_in_any_pieces(rt: HostRuntime) -> Result<(), Fail> {
     is(
@@ -167,7 +181,9 @@ static HEADERS: &[Row] = &[
         0,
         None,
     ),
+    // The least and the greatest numbers are within the limits.
     (b"sip-trace 1\nt1 1 t2 1 t4 1 tolerance 0\n", 0, None),
+    // A header without its second line, of the other format, or whose line ends otherwise.
     (b"", 0, Some(LogError::Header)),
     (b"sip-trace 1", 0, Some(LogError::Header)),
     (
@@ -185,6 +201,7 @@ static HEADERS: &[Row] = &[
         0,
         Some(LogError::Header),
     ),
+    // A time that is missing, has a zero in front, is outside its limits, or stands after two blanks.
     (
         b"sip-trace 1\nt1 500 t2 4000 t4 5000\n",
         0,
@@ -212,6 +229,7 @@ static HEADERS: &[Row] = &[
     ),
 ];
 
+/// Headers of format 1, right ones and wrong ones.
 #[test]
 fn headers_in_any_pieces(rt: HostRuntime) -> Result<(), Fail> {
     is(&rt, first_other(rt.alloc(), b"", HEADERS)?, None);
@@ -264,7 +282,8 @@ fn registration(alloc: Global) -> Result<Vec<u8>, AllocError> {
     Ok(log)
 }
 
-/// The number of entries that are whole in the first `len` bytes of the log of a registration.
+/// The number of entries that are whole in the first `len` bytes of the log of a registration. Its header has 48 bytes, and its entries end at 256, 466,
+/// 667 and 674: each has a line, and a message with an LF after it, but for the mark.
 fn whole_entries(len: usize) -> u64 {
     match len {
         0..=255 => 0,
@@ -408,6 +427,7 @@ const MESSAGES: &[&[u8]] = &[b"hello", b"\n", b"hi", b""];
 const WRITTEN: &[u8] =
     b"sip-trace 1\nt1 500 t2 4000 t4 5000 tolerance 50\nS 0 5\nhello\nF 7 1\n\n\nR 9999999999999 2\nhi\nM 9999999999999\n";
 
+/// A written log of format 1 has these bytes, and is read again.
 #[test]
 fn what_is_written(rt: HostRuntime) -> Result<(), Fail> {
     let params = Params::new(500, 4_000, 5_000, 50).ok_or("refused")?;
@@ -452,6 +472,7 @@ fn answered(alloc: Global, row: &Written) -> Result<(Result<(), WriteError>, boo
     Ok((answer, room.taken() == 0))
 }
 
+/// An entry above the limits is refused, and nothing is written of it.
 #[test]
 fn what_is_not_written(rt: HostRuntime) -> Result<(), Fail> {
     for (number, row) in NOT_WRITTEN.iter().enumerate() {

@@ -6,6 +6,7 @@ use std::fmt::Debug;
 use std::process::Abort;
 use std::test::Fail;
 
+/// Each error says what is wrong.
 #[test]
 fn errors_say_what_is_wrong(rt: HostRuntime) -> Result<(), Fail> {
     let rows = [
@@ -77,6 +78,6 @@ fn readers_and_writers_look(rt: HostRuntime) -> Result<(), Fail> {
         &reader,
         "LogReader { source: [], progress: Progress { alloc: Global, \
          stage: Entries(Window { start: 43, end: 44, .. }), format: One, \
-         params: Some(Params { t1: 1, t2: 2, t4: 3, early: 4, late: 4, rules: R6026 }), count: 1, last: 5 } }",
+         params: Some(Params { t1: 1, t2: 2, t4: 3, early: 4, lateness: 4 }), count: 1, last: 5 } }",
     )
 }

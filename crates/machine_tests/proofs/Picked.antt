@@ -2,7 +2,7 @@
 use Rattle.std.proofs.Common.{◌≡◌, ◌<◌, ◌≤◌, ◌+◌, ◌-◌, ◌++◌, ◌∙◌, ℕ, List, All, ap, arith, get_or, length, length-append, set, subst, sym, take}
 use Rattle.std.proofs.Math.Seq.{get_or-append_right}
 use Rattle.std.proofs.lemmas.List.Elements.{All-map, All-set, All-take}
-use Rattle.sip_machine.specs.Pools.{picked}
+use Rattle.sip_machine.specs.Pools.{AreFirstOnes, picked}
 
 -- what holds of all elements holds of those that are picked
 pub all_picked : {X : Type 0} (P : X → Type 0) (xs : List X) (x : X) (rows : List ℕ) → All P xs → All (λ row. row < length xs) rows → All P (picked xs x rows)
@@ -22,6 +22,18 @@ behind_picked P old added new x rows is within all =
     let inside = within k d low in
     let above = inside.0 in
     let below = inside.1 in
+    -- the element at the row is one of those that were added
     let size : length new ≡ length old + length added = ap length is ∙ length-append old added in
     let here : get_or new row x ≡ get_or added (row - length old) x = ap (λ xs. get_or xs row x) is ∙ get_or-append_right old added row x above in
     subst P (sym here) (all (row - length old) x (omega (arith, above, below, size))))
+
+-- a list has exactly the elements of another one from an index on, each once
+abbrev pub HasFirstOnes : {X : Type 0} → List X → X → ℕ → List X → Type 0
+HasFirstOnes xs x from kept = (rows : List ℕ) × AreFirstOnes xs from (length xs) rows × (kept ≡ picked xs x rows)
+
+-- what holds of all elements after others holds of those of them that are kept, each once
+pub all_first_ones : {X : Type 0} (P : X → Type 0) (old added new : List X) (x : X) (from : ℕ) (kept : List X) → new ≡ old ++ added → from ≡ length old → All P added →
+    HasFirstOnes new x from kept → All P kept
+all_first_ones P old added new x from kept is at all (rows, ones, same) =
+    subst (All P) (sym same)
+    (behind_picked P old added new x rows is (subst (λ n. All (λ row. (n ≤ row) × (row < length new)) rows) at ones.within) all)

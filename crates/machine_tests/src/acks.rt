@@ -1,6 +1,6 @@
 //! ACKs of an INVITE client for responses of which all have their To beside them, one alone has, or none has.
 
-ghost use Rattle.std.specs.Prelude.{◌≡◌, ◌<◌, ◌≤◌, ℕ, OnOk};
+ghost use Rattle.std.specs.Prelude.{[], ◌≡◌, ◌<◌, ◌≤◌, ℕ, OnOk};
 ghost use Rattle.sip_machine.specs.Texts.{Keeps};
 
 use crate::messages::{Numbered, Start, book_of, keep, text_of};
@@ -94,7 +94,7 @@ const NINE: [Numbered; 11] = [
     (11, Start::Request("ACK"), Some(10)),
 ];
 
-/// The ACK pays the last of nine debts.
+/// Each of the nine 486s is owed an ACK by 150, which is the tolerance later. The ACK pays the last of the nine debts, and eight are left.
 static NINE_ROWS: [Row<InviteClientPhase>; 1] = [(
     &[
         (0, Action::Sent, 1),
@@ -139,7 +139,7 @@ fn nine(alloc: Global) -> Result<Book, Fail> {
     book_of(alloc, &NINE, "INVITE", "UDP")
 }
 
-/// How many refusals there are in the next tests: with so many of one call, the book puts the To of each message beside it.
+/// How many refusals there are in the next tests: with that many of one call, the book puts the To of each message beside it.
 const MANY: u64 = 256;
 
 /// The number of the 486 with this tag.
@@ -198,7 +198,7 @@ fn are_first_half(runs: &[Run]) -> bool {
         })
 }
 
-/// Another message that is kept lies between the 486s. Each ACK pays the debt of its own 486.
+/// An OPTIONS is kept between the first two 486s. Each ACK pays the debt of its own 486.
 #[test]
 fn acks_find_their_debts_among_many(rt: HostRuntime) -> Result<(), Fail> {
     let states = states_of_many(rt.alloc(), &entries(rt.alloc())?)?;
@@ -258,18 +258,31 @@ fn keep_text(
 /// A book that keeps the messages, and beside each whose number is below this one its To.
 fn book_with_tos(alloc: Global, messages: &[Numbered], below: u64) -> Result<Book, Fail> {
     let mut book = Book::new(alloc);
+    keep_with_tos(alloc, &mut book, messages, below)?;
+    Ok(book)
+}
+
+/// Keeps the messages in an empty book, and beside each whose number is below this one its To.
+fn keep_with_tos(
+    alloc: Global,
+    book: &mut Book,
+    messages: &[Numbered],
+    below: u64,
+) -> Result<(), Fail>
+    requires { book.old ≡ [] }
+{
     let mut last = 0;
     for &(number, start, tag) in messages {
         if number <= last {
             return Err("out of order".into());
         }
-        keep_text(alloc, &mut book, number, start, tag)?;
+        keep_text(alloc, book, number, start, tag)?;
         last = number;
         if number < below {
-            keep_to(alloc, &mut book, number)?;
+            keep_to(alloc, book, number)?;
         }
     }
-    Ok(book)
+    Ok(())
 }
 
 /// The INVITE, many refusals of which each two have one To, and an ACK for each To.

@@ -40,6 +40,7 @@ fn told_kind(alloc: Global, text: &[u8]) -> Result<(Kind, bool), Fail> {
 /// A start line, a transport and a method, and the kind and the reliability that are wanted of the message.
 type Told = (&'static str, &'static str, &'static str, Kind, bool);
 
+/// Messages of each kind, over transports that are reliable and others.
 static MESSAGES: [Told; 6] = [
     (
         "INVITE sip:b SIP/2.0",
@@ -62,6 +63,7 @@ static MESSAGES: [Told; 6] = [
         Kind::Request(Method::Cancel),
         true,
     ),
+    // A method is spelled in capitals: in other letters it is another one.
     (
         "invite sip:b SIP/2.0",
         "SCTP",
@@ -85,6 +87,7 @@ static MESSAGES: [Told; 6] = [
     ),
 ];
 
+/// An event tells the kind of its message, and whether its transport is reliable.
 #[test]
 fn tells_messages(rt: HostRuntime) -> Result<(), Fail> {
     for &(start, transport, method, kind, reliable) in &MESSAGES {

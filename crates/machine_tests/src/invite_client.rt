@@ -66,6 +66,8 @@ fn book(alloc: Global, transport: &str) -> Result<Book, Fail> {
     book_of(alloc, &MESSAGES, "INVITE", transport)
 }
 
+/// Entries, and the states to which they lead an INVITE client.
+/// Each state has its phase and its debts: a message, the deadline, and whether it must be sent. No state: the entries have no run.
 type Row = rows::Row<InviteClientPhase>;
 
 /// Asserts that the entries of each row lead to the states of the row.
@@ -132,21 +134,21 @@ const ACCEPTED_AT_100: InviteClientPhase = InviteClientPhase::Accepted { set: 10
 /// A 2xx came at 300.
 const ACCEPTED_AT_300: InviteClientPhase = InviteClientPhase::Accepted { set: 300 };
 
-/// A final response but a 2xx came at 550.
+/// A final response other than a 2xx came at 550.
 const COMPLETED_AT_550: InviteClientPhase = InviteClientPhase::Completed {
     reliable: false,
     request: INVITE,
     set: 550,
 };
 
-/// A final response but a 2xx came at 1,000.
+/// A final response other than a 2xx came at 1,000.
 const COMPLETED_AT_1_000: InviteClientPhase = InviteClientPhase::Completed {
     reliable: false,
     request: INVITE,
     set: 1_000,
 };
 
-/// A final response but a 2xx came at 0, over TCP.
+/// A final response other than a 2xx came at 0, over TCP.
 const COMPLETED_OVER_TCP: InviteClientPhase = InviteClientPhase::Completed {
     reliable: true,
     request: INVITE,
@@ -170,7 +172,8 @@ const REPEATS: [Entry; 7] = [
     (31_500, Action::Sent, INVITE),
 ];
 
-/// What may happen in calling, and what may not.
+/// What may happen in calling, and what may not. Timer A has the same INVITE sent again T1 after the first, give or take the tolerance: from 450 to 550.
+/// Before a response no CANCEL is sent. An INVITE whose send fails ends the client, but only where it may be sent.
 static CALLING: &[Row] = &[
     (&[], &[(IDLE, &[])]),
     (&[FIRST], &[(CALLING_SINCE_0, &[])]),
@@ -193,6 +196,7 @@ static CALLING: &[Row] = &[
     (&[FIRST, (449, Action::Failed, INVITE)], &[]),
 ];
 
+/// The INVITE was sent, and no response has come.
 #[test]
 fn calling(rt: HostRuntime) -> Result<(), Fail> {
     all_lead(&rt, "UDP", CALLING)
@@ -204,7 +208,7 @@ const WAITS: Entry = (100, Action::Received, TRYING);
 /// A CANCEL that is sent after `WAITS`.
 const CANCELLED: Entry = (150, Action::Sent, CANCEL);
 
-/// What may happen in proceeding, and what may not.
+/// What may happen in proceeding, and what may not: no INVITE is sent again. After a 2xx a CANCEL and a late 486 change nothing.
 static PROCEEDING: &[Row] = &[
     (&[FIRST, WAITS], &[(WAITS_ON, &[])]),
     (
@@ -243,6 +247,7 @@ static PROCEEDING: &[Row] = &[
     ),
 ];
 
+/// A provisional response has come.
 #[test]
 fn proceeding(rt: HostRuntime) -> Result<(), Fail> {
     all_lead(&rt, "UDP", PROCEEDING)
@@ -257,7 +262,8 @@ const OWED: &[rows::Want<InviteClientPhase>] = &[(COMPLETED_AT_1_000, &[(BUSY, 1
 /// The states where the ACK was sent after `BUSY_NOW`: nothing is owed.
 const PAID: &[rows::Want<InviteClientPhase>] = &[(COMPLETED_AT_1_000, &[])];
 
-/// What may happen in completed, and what may not.
+/// What may happen in completed, and what may not. Without a 100 before it the 486 has to come by 550, since timer A fires by then. The ACK is due 50
+/// after the response, with the response's tag in To; one whose send fails ends the client.
 static COMPLETED: &[Row] = &[
     (
         &[FIRST, (550, Action::Received, BUSY)],
@@ -282,11 +288,13 @@ static COMPLETED: &[Row] = &[
     ),
 ];
 
+/// A response of 300 to 699 has come.
 #[test]
 fn completed(rt: HostRuntime) -> Result<(), Fail> {
     all_lead(&rt, "UDP", COMPLETED)
 }
 
+/// After a 486 each response of 300 to 699 that comes is owed an ACK, and nothing else is.
 static OWES_EACH_RESPONSE: &[Row] = &[
     (
         &[FIRST, WAITS, BUSY_NOW, (1_010, Action::Received, OK)],
@@ -328,6 +336,7 @@ static OWES_EACH_RESPONSE: &[Row] = &[
     ),
 ];
 
+/// Each response of 300 to 699 is owed an ACK of its own.
 #[test]
 fn owes_each_response(rt: HostRuntime) -> Result<(), Fail> {
     all_lead(&rt, "UDP", OWES_EACH_RESPONSE)
@@ -350,6 +359,7 @@ static IDLE_AND_ENDED: &[Row] = &[
     (&[NOT_SENT, (10, Action::Sent, ACK)], &[]),
 ];
 
+/// Nothing was sent yet, or the client has ended.
 #[test]
 fn idle_and_ended(rt: HostRuntime) -> Result<(), Fail> {
     all_lead(&rt, "UDP", IDLE_AND_ENDED)
@@ -394,6 +404,7 @@ static OVER_A_RELIABLE_TRANSPORT: &[Row] = &[
     ),
 ];
 
+/// Over TCP nothing is sent again.
 #[test]
 fn over_a_reliable_transport(rt: HostRuntime) -> Result<(), Fail> {
     all_lead(&rt, "TCP", OVER_A_RELIABLE_TRANSPORT)
@@ -402,7 +413,7 @@ fn over_a_reliable_transport(rt: HostRuntime) -> Result<(), Fail> {
 /// The times at which timer B may fire: 64 times T1 after the first INVITE, give or take the tolerance.
 const TIMER_B: Option<(u64, Option<u64>)> = Some((31_950, Some(32_050)));
 
-/// When the states after the entries may end, over UDP.
+/// When the states after the entries may end, over UDP: the window, if there is one, and the last moment until which the state can wait, if any.
 static ENDS: &[EndsRow] = &[
     (&[], None, None),
     (&[FIRST], TIMER_B, Some(550)),
@@ -419,6 +430,7 @@ static ENDS: &[EndsRow] = &[
     (&[FIRST, OK_NOW], Some((32_050, Some(32_150))), Some(32_150)),
 ];
 
+/// When each state may end, and its last moment, over UDP.
 #[test]
 fn ends(rt: HostRuntime) -> Result<(), Fail> {
     all_end(&rt, &client(500)?, &book(rt.alloc(), "UDP")?, ENDS)
@@ -445,6 +457,7 @@ static ENDS_OVER_TCP: &[EndsRow] = &[
     (&[FIRST, OK_NOW], Some((32_050, Some(32_150))), Some(32_150)),
 ];
 
+/// When each state may end, and its last moment, over TCP.
 #[test]
 fn ends_over_tcp(rt: HostRuntime) -> Result<(), Fail> {
     all_end(&rt, &client(500)?, &book(rt.alloc(), "TCP")?, ENDS_OVER_TCP)
@@ -457,6 +470,7 @@ static ENDS_OF_SLOW_TIMERS: &[EndsRow] = &[(
     Some(64_150),
 )];
 
+/// When each state may end where T1 is 1,000.
 #[test]
 fn ends_of_slow_timers(rt: HostRuntime) -> Result<(), Fail> {
     all_end(

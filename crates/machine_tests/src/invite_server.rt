@@ -54,10 +54,13 @@ fn server() -> Result<InviteServer, Fail> {
     Ok(InviteServer::new(params(500)?))
 }
 
+/// A book with the messages.
 fn book(alloc: Global) -> Result<Book, Fail> {
     book_of(alloc, &MESSAGES, "INVITE", "UDP")
 }
 
+/// Entries, and the states to which they lead an INVITE server.
+/// Each state has its phase and its debts: a message, the deadline, and whether it must be sent. No state: the entries have no run.
 type Row = rows::Row<InviteServerPhase>;
 
 /// Asserts that the entries of each row lead to the states of the row.
@@ -111,6 +114,7 @@ const BUSY_AT_0: InviteServerPhase = InviteServerPhase::Completed {
     interval: 500,
 };
 
+/// The 486 was sent again at 490, and first at 0.
 const BUSY_AGAIN_AT_490: InviteServerPhase = InviteServerPhase::Completed {
     reliable: false,
     final_message: BUSY,
@@ -119,6 +123,7 @@ const BUSY_AGAIN_AT_490: InviteServerPhase = InviteServerPhase::Completed {
     interval: 1_000,
 };
 
+/// The 486 was sent again at 3,500, and first at 0.
 const BUSY_AGAIN_AT_3_500: InviteServerPhase = InviteServerPhase::Completed {
     reliable: false,
     final_message: BUSY,
@@ -127,6 +132,7 @@ const BUSY_AGAIN_AT_3_500: InviteServerPhase = InviteServerPhase::Completed {
     interval: 4_000,
 };
 
+/// The 486 was sent again at 7,500, and first at 0.
 const BUSY_AGAIN_AT_7_500: InviteServerPhase = InviteServerPhase::Completed {
     reliable: false,
     final_message: BUSY,
@@ -135,6 +141,7 @@ const BUSY_AGAIN_AT_7_500: InviteServerPhase = InviteServerPhase::Completed {
     interval: 4_000,
 };
 
+/// The 486 was sent at 10.
 const BUSY_AT_10: InviteServerPhase = InviteServerPhase::Completed {
     reliable: false,
     final_message: BUSY,
@@ -143,6 +150,7 @@ const BUSY_AT_10: InviteServerPhase = InviteServerPhase::Completed {
     interval: 500,
 };
 
+/// The 486 was sent again at 460, and first at 10.
 const BUSY_AGAIN_AT_460: InviteServerPhase = InviteServerPhase::Completed {
     reliable: false,
     final_message: BUSY,
@@ -151,6 +159,7 @@ const BUSY_AGAIN_AT_460: InviteServerPhase = InviteServerPhase::Completed {
     interval: 1_000,
 };
 
+/// The 486 was sent again at 560, and first at 10.
 const BUSY_AGAIN_AT_560: InviteServerPhase = InviteServerPhase::Completed {
     reliable: false,
     final_message: BUSY,
@@ -177,7 +186,8 @@ const FIRST: Entry = (0, Action::Received, INVITE);
 /// A 100 is sent.
 const TRYING_ONCE: Entry = (5, Action::Sent, TRYING);
 
-/// Rows that end before the final response.
+/// Rows that end before the final response. The first one is due by 250, which is 200 ms and the tolerance later. An INVITE that comes again at 10
+/// has the last response sent again by 60. Where a response is sent that is owed, it pays for the debt or is a new one: a state for each.
 static BEFORE_THE_FINAL_RESPONSE: &[Row] = &[
     (&[], &[(IDLE, &[])]),
     (&[(0, Action::Sent, BUSY)], &[]),
@@ -244,6 +254,7 @@ static BEFORE_THE_FINAL_RESPONSE: &[Row] = &[
     ),
 ];
 
+/// The server is idle, or it proceeds.
 #[test]
 fn before_the_final_response(rt: HostRuntime) -> Result<(), Fail> {
     all_lead(&rt, BEFORE_THE_FINAL_RESPONSE)
@@ -284,12 +295,14 @@ static A_100_NEED_NOT_BE_REPEATED: &[Row] = &[
     ),
 ];
 
+/// A 100 may be sent again when the INVITE comes again, and need not be.
 #[test]
 fn a_100_need_not_be_repeated(rt: HostRuntime) -> Result<(), Fail> {
     all_lead(&rt, A_100_NEED_NOT_BE_REPEATED)
 }
 
-/// Rows that end after a 2xx.
+/// Rows that end after a 2xx. Then a server sends only 2xx, until timer L fires 64 times T1 later, 32,060 at the latest; and a 180 that it owed before,
+/// which need not be sent any more.
 static AFTER_A_2XX: &[Row] = &[
     (&[FIRST, (10, Action::Sent, OK)], &[(ACCEPTED_AT_10, &[])]),
     (
@@ -355,12 +368,14 @@ static AFTER_A_2XX: &[Row] = &[
     ),
 ];
 
+/// A 2xx was sent.
 #[test]
 fn after_a_2xx(rt: HostRuntime) -> Result<(), Fail> {
     all_lead(&rt, AFTER_A_2XX)
 }
 
-/// Rows in which timer G has the 486 sent again.
+/// Rows in which timer G has the 486 sent again: T1 after the first send, give or take the tolerance, and each time twice as late, up to T2.
+/// A 486 that answers an INVITE which came again leaves timer G as it is; where either may be, there is a state for each.
 static TIMER_G: &[Row] = &[
     (&[FIRST, (10, Action::Sent, BUSY)], &[(BUSY_AT_10, &[])]),
     (
@@ -424,12 +439,14 @@ static TIMER_G: &[Row] = &[
     ),
 ];
 
+/// A 486 was sent, and timer G sends it again.
 #[test]
 fn timer_g(rt: HostRuntime) -> Result<(), Fail> {
     all_lead(&rt, TIMER_G)
 }
 
-/// Rows that end after the ACK.
+/// Rows that end after the ACK. It stops timer G, which has to fire by 550 before, and sets timer I, which fires T4 later, 5,150 at the latest. Then
+/// a 486 may go out only if it was owed before. An INFO is no ACK.
 static AFTER_THE_ACK: &[Row] = &[
     (
         &[
@@ -505,12 +522,13 @@ static AFTER_THE_ACK: &[Row] = &[
     ),
 ];
 
+/// An ACK has come for the 486.
 #[test]
 fn after_the_ack(rt: HostRuntime) -> Result<(), Fail> {
     all_lead(&rt, AFTER_THE_ACK)
 }
 
-/// When the states after the entries may end.
+/// When the states after the entries may end: the window, if there is one, and the last moment until which the state can wait, if any.
 static ENDS: &[EndsRow] = &[
     (&[], None, None),
     (&[FIRST], None, Some(250)),
@@ -555,6 +573,7 @@ static ENDS: &[EndsRow] = &[
     ),
 ];
 
+/// When each state may end, and its last moment, over UDP.
 #[test]
 fn ends(rt: HostRuntime) -> Result<(), Fail> {
     let server = server()?;
@@ -577,6 +596,7 @@ const CONFIRMED_OVER_TCP: InviteServerPhase = InviteServerPhase::Confirmed {
     set: 700,
 };
 
+/// When each state may end, and its last moment, over TCP.
 #[test]
 fn ends_over_tcp(rt: HostRuntime) -> Result<(), Fail> {
     let server = server()?;

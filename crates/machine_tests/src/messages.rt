@@ -1,5 +1,5 @@
 //! Messages of one transaction, which a book keeps, and their events.
-ghost use Rattle.std.specs.Prelude.{ℕ, IfOk, OnErr, OnOk, ◌≤◌, ◌<◌};
+ghost use Rattle.std.specs.Prelude.{[], ℕ, IfOk, OnErr, OnOk, ◌≡◌, ◌≤◌, ◌<◌};
 ghost use Rattle.sip_machine.specs.NumberedEvent.{FitsBook};
 ghost use Rattle.sip_machine.specs.Texts.{Keeps};
 
@@ -88,16 +88,30 @@ pub(crate) fn book_of(
     transport: &str,
 ) -> Result<Book, Fail> {
     let mut book = Book::new(alloc);
+    keep_all(alloc, &mut book, messages, answered, transport)?;
+    Ok(book)
+}
+
+/// Keeps the messages in an empty book.
+fn keep_all(
+    alloc: Global,
+    book: &mut Book,
+    messages: &[Numbered],
+    answered: &str,
+    transport: &str,
+) -> Result<(), Fail>
+    requires { book.old ≡ [] }
+{
     let mut last = 0;
     for &(number, start, tag) in messages {
         if number <= last {
             return Err("out of order".into());
         }
         let text = text_of(alloc, start, tag, answered, transport)?;
-        keep(&mut book, number, text.as_bytes())?;
+        keep(book, number, text.as_bytes())?;
         last = number;
     }
-    Ok(book)
+    Ok(())
 }
 
 /// The event of the kept message with this number, or of a restart, which has no message.

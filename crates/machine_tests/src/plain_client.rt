@@ -29,10 +29,12 @@ fn client() -> Result<PlainClient, Fail> {
     Ok(PlainClient::new(params(500)?))
 }
 
+/// A book with the messages.
 fn book(alloc: Global) -> Result<Book, Fail> {
     book_of(alloc, &MESSAGES, "OPTIONS", "UDP")
 }
 
+/// Entries, and the states to which they lead a non-INVITE client.
 type Row = rows::Row<PlainClientPhase>;
 
 /// Asserts that the entries of each row lead to the states of the row.
@@ -108,7 +110,8 @@ const COMPLETED_AT_550: PlainClientPhase = PlainClientPhase::Completed {
 /// The transaction has ended.
 const ENDED: PlainClientPhase = PlainClientPhase::Ended;
 
-/// Rows that end before the final response.
+/// Rows that end before the final response. Timer E has the same request sent again T1 after the first, give or take the tolerance, from 450 to 550,
+/// and each time twice as late, up to T2; a provisional response leaves it as it is, and it is set for T2 from then on. Other bytes are no repeat.
 static BEFORE_THE_FINAL_RESPONSE: &[Row] = &[
     (&[], &[(IDLE, &[])]),
     (&[(0, Action::Sent, REQUEST)], &[(TRYING, &[])]),
@@ -181,12 +184,14 @@ static BEFORE_THE_FINAL_RESPONSE: &[Row] = &[
     ),
 ];
 
+/// The request was sent, and no final response has come.
 #[test]
 fn before_the_final_response(rt: HostRuntime) -> Result<(), Fail> {
     all_lead(&rt, BEFORE_THE_FINAL_RESPONSE)
 }
 
-/// Rows that end after a final response, or after a refused send.
+/// Rows that end after a final response, or after a refused send. The response has to come by 550, since timer E fires by then. After it nothing is sent,
+/// and timer K ends the client T4 later, 5,150 at the latest. A refused send ends it too, but only where the request may be sent.
 static FINAL_RESPONSES_AND_FAILURES: &[Row] = &[
     (
         &[(0, Action::Sent, REQUEST), (550, Action::Received, 200)],
@@ -224,6 +229,7 @@ static FINAL_RESPONSES_AND_FAILURES: &[Row] = &[
     (&[(100, Action::Received, 200)], &[(IDLE, &[])]),
 ];
 
+/// A final response came, or a message was refused.
 #[test]
 fn final_responses_and_failures(rt: HostRuntime) -> Result<(), Fail> {
     all_lead(&rt, FINAL_RESPONSES_AND_FAILURES)
@@ -232,6 +238,7 @@ fn final_responses_and_failures(rt: HostRuntime) -> Result<(), Fail> {
 /// Timer F fires between 31,950 and 32,050.
 const TIMER_F: Option<(u64, Option<u64>)> = Some((31_950, Some(32_050)));
 
+/// A provisional response has come, and timer E was last set at 31,500.
 const PROCEEDING_FROM_31_500: PlainClientPhase = PlainClientPhase::Proceeding(Waiting {
     set: 31_500,
     interval: 4_000,
@@ -250,6 +257,7 @@ const COMPLETED_OVER_TCP: PlainClientPhase = PlainClientPhase::Completed {
     set: 700,
 };
 
+/// When each state may end, and its last moment.
 #[test]
 fn ends(rt: HostRuntime) -> Result<(), Fail> {
     let client = client()?;

@@ -46,6 +46,8 @@ fn book(alloc: Global) -> Result<Book, Fail> {
     book_of(alloc, &MESSAGES, "OPTIONS", "UDP")
 }
 
+/// Entries, and the states to which they lead a non-INVITE server.
+/// Each state has its phase and its debts: a message, the deadline, and whether it must be sent. No state: the entries have no run.
 type Row = rows::Row<PlainServerPhase>;
 
 /// Asserts that the entries of each row lead to the states of the row.
@@ -110,7 +112,8 @@ const TRYING_ONCE: Entry = (5, Action::Sent, TRYING);
 /// The 200 is sent.
 const FINAL_ONCE: Entry = (10, Action::Sent, FINAL);
 
-/// Rows that end before the final response.
+/// Rows that end before the final response. A request that comes again at 10 has the last response sent again by 60. Where a response is sent that
+/// is owed, it pays for the debt or is a new one: a state for each.
 static BEFORE_THE_FINAL_RESPONSE: &[Row] = &[
     (&[], &[(IDLE, &[])]),
     (&[(0, Action::Sent, FINAL)], &[]),
@@ -184,6 +187,7 @@ static BEFORE_THE_FINAL_RESPONSE: &[Row] = &[
     ),
 ];
 
+/// The server is idle, trying or proceeding.
 #[test]
 fn before_the_final_response(rt: HostRuntime) -> Result<(), Fail> {
     all_lead(&rt, BEFORE_THE_FINAL_RESPONSE)
@@ -224,12 +228,14 @@ static A_100_NEED_NOT_BE_REPEATED: &[Row] = &[
     ),
 ];
 
+/// A 100 may be sent again when the request comes again, and need not be.
 #[test]
 fn a_100_need_not_be_repeated(rt: HostRuntime) -> Result<(), Fail> {
     all_lead(&rt, A_100_NEED_NOT_BE_REPEATED)
 }
 
-/// Rows that end after the final response.
+/// Rows that end after the final response. It is sent again only when the request comes again, and within the tolerance of 50, until timer J fires
+/// 64 times T1 later, 32,060 at the latest. A 180 that was owed before may still be sent, and need not be.
 static AFTER_THE_FINAL_RESPONSE: &[Row] = &[
     (&[FIRST, FINAL_ONCE], &[(FINAL_AT_10, &[])]),
     (&[FIRST, (10, Action::Failed, LAST)], &[(LAST_AT_10, &[])]),
@@ -304,6 +310,7 @@ static AFTER_THE_FINAL_RESPONSE: &[Row] = &[
     ),
 ];
 
+/// A final response was sent.
 #[test]
 fn after_the_final_response(rt: HostRuntime) -> Result<(), Fail> {
     all_lead(&rt, AFTER_THE_FINAL_RESPONSE)
@@ -312,6 +319,7 @@ fn after_the_final_response(rt: HostRuntime) -> Result<(), Fail> {
 /// How often the 180 is owed, then the 101, then the 180 again and then the 101 again, each until 60.
 type Turns = [usize; 4];
 
+/// The 180 must be sent once more, by 60.
 const RINGING_BY_60: Debt = Debt {
     message: RINGING,
     deadline: 60,
@@ -357,6 +365,7 @@ const RINGS: Entry = (10, Action::Sent, RINGING);
 /// A 101 is sent at the moment of `AGAIN`.
 const PROGRESSES: Entry = (10, Action::Sent, PROGRESS);
 
+/// The request comes again several times, and the server sends a 101, a 180 and a 101 in between.
 static REPEATS: [Entry; 11] = [
     FIRST,
     RINGING_ONCE,
@@ -436,7 +445,7 @@ fn equal_debts_stand_in_runs(rt: HostRuntime) -> Result<(), Fail> {
     Ok(())
 }
 
-/// When the states after the entries may end.
+/// When the states after the entries may end: the window, if there is one, and the last moment until which the state can wait, if any.
 static ENDS: &[EndsRow] = &[
     (&[], None, None),
     (&[FIRST], None, None),
@@ -472,6 +481,7 @@ static ENDS: &[EndsRow] = &[
     ),
 ];
 
+/// When each state may end, and its last moment, over UDP.
 #[test]
 fn ends(rt: HostRuntime) -> Result<(), Fail> {
     all_end(&rt, &server()?, &book(rt.alloc())?, ENDS)
@@ -484,6 +494,7 @@ const COMPLETED_OVER_TCP: PlainServerPhase = PlainServerPhase::Completed {
     set: 700,
 };
 
+/// When the completed state may end over TCP, and its last moment.
 #[test]
 fn ends_over_tcp(rt: HostRuntime) -> Result<(), Fail> {
     phase_ends(

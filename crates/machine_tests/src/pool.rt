@@ -4,7 +4,7 @@ ghost use Rattle.sip_machine.specs.NumberedEvent.{FitsBook};
 ghost use Rattle.sip_machine.specs.Rules.{Knows};
 
 use crate::messages::{Numbered, Start, book_of, event_of};
-use crate::runs::{Entry, State, are_same, indices, states_of};
+use crate::runs::{Entry, State, are_same, indices, keep_first_ones, states_of};
 use crate::times::params;
 use crate::wants::holds;
 use sip_machine::{
@@ -90,6 +90,22 @@ fn take_entry<M: Machine>(
     take(machine, book, pool, &event)
 }
 
+/// Puts a state that has taken the request after the others.
+fn push_asked<M: Machine>(
+    alloc: Global,
+    machine: &M,
+    book: &Book,
+    pool: &mut Pool<M::Phase>,
+) -> Result<(), Fail>
+    requires known { All (Knows M.names book.now) pool.old }
+    requires in_range { All M.in_range pool.old }
+    ensures known { OnOk result (All (Knows M.names book.now) pool.new) }
+    ensures in_range { OnOk result (All M.in_range pool.new) }
+{
+    pool.push(machine.first())?;
+    take_entry(alloc, machine, book, pool, (0, Action::Received, REQUEST))
+}
+
 /// Puts a state that owes these messages after the others: it has sent each of them, and then its request came again.
 fn push_owing<M: Machine>(
     alloc: Global,
@@ -103,8 +119,7 @@ fn push_owing<M: Machine>(
     ensures known { OnOk result (All (Knows M.names book.now) pool.new) }
     ensures in_range { OnOk result (All M.in_range pool.new) }
 {
-    pool.push(machine.first())?;
-    take_entry(alloc, machine, book, pool, (0, Action::Received, REQUEST))?;
+    push_asked(alloc, machine, book, pool)?;
     for message in messages {
         take_entry(alloc, machine, book, pool, (10, Action::Sent, *message))?;
         take_entry(alloc, machine, book, pool, (10, Action::Received, REQUEST))?;
@@ -168,6 +183,7 @@ fn first_owes(
     Ok(())
 }
 
+/// The first state owes the message 1 three times, then 2, 1 and 2 again: four runs, since only neighbours make one. The second owes nothing.
 #[test]
 fn equal_neighbours_are_one_run(rt: HostRuntime) -> Result<(), Fail> {
     let pool = pool_of(rt.alloc(), &[&[1, 1, 1, 2, 1, 2], &[]])?;
@@ -230,13 +246,6 @@ fn first_ones_follow(
     Ok(())
 }
 
-/// Keeps the first of the states that are the same.
-fn keep_first_ones(pool: &mut Pool<PlainServerPhase>) -> Result<(), Fail> {
-    let ones = pool.first_ones(0)?;
-    pool.keep(&ones);
-    Ok(())
-}
-
 /// Asserts that each of `count` states stands in the pool twice, and once where the first ones are kept.
 fn are_twice(
     rt: &(impl Abort + AllocGlobal),
@@ -247,7 +256,7 @@ fn are_twice(
     first_ones_follow(rt, pool, count, count)?;
     first_ones_follow(rt, pool, 2, count)?;
     first_ones_follow(rt, pool, 0, count)?;
-    keep_first_ones(pool)?;
+    keep_first_ones(pool, 0)?;
     holds(rt, pool.len() == count, "once");
     first_ones_follow(rt, pool, 0, count)
 }
@@ -259,6 +268,7 @@ fn are_told_apart(rt: &(impl Abort + AllocGlobal), lists: &[&[u64]]) -> Result<(
     are_twice(rt, &mut pool, lists.len())
 }
 
+/// Each list has the messages that a state owes, in their order. No two of these are the same state.
 #[test]
 fn what_is_owed_tells_states_apart(rt: HostRuntime) -> Result<(), Fail> {
     let lists: [&[u64]; 9] = [
@@ -368,6 +378,7 @@ fn come_and_go(
     Ok(())
 }
 
+/// Four states of one phase, of which the first three owe one message each.
 #[test]
 fn states_come_and_go(rt: HostRuntime) -> Result<(), Fail> {
     let mut pool = pool_of(rt.alloc(), &[&[1], &[2], &[3], &[]])?;

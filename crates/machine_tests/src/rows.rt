@@ -9,7 +9,7 @@ use std::alloc::Global;
 use std::process::Abort;
 use std::test::Fail;
 
-/// A debt that a row wants: its message, its deadline, and whether it must be sent.
+/// A debt that a row wants: the number of its message, its deadline, and whether it must be sent.
 pub(crate) type Owed = (u64, u64, bool);
 
 /// A debt that must be paid.
@@ -21,7 +21,7 @@ pub(crate) const MAY: bool = false;
 /// A state that a row wants: its phase, and what it owes.
 pub(crate) type Want<P> = (P, &'static [Owed]);
 
-/// A row: its entries, and the states to which they lead.
+/// A row: its entries, and the states to which they lead. There are none where the entries have no run.
 pub(crate) type Row<P> = (&'static [Entry], &'static [Want<P>]);
 
 /// Whether the runs are exactly the debts that are wanted, each once.
@@ -74,12 +74,13 @@ pub(crate) fn all_lead<M: Machine>(
     Ok(())
 }
 
-/// The window in which a state may end, and its last moment.
+/// The window in which a state may end, from its first moment to its last, if it has one; and the last moment until which the state can wait.
 pub(crate) type Ends = (Option<(u64, Option<u64>)>, Option<u64>);
 
 /// A row: its entries, and the window and the last moment of the only state after them.
 pub(crate) type EndsRow = (&'static [Entry], Option<(u64, Option<u64>)>, Option<u64>);
 
+/// Whether the window and the last moment are the wanted ones.
 fn are_ends(ends: Ends, want: Ends) -> bool {
     ends == want
 }
@@ -119,9 +120,16 @@ pub(crate) fn phase_ends<M: Machine>(
 ) -> Result<(), Fail>
     requires { M.in_range (at_rest phase) }
 {
-    let mut pool = Pool::new(rt.alloc());
-    pool.push(phase)?;
-    let ends = ends_of(machine, &pool)?;
+    let ends = ends_of_phase(rt.alloc(), machine, phase)?;
     holds(rt, are_ends(ends, want), row);
     Ok(())
+}
+
+/// The window and the last moment of a state of this phase that owes nothing.
+fn ends_of_phase<M: Machine>(alloc: Global, machine: &M, phase: M::Phase) -> Result<Ends, Fail>
+    requires { M.in_range (at_rest phase) }
+{
+    let mut pool = Pool::new(alloc);
+    pool.push(phase)?;
+    ends_of(machine, &pool)
 }

@@ -127,6 +127,7 @@ const INVITE_CAME_AGAIN: Entry = (500, Action::Received, INVITE);
 /// A 200 is sent.
 const OK_WENT: Entry = (0, Action::Sent, OK);
 
+/// A server that has sent a 2xx sends only 2xx from then on, however late, until an INVITE comes.
 static A_2XX_IS_THE_LAST_OF_A_SERVER: &[Server] = &[
     (&[], &[(IDLE, &[])]),
     (&[INVITE_CAME], &[(INVITED, &[])]),
@@ -164,7 +165,7 @@ static A_2XX_IS_THE_LAST_OF_A_SERVER: &[Server] = &[
     ),
 ];
 
-/// An INVITE after the 2xx may be a repeat or begin anew, so that there is a state for each.
+/// An INVITE that comes at 500, after the 2xx, begins the machine anew: its first response is due by 750.
 static AN_INVITE_COMES_AGAIN_AFTER_A_2XX: &[Server] = &[
     (
         &[INVITE_CAME, OK_WENT, INVITE_CAME_AGAIN],
@@ -262,6 +263,8 @@ static AN_INVITE_COMES_AGAIN_AFTER_A_2XX: &[Server] = &[
     ),
 ];
 
+/// A restart leaves a server idle, unless a message that it had to send is overdue. The first response to the INVITE that came at 0 is due by 250:
+/// 200 ms and the tolerance later. The 180 is due again by 60, since the INVITE came again at 10.
 static A_SERVER_STARTS_ANEW: &[Server] = &[
     (&[(100, Action::Restart, NONE)], &[(IDLE, &[])]),
     (&[INVITE_CAME, (100, Action::Restart, NONE)], &[(IDLE, &[])]),
@@ -306,7 +309,7 @@ const PROCEEDS: InviteClientPhase = InviteClientPhase::Proceeding {
     cancel: None,
 };
 
-/// A final response but a 2xx came at 100.
+/// A final response other than a 2xx came at 100.
 const IS_BUSY: InviteClientPhase = InviteClientPhase::Completed {
     reliable: false,
     request: INVITE,
@@ -319,6 +322,7 @@ const ENDED: InviteClientPhase = InviteClientPhase::Ended;
 /// The INVITE is sent.
 const INVITE_WENT: Entry = (0, Action::Sent, INVITE);
 
+/// A 2xx ends the client at once. Any other response does what it does by RFC 6026.
 static A_2XX_ENDS_A_CLIENT: &[Client] = &[
     (&[INVITE_WENT], &[(CALLS, &[])]),
     (&[INVITE_WENT, (100, Action::Received, OK)], &[(ENDED, &[])]),
@@ -356,6 +360,8 @@ static A_2XX_ENDS_A_CLIENT: &[Client] = &[
     ),
 ];
 
+/// A restart leaves an idle client idle, and ends any other one, unless a message is overdue. The INVITE has to be sent again by 550, as timer A fires,
+/// and the ACK for a 486 that came at 100 is due by 150.
 static A_CLIENT_STARTS_ANEW: &[Client] = &[
     (
         &[(100, Action::Restart, NONE)],
@@ -439,7 +445,7 @@ fn a_client_starts_anew(rt: HostRuntime) -> Result<(), Fail> {
     all_call(&rt, A_CLIENT_STARTS_ANEW)
 }
 
-/// The states to which the rules of RFC 6026 lead after the same entries.
+/// The states to which the rules of RFC 6026 lead after entries of which rows above have what the rules of RFC 3261 alone lead to.
 static BY_RFC_6026: (&[Row<InviteServerPhase>], &[Client]) = (
     &[(
         &[INVITE_CAME, OK_WENT, INVITE_CAME_AGAIN],

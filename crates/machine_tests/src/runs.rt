@@ -1,6 +1,8 @@
 //! Runs of a machine over entries: with all states, and with one state that steps where it stands.
-ghost use Rattle.std.specs.Prelude.{◌≡◌, ◌<◌, All, AllPairs, IfOk, OnOk, length};
+ghost use Rattle.std.specs.Prelude.{◌≡◌, ◌<◌, ◌≤◌, ℕ, List, All, AllPairs, IfOk, OnOk, length};
 ghost use Rattle.sip_machine.specs.NumberedEvent.{FitsBook};
+ghost use Rattle.sip_machine.specs.Owing.{CodeOwing};
+ghost use Rattle.sip_machine.specs.Pools.{AreFirstOnes, picked};
 ghost use Rattle.sip_machine.specs.Rules.{Knows};
 ghost use Rattle.sip_machine.specs.Texts.{Texts};
 
@@ -68,8 +70,31 @@ fn agree_with_others<M: Machine>(
     pool: &Pool<M::Phase>,
     is_alone: bool,
 ) -> Result<(), Fail> {
+    agree_with_run_together(alloc, machine, book, entries, pool)?;
+    agree_with_run_alone(alloc, machine, book, entries, pool, is_alone)
+}
+
+/// Asserts that all states at once lead to the states of the pool.
+fn agree_with_run_together<M: Machine>(
+    alloc: Global,
+    machine: &M,
+    book: &Book,
+    entries: &[Entry],
+    pool: &Pool<M::Phase>,
+) -> Result<(), Fail> {
     let together = run_together(alloc, machine, book, entries)?;
-    are_alike(alloc, pool, &together)?;
+    are_alike(alloc, pool, &together)
+}
+
+/// Asserts that one state that steps where it stands leads to the states of the pool.
+fn agree_with_run_alone<M: Machine>(
+    alloc: Global,
+    machine: &M,
+    book: &Book,
+    entries: &[Entry],
+    pool: &Pool<M::Phase>,
+    is_alone: bool,
+) -> Result<(), Fail> {
     let alone = run_alone(alloc, machine, book, entries)?;
     agree(alloc, pool, is_alone, &alone)
 }
@@ -187,10 +212,37 @@ fn step_together<M: Machine>(
     ensures in_range { OnOk result (All M.in_range pool.new) }
 {
     let before = states_of(alloc, pool)?;
+    step_beside(alloc, machine, book, pool, event, before.as_slice())
+}
+
+/// Puts the states that the event gives in the place of those that take it, each once. It asserts that the latter stay what they were before.
+fn step_beside<M: Machine>(
+    alloc: Global,
+    machine: &M,
+    book: &Book,
+    pool: &mut Pool<M::Phase>,
+    event: &Event,
+    before: &[State<M::Phase>],
+) -> Result<(), Fail>
+    requires fits { FitsBook book.now event.now }
+    requires known { All (Knows M.names book.now) pool.old }
+    requires in_range { All M.in_range pool.old }
+    ensures known { OnOk result (All (Knows M.names book.now) pool.new) }
+    ensures in_range { OnOk result (All M.in_range pool.new) }
+{
     let count = pool.len();
     machine.successors_each(book, pool, count, event)?;
-    stay(alloc, pool, before.as_slice())?;
-    let given = pool.first_ones(count)?;
+    stay(alloc, pool, before)?;
+    keep_first_ones(pool, count)
+}
+
+/// Keeps the states from `from` on, each once, and drops those before them.
+pub(crate) fn keep_first_ones<P: Phase>(pool: &mut Pool<P>, from: usize) -> Result<(), Fail>
+    requires { from ≤ length pool.old }
+    ensures { (x : CodeOwing P) → OnOk result ((rows : List ℕ) × AreFirstOnes pool.old from (length pool.old) rows
+        × (pool.new ≡ picked pool.old x rows)) }
+{
+    let given = pool.first_ones(from)?;
     pool.keep(&given);
     Ok(())
 }

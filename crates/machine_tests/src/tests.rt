@@ -25,6 +25,7 @@ fn first_taken(times: &[(u64, u64, u64, u64)]) -> Option<usize> {
     times.iter().position(|&(t1, t2, t4, tolerance)| Params::new(t1, t2, t4, tolerance).is_some())
 }
 
+/// Times at the limits are taken, and times above them are refused.
 #[test]
 fn limits(rt: HostRuntime) -> Result<(), Fail> {
     is(&rt, first_taken(&REFUSED), None, "refused times");

@@ -29,7 +29,8 @@ fn with_fold(alloc: Global, text: &[u8]) -> Result<Vec<u8>, AllocError> {
     Ok(out)
 }
 
-/// The text with one byte left out, put in or replaced, as the seed says.
+/// The text with one byte left out, put in or replaced, as the seed says: its two lowest bits tell what is done (3: the byte is left out), the bits from 8
+/// on which byte comes, and those from 16 on at which place.
 fn mutated(alloc: Global, text: &[u8], seed: u64) -> Result<Vec<u8>, AllocError> {
     let place = (seed >> 16).checked_rem(text.len() as u64).unwrap_or(0);
     let mark = MARKS[(seed >> 8) as usize % 16];
@@ -74,24 +75,28 @@ fn mutated_agree(rt: &(impl Abort + AllocGlobal), text: &[u8], start: u64) -> Re
     Ok(())
 }
 
+/// The ordinary request over UDP, with one byte left out, put in or replaced.
 #[test]
 fn mutated_requests_agree_with_folded_ones(rt: HostRuntime) -> Result<(), Fail> {
     let ordinary = changed(rt.alloc(), &[], b"")?;
     mutated_agree(&rt, &ordinary, 88_172_645_463_325_252)
 }
 
+/// The ordinary request over TCP, with one byte left out, put in or replaced.
 #[test]
 fn mutated_requests_over_tcp_agree_with_folded_ones(rt: HostRuntime) -> Result<(), Fail> {
     let over_tcp = changed(rt.alloc(), &[OVER_TCP], b"")?;
     mutated_agree(&rt, &over_tcp, 2_463_534_242)
 }
 
+/// The ordinary request without Content-Length, with one byte left out, put in or replaced.
 #[test]
 fn mutated_requests_without_a_length_agree_with_folded_ones(rt: HostRuntime) -> Result<(), Fail> {
     let no_length = changed(rt.alloc(), &[(6, NO_LINE)], b"body")?;
     mutated_agree(&rt, &no_length, 1_234_567_891_011)
 }
 
+/// A request that is folded already, with one byte left out, put in or replaced.
 #[test]
 fn mutated_folded_requests_agree_with_folded_ones(rt: HostRuntime) -> Result<(), Fail> {
     mutated_agree(&rt, FOLDED, 362_436_069_521_288_629)
@@ -109,6 +114,7 @@ fn replaced_agree(rt: &(impl Abort + AllocGlobal), text: &[u8], place: usize) ->
     Ok(())
 }
 
+/// The folded request with each byte in place of each of its bytes.
 #[test]
 fn folded_requests_with_one_byte_replaced_agree(rt: HostRuntime) -> Result<(), Fail> {
     for place in 0..FOLDED.len() {
@@ -117,6 +123,7 @@ fn folded_requests_with_one_byte_replaced_agree(rt: HostRuntime) -> Result<(), F
     Ok(())
 }
 
+/// The ordinary request with each byte in place of each of its bytes.
 #[test]
 fn requests_with_one_byte_replaced_agree(rt: HostRuntime) -> Result<(), Fail> {
     let ordinary = changed(rt.alloc(), &[], b"")?;

@@ -6,17 +6,24 @@ use std::alloc::{AllocError, Global};
 /// What bytes come to: a message, with how many bytes its body has, or the first fault.
 #[derive(Clone, Copy, Debug, PartialEq, Eq)]
 pub(crate) enum Answer {
+    /// A message, whose body has this many bytes.
     Read { body: usize },
+    /// A fault of the head.
     Head(Reason),
+    /// A fault of the line with this number.
     Line(usize, Reason),
+    /// A fault of the body.
     Body(Reason),
 }
 
 /// The bytes of a message, and what they come to.
 #[derive(Clone, Copy)]
 pub(crate) struct Row {
+    /// The name of the message in its RFC.
     pub(crate) name: &'static str,
+    /// The bytes of the message.
     pub(crate) text: &'static [u8],
+    /// What the bytes come to.
     pub(crate) answer: Answer,
 }
 

@@ -54,6 +54,7 @@ fn write_again(rt: &(impl Abort + AllocGlobal)) -> Result<(), Fail> {
     Ok(write_behind(rt, &message, &mut out)??)
 }
 
+/// A message is read, and another one written, by a second call where the first was refused a growth.
 #[test]
 fn goes_on_after_a_refused_growth(rt: HostRuntime) -> Result<(), Fail> {
     read_again(&rt)?;

@@ -3,6 +3,7 @@
 use crate::answer::{Answer, Row};
 use sip_message::Reason;
 
+/// The messages, each with what it comes to.
 pub(crate) static IPV6: &[Row] = &[
     // IPv6 references in the Request-URI and in Via.
     Row {

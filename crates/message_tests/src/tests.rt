@@ -1,3 +1,4 @@
+//! Messages, and changes of one message, read and written again: rows with what each comes to.
 use crate::answer::{Answer, Row, answer_to};
 use crate::changed::changed;
 use crate::folded::{FOLDED, UNFOLDED};
@@ -31,6 +32,7 @@ fn torture() -> &'static [Row] {
     TORTURE
 }
 
+/// Each torture message, and each message with IPv6 addresses, comes to what its row says.
 #[test]
 fn reads_torture_messages(rt: HostRuntime) -> Result<(), Fail> {
     read_rows(&rt, torture())?;
@@ -46,41 +48,49 @@ fn read_changes(rt: &(impl Abort + AllocGlobal), rows: &[Change]) -> Result<(), 
     Ok(())
 }
 
+/// Changes of the start line.
 #[test]
 fn reads_start_lines(rt: HostRuntime) -> Result<(), Fail> {
     read_changes(&rt, STARTS)
 }
 
+/// Changes of lines, whatever field they are of.
 #[test]
 fn reads_lines(rt: HostRuntime) -> Result<(), Fail> {
     read_changes(&rt, LINES)
 }
 
+/// Changes of Via.
 #[test]
 fn reads_vias(rt: HostRuntime) -> Result<(), Fail> {
     read_changes(&rt, VIAS)
 }
 
+/// Changes of From and To.
 #[test]
 fn reads_addresses(rt: HostRuntime) -> Result<(), Fail> {
     read_changes(&rt, ADDRESSES)
 }
 
+/// Changes of Call-ID and CSeq.
 #[test]
 fn reads_call_ids_and_cseqs(rt: HostRuntime) -> Result<(), Fail> {
     read_changes(&rt, NUMBERS)
 }
 
+/// Fields that are missing, or stand twice.
 #[test]
 fn reads_fields_that_stand_once(rt: HostRuntime) -> Result<(), Fail> {
     read_changes(&rt, NAMES)
 }
 
+/// Changes of the body, and of Content-Length.
 #[test]
 fn reads_bodies(rt: HostRuntime) -> Result<(), Fail> {
     read_changes(&rt, BODIES)
 }
 
+/// A text without the end of a head, or without a start line, is no message.
 #[test]
 fn tells_a_head_from_none(rt: HostRuntime) -> Result<(), Fail> {
     let mut text = changed(rt.alloc(), &[], b"")?;
@@ -94,6 +104,7 @@ fn tells_a_head_from_none(rt: HostRuntime) -> Result<(), Fail> {
     Ok(())
 }
 
+/// The folded request, and its canonical form itself, have the one canonical form.
 #[test]
 fn writes_the_canonical_form(rt: HostRuntime) -> Result<(), Fail> {
     holds(&rt, FOLDED.len() == 181 && UNFOLDED.len() == 202, "lengths");
@@ -166,6 +177,7 @@ fn is_read_back(alloc: Global, bytes: &[u8]) -> Result<bool, AllocError> {
     }
 }
 
+/// What is written of each message that comes of changing one byte is read back as the same message.
 #[test]
 fn reads_back_what_it_writes(rt: HostRuntime) -> Result<(), Fail> {
     let mut text = FOLDED.to_vec(rt.alloc())?;
@@ -235,6 +247,7 @@ fn shows_routes(rt: &impl Abort, message: &Message<'_>) {
     holds(rt, routes.next().is_none(), "no more routes");
 }
 
+/// The parts that the first torture message shows are those that it has.
 #[test]
 fn shows_the_parts(rt: HostRuntime) -> Result<(), Fail> {
     let first = torture().first().ok_or("no message")?;
@@ -272,7 +285,9 @@ const LINE_FAULTY: Answer = Answer::Line(7, Reason::Value);
 /// A line, by its front, a part that is repeated, how often it is, and the end of the line; and what the line comes to.
 type LongLine = (&'static [u8], &'static [u8], usize, &'static [u8], Answer);
 
+/// Lines with many equal parts, and what each comes to.
 static LONG_LINES: &[LongLine] = &[
+    // Parameters, elements, empty elements, pairs in a quoted string with an end and without one, fields of one name, and parts of other values.
     (b"Via: SIP/2.0/UDP a", b";a", 30_000, b"", LINE_READ),
     (
         b"Via: SIP/2.0/UDP a",
@@ -314,6 +329,7 @@ fn answer_to_line(alloc: Global, line: &LongLine) -> Result<Answer, AllocError> 
     answer_to(alloc, &text)
 }
 
+/// Requests with a long line come to what their rows say.
 #[test]
 fn reads_long_lines(rt: HostRuntime) -> Result<(), Fail> {
     reads_a_long_fold(&rt)?;

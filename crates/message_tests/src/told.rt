@@ -68,6 +68,7 @@ static FAULTS: &[(Unit, Reason, &str)] = &[
     ),
 ];
 
+/// Each fault says its unit and its reason, and the error with it says the same.
 #[test]
 fn faults_say_what_is_wrong_and_where(rt: HostRuntime) -> Result<(), Fail> {
     for (unit, reason, told) in FAULTS {

@@ -3,6 +3,7 @@
 use crate::answer::{Answer, Row};
 use sip_message::Reason;
 
+/// The messages, each with what it comes to.
 pub(crate) static TORTURE: &[Row] = &[
     // Blank runs, folds, compact names and names in any case.
     Row {

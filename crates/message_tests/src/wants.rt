@@ -3,7 +3,7 @@
 use std::fmt::{Debug, Display};
 use std::process::Abort;
 
-/// What is found in the row is what is wanted.
+/// Asserts that what is found in the row is what is wanted.
 pub(crate) fn is<T: PartialEq + Debug + Drop>(
     rt: &impl Abort,
     found: T,
@@ -13,7 +13,7 @@ pub(crate) fn is<T: PartialEq + Debug + Drop>(
     assert_eq!(rt; found, want, "{row}");
 }
 
-/// Something holds, as these words say.
+/// Asserts that something holds; the words say what.
 pub(crate) fn holds(rt: &impl Abort, is_so: bool, words: &str) {
     assert!(rt; is_so, "{words}");
 }

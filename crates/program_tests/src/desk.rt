@@ -10,11 +10,14 @@ use std::io;
 #[derive(Drop)]
 pub(crate) struct Desk<'a> {
     pub(crate) words: Vec<String>,
+    /// The path of its file.
     pub(crate) path: &'a str,
+    /// What the file has.
     pub(crate) bytes: &'a [u8],
 }
 
 impl<'a> Platform for Desk<'a> {
+    // Its words are known, and one path opens its file.
     ghost words = { λ desk. Some (map string_bytes desk.words.items) };
 
     ghost file = { λ desk path. if bytes_eq path desk.path.now then Some desk.bytes.now else None };
@@ -28,10 +31,12 @@ impl<'a> Platform for Desk<'a> {
         Ok(self.words.clone()?)
     }
 
+    // The seed is always the same one.
     fn seed(&self) -> io::Result<RandomState> {
         RandomState::new(&Same(1))
     }
 
+    // Only the one path has a file.
     fn open(&self, path: &str) -> io::Result<&'a [u8]> {
         if path != self.path {
             return Err(io::Error::from(io::ErrorKind::NotFound));

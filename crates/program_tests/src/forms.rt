@@ -23,6 +23,7 @@ From: <sip:bob@example.com>;tag=1\r\nTo: <sip:bob@example.com>;tag=2\r\nCall-ID:
 /// The first two lines of a log.
 const HEADER: &str = "sip-trace 1\nt1 500 t2 4000 t4 5000 tolerance 50\n";
 
+/// What `siptrace` says where it is asked for nothing that it knows.
 const USAGE: &str = "siptrace: usage: siptrace [check FILE | show FILE | states FILE ENTRY]\n";
 
 /// The log of a client that registers, repeats its request after T1 and has its response.
@@ -62,7 +63,8 @@ pub(crate) fn desk<'a>(
     })
 }
 
-/// Runs the program with these words, this standard input and this file, so that it writes to this list. It answers the status, if any.
+/// Runs the program with these words, this standard input and a file with the text `file` at `PATH`, so that it writes to this list. It answers the
+/// status, if any.
 fn answer(
     alloc: Global,
     words: &[&str],
@@ -75,7 +77,7 @@ fn answer(
     Ok(run(alloc, &mut host, &mut output).ok())
 }
 
-/// Checks what the program writes, and its status, with these words, this standard input and this file.
+/// Checks what the program writes, and its status, with these words, this standard input and a file with the text `file` at `PATH`.
 fn answers(
     rt: &(impl Abort + AllocGlobal),
     words: &[&str],
@@ -90,8 +92,8 @@ fn answers(
     Ok(())
 }
 
-/// Runs the whole program with these words, an empty standard input and this file, so that it writes to this writer and tells to this list. It
-/// answers the status.
+/// Runs the whole program with these words, an empty standard input and a file with the text `file` at `PATH`, so that it writes to this writer and
+/// tells to this list. It answers the status.
 fn status_of<W: Write + Drop>(
     alloc: Global,
     words: &[&str],
@@ -105,7 +107,7 @@ fn status_of<W: Write + Drop>(
     Ok(program(alloc, &mut host, &mut output, &mut errors))
 }
 
-/// Checks what the whole program writes and tells, and its status, with these words, an empty standard input and this file.
+/// Checks what the whole program writes and tells, and its status, with these words, an empty standard input and a file with the text `file` at `PATH`.
 fn ends(
     rt: &(impl Abort + AllocGlobal),
     words: &[&str],
@@ -121,6 +123,7 @@ fn ends(
     Ok(())
 }
 
+/// Of a legal log and one in breach one is the standard input and the other the file, either way round: without words the former is judged.
 #[test]
 fn judges_the_standard_input(rt: HostRuntime) -> Result<(), Fail> {
     let (right, wrong) = (registered(rt.alloc())?, hasty(rt.alloc())?);
@@ -132,6 +135,7 @@ fn judges_the_standard_input(rt: HostRuntime) -> Result<(), Fail> {
     answers(&rt, &[], wrong.as_str(), right.as_str(), breach)
 }
 
+/// With the word `check` the file is judged, and not the standard input.
 #[test]
 fn checks_the_file(rt: HostRuntime) -> Result<(), Fail> {
     let (right, wrong) = (registered(rt.alloc())?, hasty(rt.alloc())?);
@@ -160,6 +164,7 @@ fn shows_the_file(rt: HostRuntime) -> Result<(), Fail> {
     answers(&rt, &["show", PATH], "", file.as_str(), (text.as_str(), 0))
 }
 
+/// Entry 3 is the response, entry 4 a mark, which concerns no transaction, and there is no entry 5.
 #[test]
 fn lists_the_states_of_an_entry_of_the_file(rt: HostRuntime) -> Result<(), Fail> {
     let file = registered(rt.alloc())?;
@@ -182,6 +187,7 @@ fn tells_nothing_of_an_answer(rt: HostRuntime) -> Result<(), Fail> {
     ends(&rt, &["check", PATH], file.as_str(), want)
 }
 
+/// There is no file but the one at `PATH`, whose name ends with a blank; and other words are no form of words.
 #[test]
 fn tells_of_each_failure(rt: HostRuntime) -> Result<(), Fail> {
     let file = registered(rt.alloc())?;

@@ -10,6 +10,7 @@ use std::io;
 use std::process::Abort;
 use std::test::Fail;
 
+/// What `sipsurvey` says where it is asked for nothing that it knows.
 const USAGE: &str = "sipsurvey: usage: sipsurvey [--forget MILLISECONDS] [--part K/N] [FILE]\n";
 
 /// Runs the whole program with these words, this standard input and this file, so that it writes and tells to these lists. It answers the status.
@@ -46,18 +47,24 @@ fn ends(
 
 #[test]
 fn surveys_the_standard_input_or_the_file(rt: HostRuntime) -> Result<(), Fail> {
-    let (right, wrong) = (registered(rt.alloc())?, hasty(rt.alloc())?);
-    let (right, wrong) = (right.as_str(), wrong.as_str());
+    let right = registered(rt.alloc())?;
+    let wrong = hasty(rt.alloc())?;
+    surveys_either(&rt, right.as_str(), wrong.as_str())
+}
+
+/// Checks what is told where one of these logs is the standard input and the other the file: of the former without words, and of the latter
+/// where they name it.
+fn surveys_either(rt: &(impl Abort + AllocGlobal), right: &str, wrong: &str) -> Result<(), Fail> {
     let none = ("end entries 4 transactions 1 findings 0\n", "", 0);
     let found = (
         "breach 2 transaction 1 client REGISTER z9hG4bKr1 1 2\nend entries 2 transactions 1 findings 1\n",
         "",
         1,
     );
-    ends(&rt, &[], right, wrong, none)?;
-    ends(&rt, &[], wrong, right, found)?;
-    ends(&rt, &[PATH], wrong, right, none)?;
-    ends(&rt, &[PATH], right, wrong, found)
+    ends(rt, &[], right, wrong, none)?;
+    ends(rt, &[], wrong, right, found)?;
+    ends(rt, &[PATH], wrong, right, none)?;
+    ends(rt, &[PATH], right, wrong, found)
 }
 
 // FNV-1a of z9hg4bkr1 is 2386688665: the messages with this branch fall into part 2 of 2.
@@ -68,6 +75,7 @@ fn surveys_a_part_alone(rt: HostRuntime) -> Result<(), Fail> {
     ends(&rt, &["--part", "1/2"], log.as_str(), "", none)
 }
 
+/// The whole log has one breach, and its part 1 of 2 has no transaction. A standard input without a byte has no header.
 #[test]
 fn surveys_and_may_forget(rt: HostRuntime) -> Result<(), Fail> {
     let log = hasty(rt.alloc())?;
@@ -84,6 +92,7 @@ fn surveys_and_may_forget(rt: HostRuntime) -> Result<(), Fail> {
     ends(&rt, &["--forget", "0"], "", "", header)
 }
 
+/// A log without a header has the fault 20 before its first entry; a header alone is a log without entries.
 #[test]
 fn ends_with_the_fault_of_the_log(rt: HostRuntime) -> Result<(), Fail> {
     let header = ("log fault 0 20 Header\n", "", 2);
@@ -93,6 +102,7 @@ fn ends_with_the_fault_of_the_log(rt: HostRuntime) -> Result<(), Fail> {
     ends(&rt, &[], empty, "", none)
 }
 
+/// A file that is not there cannot be read ("a log" lacks the blank at the end of `PATH`), and two names of files are no form of words.
 #[test]
 fn tells_of_each_failure_of_a_survey(rt: HostRuntime) -> Result<(), Fail> {
     let file = registered(rt.alloc())?;
@@ -144,6 +154,7 @@ fn asks_for(
     Ok(())
 }
 
+/// One word is the name of a file, whatever it is.
 #[test]
 fn asks_by_at_most_one_word(rt: HostRuntime) -> Result<(), Fail> {
     asks_for(&rt, &[], None, None)?;
@@ -161,6 +172,7 @@ fn asks_for_a_part_by_two_words(rt: HostRuntime) -> Result<(), Fail> {
     Ok(())
 }
 
+/// The first two words ask to forget, and the third is the name of a file. A fourth is one too many.
 #[test]
 fn asks_to_forget_by_two_words(rt: HostRuntime) -> Result<(), Fail> {
     let words = ["--forget", "60000", "--forget", "60000"];
@@ -171,6 +183,7 @@ fn asks_to_forget_by_two_words(rt: HostRuntime) -> Result<(), Fail> {
     Ok(())
 }
 
+/// A refused growth ends the program with status 4 and a line; a survey that was told ends it with its own status, here 3, and no line.
 #[test]
 fn ends_a_survey_with_the_line_of_its_failure(rt: HostRuntime) -> Result<(), Fail> {
     let mut told = Vec::new(rt.alloc());

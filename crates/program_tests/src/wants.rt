@@ -8,7 +8,7 @@ pub(crate) fn is<T: PartialEq + Debug + Drop>(rt: &impl Abort, found: T, want: T
     assert_eq!(rt; found, want);
 }
 
-/// Checks that something holds, as these words say.
+/// Checks that something holds; the words say what.
 pub(crate) fn holds(rt: &impl Abort, is_so: bool, words: &str) {
     assert!(rt; is_so, "{words}");
 }

@@ -49,7 +49,7 @@ solid-begins values more None none steps empty =
 solid-begins values more (Some x) none steps empty =
     sym (solid-joined x.now more) ∙ ap (λ vs. solid (join_with_byte comma vs)) (sym steps)
 
--- what is said of three messages as an ACK, an INVITE and a response is said of three that are the same
+-- where the messages a', i' and r' are a, i and r, and a' is an ACK of the INVITE i' and of its response r', a is an ACK of i and r
 along : (a a' i i' r r' : Said) → a' ≡ a → i' ≡ i → r' ≡ r → IsAckOf a' i' r' → IsAckOf a i r
 along a a' i i' r r' p q s is =
     let P : Said → Type 0 = λ x. IsAckOf x i' r' in
@@ -58,6 +58,7 @@ along a a' i i' r r' p q s is =
     subst R s (subst Q q (subst P p is))
 
 -- three texts are an ACK, an INVITE and its response exactly if what they say is
+-- a, i and r are what the three texts say
 pub ack-of_says : (ack invite response : List ℕ) (a i r : Said) → Says ack (gives a) → Says invite (gives i) → Says response (gives r) → AckOf ack invite response ↔ IsAckOf a i r
 ack-of_says ack invite response a i r says_a says_i says_r = (
   λ of. along a of.0 i of.1 r of.2 (said-one ack of.0 a of.3 says_a) (said-one invite of.1 i of.4 says_i) (said-one response of.2 r of.5 says_r) of.6,

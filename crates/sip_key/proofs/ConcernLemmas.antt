@@ -32,6 +32,7 @@ and-false true = refl
 and-false false = refl
 
 -- a key of the role, the branch, the sent-by and the method that a message gives is the message's own key, and the message does not lack the cookie
+-- r is what the message says, d its direction, and k the key
 pub own-is : (r : Said) (d : Direction) (role : Role) (branch sent_by method : List ℕ) {k : KeyParts}
     → k ≡ record { role = role; branch = branch; sent_by = sent_by; method = method }
     → role ≡ role_of r.start d
@@ -40,8 +41,10 @@ pub own-is : (r : Said) (d : Direction) (role : Role) (branch sent_by method : L
     → method ≡ method_of r.start r.cseq.1
     → (Some k ≡ own_key r d) × (lacks_cookie r d ≡ false)
 own-is r d role branch sent_by method key by_role by_branch by_sent_by by_method =
+    -- the key's parts are those that the message gives, one by one
     let sent_by_is : sent_by ≡ sent_by_of (role_of r.start d) r.via =
     by_sent_by ∙ ap (λ s. sent_by_of s r.via) by_role in
+    -- f gives the key that the message has with the branch b
     let f : List ℕ → KeyParts =
     λ b. record { role = role_of r.start d; branch = b; sent_by = sent_by_of (role_of r.start d) r.via; method = method_of r.start r.cseq.1 } in
     let own : own_key r d ≡ Some (f branch) = ap (option_map f) by_branch in (

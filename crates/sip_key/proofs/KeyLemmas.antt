@@ -78,6 +78,7 @@ pub built : (role : Role) (branch host port method begun text : List ℕ)
     → text ≡ (begun ++ port) ++ method
     → text ≡ key_text (record { role = role; branch = folded branch; sent_by = folded host ++ port; method = method })
 built role branch host port method begun text begun_is whole =
+    -- the head has the length of the branch, which folding does not change
     let head = key_head role (length branch) (length method) in
     let texts = folded branch ++ (folded host ++ port) in
     let head_is : head ≡ key_head role (length (folded branch)) (length method) = ap (λ n. key_head role n (length method)) (sym (length-map branch to_ascii_lowercase)) in
@@ -125,6 +126,7 @@ tells k text is =
     let texts = (k.branch ++ k.sent_by) ++ k.method in
     let lengths = length_bytes (length k.branch) in
     let methods = length_bytes (length k.method) in
+    -- after the role come the length of the branch and the length of the method, and then the texts
     let rest : drop 1 text ≡ lengths ++ (methods ++ texts) = ap (drop 1) is ∙ append_assoc lengths methods texts in
     let first = length-read (length k.branch) (methods ++ texts) in
     let second = length-read (length k.method) texts in
@@ -133,6 +135,7 @@ tells k text is =
     let both = length-append k.branch k.sent_by in
     let end = length-append methods texts in
     let whole = length-append lengths (methods ++ texts) in
+    -- what is read at these places are the parts, and each length is at most what follows it
     record {
       some = omega (arith, ap length is);
       role = ap role_in is ∙ role-read k.role ((lengths ++ methods) ++ texts);
@@ -146,16 +149,19 @@ tells k text is =
 -- the text of a key gives its parts
 pub parts-told : (k : KeyParts) (text : List ℕ) → text ≡ key_text k → parts_of text ≡ k
 parts-told k text is =
+    -- t has the role, the two lengths and the texts that are read of the text; `texts` are the key's own
     let t = tells k text is in
     let texts = (k.branch ++ k.sent_by) ++ k.method in
+    -- from the lengths follows where each of the texts begins in the three
     let all = length-append (k.branch ++ k.sent_by) k.method in
     let both = length-append k.branch k.sent_by in
     let parts = parts-are k.branch k.sent_by k.method texts (length k.branch) (length texts - length k.method) refl refl (omega (arith, all, both)) in
+    -- what is read are the parts of these texts at these lengths, and they are those of the key
     let read : parts_of text ≡ parts_in k.role (length k.branch) (length k.method) texts = λ i. parts_in (t.role i) (t.branch i) (t.method i) (t.texts i) in
     let told : parts_in k.role (length k.branch) (length k.method) texts ≡ k = λ i. record { role = k.role; branch = parts.0 i; sent_by = parts.1 i; method = parts.2 i } in
     read ∙ told
 
--- the key of a text that is one's is that key, and the text is its text
+-- where a text is the text of the key k, the parts that it tells are those of k, and the text is the one of these parts
 pub keyed : (k : KeyParts) (text : List ℕ) → text ≡ key_text k → (parts_of text ≡ k) × (text ≡ key_text (parts_of text))
 keyed k text is = let parts = parts-told k text is in (parts, is ∙ ap key_text (sym parts))
 
@@ -169,6 +175,7 @@ pub tells-read : (k : KeyParts) (text read rest : List ℕ) (branch : ℕ) → t
     rest ≡ after_length (take (length read - 1) (drop 1 read)) →
     (branch ≡ length k.branch) × (length_in rest ≡ length k.method) × (after_length rest ≡ (k.branch ++ k.sent_by) ++ k.method) × (length k.method ≤ length rest)
 tells-read k text read rest branch is same branch_is rest_is =
+    -- without its last byte the front is what follows the role
     let t = tells k text is in
     let front : take (length read - 1) (drop 1 read) ≡ drop 1 text = past-first read ∙ ap (drop 1) same in
     let left : rest ≡ after_length (drop 1 text) = rest_is ∙ ap after_length front in (

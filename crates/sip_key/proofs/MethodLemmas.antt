@@ -68,6 +68,7 @@ pub token_ascii : (u : List ℕ) → Token u → IsAscii u
 token_ascii u token = bytes_ascii u (each-token u token)
 
 -- what holds of both values of a condition holds of the value that it gives
+-- b is the condition, and x and y are the values
 either : {A : Type 0} (P : A → Type 0) (b : Bool) (x y : A) → P x → P y → P (cond b x y)
 either P true x y p q = p
 either P false x y p q = q
@@ -81,7 +82,7 @@ method_ascii : (line cseq : List ℕ) (start : StartLine) → StartText line sta
 method_ascii line cseq (request method uri) is token = either IsAscii (bytes_eq method (codes "ACK")) (codes "INVITE") method invite_ascii (token_ascii method is.0)
 method_ascii line cseq (status code reason) is token = token_ascii cseq token
 
--- what holds of the key with each branch holds of the key with the branch that there may be
+-- where P holds of the key that f makes of each branch, it holds of the key that f makes of an optional branch, if there is one
 made_key : (P : KeyParts → Type 0) (f : List ℕ → KeyParts) → ((branch : List ℕ) → P (f branch)) → (o : Option (List ℕ)) → All P (option_to_list (option_map f o))
 made_key P f h None = All-nil P
 made_key P f h (Some branch) = All-cons P (f branch) [] (h branch) (All-nil P)
@@ -90,14 +91,17 @@ made_key P f h (Some branch) = All-cons P (f branch) [] (h branch) (All-nil P)
 pub keys_ascii : (bytes : List ℕ) (r : Reading) (d : Direction) (keys : List KeyParts) → Reads bytes r → Concerns (said_of r) d keys → All (λ k. IsAscii k.method) keys
 keys_ascii bytes r d keys reads is = subst (All (λ k. IsAscii k.method)) (sym is) (All-append (λ k. IsAscii k.method) (option_to_list (own_key (said_of r) d)) (option_to_list (cancelled_key (said_of r) d)) own cancelled)
   where
+    -- the bytes are the text of the message
     text : MessageText bytes r.message
     text = tells-text bytes r.message reads.tells
 
+    -- the method of the message's own key is ASCII
     own : All (λ k. IsAscii k.method) (option_to_list (own_key (said_of r) d))
     own = made_key (λ k. IsAscii k.method)
         (λ branch. record { role = role_of r.message.start d; branch = branch; sent_by = sent_by_of (role_of r.message.start d) (said_via r.parts.via); method = method_of r.message.start r.parts.cseq.1 })
         (λ branch. method_ascii text.first r.parts.cseq.1 r.message.start text.is_start (said-value reads.parts.is.cseq.0 r.parts.cseq reads.parts.is.cseq.2).is_method) (cookie_branch (said_of r).via.branch)
 
+    -- the method of the key that the message cancels is ASCII
     cancelled : All (λ k. IsAscii k.method) (option_to_list (cancelled_key (said_of r) d))
     cancelled = either (λ o. All (λ k. IsAscii k.method) (option_to_list o)) (is_sent (λ method. bytes_eq method (codes "CANCEL")) r.message.start d)
         (option_map (λ branch. record { role = Client; branch = branch; sent_by = []; method = codes "INVITE" }) (cookie_branch (said_of r).via.branch)) None

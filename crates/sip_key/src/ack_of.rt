@@ -63,7 +63,9 @@ fn same_route(a: &Message<'_>, b: &Message<'_>) -> bool
 // The bytes of values joined by commas, in order and without their blanks.
 #[derive(Drop)]
 struct SolidRoute<'s, 'a> {
+    // What is left of the value that is handed out now.
     rest: &'a [u8],
+    // The values after that one, before each of which a comma is handed out.
     values: Routes<'s, 'a>,
 }
 

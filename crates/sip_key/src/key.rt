@@ -17,8 +17,8 @@ use std::alloc::{AllocError, Global};
 use std::hash::{Hash, Hasher};
 use std::marker::Model;
 
-/// What tells one transaction from another (RFC 3261, sections 17.1.3 and 17.2.3). Its texts are
-/// folded, and it borrows nothing.
+/// What tells one transaction from another (RFC 3261, sections 17.1.3 and 17.2.3). Its branch
+/// and its host are in lower case, its method is as it was read, and it borrows nothing.
 #[derive(Debug, Drop)]
 pub struct Key {
     /// What a hasher is fed: the role, how long the branch and the method are, and then the branch, the sent-by and the method.
@@ -141,6 +141,7 @@ impl Key {
         requires { IfSome (option_copied port) Port }
         ensures { IfOk result (λ key. key ≡ record { role = Server; branch = folded branch.now; sent_by = sent_by host.now (option_copied port.entry); method = method.now }) }
     {
+        // There is room for the whole key from the start.
         let sent_by_room = host.len() + MOST_PORT_BYTES;
         let room = head_room(branch.len(), method.len())
             .saturating_add(branch.len())

@@ -29,6 +29,7 @@ pub fn solid_of(alloc: Global, text: &[u8]) -> Result<Vec<u8>, AllocError>
 // The bytes of a text that are no blanks, in order.
 #[derive(Drop)]
 struct Solid<'a> {
+    // The text from the first byte on that was not looked at yet.
     rest: &'a [u8],
 }
 

@@ -4,4 +4,5 @@ pub mod gains
 pub mod lists
 pub mod rows
 pub mod strikes
+pub mod Lemmas
 pub mod Words

@@ -12,29 +12,5 @@ pub use Rattle.std.proofs.lemmas.List.Folds.{list_any-append, list_any_at, list_
 pub use Rattle.std.proofs.lemmas.List.Sums.{sum_by-append, sum_by-cons, sum_by_push}
 pub use Rattle.std.proofs.lemmas.Nat.{mod_below}
 pub use Rattle.std.proofs.lemmas.Result.{IfOk-weaker}
-pub use Rattle.std.specs.BTreeSet.{BTreeSet, IsKeyRangeOf, IsLowerBound, IsUpperBound}
-pub use Rattle.std.specs.Bool.{OnTrue}
-pub use Rattle.std.specs.List.{copy_within, list_any, sum_by}
-pub use Rattle.std.specs.Ordering.{is_eq, is_gt}
-pub use Rattle.std.specs.Prelude.{All, Contains, Err, IfNone, IfSome, IsErr, IsTrue, MatchOption, None, Ok, OnErr, Option, Result, Some, fold, is_err, is_some, max, min, nat_le, nat_lt, option_to_list, replicate, ◌↔◌, ◌⊎◌}
-pub use Rattle.std.specs.Vec.{vec_capacity}
-pub use Rattle.std.specs.declared.ops.Bound.TheVariants.{Included, Unbounded}
-pub use Rattle.sip_ledger.specs.Accounts.{AppendsOwed, owed_in, owes_message, paid_rows, some_owes}
-unfoldable pub use Rattle.sip_ledger.specs.Accounts.{debts_print, worth_of}
-pub use Rattle.sip_ledger.specs.Debts.{IsFirstPaid, IsWithoutFirst, PaysSome, counts_at, debt_deadlines, earliest, is_payable, is_timely, is_within, paid_by, softened_debt}
-pub use Rattle.sip_ledger.specs.Entries.{IsGap, debt_of, debts_from}
-pub use Rattle.sip_ledger.specs.Indexes.{IsFirstFrom, IsFrom, IsNextUnder, NoneFrom, pair_cmp}
-unfoldable pub use Rattle.sip_ledger.specs.Indexes.{holds}
-pub use Rattle.sip_ledger.specs.Lists.{Rise, from_to}
-pub use Rattle.sip_ledger.specs.Runs.{AreRuns, debts_in}
-pub use Rattle.sip_ledger.specs.declared.accounts.account.Account.{Account}
-pub use Rattle.sip_ledger.specs.declared.accounts.gains.Flags.{Flags}
-pub use Rattle.sip_ledger.specs.declared.accounts.gains.Gains.{Gains}
-pub use Rattle.sip_ledger.specs.declared.accounts.strikes.Strike.{Strike}
-pub use Rattle.sip_ledger.specs.declared.debt.Debt.{Debt}
-pub use Rattle.sip_ledger.specs.declared.debt.Entry.{Entry}
-pub use Rattle.sip_ledger.specs.declared.run.Run.{Run}
-pub use Rattle.sip_ledger.specs.inner.Accounts.{AreAccounts, AreAlike, AreAppended, AreFlags, AreGains, AreKept, AreMoved, AreSameGains, IsAccount, IsClearedTo, IsDropped, IsExpiredTo, IsFirstOf, IsFirstPayable, IsGain, IsGainAt, IsKept, IsLetGo, IsMoved, IsNextGain, IsNoted, IsPlaceOf, IsSeek, IsStruck, IsWithout, IsWritten, KeepsAccounts, Lengthens, PaysSomeAt, Reaches, SharesRest, StartFrom, StrikeToo, StrikesNoneFrom, blank, entry_at, first_after, is_out, no_flags, pays_at, sooner, strikes_of}
-unfoldable pub use Rattle.sip_ledger.specs.inner.Accounts.{account_debts, accounts_debts, entries_of, is_gone, is_left, is_struck, must_at, owes_at}
-pub use Rattle.sip_ledger.specs.inner.Deadlines.{AreRising}
-pub use Rattle.sip_ledger.specs.inner.Ends.{EndsWith}
+pub use Rattle.sip_ledger.specs.inner.Words.{Account, All, AppendsOwed, AreAccounts, AreAlike, AreAppended, AreFlags, AreGains, AreKept, AreMoved, AreRising, AreRuns, AreSameGains, BTreeSet, Contains, Debt, EndsWith, Entry, Err, Flags, Gains, IfNone, IfSome, Included, IsAccount, IsClearedTo, IsDropped, IsErr, IsExpiredTo, IsFirstFrom, IsFirstOf, IsFirstPaid, IsFirstPayable, IsFrom, IsGain, IsGainAt, IsGap, IsKept, IsKeyRangeOf, IsLetGo, IsLowerBound, IsMoved, IsNextGain, IsNextUnder, IsNoted, IsPlaceOf, IsSeek, IsStruck, IsTrue, IsUpperBound, IsWithout, IsWithoutFirst, IsWritten, KeepsAccounts, Lengthens, MatchOption, None, NoneFrom, Ok, OnErr, OnTrue, Option, PaysSome, PaysSomeAt, Reaches, Result, Rise, Run, SharesRest, Some, StartFrom, Strike, StrikeToo, StrikesNoneFrom, Unbounded, blank, copy_within, count_by, count_under, counts_at, debt_deadlines, debt_of, debts_from, debts_in, earliest, entry_at, first_after, fold, from_to, is_at, is_eq, is_err, is_gt, is_out, is_payable, is_some, is_timely, is_within, list_any, max, min, nat_le, nat_lt, no_flags, option_to_list, owed_in, owes_message, paid_by, paid_rows, pair_cmp, pays_at, replicate, softened_debt, some_owes, sooner, strikes_of, sum_by, vec_capacity, ◌↔◌, ◌⊎◌}
+unfoldable pub use Rattle.sip_ledger.specs.inner.Words.{account_debts, accounts_debts, debts_print, entries_of, holds, is_gone, is_left, is_struck, must_at, owes_at, worth_of}

@@ -1,4 +1,2 @@
 pub mod ListedLemmas
 pub mod OwedLemmas
-pub mod PayLemmas
-pub mod RunLemmas

@@ -1,4 +1,1 @@
-pub mod FlagLemmas
 pub mod LeftLemmas
-pub mod LetGoLemmas
-pub mod RisingLemmas

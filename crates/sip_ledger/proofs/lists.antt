@@ -1,5 +1,3 @@
-pub mod CountLemmas
 pub mod EachLemmas
 pub mod FrontLemmas
 pub mod IndexLemmas
-pub mod KeepLemmas

@@ -1,4 +1,2 @@
-pub mod GainEachLemmas
-pub mod NamedLemmas
 pub mod PaidLemmas
 pub mod SeenLemmas

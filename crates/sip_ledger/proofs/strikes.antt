@@ -1,2 +1,1 @@
 pub mod MovedLemmas
-pub mod StrikeLemmas

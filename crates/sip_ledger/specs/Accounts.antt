@@ -3,7 +3,6 @@ use Rattle.std.specs.List.{list_any, sum_by}
 use Rattle.sip_ledger.specs.declared.debt.Debt.{Debt}
 use Rattle.sip_ledger.specs.Debts.{counts_at, is_payable, is_timely, paid_by}
 use Rattle.sip_ledger.specs.Lists.{Rise}
-use Rattle.sip_ledger.specs.Prints.{mixed}
 
 -- What each of many states owes: a list of debts, oldest first.
 
@@ -15,6 +14,10 @@ owed_in rows row = get_or rows row []
 abbrev pub paid_rows : ℕ → ℕ → List (List Debt) → List (List Debt)
 paid_rows message t rows =
     map (λ owes. filter (counts_at t) (paid_by message t owes)) (filter (λ owes. list_any (is_payable message t) owes && is_timely t owes) rows)
+
+-- a number that is made of another one and a word
+abbrev pub mixed : ℕ → ℕ → ℕ
+mixed print word = bit_xor print word * 11400714819323198485 % 2 ^ 64
 
 -- a number for a message and a deadline, which tells most apart at once
 unfoldable pub worth_of : ℕ → ℕ → ℕ

@@ -6,6 +6,7 @@ use Rattle.std.specs.BTreeMap.{is_at}
 
 -- Numbers that stand under keys, as pairs of a key and a number, in order.
 
+-- how two pairs compare: by their keys, and where these are equal by their numbers
 abbrev pub pair_cmp : ℕ × ℕ → ℕ × ℕ → Ordering
 pair_cmp x y = ordering_then (nat_cmp x.0 y.0) (nat_cmp x.1 y.1)
 

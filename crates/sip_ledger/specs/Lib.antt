@@ -4,5 +4,4 @@ pub mod Entries
 pub mod Indexes
 pub mod Runs
 pub mod Lists
-pub mod Prints
 pub mod inner

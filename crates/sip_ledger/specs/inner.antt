@@ -1,3 +1,2 @@
 pub mod Accounts
-pub mod Deadlines
-pub mod Ends
+pub mod Words

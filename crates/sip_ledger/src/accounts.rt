@@ -44,9 +44,7 @@ pub struct Accounts {
 }
 
 impl Model for Accounts {
-    ghost use Rattle.std.specs.Prelude.{List};
-    ghost use Rattle.sip_ledger.specs.declared.debt.Debt.{Debt};
-    ghost use Rattle.sip_ledger.specs.inner.Accounts.{AreAccounts, accounts_debts};
+    ghost use Rattle.sip_ledger.specs.inner.Words.{List, Debt, AreAccounts, accounts_debts};
 
     ghost Value = { List (List Debt) };
 
@@ -138,16 +136,9 @@ impl Accounts {
         ensures { result ≡ list_any (is_payable message moment) (owed_in self.now row) }
     {
         let account = self.rows[row];
-        let mut seek = Seek::new(&self.gains, message, account.start);
-        find(
-            &self.gains,
-            &self.strikes,
-            account,
-            &mut seek,
-            message,
-            moment,
-        )
-        .is_some()
+        let (gains, strikes) = (&self.gains, &self.strikes);
+        let mut seek = Seek::new(gains, message, account.start);
+        find(gains, strikes, account, &mut seek, message, moment).is_some()
     }
 
     /// The message of the row's first debt that a send of one of the messages under the key pays at the moment, if there is one. Where that
@@ -165,15 +156,8 @@ impl Accounts {
         ensures told { IfNone result (most ≤ count_under index.now key) }
     {
         let account = self.rows[row];
-        let found = find_under(
-            &self.gains,
-            &self.strikes,
-            account,
-            index,
-            key,
-            moment,
-            most,
-        )?;
+        let (gains, strikes) = (&self.gains, &self.strikes);
+        let found = find_under(gains, strikes, account, index, key, moment, most)?;
         match found {
             Some(place) => Some(Some(self.gains.entry(place).message)),
             None => Some(None),
@@ -198,15 +182,10 @@ impl Accounts {
         ensures err { OnErr result (self.new ≡ self.old) }
     {
         let account = self.rows[row];
-        let place = place_for(&mut self.gains, &self.strikes, account, debt)?;
-        self.rows[row] = gained_and_expired(
-            &self.gains,
-            &mut self.strikes,
-            account,
-            debt,
-            place,
-            moment,
-        )?;
+        let place = place_for(&mut self.gains, &self.strikes, account, debt, None)?;
+        let gains = &self.gains;
+        let strikes = &mut self.strikes;
+        self.rows[row] = gained_and_expired(gains, strikes, account, debt, place, moment)?;
         Ok(())
     }
 
@@ -222,13 +201,9 @@ impl Accounts {
         ensures ok { OnOk result (self.new ≡ set self.old row (filter (counts_at moment) (paid_by message moment (owed_in self.old row)))) }
         ensures err { OnErr result (self.new ≡ self.old) }
     {
-        self.rows[row] = paid_and_expired(
-            &self.gains,
-            &mut self.strikes,
-            self.rows[row],
-            message,
-            moment,
-        )?;
+        let gains = &self.gains;
+        let strikes = &mut self.strikes;
+        self.rows[row] = paid_and_expired(gains, strikes, self.rows[row], message, moment)?;
         self.paid = Some(message);
         Ok(())
     }
@@ -326,16 +301,11 @@ impl Accounts {
         requires { row < length self.now }
         ensures { IfOk result (λ debts. debts.items ≡ owed_in self.now row) }
     {
-        first_debts(
-            alloc,
-            &self.gains,
-            &self.strikes,
-            self.rows[row],
-            usize::MAX,
-        )
+        let most = usize::MAX;
+        first_debts(alloc, &self.gains, &self.strikes, self.rows[row], most)
     }
 
-    /// What the row owes first: so many debts, or all where it owes fewer.
+    /// What the row owes first: this many debts, or all where it owes fewer.
     pub fn first_debts(
         &self,
         alloc: Global,
@@ -370,9 +340,9 @@ impl Accounts {
             return;
         }
         let alloc = *self.strikes.allocator();
-        if let Ok(moved) = move_all(alloc, &self.gains, &self.strikes, &self.rows) {
-            self.strikes = moved.strikes;
-            self.rows = moved.rows;
+        if let Ok((strikes, rows)) = move_all(alloc, &self.gains, &self.strikes, &self.rows) {
+            self.strikes = strikes;
+            self.rows = rows;
         }
     }
 }

@@ -1,8 +1,6 @@
 //! Debts in runs of equal ones.
-ghost use Rattle.std.specs.Prelude.{◌≡◌, ◌↔◌, ◌++◌, ◌∷◌, [], ◌<◌, ◌-◌, ◌^◌, List, IsTrue, IfOk, OnOk, length};
-ghost use Rattle.sip_ledger.specs.Runs.{debts_in, AreRuns};
-ghost use Rattle.sip_ledger.specs.declared.debt.Debt.{Debt};
-ghost use Rattle.sip_ledger.specs.inner.Ends.{EndsWith};
+ghost use Rattle.std.specs.Prelude.{◌≡◌, ◌↔◌, ◌++◌, ◌∷◌, ◌<◌, ◌-◌, ◌^◌};
+ghost use Rattle.sip_ledger.specs.inner.Words.{[], List, IsTrue, IfOk, OnOk, length, debts_in, AreRuns, Debt, EndsWith};
 
 use crate::debt::Debt;
 use std::alloc::{AllocError, Global};

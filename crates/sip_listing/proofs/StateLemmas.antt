@@ -53,8 +53,10 @@ module _ (number : List ℕ → ℕ) (texts : Texts) where
     state_told : (x : CodeOwing S) (state : ToldState) → said_state texts state ≡ meant words seen names texts x → Tells number texts (owing_names names x)
         → owing_text words number (owing_seen seen texts x) ≡ state_line state
     state_told x state says tells =
+        -- what the names of the state name is kept, so what the names of its phase name is, and what those of its debts name
         let of_phase : Tells number texts (names x.phase) = All-front (λ name. number (text_of texts name) ≡ name) (names x.phase) (owes_names x.owes) tells in
         let of_debts : Tells number texts (owes_names x.owes) = All-back (λ name. number (text_of texts name) ≡ name) (names x.phase) (owes_names x.owes) tells in
+        -- so the phase, told by its names and read back, is the one of the told state; then the phases and the debts have the same text
         let back = told_back (told_of state.phase) (subst (Tells number texts) (sym (ap (λ (s : Saying). s.1) says)) of_phase) in
         ap₂ (λ told debts. phase_text told ++ debts)
         (ap (told_by number) (sym (ap (λ (s : Saying). s.0) says)) ∙ back)
@@ -63,10 +65,12 @@ module _ (number : List ℕ → ℕ) (texts : Texts) where
     -- where told states say what states of the code mean, one by one, the texts of these are the lines of the told ones
     states_told : (xs : List (CodeOwing S)) (states : List ToldState) → map (said_state texts) states ≡ map (meant words seen names texts) xs
         → All (λ x. Tells number texts (owing_names names x)) xs → map (λ x. owing_text words number (owing_seen seen texts x)) xs ≡ map state_line states
+    -- there are as many told states as states
     states_told [] [] are tells = refl
     states_told [] (state ∷ states) are tells = absurd (cc)
     states_told (x ∷ xs) [] are tells = absurd (cc)
     states_told (x ∷ xs) (state ∷ states) are tells =
+        -- `first`: the first told state says what the first state means; `more`: so do the others
         let first : said_state texts state ≡ meant words seen names texts x = cc in
         let more : map (said_state texts) states ≡ map (meant words seen names texts) xs = cc in
         ap₂ (λ line lines. line ∷ lines) (state_told x state first (All-head (λ x. Tells number texts (owing_names names x)) x xs tells))
@@ -78,6 +82,7 @@ listed set states lines are in_order = λ number texts tells.
     let (machine, s, is) = some_machine set in
     let c = coded_of machine in
     let words = words_of machine in
+    -- the states of the set's machine are told one by one
     let told = of_machine (λ kind held. AreToldAs (words_of kind) (coded_of kind).seen (coded_of kind).names held.states states) machine s
     (subst (λ x. AreTold x states) is are) in
     let known = of_set (λ X M S m s. All (λ x. Tells number texts (m.names x)) s.states) machine s (subst (TellsSet number texts) is tells) in

@@ -1,2 +1,3 @@
+-- How the code has the words of a listing.
 pub mod FieldWords
 pub mod StateLine

@@ -1,3 +1,4 @@
+pub mod AheadLemmas
 pub mod FrontLemmas
 pub mod LineLemmas
 pub mod MessageLemmas

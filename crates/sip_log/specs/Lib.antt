@@ -1,3 +1,4 @@
+pub mod Ahead
 pub mod Next
 pub mod Reading
 pub mod Stream

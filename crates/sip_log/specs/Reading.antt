@@ -1,3 +1,4 @@
+-- How a log is read, call by call.
 use Rattle.std.specs.Prelude.{◌≡◌, ◌+◌, ◌<◌, ◌≤◌, ℕ, Bool, List, length, Option, Some, None, Result, Ok, Err, IfSome, IsSome, OnOk}
 use Rattle.std.specs.Io.KnownBytes.{prepend_known}
 use Rattle.sip_standard.specs.Times.{Times, last_moment}
@@ -12,8 +13,6 @@ use Rattle.sip_standard.specs.LogHeader.{Header}
 use Rattle.sip_standard.specs.LogEntry.{Item}
 use Rattle.sip_standard.specs.LogSays.{most_entries, LacksHeader}
 use Rattle.sip_log.specs.Told.{TellsWhatComes, next_of}
-
--- What follows is how a log is read, call by call.
 
 -- the stage of a reader: it has read nothing yet, it reads entries, it has told the end, or it has told an error
 pub data Stage : Type 0 where

@@ -1,3 +1,4 @@
+-- What an answer tells of the input.
 use Rattle.std.specs.Prelude.{◌≡◌, ◌⊎◌, ℕ, Bool, true, List, Option, Some, None, Result, Ok, Err, IfSome, ⊤}
 use Rattle.sip_log.specs.declared.entry.Entry.{Entry}
 use Rattle.sip_log.specs.declared.log_error.LogError.{LogError}
@@ -8,8 +9,6 @@ use Rattle.sip_log.specs.Next.{Next, ends, gives, stops}
 use Rattle.sip_standard.specs.Times.{Times}
 use Rattle.sip_standard.specs.LogEntry.{Item}
 use Rattle.sip_standard.specs.LogSays.{Stops, LogSays, LacksHeader}
-
--- What an answer tells of the input.
 
 -- what an error says: a fault of the log is one of the input, and no read failed; `Io` says that a read failed; `Memory` says nothing
 abbrev pub FailsAs : Bool → Bool → (LogReason → Type 0) → LogError → Type 0

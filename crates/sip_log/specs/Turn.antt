@@ -1,3 +1,4 @@
+-- Entries that come one after another in an input.
 use Rattle.std.specs.Prelude.{◌≡◌, ◌+◌, ℕ, List, [], ◌∷◌}
 use Rattle.sip_log.specs.Next.{gives, ComesNext}
 use Rattle.sip_standard.specs.LogEntry.{Item}

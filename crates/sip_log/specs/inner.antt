@@ -1,3 +1,4 @@
+pub mod Ahead
 pub mod Entry
 pub mod Follow
 pub mod Header

@@ -16,10 +16,10 @@ use sip_standard::{Format, Source};
 use sip_times::Action;
 
 /// The most bytes of an entry's line with its line feed.
-const LONGEST_LINE: usize = 32;
+pub(crate) const LONGEST_LINE: usize = 32;
 
 /// The most entries of a log.
-const MOST_ENTRIES: u64 = 1_000_000;
+pub(crate) const MOST_ENTRIES: u64 = 1_000_000;
 
 /// An entry: what was done at a moment, in milliseconds, and with which message. A mark and a restart have no message.
 #[derive(Debug, Drop)]
@@ -156,6 +156,7 @@ fn read_message<R: Source>(
         (R.has_failed source.old) (R.has_failed source.new) (MessageComes action moment len) entry_next result }
 {
     let len = len as usize;
+    // The message and its LF are read into the window, as far as the source has them.
     if !window.hold(source, len + 1)? {
         return Err(LogError::Truncated);
     }

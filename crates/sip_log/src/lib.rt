@@ -1,6 +1,7 @@
 //! A log of SIP messages with their moments: its formats, read and written in pieces of any size.
 #![tactic(auto)]
 
+mod ahead;
 mod entry;
 mod header;
 mod laws;
@@ -16,6 +17,7 @@ mod window;
 mod write_error;
 mod writing;
 
+pub use ahead::Ahead;
 pub use entry::Entry;
 pub use laws::{
     a_log_is_a_stream, a_log_of_format_1_is_as_it_was, a_log_of_format_1_is_one_of_format_2,

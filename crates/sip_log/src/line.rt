@@ -20,7 +20,9 @@ const LONGEST_MESSAGE: u64 = 65_535;
 /// What an entry's line tells: the action and the moment, and for a message its length too.
 #[derive(Clone, Copy)]
 pub(crate) enum Head {
+    /// A message: its action, its moment and its length.
     Message(Action, u64, u64),
+    /// An entry without a message: its action and its moment.
     Plain(Action, u64),
 }
 

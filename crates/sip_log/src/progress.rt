@@ -1,10 +1,12 @@
 //! How far a log was read.
-ghost use Rattle.std.specs.Prelude.{◌≡◌, ℕ, List, [], None, IsSome};
+ghost use Rattle.std.specs.Prelude.{◌≡◌, ◌<◌, ◌≤◌, ℕ, List, [], length, None, IsSome, IfSome, MatchOption};
 ghost use Rattle.sip_standard.specs.declared.format.Format.TheVariants.{One};
-ghost use Rattle.sip_log.specs.Reading.{Stage, fresh, failed, ProgressState, beside_source, Moves, Opens, Nexts};
+ghost use Rattle.sip_log.specs.Reading.{Stage, fresh, entries, failed, ProgressState, beside_source, Moves, Opens, Nexts};
+ghost use Rattle.sip_log.specs.Ahead.{IsAhead, LacksAhead, passed};
 ghost use Rattle.sip_log.specs.Told.{TellsWhatComes, next_of};
 ghost use Rattle.sip_log.specs.inner.Entry.{EntryComes};
 
+use crate::ahead::{Ahead, entry_ahead};
 use crate::entry::{Entry, next_entry};
 use crate::header::read_header;
 use crate::log_error::LogError;
@@ -18,20 +20,30 @@ use std::mem;
 /// What is read next: the header first, then entries through a window, and nothing after the end or an error.
 #[derive(Debug, Drop)]
 enum Stage {
+    /// Nothing was read yet: the header comes next.
     Fresh,
+    /// The header was read: entries come next, of which the window holds the front.
     Entries(Window),
+    /// The end was told: nothing comes any more.
     Ended,
+    /// An error was told: nothing comes any more.
     Failed,
 }
 
 /// How far a log was read from a source that someone else holds.
 #[derive(Debug, Drop)]
 pub struct Progress {
+    /// Where memory is taken for windows and messages.
     alloc: Global,
+    /// Whether the header comes next or an entry, or why nothing does.
     stage: Stage,
+    /// The format of the log, once the header was read.
     format: Format,
+    /// The times of the header, once it was read.
     params: Option<Params>,
+    /// How many entries were read, or were since they were counted anew.
     count: u64,
+    /// The moment of the last entry, and 0 before the first.
     last: u64,
 }
 
@@ -51,6 +63,7 @@ impl Model for Progress {
 
 impl Progress {
     ghost use Rattle.sip_log.specs.inner.Window.{unread};
+    ghost use Rattle.sip_standard.specs.LogSays.{most_entries};
 
     /// A log of which nothing was read. It takes no memory.
     pub fn new(alloc: Global) -> Progress
@@ -146,6 +159,33 @@ impl Progress {
                 Ok(None)
             }
             Stage::Failed => Err(LogError::Failed),
+        }
+    }
+
+    /// The entry that comes next, where it has a message and stands whole among the bytes that were read and not given out. Nothing is read for it.
+    /// Where there is no such entry, `next` tells what comes.
+    #[inline(always)]
+    pub fn ahead(&self) -> Option<Ahead<'_>>
+        ensures { MatchOption result (LacksAhead self.now) (IsAhead self.now) }
+    {
+        match &self.stage {
+            Stage::Entries(window) => entry_ahead(window, self.format, self.count, self.last),
+            Stage::Fresh | Stage::Ended | Stage::Failed => None,
+        }
+    }
+
+    /// Passes over the entry that comes next, which is at this moment and takes so many bytes: it was looked at by `ahead`.
+    #[inline(always)]
+    pub fn pass(&mut self, moment: u64, size: usize)
+        requires on { self.old.stage ≡ entries }
+        requires few { self.old.count < most_entries }
+        requires within { size ≤ length self.old.held }
+        ensures { self.new ≡ passed self.old moment size }
+    {
+        if let Stage::Entries(window) = &mut self.stage {
+            window.consume(size);
+            self.count += 1;
+            self.last = moment;
         }
     }
 

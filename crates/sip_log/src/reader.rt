@@ -14,7 +14,9 @@ use std::marker::Model;
 /// Reads a log, entry by entry, from a source that hands out its bytes in pieces of any size.
 #[derive(Debug, Drop)]
 pub struct LogReader<R: Source> {
+    /// Where the bytes of the log come from.
     source: R,
+    /// How far the log was read.
     progress: Progress,
 }
 

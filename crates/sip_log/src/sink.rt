@@ -7,7 +7,9 @@ use std::io::Write;
 /// A sink that writes through a writer of std. A write that was interrupted is tried again, and any other error is a failure.
 #[derive(Debug, Drop)]
 pub struct ToWrite<W> {
+    /// The writer that takes the bytes.
     writer: W,
+    /// Whether a write has failed.
     failed: bool,
 }
 

@@ -11,8 +11,11 @@ use std::io::{ErrorKind, Read};
 /// is kept. A reader that told its end is not asked again.
 #[derive(Debug, Drop)]
 pub struct FromRead<R> {
+    /// The reader that gives the bytes.
     reader: R,
+    /// The kind of the error with which a read failed, if one has.
     failure: Option<ErrorKind>,
+    /// Whether the reader told its end.
     ended: bool,
 }
 
@@ -37,6 +40,7 @@ impl<R: Read> FromRead<R> {
         ensures err { OnErr result (is_some self.new.failure ≡ true) }
         ensures retried { OnErr result (ForSome self.new.failure (λ kind. kind ≢ Interrupted)) }
     {
+        // An interrupted read is made again. Any other fault is kept, and no read follows it.
         for _ in 0..u64::MAX {
             match self.reader.read(buf) {
                 Ok(count) => return Ok(count),

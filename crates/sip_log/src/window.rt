@@ -16,10 +16,14 @@ const SIZE: usize = 128 * 1024;
 #[derive(Drop)]
 #[derive_where(Debug)]
 pub(crate) struct Window {
+    /// The buffer.
     #[derive_where(skip)]
     bytes: Vec<u8>,
+    /// The place of the first byte that was not taken yet.
     start: usize,
+    /// The place after the last byte that was read.
     end: usize,
+    // The bytes that are held lie in order within the buffer, which has always the same size.
     ghost ordered: { start ≤ end },
     ghost within: { end ≤ vec_len bytes },
     ghost sized: { vec_len bytes ≡ 131072 },
@@ -116,7 +120,8 @@ impl Window {
     }
 
     /// The place of the first line feed among the first `most` bytes that are held.
-    fn first_end(&self, most: usize) -> Option<usize>
+    #[inline(always)]
+    pub(crate) fn first_end(&self, most: usize) -> Option<usize>
         ensures within { IfSome result (λ n. (n < length (items self.now)) × (n < most)) }
         ensures first { IsFirstByte (is_byte line_feed) (take most (items self.now)) result }
     {

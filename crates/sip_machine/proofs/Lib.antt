@@ -4,3 +4,4 @@ pub mod pools
 pub mod acks
 pub mod steps
 pub mod rules
+pub mod Words

@@ -1,3 +1,4 @@
+-- The steps of one state, and of many states of one phase.
 pub mod OwingSteps
 pub mod OwingEachLemmas
 pub mod RepliesLemmas

@@ -1,3 +1,4 @@
+-- The messages that a book keeps, their places and their Tos.
 pub mod TextLaws
 pub mod OrderLaws
 pub mod RunLaws

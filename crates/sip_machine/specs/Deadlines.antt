@@ -1,3 +1,4 @@
+-- Which debts are owed still at a moment, and up to when a state may wait for them.
 use Rattle.std.specs.Prelude.{◌≤◌, ◌||◌, ℕ, Option, None, List, filter, map, min, nat_le, if◌then◌else◌}
 use Rattle.std.specs.List.{reduce, list_any}
 use Rattle.sip_standard.specs.Debts.{Owed, IsWithoutFirst}

@@ -1,3 +1,4 @@
+-- The rules that a figure makes: the machine that a contract sees, which is the same (`laws.rt` of sip_states).
 use Rattle.std.specs.Prelude.{◌≡◌, ◌≢◌, ◌≤◌, ◌⊎◌, ℕ, Option, Some, None, List, [], ◌∷◌, ◌++◌, All}
 use Rattle.sip_standard.specs.declared.kind.Kind.{Kind}
 use Rattle.sip_standard.specs.Times.{Times}
@@ -7,8 +8,6 @@ use Rattle.sip_standard.specs.Debts.{Owed}
 use Rattle.sip_machine.specs.Deadlines.{unexpired, must_deadlines, earliest, unless_owed}
 use Rattle.sip_machine.specs.Rules.{MachineRules}
 use Rattle.sip_standard.specs.Figure.{Change, drops, Figure, Owing, changed, quiet, Steps}
-
--- The rules that a figure makes: the machine that a contract sees, which is the same (`laws.rt` of sip_states).
 
 -- where a row leads: to a phase, with a change of what is owed
 abbrev pub After : Type 0 → Type 0
@@ -52,6 +51,8 @@ pub record IsFigure {X : Type 0} (f : Figure X) : Type 0 where
   pub idle_stays : (p : Times) → closes_at f p f.idle ≡ []
   pub ended_has_no_end : (p : Times) → f.window p f.ended ≡ None
   pub ended_stays : (p : Times) → closes_at f p f.ended ≡ []
+  -- a row leads to a phase whose timers are not past; the last two are of sends that drop the debts or may leave the state as it is
+  -- x is the phase, k the kind of the message e, and y where its row leads
   pub received_waits : (p : Times) (x : X) (k : Kind) (e : MachineEvent) (y : After X) → All (λ m. e.moment ≤ m) (closes_at f p x) →
       f.Receives p x k e y → All (λ m. e.moment ≤ m) (closes_at f p y.0)
   pub sent_waits : (p : Times) (x : X) (k : Kind) (e : MachineEvent) (y : After X) → All (λ m. e.moment ≤ m) (closes_at f p x) →

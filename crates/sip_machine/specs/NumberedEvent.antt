@@ -1,3 +1,4 @@
+-- Events of the code, whose messages are numbers of a book.
 use Rattle.std.specs.Prelude.{ℕ, Bool, ◌≢◌, ◌≤◌}
 use Rattle.sip_standard.specs.declared.action.Action.{Action}
 use Rattle.sip_standard.specs.declared.kind.Kind.{Kind}

@@ -1,9 +1,8 @@
+-- The debts of the code, whose messages are numbers of a book.
 use Rattle.std.specs.Prelude.{ℕ, ◌<◌, ◌^◌, List, [], All, get_or, map}
 use Rattle.sip_ledger.specs.declared.debt.Debt.{Debt}
 use Rattle.sip_machine.specs.Texts.{Texts, text_of}
 use Rattle.sip_standard.specs.Debts.{Owed}
-
--- The debts of the code, whose messages are numbers of a book.
 
 -- what one of many states owes: its row, and nothing where it has none
 abbrev pub owed_in : List (List Debt) → ℕ → List Debt

@@ -1,3 +1,4 @@
+-- The rules of a machine as a contract sees them, and what the code must hold so that its states stand for theirs.
 use Rattle.std.specs.Prelude.{◌≡◌, ◌≢◌, ◌↔◌, ◌⊎◌, ℕ, Option, None, List, [], ◌∷◌, All, Contains, AllPairs, map}
 use Rattle.sip_machine.specs.Limits.{IsWithin, IsOpenAt}
 use Rattle.sip_machine.specs.Texts.{Texts, Keeps}

@@ -1,3 +1,4 @@
+-- What a book holds: messages under their numbers.
 use Rattle.std.specs.Prelude.{◌≡◌, ◌<◌, ℕ, List, [], ◌∷◌, Contains, AllPairs, map, if◌then◌else◌, ◌==◌}
 
 -- what a book holds: the messages by their numbers, in the order in which they were added

@@ -1,11 +1,10 @@
+-- A phase in words of the code, whose messages are numbers of a book.
 use Rattle.std.specs.Prelude.{ℕ, Option, None, List, map}
 use Rattle.std.specs.List.{filter_map}
 use Rattle.sip_standard.specs.Told.{ToldField, Told, Flag, Number, Message}
 use Rattle.sip_machine.specs.declared.told.ToldField.{ToldField as CodeField}
 use Rattle.sip_machine.specs.declared.told.ToldField.TheVariants as code
 use Rattle.sip_machine.specs.declared.told.Told.{Told as CodeTold}
-
--- A phase in words of the code, whose messages are numbers of a book.
 
 -- the message that a field tells, if it tells one
 abbrev pub field_message : {M : Type 0} → ToldField M → Option M
@@ -16,7 +15,7 @@ field_message field = None
 abbrev pub messages_told : {M : Type 0} → Told M → List M
 messages_told told = filter_map field_message told.fields
 
--- the field of a field of the code
+-- a field that a phase of the code tells, in the words of a listing
 abbrev pub field_of_code : CodeField → ToldField ℕ
 field_of_code (code.Flag name is) = Flag name.now is
 field_of_code (code.Number name value) = Number name.now value

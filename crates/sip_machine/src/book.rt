@@ -19,6 +19,7 @@ use sip_key::solid_of;
 use sip_ledger::Index;
 use sip_message::{Message, ReadError, StartLine};
 use std::alloc::{AllocError, Global};
+use std::cell::Cell;
 use std::cmp::Ordering;
 use std::marker::Model;
 
@@ -36,6 +37,8 @@ pub struct Book {
     tos: Tos,
     /// The buffers of messages that were forgotten, for those that come.
     spare: Vec<Vec<u8>>,
+    /// How many steps searches for Tos took in vain since messages were forgotten last.
+    steps: Cell<usize>,
 }
 
 /// A message with the number of its first entry.
@@ -82,6 +85,7 @@ impl Model for Book {
     ghost use Rattle.sip_machine.specs.inner.Order.{texts_of, StandInRuns};
     ghost use Rattle.sip_machine.specs.inner.Tos.{AreTos};
 
+    // A book means its texts with their numbers: it keeps each text once, finds it by runs of places, and has the Tos that ACKs are owed for beside them.
     ghost Value = { Texts };
 
     ghost view = { λ b. texts_of b.kept.items };
@@ -100,6 +104,7 @@ impl Book {
             loose: None,
             tos: Tos::new(alloc),
             spare: Vec::new(alloc),
+            steps: Cell::new(0),
         }
     }
 
@@ -262,6 +267,17 @@ impl Book {
         }
     }
 
+    /// Counts steps that a search for a To took in vain.
+    pub(crate) fn count_steps(&self, steps: usize) {
+        self.steps.set(self.steps.get().saturating_add(steps));
+    }
+
+    /// Whether it costs less to forget messages now than to search for Tos among so many: searches took more steps in vain than messages are
+    /// kept. The contract says nothing of the answer: it tells when to forget, and never what.
+    pub fn is_slow(&self) -> bool {
+        self.steps.get() > self.kept.len()
+    }
+
     /// How many messages are kept.
     pub fn len(&self) -> usize
         ensures { result ≡ length self.now }
@@ -282,6 +298,7 @@ impl Book {
         keep_only(&mut self.kept, &mut self.spare, numbers);
         self.loose = loosened(&self.kept, &self.order, is_loose);
         self.tos.retain(numbers);
+        self.steps.set(0);
     }
 }
 
@@ -466,6 +483,7 @@ fn insert(runs: &mut Vec<PlaceRun>, gap: Gap, place: Place) -> Result<(), AllocE
     ensures led { All IsLed runs.new.items }
     ensures short { All (λ run. length run.places.items ≤ most_places) runs.new.items }
 {
+    // The first place of all begins a run.
     if runs.is_empty() {
         let mut places = Vec::new(*runs.allocator());
         places.push(place)?;
@@ -478,6 +496,7 @@ fn insert(runs: &mut Vec<PlaceRun>, gap: Gap, place: Place) -> Result<(), AllocE
     let gap = make_room(runs, gap)?;
     let run = &mut runs[gap.run];
     run.places.insert(gap.place, place)?;
+    // A place at the front of a run is told as its first one.
     if gap.place == 0 {
         run.first = place;
     }
@@ -499,6 +518,7 @@ fn make_room(runs: &mut Vec<PlaceRun>, gap: Gap) -> Result<Gap, AllocError>
     if runs[gap.run].places.len() < MOST {
         return Ok(gap);
     }
+    // The second half gets a run of its own, in which the gap may lie then.
     runs.reserve(1)?;
     let places = runs[gap.run].places.split_off(MOST / 2)?;
     let first = places[0];

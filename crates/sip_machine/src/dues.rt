@@ -1,8 +1,10 @@
 //! What each of many states owes: accounts of all of them, if any owes something.
 ghost use Rattle.std.specs.Prelude.{◌≡◌, ◌↔◌, ◌<◌, ◌≤◌, ◌++◌, ◌∷◌, [], List, IsTrue, IfNone, IfOk, IfSome, OnOk, OnErr, All, flat_map, length, set, map, filter, take, drop};
 ghost use Rattle.std.specs.List.{list_any};
-ghost use Rattle.sip_ledger.specs.Debts.{IsFirstPaid, PaysSome, counts_at, softened_debt, is_payable, debt_deadlines, paid_by};
+ghost use Rattle.sip_ledger.specs.Accounts.{paid_rows};
+ghost use Rattle.sip_ledger.specs.Debts.{IsFirstPaid, PaysSome, counts_at, softened_debt, is_payable, is_timely, debt_deadlines, paid_by};
 ghost use Rattle.sip_ledger.specs.Indexes.{count_under, holds};
+ghost use Rattle.sip_ledger.specs.Lists.{Rise, from_to};
 ghost use Rattle.sip_ledger.specs.Runs.{AreRuns};
 ghost use Rattle.sip_machine.specs.Deadlines.{earliest};
 ghost use Rattle.sip_machine.specs.Naming.{AppendsAll};
@@ -10,7 +12,15 @@ ghost use Rattle.sip_machine.specs.Owes.{owed_in, owes_names};
 ghost use Rattle.sip_machine.specs.Prints.{ArePrints};
 ghost use Rattle.sip_machine.specs.inner.Dues.{AreBetween, blank_rows};
 
-mod each;
+/// What `$with` gives of the accounts of the rows, and `$blank` of how many there are where none owes anything.
+macro_rules! rows {
+    ($rows:expr, $accounts:ident => $with:expr, $count:pat => $blank:expr) => {
+        match $rows {
+            Rows::WithAccounts($accounts) => $with,
+            Rows::Blank($count) => $blank,
+        }
+    };
+}
 
 use sip_ledger::{Accounts, Debt, Index, Run};
 use std::alloc::{AllocError, Global};
@@ -19,14 +29,13 @@ use std::marker::Model;
 /// Rows of what states owe.
 #[derive(Debug, Drop)]
 pub(crate) enum Rows {
-    /// So many rows, none of which owes anything.
+    /// This many rows, none of which owes anything.
     Blank(usize),
     /// The accounts of the rows.
     WithAccounts(Box<Accounts>),
 }
 
-/// What each of many states owes, oldest cause first, in a row of its own. Where none owes anything, nothing is allocated.
-/// Contracts see the rows.
+/// What each of many states owes, oldest cause first, in a row of its own. Where none owes anything, nothing is allocated. Contracts see the rows.
 #[derive(Debug, Drop)]
 pub struct Dues {
     rows: Rows,
@@ -42,6 +51,7 @@ impl Model for Dues {
     ghost view = { λ d. rows_of d.rows };
 }
 
+#[tactic(auto, using(crate::proofs::debts::DuesEachLemmas::of_blank))]
 impl Dues {
     /// No rows.
     pub(crate) fn none() -> Dues
@@ -52,15 +62,19 @@ impl Dues {
         }
     }
 
+    /// How many rows there are.
+    pub(crate) fn len(&self) -> usize
+        ensures { result ≡ length self.now }
+    {
+        rows!(&self.rows, accounts => accounts.len(), count => *count)
+    }
+
     /// Puts a row that owes nothing after the others. On an error all is as before.
     pub(crate) fn push(&mut self) -> Result<(), AllocError>
         ensures ok { OnOk result (self.new ≡ self.old ++ [] ∷ []) }
         ensures err { OnErr result (self.new ≡ self.old) }
     {
-        match &mut self.rows {
-            Rows::WithAccounts(accounts) => accounts.push()?,
-            Rows::Blank(count) => *count = count.checked_add(1).ok_or(AllocError)?,
-        }
+        rows!(&mut self.rows, accounts => accounts.push()?, count => *count = count.checked_add(1).ok_or(AllocError)?);
         Ok(())
     }
 
@@ -70,22 +84,15 @@ impl Dues {
         ensures ok { OnOk result (self.new ≡ self.old ++ owed_in self.old row ∷ []) }
         ensures err { OnErr result (self.new ≡ self.old) }
     {
-        match &mut self.rows {
-            Rows::WithAccounts(accounts) => accounts.push_copy(row)?,
-            Rows::Blank(count) => *count = count.checked_add(1).ok_or(AllocError)?,
-        }
+        rows!(&mut self.rows, accounts => accounts.push_copy(row)?, count => *count = count.checked_add(1).ok_or(AllocError)?);
         Ok(())
     }
 
     /// Keeps the first `rows` rows, and drops those after them.
-    #[tactic(auto, using(crate::proofs::debts::DueLemmas::take_none))]
     pub(crate) fn truncate(&mut self, rows: usize)
         ensures { self.new ≡ take rows self.old }
     {
-        match &mut self.rows {
-            Rows::WithAccounts(accounts) => accounts.truncate(rows),
-            Rows::Blank(count) => *count = (*count).min(rows),
-        }
+        rows!(&mut self.rows, accounts => accounts.truncate(rows), count => *count = (*count).min(rows))
     }
 
     /// Drops the first `rows` rows.
@@ -93,10 +100,7 @@ impl Dues {
         requires { rows ≤ length self.old }
         ensures { self.new ≡ drop rows self.old }
     {
-        match &mut self.rows {
-            Rows::WithAccounts(accounts) => accounts.drop_first(rows),
-            Rows::Blank(count) => *count -= rows,
-        }
+        rows!(&mut self.rows, accounts => accounts.drop_first(rows), count => *count -= rows)
     }
 
     /// Lets the row `to` owe what the row `from` does, and nothing else.
@@ -105,9 +109,54 @@ impl Dues {
         requires to { to < length self.old }
         ensures { self.new ≡ set self.old to (owed_in self.old from) }
     {
-        if let Rows::WithAccounts(accounts) = &mut self.rows {
-            accounts.copy(from, to);
+        rows!(&mut self.rows, accounts => accounts.copy(from, to), _ => ())
+    }
+
+    /// Keeps the rows at the indices, which rise, and drops the others.
+    pub(crate) fn keep(&mut self, rows: &[usize])
+        requires within { All (λ row. row < length self.old) rows.now }
+        requires rising { Rise rows.now }
+        ensures { self.new ≡ map (owed_in self.old) rows.now }
+    {
+        rows!(&mut self.rows, accounts => accounts.keep(rows), count => *count = rows.len())
+    }
+
+    /// Puts a copy of each row from `from` up to `to` after the others, except for rows that must send something that is past at
+    /// the moment. On an error all is as before.
+    pub(crate) fn push_timely(
+        &mut self,
+        from: usize,
+        to: usize,
+        moment: u64,
+    ) -> Result<(), AllocError>
+        requires { to ≤ length self.old }
+        ensures ok { OnOk result (self.new ≡ self.old ++ filter (is_timely moment) (from_to from to self.old)) }
+        ensures err { OnErr result (self.new ≡ self.old) }
+    {
+        match &mut self.rows {
+            Rows::WithAccounts(accounts) => accounts.push_timely(from, to, moment)?,
+            Rows::Blank(count) => {
+                let more = to.saturating_sub(from);
+                *count = count.checked_add(more).ok_or(AllocError)?;
+            }
         }
+        Ok(())
+    }
+
+    /// Puts rows after the others: of each row from `from` up to `to` that is timely and has a debt that a send of the message at the moment
+    /// pays, one that owes the rest, without what is past. On an error all is as before.
+    pub(crate) fn push_paid(
+        &mut self,
+        from: usize,
+        to: usize,
+        message: u64,
+        moment: u64,
+    ) -> Result<(), AllocError>
+        requires { to ≤ length self.old }
+        ensures ok { OnOk result (self.new ≡ self.old ++ paid_rows message moment (from_to from to self.old)) }
+        ensures err { OnErr result (self.new ≡ self.old) }
+    {
+        rows!(&mut self.rows, accounts => accounts.push_paid(from, to, message, moment), _ => Ok(()))
     }
 
     /// Lets the row owe one more debt, after its others, and drops those of its debts that may be sent and whose deadline is below the
@@ -126,10 +175,42 @@ impl Dues {
         match &mut self.rows {
             Rows::WithAccounts(accounts) => accounts.gain_and_expire(row, debt, moment)?,
             Rows::Blank(count) => {
-                self.rows = Rows::WithAccounts(opened(alloc, *count, row, debt, moment)?);
+                let mut accounts = blank(alloc, *count)?;
+                accounts.gain_and_expire(row, debt, moment)?;
+                self.rows = Rows::WithAccounts(Box::new(alloc, accounts)?);
             }
         }
         Ok(())
+    }
+
+    /// Lets each row from `from` on owe one more debt, after its others. On an error the rows before them are as they were.
+    pub(crate) fn gain_each(
+        &mut self,
+        alloc: Global,
+        from: usize,
+        debt: Debt,
+    ) -> Result<(), AllocError>
+        ensures ok { OnOk result (self.new ≡ take from self.old ++ map (λ owes. owes ++ debt ∷ []) (drop from self.old)) }
+        ensures err { OnErr result (take from self.new ≡ take from self.old) }
+    {
+        match &mut self.rows {
+            Rows::WithAccounts(accounts) => accounts.gain_each(from, debt)?,
+            Rows::Blank(count) => {
+                let mut accounts = blank(alloc, *count)?;
+                accounts.gain_each(from, debt)?;
+                self.rows = Rows::WithAccounts(Box::new(alloc, accounts)?);
+            }
+        }
+        Ok(())
+    }
+
+    /// Drops those debts of each row from `from` on that may be sent, and whose deadline is below the moment. On an error the rows before
+    /// them are as they were.
+    pub(crate) fn expire_each(&mut self, from: usize, moment: u64) -> Result<(), AllocError>
+        ensures ok { OnOk result (self.new ≡ take from self.old ++ map (filter (counts_at moment)) (drop from self.old)) }
+        ensures err { OnErr result (take from self.new ≡ take from self.old) }
+    {
+        rows!(&mut self.rows, accounts => accounts.expire_each(from, moment), _ => Ok(()))
     }
 
     /// Takes out of the row the first debt that a send of the message at the moment pays, if there is one, and drops those that may be sent
@@ -144,10 +225,7 @@ impl Dues {
         ensures ok { OnOk result (self.new ≡ set self.old row (filter (counts_at moment) (paid_by message moment (owed_in self.old row)))) }
         ensures err { OnErr result (self.new ≡ self.old) }
     {
-        if let Rows::WithAccounts(accounts) = &mut self.rows {
-            accounts.pay_and_expire(row, message, moment)?;
-        }
-        Ok(())
+        rows!(&mut self.rows, accounts => accounts.pay_and_expire(row, message, moment), _ => Ok(()))
     }
 
     /// Whether the row has a debt that a send of the message at the moment pays.
@@ -156,10 +234,7 @@ impl Dues {
         ensures same { self.new ≡ self.old }
         ensures can { result ≡ list_any (is_payable message moment) (owed_in self.old row) }
     {
-        match &mut self.rows {
-            Rows::WithAccounts(accounts) => accounts.can_pay(row, message, moment),
-            Rows::Blank(_) => false,
-        }
+        rows!(&mut self.rows, accounts => accounts.can_pay(row, message, moment), _ => false)
     }
 
     /// Drops those debts of the row that may be sent, and whose deadline is below the moment. On an error all is as before.
@@ -169,10 +244,7 @@ impl Dues {
         ensures ok { OnOk result (self.new ≡ set self.old row (filter (counts_at moment) (owed_in self.old row))) }
         ensures err { OnErr result (self.new ≡ self.old) }
     {
-        if let Rows::WithAccounts(accounts) = &mut self.rows {
-            accounts.expire(row, moment)?;
-        }
-        Ok(())
+        rows!(&mut self.rows, accounts => accounts.expire(row, moment), _ => Ok(()))
     }
 
     /// Lets the row owe what it did, but none of it must be sent any more.
@@ -180,20 +252,15 @@ impl Dues {
         requires { row < length self.old }
         ensures { self.new ≡ set self.old row (map softened_debt (owed_in self.old row)) }
     {
-        if let Rows::WithAccounts(accounts) = &mut self.rows {
-            accounts.soften(row);
-        }
+        rows!(&mut self.rows, accounts => accounts.soften(row), _ => ())
     }
 
     /// Lets the row owe nothing.
-    #[tactic(auto, using(crate::proofs::debts::DueLemmas::set_none))]
     pub(crate) fn clear(&mut self, row: usize)
         requires { row < length self.old }
         ensures { self.new ≡ set self.old row [] }
     {
-        if let Rows::WithAccounts(accounts) = &mut self.rows {
-            accounts.clear(row);
-        }
+        rows!(&mut self.rows, accounts => accounts.clear(row), _ => ())
     }
 
     /// The least deadline of what the row must send, and None if it must send nothing.
@@ -202,10 +269,7 @@ impl Dues {
         requires { row < length self.now }
         ensures { result ≡ earliest (debt_deadlines (owed_in self.now row)) }
     {
-        match &self.rows {
-            Rows::WithAccounts(accounts) => accounts.earliest_must(row),
-            Rows::Blank(_) => None,
-        }
+        rows!(&self.rows, accounts => accounts.earliest_must(row), _ => None)
     }
 
     /// Whether the row owes nothing.
@@ -213,10 +277,7 @@ impl Dues {
         requires { row < length self.now }
         ensures { IsTrue result ↔ (owed_in self.now row ≡ []) }
     {
-        match &self.rows {
-            Rows::WithAccounts(accounts) => accounts.owes_nothing(row),
-            Rows::Blank(_) => true,
-        }
+        rows!(&self.rows, accounts => accounts.owes_nothing(row), _ => true)
     }
 
     /// Whether two rows owe the same.
@@ -226,10 +287,7 @@ impl Dues {
         requires other { other < length self.now }
         ensures { IsTrue result ↔ (owed_in self.now row ≡ owed_in self.now other) }
     {
-        match &self.rows {
-            Rows::WithAccounts(accounts) => accounts.same(row, other),
-            Rows::Blank(_) => true,
-        }
+        rows!(&self.rows, accounts => accounts.same(row, other), _ => true)
     }
 
     /// A number for what each row from `from` on owes. Rows that owe the same have the same number, and others hardly ever.
@@ -237,13 +295,7 @@ impl Dues {
         requires { from ≤ length self.now }
         ensures { IfOk result (λ prints. ArePrints self.now from prints.items) }
     {
-        match &self.rows {
-            Rows::WithAccounts(accounts) => {
-                let prints = accounts.prints(alloc, from)?;
-                Ok(prints)
-            }
-            Rows::Blank(count) => zeros(alloc, *count, from),
-        }
+        rows!(&self.rows, accounts => Ok(accounts.prints(alloc, from)?), count => zeros(alloc, *count, from))
     }
 
     /// Puts the number of the message of each debt of the row after those in the vector. On an error the vector is as before.
@@ -270,10 +322,7 @@ impl Dues {
         ensures ok { OnOk result (AppendsAll (flat_map owes_names self.now) numbers.old.items numbers.new.items) }
         ensures err { OnErr result (numbers.new.items ≡ numbers.old.items) }
     {
-        if let Rows::WithAccounts(accounts) = &self.rows {
-            accounts.all_names(numbers)?;
-        }
-        Ok(())
+        rows!(&self.rows, accounts => accounts.all_names(numbers), _ => Ok(()))
     }
 
     /// What the row owes, in runs: equal debts side by side stand in one.
@@ -281,13 +330,10 @@ impl Dues {
         requires { row < length self.now }
         ensures { IfOk result (λ runs. AreRuns (owed_in self.now row) runs.items) }
     {
-        match &self.rows {
-            Rows::WithAccounts(accounts) => accounts.runs(alloc, row),
-            Rows::Blank(_) => Ok(Vec::new(alloc)),
-        }
+        rows!(&self.rows, accounts => accounts.runs(alloc, row), _ => Ok(Vec::new(alloc)))
     }
 
-    /// What the row owes first: so many debts, or all where it owes fewer.
+    /// What the row owes first: this many debts, or all where it owes fewer.
     pub(crate) fn first_debts(
         &self,
         alloc: Global,
@@ -297,10 +343,7 @@ impl Dues {
         requires { row < length self.now }
         ensures { IfOk result (λ debts. debts.items ≡ take most (owed_in self.now row)) }
     {
-        match &self.rows {
-            Rows::WithAccounts(accounts) => accounts.first_debts(alloc, row, most),
-            Rows::Blank(_) => Ok(Vec::new(alloc)),
-        }
+        rows!(&self.rows, accounts => accounts.first_debts(alloc, row, most), _ => Ok(Vec::new(alloc)))
     }
 
     /// The message of the first debt of the row whose message stands under the key and whose deadline is not before the moment, if there is
@@ -317,20 +360,14 @@ impl Dues {
         ensures first { IfSome result (IsFirstPaid (PaysSome (holds index.now key) moment) moment (owed_in self.now row)) }
         ensures told { IfNone result (most ≤ count_under index.now key) }
     {
-        match &self.rows {
-            Rows::WithAccounts(accounts) => accounts.first_payable(row, index, key, moment, most),
-            Rows::Blank(_) => Some(None),
-        }
+        rows!(&self.rows, accounts => accounts.first_payable(row, index, key, moment, most), _ => Some(None))
     }
 
     /// Two numbers between which the numbers of all messages are that are owed.
     pub(crate) fn span(&self) -> (u64, u64)
         ensures { All (AreBetween result.0 result.1) self.now }
     {
-        match &self.rows {
-            Rows::WithAccounts(accounts) => accounts.span(),
-            Rows::Blank(_) => (0, 0),
-        }
+        rows!(&self.rows, accounts => accounts.span(), _ => (0, 0))
     }
 
     /// Gives memory back that no row needs.
@@ -348,22 +385,6 @@ impl Dues {
     }
 }
 
-/// Accounts of `rows` rows, of which the row `row` owes this debt, as far as it counts at the moment, and no other owes anything.
-fn opened(
-    alloc: Global,
-    rows: usize,
-    row: usize,
-    debt: Debt,
-    moment: u64,
-) -> Result<Box<Accounts>, AllocError>
-    requires { row < rows }
-    ensures { IfOk result (λ boxed. boxed.value ≡ set (blank_rows rows) row (filter (counts_at moment) (owed_in (blank_rows rows) row ++ debt ∷ []))) }
-{
-    let mut accounts = blank(alloc, rows)?;
-    accounts.gain_and_expire(row, debt, moment)?;
-    Ok(Box::new(alloc, accounts)?)
-}
-
 /// Accounts of `rows` rows that owe nothing.
 fn blank(alloc: Global, rows: usize) -> Result<Accounts, AllocError>
     ensures { IfOk result (λ accounts. accounts ≡ blank_rows rows) }
@@ -376,6 +397,7 @@ fn blank(alloc: Global, rows: usize) -> Result<Accounts, AllocError>
 }
 
 /// Whether no row of the accounts owes anything.
+#[tactic(auto, using(crate::proofs::debts::DueLemmas::all_blank))]
 fn is_blank(accounts: &Accounts) -> bool
     ensures { IsTrue result → (accounts.now ≡ blank_rows (length accounts.now)) }
 {

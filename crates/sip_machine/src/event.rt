@@ -73,6 +73,7 @@ pub struct Event {
     action: Action,
     number: u64,
     kind: Kind,
+    /// Whether the transport of the message is reliable.
     reliable: bool,
 }
 
@@ -82,6 +83,7 @@ impl Model for Event {
     ghost use Rattle.sip_standard.specs.Times.{last_moment};
     ghost use Rattle.sip_machine.specs.NumberedEvent.{NumberedEvent};
 
+    // An event means what it has. It is no mark, and its moment is within the limit of a log.
     ghost Value = { NumberedEvent };
 
     ghost view = { λ e. record { moment = e.moment; action = e.action; number = e.number; kind = e.kind; reliable = e.reliable } };

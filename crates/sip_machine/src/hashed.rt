@@ -19,6 +19,7 @@ impl Model for Hashed {
     ghost use Rattle.std.specs.Prelude.{◌≡◌, ℕ, List};
     ghost use Rattle.sip_machine.specs.inner.Order.{full_hash};
 
+    // A text with its hash means the text, and the hash is that of all its bytes.
     ghost Value = { List ℕ };
 
     ghost view = { λ h. h.text.items };

@@ -52,6 +52,7 @@ pub enum InviteClientPhase {
 impl Phase for InviteClientPhase {
     ghost use Rattle.sip_machine.specs.inner.InviteClient.Laws.{invite_client_exact};
 
+    // Phases that `==` finds equal are the same.
     ghost exact = { invite_client_exact };
 }
 
@@ -64,6 +65,7 @@ pub struct InviteClient {
 impl Model for InviteClient {
     ghost use Rattle.sip_standard.specs.Times.{Times};
 
+    // A client means the times by which it was made.
     ghost Value = { Times };
 
     ghost view = { λ m. m.params };
@@ -90,6 +92,9 @@ impl Phases for InviteClient {
 
     type Phase = InviteClientPhase;
 
+    // The figure is that of the INVITE client, and the phases stand for those of the figure.
+    // `seen` gives the figure's phase for one of the code, `names` the messages that it names, `in_range` that its moments are within the limits, and
+    // `told` the words by which it is listed.
     ghost Seen = { Seen };
 
     ghost figure = { invite_client };
@@ -108,6 +113,7 @@ impl Phases for InviteClient {
 
     ghost ended = { λ p. Ended };
 
+    // The times and rules are those with which the machine was made; a transaction begins in idle, and is over in ended.
     fn params(&self) -> &Params {
         &self.params
     }
@@ -131,6 +137,7 @@ impl Phases for InviteClient {
         let Kind::Response(code) = event.kind() else {
             return Ok(None);
         };
+        // A response of 300 to 699 leads to completed and is owed an ACK, where no 2xx has come.
         let set = event.moment();
         if is_unsuccessful(code) {
             let phase = match *phase {
@@ -157,6 +164,7 @@ impl Phases for InviteClient {
             };
             return Ok(Some(Turn { phase, change }));
         }
+        // A provisional response and a 2xx are owed nothing.
         let phase = match *phase {
             Calling(waiting) if is_provisional(code) => Proceeding {
                 reliable: waiting.reliable,
@@ -183,6 +191,7 @@ impl Phases for InviteClient {
         };
         let params = &self.params;
         let t1 = params.t1();
+        // `phase` is where the sent request leads.
         let phase = match method {
             Method::Invite => match *phase {
                 Idle => Calling(Waiting {
@@ -192,6 +201,7 @@ impl Phases for InviteClient {
                     set: event.moment(),
                     interval: t1,
                 }),
+                // Timer A: each wait is twice as long as the one before.
                 Calling(waiting) if waiting.repeats(params, book, event) => Calling(Waiting {
                     set: event.moment(),
                     interval: 2 * waiting.interval,
@@ -324,5 +334,6 @@ impl Phases for InviteClient {
         }
     }
 
+    // The laws that a machine's phases have to keep.
     ghost phases = { has_phases invite_client_is_coded };
 }

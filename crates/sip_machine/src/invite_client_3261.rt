@@ -25,6 +25,7 @@ pub struct InviteClient3261 {
 impl Model for InviteClient3261 {
     ghost use Rattle.sip_standard.specs.Times.{Times};
 
+    // A client means the times by which it was made.
     ghost Value = { Times };
 
     ghost view = { λ m. m.corrected };
@@ -54,6 +55,9 @@ impl Phases for InviteClient3261 {
 
     type Phase = InviteClientPhase;
 
+    // The figure is that of the INVITE client by RFC 3261 alone, and the phases stand for those of the figure.
+    // `seen` gives the figure's phase for one of the code, `names` the messages that it names, `in_range` that its moments are within the limits, and
+    // `told` the words by which it is listed.
     ghost Seen = { Seen };
 
     ghost figure = { invite_client_3261 };
@@ -72,6 +76,7 @@ impl Phases for InviteClient3261 {
 
     ghost ended = { λ p. Ended };
 
+    // The times and rules are those with which the machine was made; a transaction begins in idle, and is over in ended.
     fn params(&self) -> &Params {
         self.corrected.params()
     }
@@ -149,6 +154,7 @@ impl Phases for InviteClient3261 {
         InviteClient::told(alloc, phase)
     }
 
+    // The laws that a machine's phases have to keep.
     ghost phases = { has_phases invite_client_3261_is_coded };
 }
 

@@ -45,6 +45,7 @@ pub enum InviteServer3261Phase {
 impl Phase for InviteServer3261Phase {
     ghost use Rattle.sip_machine.specs.inner.InviteServer3261.Laws.{invite_server_3261_exact};
 
+    // Phases that `==` finds equal are the same.
     ghost exact = { invite_server_3261_exact };
 }
 
@@ -57,6 +58,7 @@ pub struct InviteServer3261 {
 impl Model for InviteServer3261 {
     ghost use Rattle.sip_standard.specs.Times.{Times};
 
+    // A server means the times by which it was made.
     ghost Value = { Times };
 
     ghost view = { λ m. m.corrected };
@@ -87,6 +89,9 @@ impl Phases for InviteServer3261 {
 
     type Phase = InviteServer3261Phase;
 
+    // The figure is that of the INVITE server by RFC 3261 alone, and the phases stand for those of the figure.
+    // `seen` gives the figure's phase for one of the code, `names` the messages that it names, `in_range` that its moments are within the limits, and
+    // `told` the words by which it is listed.
     ghost Seen = { Seen };
 
     ghost figure = { invite_server_3261 };
@@ -105,6 +110,7 @@ impl Phases for InviteServer3261 {
 
     ghost ended = { λ p. In Idle false };
 
+    // The times and rules are those with which the machine was made; a transaction begins in idle, and is over in ended.
     fn params(&self) -> &Params {
         self.corrected.params()
     }
@@ -246,6 +252,7 @@ impl Phases for InviteServer3261 {
         }
     }
 
+    // The laws that a machine's phases have to keep.
     ghost phases = { has_phases invite_server_3261_is_coded };
 }
 

@@ -1,4 +1,5 @@
 //! What every machine of a transaction (RFC 3261 section 17) offers, and the laws that it keeps.
+//! In the clauses `texts` are the messages of a book, x is a state of the code, and `added` are the states that stand after the old ones in the pool.
 ghost use Rattle.std.specs.Prelude.{◌≡◌, ◌<◌, ◌≤◌, ◌++◌, [], ℕ, List, Option, IfOk, OnOk, OnErr, All, Contains, flat_map, length, take};
 ghost use Rattle.std.specs.List.{HoldsAt};
 ghost use Rattle.std.specs.Bool.{OnTrue, OnFalse};

@@ -33,6 +33,7 @@ pub enum PlainClientPhase {
 impl Phase for PlainClientPhase {
     ghost use Rattle.sip_machine.specs.inner.PlainClient.Laws.{plain_client_exact};
 
+    // Phases that `==` finds equal are the same.
     ghost exact = { plain_client_exact };
 }
 
@@ -45,6 +46,7 @@ pub struct PlainClient {
 impl Model for PlainClient {
     ghost use Rattle.sip_standard.specs.Times.{Times};
 
+    // A client means the times by which it was made.
     ghost Value = { Times };
 
     ghost view = { λ m. m.params };
@@ -71,6 +73,9 @@ impl Phases for PlainClient {
 
     type Phase = PlainClientPhase;
 
+    // The figure is that of the non-INVITE client, and the phases stand for those of the figure.
+    // `seen` gives the figure's phase for one of the code, `names` the messages that it names, `in_range` that its moments are within the limits, and
+    // `told` the words by which it is listed.
     ghost Seen = { Seen };
 
     ghost figure = { plain_client };
@@ -89,6 +94,7 @@ impl Phases for PlainClient {
 
     ghost ended = { λ p. Ended };
 
+    // The times and rules are those with which the machine was made; a transaction begins in idle, and is over in ended.
     fn params(&self) -> &Params {
         &self.params
     }
@@ -136,6 +142,7 @@ impl Phases for PlainClient {
             return Ok(None);
         };
         let params = &self.params;
+        // `phase` is where the sent request leads.
         let phase = match *phase {
             Idle => Trying(Waiting {
                 reliable: event.reliable(),
@@ -144,6 +151,7 @@ impl Phases for PlainClient {
                 set: event.moment(),
                 interval: params.t1(),
             }),
+            // Timer E: each wait is twice as long as the one before, up to T2, and it is T2 in proceeding.
             Trying(waiting) if waiting.repeats(params, book, event) => Trying(Waiting {
                 set: event.moment(),
                 interval: (2 * waiting.interval).min(params.t2()),
@@ -230,5 +238,6 @@ impl Phases for PlainClient {
         }
     }
 
+    // The laws that a machine's phases have to keep.
     ghost phases = { has_phases plain_client_is_coded };
 }

@@ -1,19 +1,19 @@
 //! The states in which a transaction may stand: their phases, and what they owe.
-ghost use Rattle.std.specs.Prelude.{◌≡◌, ◌≢◌, ◌↔◌, ◌<◌, ◌≤◌, ◌++◌, ◌∷◌, [], ℕ, IsTrue, IfOk, IfSome, OnOk, OnErr, All, AllPairs, None, length, set, take, drop, option_to_list, get_or};
-ghost use Rattle.std.specs.List.{Any, HoldsAt};
+ghost use Rattle.std.specs.Prelude.{◌≡◌, ◌↔◌, ◌<◌, ◌≤◌, ◌&&◌, ◌++◌, ◌∷◌, [], ℕ, IsTrue, IfOk, IfSome, OnOk, OnErr, All, AllPairs, None, length, set, take, drop, option_to_list, get_or, filter, map, replicate};
+ghost use Rattle.std.specs.List.{Any, HoldsAt, list_any};
 ghost use Rattle.std.specs.Option.{option_map};
+ghost use Rattle.sip_ledger.specs.Debts.{is_payable, is_timely};
+ghost use Rattle.sip_ledger.specs.Lists.{from_to};
 ghost use Rattle.sip_ledger.specs.Runs.{AreRuns};
 ghost use Rattle.sip_standard.specs.Times.{last_moment};
 ghost use Rattle.sip_machine.specs.Owing.{CodeOwing, at_rest};
 ghost use Rattle.sip_machine.specs.Pools.{AreFirstOnes, picked};
 ghost use Rattle.sip_machine.specs.Prints.{ArePrints};
-ghost use Rattle.sip_machine.specs.inner.Effects.{led_by, rests_at, given_by};
+ghost use Rattle.sip_machine.specs.inner.Effects.{led_by, repaid_at, rests_at, given_by};
 ghost use Rattle.sip_machine.specs.inner.Pools.{AreMixedWith, IsRun, hash_by};
 
-mod each;
-
 use crate::dues::Dues;
-use crate::effects::{Effect, Rest, come_to_rest, lead};
+use crate::effects::{Effect, Rest, come_to_rest, lead, lead_each};
 use crate::phases::{Phase, Turn};
 use crate::slots::Slots;
 use sip_ledger::Run;
@@ -111,7 +111,7 @@ impl<P: Phase> Pool<P> {
         requires other { other < length self.now }
         ensures { (x : CodeOwing P) → IsTrue result ↔ (get_or self.now at x ≡ get_or self.now other x) }
     {
-        // Copies of the phases are compared, which takes no call.
+        // Both phases are copied out first: comparing them where they stand would call a function.
         let phase = self.phases[at];
         let other_phase = self.phases[other];
         phase == other_phase && self.dues.same(at, other)
@@ -128,11 +128,12 @@ impl<P: Phase> Pool<P> {
         Ok(())
     }
 
-    /// Puts a copy of the state at the index after the others. On an error all is as before.
+    /// Puts a copy of the state at the index after the others, which stay as they are.
     fn push_copy(&mut self, at: usize) -> Result<(), AllocError>
         requires { at < length self.old }
         ensures ok { HoldsAt (λ x. OnOk result (self.new ≡ self.old ++ x ∷ [])) self.old at }
-        ensures err { OnErr result (self.new ≡ self.old) }
+        ensures longer { OnOk result (length self.old < length self.new) }
+        ensures before { take (length self.old) self.new ≡ self.old }
     {
         self.phases.reserve(1)?;
         self.dues.push_copy(at)?;
@@ -159,6 +160,7 @@ impl<P: Phase> Pool<P> {
     }
 
     /// Drops the first `count` states.
+    #[tactic(auto, using(crate::proofs::pools::PoolLemmas::of_drop))]
     fn drop_first(&mut self, count: usize)
         requires { count ≤ length self.old }
         ensures { self.new ≡ drop count self.old }
@@ -170,7 +172,7 @@ impl<P: Phase> Pool<P> {
     }
 
     /// Keeps the states at the indices, which rise, and drops the others.
-    #[tactic(auto, using(crate::proofs::pools::FirstLemmas::run_picked))]
+    #[tactic(auto, using(crate::proofs::pools::FirstLemmas::of_kept))]
     pub fn keep(&mut self, rows: &[usize])
         requires within { All (λ row. row < length self.old) rows.now }
         requires rising { AllPairs (λ a b. a < b) rows.now }
@@ -181,18 +183,11 @@ impl<P: Phase> Pool<P> {
                 self.drop_first(first);
                 self.truncate(rows.len());
             }
-            None => self.keep_each(rows),
+            None => {
+                keep_phases(&mut self.phases, rows);
+                self.dues.keep(rows);
+            }
         }
-    }
-
-    /// Keeps the states at the indices, which rise, one by one.
-    fn keep_each(&mut self, rows: &[usize])
-        requires within { All (λ row. row < length self.old) rows.now }
-        requires rising { AllPairs (λ a b. a < b) rows.now }
-        ensures { (x : CodeOwing P) → self.new ≡ picked self.old x rows.now }
-    {
-        keep_phases(&mut self.phases, rows);
-        self.dues.keep(rows);
     }
 
     /// The indices, rising, of the states from `from` on; of equal states that of the first alone.
@@ -295,6 +290,21 @@ impl<P: Phase> Pool<P> {
         Ok(prints)
     }
 
+    /// The end of the states from `at` on that are in the phase of the one at `at`: one past the last of them, `limit` at most.
+    pub(crate) fn run_end(&self, at: usize, limit: usize) -> usize
+        requires at { at < limit }
+        requires limit { limit ≤ length self.now }
+        ensures order { (at < result) × (result ≤ limit) }
+        ensures same { HoldsAt (λ first. All (λ x. x.phase ≡ first.phase) (from_to at result self.now)) self.now at }
+    {
+        let phase = self.phases[at];
+        let mut end = at + 1;
+        while end < limit && self.phases[end] == phase {
+            end += 1;
+        }
+        end
+    }
+
     /// Gives memory back that nothing that is owed needs.
     pub fn tidy(&mut self)
         ensures { self.new ≡ self.old }
@@ -306,15 +316,7 @@ impl<P: Phase> Pool<P> {
     pub fn fit(&mut self)
         ensures { self.new ≡ self.old }
     {
-        if self.phases.capacity() == self.phases.len() {
-            return;
-        }
-        let Ok(mut fitting) = Vec::with_capacity(*self.phases.allocator(), self.phases.len()) else {
-            return;
-        };
-        if fitting.append(&mut self.phases).is_ok() {
-            self.phases = fitting;
-        }
+        self.phases.shrink_to_fit();
     }
 
     /// Leads the state at the index where the row does. On an error all is as before.
@@ -366,16 +368,16 @@ impl<P: Phase> Pool<P> {
         ensures err { OnErr result (self.new ≡ self.old) }
     {
         let before = self.len();
-        self.push_led(params, moment, at, effect.turn)?;
-        if self.push_rested(moment, at, effect.rest).is_err() {
+        let led = self.push_led(params, moment, at, effect.turn);
+        if led.is_err() || self.push_rested(moment, at, effect.rest).is_err() {
             self.truncate(before);
             return Err(AllocError);
         }
         Ok(())
     }
 
-    /// Puts a copy of the state at the index after the others that goes where the row leads, if the event has a row. On an
-    /// error all is as before.
+    /// Puts a copy of the state at the index after the others that goes where the row leads, if the event has a row. On an error the copy may
+    /// be there, and the others are as before.
     fn push_led(
         &mut self,
         params: &Params,
@@ -386,21 +388,19 @@ impl<P: Phase> Pool<P> {
         requires moment { moment ≤ last_moment }
         requires at { at < length self.old }
         ensures ok { HoldsAt (λ x. OnOk result (self.new ≡ self.old ++ option_to_list (option_map (λ turn. led_by params.now moment turn x) turn))) self.old at }
-        ensures err { OnErr result (self.new ≡ self.old) }
+        ensures before { take (length self.old) self.new ≡ self.old }
     {
         let Some(turn) = turn else {
             return Ok(());
         };
         let last = self.len();
         self.push_copy(at)?;
-        if self.lead(params, moment, last, turn).is_err() {
-            self.truncate(last);
-            return Err(AllocError);
-        }
+        self.lead(params, moment, last, turn)?;
         Ok(())
     }
 
-    /// Puts a copy of the state at the index after the others as a sent message leaves it in its phase, if it does. On an error all is as before.
+    /// Puts a copy of the state at the index after the others as a sent message leaves it in its phase, if it does. On an error the copy may
+    /// be there, and the others are as before.
     pub(crate) fn push_rested(
         &mut self,
         moment: u64,
@@ -409,15 +409,67 @@ impl<P: Phase> Pool<P> {
     ) -> Result<(), AllocError>
         requires { at < length self.old }
         ensures ok { HoldsAt (λ x. OnOk result (self.new ≡ self.old ++ option_to_list (option_map (λ rest. rests_at moment rest x) rest))) self.old at }
-        ensures err { OnErr result (self.new ≡ self.old) }
+        ensures before { take (length self.old) self.new ≡ self.old }
     {
         let Some(rest) = rest else {
             return Ok(());
         };
-        let count = self.len();
+        let last = self.len();
         self.push_copy(at)?;
-        if self.come_to_rest(moment, count, rest).is_err() {
-            self.truncate(count);
+        self.come_to_rest(moment, last, rest)?;
+        Ok(())
+    }
+
+    /// Puts a copy of each state from `from` up to `to` after the others that goes where the row leads, except for states that must
+    /// send something that is past at the moment. On an error all is as before.
+    pub(crate) fn push_led_each(
+        &mut self,
+        params: &Params,
+        moment: u64,
+        from: usize,
+        to: usize,
+        turn: Turn<P>,
+    ) -> Result<(), AllocError>
+        requires moment { moment ≤ last_moment }
+        requires to { to ≤ length self.old }
+        ensures ok { OnOk result (self.new ≡ self.old ++ map (led_by params.now moment turn) (filter (λ x. is_timely moment x.owes) (from_to from to self.old))) }
+        ensures err { OnErr result (self.new ≡ self.old) }
+    {
+        let alloc = *self.phases.allocator();
+        let before = self.dues.len();
+        self.dues.push_timely(from, to, moment)?;
+        let led = lead_each(alloc, params, moment, turn.change, &mut self.dues, before);
+        if led.is_err()
+            || push_phases(&mut self.phases, self.dues.len() - before, turn.phase).is_err()
+        {
+            self.dues.truncate(before);
+            return Err(AllocError);
+        }
+        Ok(())
+    }
+
+    /// Puts a copy of each state from `from` up to `to`, which are in one phase, after the others that has paid the first debt that a
+    /// send of the message at the moment pays. States that can pay none, or must send something that is past then, are left out. On an
+    /// error all is as before.
+    pub(crate) fn push_paid_each(
+        &mut self,
+        moment: u64,
+        from: usize,
+        to: usize,
+        message: u64,
+    ) -> Result<(), AllocError>
+        requires from { from < length self.old }
+        requires to { to ≤ length self.old }
+        requires same { HoldsAt (λ first. All (λ x. x.phase ≡ first.phase) (from_to from to self.old)) self.old from }
+        ensures ok { OnOk result (self.new ≡ self.old ++ map (repaid_at moment message)
+            (filter (λ x. list_any (is_payable message moment) x.owes && is_timely moment x.owes) (from_to from to self.old))) }
+        ensures err { OnErr result (self.new ≡ self.old) }
+    {
+        let phase = self.phases[from];
+        let before = self.dues.len();
+        self.dues.push_paid(from, to, message, moment)?;
+        if push_phases(&mut self.phases, self.dues.len() - before, phase).is_err() {
+            self.dues.truncate(before);
             return Err(AllocError);
         }
         Ok(())
@@ -425,6 +477,7 @@ impl<P: Phase> Pool<P> {
 }
 
 /// Keeps the phases at the indices, which rise, and drops the others.
+#[tactic(auto, using(crate::proofs::pools::FirstLemmas::of_picking))]
 fn keep_phases<P: Phase>(phases: &mut Vec<P>, rows: &[usize])
     requires within { All (λ row. row < length phases.old.items) rows.now }
     requires rising { AllPairs (λ a b. a < b) rows.now }
@@ -437,7 +490,19 @@ fn keep_phases<P: Phase>(phases: &mut Vec<P>, rows: &[usize])
     phases.truncate(rows.len());
 }
 
+/// Puts the phase after the others `count` times. On an error the phases are as before.
+#[tactic(auto, using(std::proofs::lemmas::List::take_all))]
+fn push_phases<P: Phase>(phases: &mut Vec<P>, count: usize, phase: P) -> Result<(), AllocError>
+    ensures ok { OnOk result (phases.new.items ≡ phases.old.items ++ replicate count phase) }
+    ensures err { OnErr result (phases.new.items ≡ phases.old.items) }
+{
+    let len = phases.len().checked_add(count).ok_or(AllocError)?;
+    phases.resize(len, phase)?;
+    Ok(())
+}
+
 /// The first index, if each index is the one after the index before it.
+#[tactic(auto, using(crate::proofs::pools::FirstLemmas::run_of))]
 fn run_of(rows: &[usize]) -> Option<usize>
     requires { AllPairs (λ a b. a < b) rows.now }
     ensures { IfSome result (λ first. IsRun first rows.now) }

@@ -24,6 +24,7 @@ pub(crate) struct Slots {
 impl Model for Slots {
     ghost use Rattle.sip_machine.specs.inner.Slots.{Slotted, AreSlots, slotted};
 
+    // What slots mean is their prints, each with a way to the one before it in its slot.
     ghost Value = { Slotted };
 
     ghost view = { λ s. slotted s.newest.items s.kept.items };

@@ -29,7 +29,7 @@ pub(crate) struct Tos {
 /// How many calls are told apart where Tos are counted.
 const SLOTS: usize = 1024;
 
-/// Where so many Tos of one call come, those of all messages are to stand here: then no message without one lies between these, and the
+/// Where this many Tos of one call come, those of all messages are to stand here: then no message without one lies between these, and the
 /// response of an ACK is found without a look at each debt. Where fewer are left, no hashes are kept.
 const MANY: u8 = u8::MAX;
 

@@ -19,6 +19,7 @@ by-bit P (suc (suc n)) small none one = absurd (omega (arith, small))
 pub test-or : (a b i : ℕ) → test (bit_or a b) i ≡ (test a i || test b i)
 unfolding test
 test-or a b i =
+    -- the bit of the OR is the greater of the two bits, each of which is 0 or 1
     ap (λ n. n == 1) (bit_at_or a b i)
     ∙ by-bit (λ x. (max x (bit_at b i) == 1) ≡ ((x == 1) || (bit_at b i == 1))) (bit_at a i) (bit_at-lt a i)
     (by-bit (λ y. (max 0 y == 1) ≡ (y == 1)) (bit_at b i) (bit_at-lt b i) refl refl)
@@ -28,6 +29,7 @@ test-or a b i =
 pub test-and : (a b i : ℕ) → test (bit_and a b) i ≡ (test a i && test b i)
 unfolding test
 test-and a b i =
+    -- the bit of the AND is the lesser of the two bits, each of which is 0 or 1
     ap (λ n. n == 1) (bit_at_and a b i)
     ∙ by-bit (λ x. (min x (bit_at b i) == 1) ≡ ((x == 1) && (bit_at b i == 1))) (bit_at a i) (bit_at-lt a i)
     (by-bit (λ y. (min 0 y == 1) ≡ false) (bit_at b i) (bit_at-lt b i) refl refl)
@@ -58,6 +60,7 @@ shl k y = y * 2 ^ k % 2 ^ 64
 pub test-shl_high : (k j y : ℕ) → k + j < 64 → test (shl k y) (k + j) ≡ test y j
 unfolding test
 test-shl_high k j y below =
+    -- what was moved up has k zeros below it, so place k + j of it is place j of y
     let place : k + j - k ≡ j = omega arith in
     let none : y * 2 ^ k ≡ y * 2 ^ k + 0 = omega arith in
     test-low (y * 2 ^ k) (k + j) below
@@ -81,6 +84,7 @@ pub test-mask : (lanes : List Bool) (i : ℕ) → test (mask_l lanes) i ≡ get_
 unfolding test
 test-mask lanes i = ap (λ b. b == 1) (bit_mask_l lanes i) ∙ is (get_or lanes i false)
   where
+    -- a bit that is set is 1, and one that is not set is 0
     is : (b : Bool) → (cond b 1 0 == 1) ≡ b
     is true = refl
     is false = refl

@@ -1,4 +1,5 @@
 -- A hostname, by the bits of its bytes.
+-- In the lemmas w and word are words of bits, i and j are places of bits in them, and len is the length of the name.
 use Rattle.std.proofs.Common.{◌≡◌, ℕ, zero, suc, ◌+◌, ◌-◌, ◌*◌, ◌/◌, ◌^◌, ◌<◌, ◌≤◌, Bool, true, false, not, ◌&&◌, ◌||◌, ◌==◌, List, ◌∷◌, length, take, get_or, bit_and, bit_or, refl, sym, ap, ap₂, ◌∙◌, subst, inl, inr, arith, w64}
 use Rattle.std.specs.Char.{is_ascii_alphabetic, is_ascii_alphanumeric}
 use Rattle.std.specs.Int.{bit_at, trailing_zeros}
@@ -19,11 +20,11 @@ use Rattle.sip_masks.proofs.HostLemmas.{bad, are_good, top_of, good-from, good-a
 ones-low : (len i : ℕ) → i < len → len ≤ 32 → test (18446744073709551615 / 2 ^ (64 - len)) i ≡ true
 ones-low len i below small = test-shr 18446744073709551615 (64 - len) i ∙ test-ones (64 - len + i) (omega (arith, below, small))
 
--- and no other is
+-- of the highest word of 64 bits, moved down by 64 - len, no bit from len on is set
 ones-high : (len i : ℕ) → len ≤ i → len ≤ 32 → test (18446744073709551615 / 2 ^ (64 - len)) i ≡ false
 ones-high len i from small = test-shr 18446744073709551615 (64 - len) i ∙ test-above 18446744073709551615 (64 - len + i) (omega arith) (omega (arith, from, small))
 
--- a conjunction with true is its first test, and one with false is false
+-- a conjunction with true is its first test
 and-true : (b : Bool) → (b && true) ≡ b
 and-true true = refl
 and-true false = refl
@@ -65,7 +66,8 @@ strange byte = (not (is_ascii_alphanumeric byte) && not (byte == dot)) && not (b
 beyond-strange : (b : ℕ) → b < 256 → is_plain b ≡ true → is_beyond b ≡ strange b
 beyond-strange b small plain = subst (λ p. (p && is_beyond b) ≡ (p && strange b)) plain (agree_below_at (λ x. is_plain x && is_beyond x) (λ x. is_plain x && strange x) 256 b refl small)
 
--- What follows is of a window, the first len bytes of it, which are plain, and the bits that the code has of its first 32 bytes.
+-- What follows is of the first len bytes of a window, which are plain, and of the bits that the code has of the first 32 bytes of the window.
+-- bs has a bit for each byte that is beyond the bytes of names, ds one for each dot, and hs one for each hyphen.
 module _ (window : List ℕ) (len bs ds hs : ℕ) (room : 32 ≤ length window) (some : 0 < len) (small : len ≤ 32)
     (bytes : (i : ℕ) → get_or window i 0 < 256) (plain : (i : ℕ) → i < len → is_plain (get_or window i 0) ≡ true)
     (beyond : (i : ℕ) → i < 32 → test bs i ≡ is_beyond (get_or window i 0))
@@ -95,7 +97,7 @@ module _ (window : List ℕ) (len bs ds hs : ℕ) (room : 32 ≤ length window) 
   abbrev pub begin_word : ℕ
   begin_word = bit_or (shl 1 dot_word) 1
 
-  -- the bytes at which the text cannot be a hostname
+  -- a bit for each byte at which the text cannot be a hostname
   abbrev pub bad_word : ℕ
   bad_word = bit_or (bit_or (bit_and bs all) (bit_and begin_word (bit_or dot_word hyphen_word))) (bit_and dot_word (shl 1 hyphen_word))
 
@@ -107,15 +109,15 @@ module _ (window : List ℕ) (len bs ds hs : ℕ) (room : 32 ≤ length window) 
   long : length text ≡ len
   long = length-take-le len window (omega (arith, room, small))
 
-  -- of the bits below len a word keeps each
+  -- a word that is cut at len keeps each bit below len
   masked : (w i : ℕ) → i < len → test (bit_and w all) i ≡ test w i
   masked w i below = test-and w all i ∙ ap (λ b. test w i && b) (ones-low len i below small) ∙ and-true (test w i)
 
-  -- and no other
+  -- a word that is cut at len keeps no bit from len on
   cut : (w i : ℕ) → len ≤ i → test (bit_and w all) i ≡ false
   cut w i from = test-and w all i ∙ ap (λ b. test w i && b) (ones-high len i from small) ∙ and-false (test w i)
 
-  -- the bits of the dots of the text, and the one after it
+  -- bit i of the word of dots is set, for a place i of the text, exactly if a dot stands there
   dots-in : (i : ℕ) → i < len → test dot_word i ≡ (get_or text i 0 == dot)
   dots-in i below =
       test-or (bit_and ds all) (shl len 1) i
@@ -129,7 +131,7 @@ module _ (window : List ℕ) (len bs ds hs : ℕ) (room : 32 ≤ length window) 
       let set : test (shl len 1) len ≡ true = subst (λ i. test (shl len 1) i ≡ true) is (test-shl_high len 0 1 (omega (arith, small)) ∙ test-one_low) in
       test-or (bit_and ds all) (shl len 1) len ∙ ap (λ b. test (bit_and ds all) len || b) set ∙ or-true (test (bit_and ds all) len)
 
-  -- the bits of its hyphens
+  -- bit i of the word of hyphens is set, for a place i of the text, exactly if a hyphen stands there
   hyphens-in : (i : ℕ) → i < len → test hyphen_word i ≡ (get_or text i 0 == hyphen)
   hyphens-in i below = masked hs i below ∙ hyphens i (omega (arith, below, small)) ∙ ap (λ x. x == hyphen) (sym (here i below))
 
@@ -149,14 +151,16 @@ module _ (window : List ℕ) (len bs ds hs : ℕ) (room : 32 ≤ length window) 
   bad-is : (i : ℕ) → i < len → test bad_word i ≡ bad (prev_is i) (get_or text i 0)
   bad-is i below =
       let within : i ≤ len = omega (arith, below) in
+      -- the byte is strange, is a dot or is a hyphen exactly if its bit in the word of these is set: s, d and h
       let s = masked bs i below ∙ beyond i (omega (arith, below, small)) ∙ beyond-strange (get_or window i 0) (bytes i) (plain i below) ∙ ap strange (sym (here i below)) in
       let d = dots-in i below in
       let h = hyphens-in i below in
+      -- the bit of `bad_word` is made of these bits as `bad` is made of what they say
       test-or _ _ i ∙ ap₂ (λ a b. a || b)
       (test-or _ _ i ∙ ap₂ (λ a b. a || b) s (test-and _ _ i ∙ ap₂ (λ a b. a && b) (begins-is i within) (test-or dot_word hyphen_word i ∙ ap₂ (λ a b. a || b) d h)))
       (test-and _ _ i ∙ ap₂ (λ a b. a && b) d (hyphen-before i within))
 
-  -- and the bit after the text exactly if a dot is bad there
+  -- in the word of bad bits the bit after the text is set exactly if a dot is bad there
   end-is : test bad_word len ≡ bad (prev_is len) dot
   end-is =
       let within : len ≤ len = omega arith in
@@ -164,14 +168,16 @@ module _ (window : List ℕ) (len bs ds hs : ℕ) (room : 32 ≤ length window) 
       (test-or _ _ len ∙ ap₂ (λ a b. a || b) (cut bs len within) (test-and _ _ len ∙ ap₂ (λ a b. a && b) (begins-is len within) (test-or dot_word hyphen_word len ∙ ap (λ b. b || test hyphen_word len) dot-after)))
       (test-and _ _ len ∙ ap₂ (λ a b. a && b) dot-after (hyphen-before len within))
 
-  -- no higher bit is set
+  -- no bit above the one at the end of the text is set
   none-higher : (i : ℕ) → len < i → i < 64 → test bad_word i ≡ false
   none-higher i past below =
+      -- bit i is past the end of the text, and so is not set in the words of dots, of hyphens and of what is strange
       let from : len ≤ i = omega (arith, past) in
       let is : len + suc (i - len - 1) ≡ i = omega (arith, past) in
       let no_dot : test dot_word i ≡ false =
       test-or (bit_and ds all) (shl len 1) i
       ∙ ap₂ (λ a b. a || b) (cut ds i from) (subst (λ n. test (shl len 1) n ≡ false) is (test-shl_high len (suc (i - len - 1)) 1 (omega (arith, is, below)) ∙ test-one_high (i - len - 1))) in
+      -- `bad_word` is made of these words
       test-or _ _ i ∙ ap₂ (λ a b. a || b)
       (test-or _ _ i ∙ ap₂ (λ a b. a || b) (cut bs i from) (test-and _ _ i ∙ ap (λ b. test begin_word i && b) (test-or dot_word hyphen_word i ∙ ap₂ (λ a b. a || b) no_dot (cut hs i from)) ∙ and-false (test begin_word i)))
       (test-and _ _ i ∙ ap (λ b. b && test (shl 1 hyphen_word) i) no_dot)
@@ -185,15 +191,17 @@ module _ (window : List ℕ) (len bs ds hs : ℕ) (room : 32 ≤ length window) 
       sym (bad-is i below) ∙ none-set bad_word i none)
       (ap (λ n. bad (prev_is n) dot) long ∙ sym end-is ∙ none-set bad_word len none)
 
-  -- and where it is good no bit is bad
+  -- where the text is good, no bit is bad
   pub none-bad : bs < 2 ^ 64 → are_good dot text ≡ true → bad_word ≡ 0
   none-bad fits is_good = elim (cases_lt 0 bad_word) [
     | inr none ↦ omega (arith, none)
     | inl some_bad ↦
         let found = lowest-set bad_word some_bad word_fits in
+        -- there is no bad bit, since no bit is set where the text is good
         absurd (false≢true (sym (unset (trailing_zeros w64 bad_word) found.0) ∙ found.1))
   ]
     where
+      -- the word of the bad bits fits into 64 bits
       word_fits : bad_word < 2 ^ 64
       word_fits =
           let begins = bit_and begin_word (bit_or dot_word hyphen_word) in
@@ -201,6 +209,7 @@ module _ (window : List ℕ) (len bs ds hs : ℕ) (room : 32 ≤ length window) 
           or_lt 64 (bit_or (bit_and bs all) begins) (bit_and dot_word (shl 1 hyphen_word))
           (or_lt 64 (bit_and bs all) begins (omega (arith, and_le_l bs all, fits)) begins_fit) (omega (arith, and_le_r dot_word (shl 1 hyphen_word)))
 
+      -- in a good text each byte, and the dot after the last one, may stand where it does
       -- bit i is not set
       unset : (i : ℕ) → i < 64 → test bad_word i ≡ false
       unset i below = elim (cases_order i len) [
@@ -226,16 +235,18 @@ module _ (window : List ℕ) (len bs ds hs : ℕ) (room : 32 ≤ length window) 
   name-from top none set above =
       let within = top-within top set in
       let front : (prev_is top == dot) ≡ true = sym (begins-is top (omega (arith, within))) ∙ sym (masked begin_word top within) ∙ set in
+      -- no dot stands in the text from the place `top` on
       let no_dots : (i : ℕ) → top ≤ i → i < length text → (get_or text i 0 == dot) ≡ false = λ i from h. elim (cases_lt (suc i) len) [
         | inl inner ↦ sym (begins-is (suc i) (omega (arith, inner))) ∙ sym (masked begin_word (suc i) inner) ∙ above (suc i) (omega (arith, from))
         | inr last ↦
             let is : len ≡ suc i = omega (arith, last, h, long) in
             subst (λ n. (prev_is n == dot) ≡ false) is (end_dot (prev_is len == dot) (prev_is len == hyphen) (sym end-is ∙ none-set bad_word len none))
       ] in
+      -- the last label begins at the place `top`
       ap (λ g. g && is_ascii_alphabetic (top_of dot dot text)) (good none)
       ∙ ap is_ascii_alphabetic (top-at dot dot text top (omega (arith, within, long)) front no_dots ∙ here top within)
     where
-      -- no dot stands before the end
+      -- where the test of a dot or of a hyphen before the end fails, the one of a dot fails
       end_dot : (d h : Bool) → ((d && true) || h) ≡ false → d ≡ false
       end_dot false h e = refl
       end_dot true h e = absurd (false≢true (sym e))

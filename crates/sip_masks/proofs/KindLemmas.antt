@@ -19,7 +19,7 @@ kinds v block =
     let high = looked_up HIGH (λ x. x / 16) v _ refl block (zip2_splat down v 64 4 block.0) (λ x h. omega arith) in
     zip2_of_maps bit_and (λ x. get_or LOW (bit_and x 15) 0) (λ x. get_or HIGH (x / 16) 0) v low high
 
--- the sum of two lanes
+-- the sum of two lanes, which goes on from 0 after 255
 abbrev more : ℕ → ℕ → ℕ
 more a b = (a + b) % 256
 

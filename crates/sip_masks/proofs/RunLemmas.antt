@@ -41,6 +41,7 @@ flopped a true same high = absurd (false≢true (sym same ∙ high))
 -- where each byte from p up to e passes, and the one at e does not or is the end, the longest front that passes after p has e - p bytes
 pub run-is : (f : ℕ → Bool) (text : List ℕ) (p e : ℕ) → p ≤ e → e ≤ length text → Passes f text p e → (e < length text → f (get_or text e 0) ≡ false) → prefix_len f (drop p text) ≡ e - p
 run-is f text p e from within passes stops =
+    -- the text after p passes at each place k below e - p, and not at e - p, if it is so long
     let long = length-drop p text in
     prefix_len_is f (drop p text) (e - p) 0 (omega (arith, long, from, within))
     (λ k below. subst (λ x. f x ≡ true) (sym (get_or-drop p text k 0)) (passes (p + k) (omega arith) (omega (arith, below, from))))
@@ -58,12 +59,14 @@ run-from f text p n passes within = elim (cases_lt (prefix_len f (drop p text)) 
   | inr enough ↦ enough
 ]
 
--- What follows is of a mask of the bytes that do not pass the test f.
+-- What follows is of a mask of the bytes that do not pass the test f: q is the opposite of f, and NUL is one of these bytes.
 module _ (f q : ℕ → Bool) (opposite : (x : ℕ) → q x ≡ not (f x)) (nul : q 0 ≡ true) where
   -- where no bit of the word is set, n bytes more pass, and they lie within the text
+  -- the bytes from s up to p were seen to pass, and the word tells of the n bytes from p on
   pub goes-on : (text : List ℕ) (n s p word : ℕ) → word ≡ 0 → Shows n q text p word → Passes f text s p → p ≤ length text → Passes f text s (p + n) × (p + n ≤ length text)
   goes-on text n s p word none shows before within =
       let unset = λ (j : ℕ) (h : j < n). sym (shows j h) ∙ none-set word j none in (
+        -- a byte from p on passes, since its bit is not set
         (λ k from below. elim (cases_lt k p) [
           | inl low ↦ before k from low
           | inr high ↦
@@ -71,6 +74,7 @@ module _ (f q : ℕ → Bool) (opposite : (x : ℕ) → q x ≡ not (f x)) (nul 
               let small : k - p < n = omega (arith, high, below) in
               subst (λ m. f (get_or text m 0) ≡ true) is (flipped (q (get_or text (p + (k - p)) 0)) (f (get_or text (p + (k - p)) 0)) (opposite _) (unset (k - p) small))
         ]),
+        -- the bytes lie within the text, since past its end the bits are set
         elim (cases_lt (length text) (p + n)) [
           | inl short ↦
               let is : p + (length text - p) ≡ length text = omega (arith, within) in
@@ -81,6 +85,7 @@ module _ (f q : ℕ → Bool) (opposite : (x : ℕ) → q x ≡ not (f x)) (nul 
       )
 
   -- where a bit of the word is set, the bytes up to the lowest set one pass, and it is where they end: at the end of the text or at a byte that fails
+  -- the bytes from s up to p were seen to pass, and the word tells of the `most` bytes from p on, and has no bit after these
   pub stops-at : (text : List ℕ) (most s p word : ℕ) → 0 < word → word < 2 ^ 64 → Shows most q text p word → ((j : ℕ) → most ≤ j → j < 64 → test word j ≡ false) → s ≤ p → Passes f text s p → p ≤ length text
       → prefix_len f (drop s text) ≡ p + trailing_zeros w64 word - s
   stops-at text most s p word some small shows none order before within =
@@ -90,7 +95,9 @@ module _ (f q : ℕ → Bool) (opposite : (x : ℕ) → q x ≡ not (f x)) (nul 
         | inl less ↦ less
         | inr more ↦ absurd (false≢true (sym (none n more found.0) ∙ found.1))
       ] in
+      -- the byte at the lowest bit fails, or the text ends there
       let at : q (get_or text (p + n) 0) ≡ true = sym (shows n fits) ∙ found.1 in
+      -- all bytes before the found one pass; and the text does not end before it, since its end would be found first
       let low = λ (j : ℕ) (h : j < n). sym (shows j (omega (arith, h, fits))) ∙ found.2 j h in
       let inside : p + n ≤ length text = elim (cases_lt (length text) (p + n)) [
         | inl short ↦
@@ -99,7 +106,9 @@ module _ (f q : ℕ → Bool) (opposite : (x : ℕ) → q x ≡ not (f x)) (nul 
             absurd (false≢true (sym (low (length text - p) (omega (arith, short, within))) ∙ set_there))
         | inr room ↦ room
       ] in
+      -- the bytes up to it pass, those before p as was known
       run-is f text s (p + n) (omega (arith, order)) inside
+      -- a byte before p passes as was known, and one from p up to the found one passes since its bit is not set
       (λ k from below. elim (cases_lt k p) [
         | inl early ↦ before k from early
         | inr high ↦

@@ -36,12 +36,15 @@ always n = true
 -- where sixteen entries of the table t stand four times, the shuffle of t by g x for each byte x of a block gives the entry of t at g x
 pub looked_up : (t : List ℕ) (g : ℕ → ℕ) (v js : List ℕ) → agree_below (repeats t) always 64 ≡ true → IsBlock v → js ≡ map g v → ((x : ℕ) → x < 256 → g x < 16) → swz_l w8 16 t 0 js ≡ map (λ x. get_or t (g x) 0) v
 looked_up t g v js four fits e small =
+    -- js has 64 entries too, and the lists are compared entry by entry
     let long : length js ≡ 64 = ap length e ∙ length-map v g ∙ fits.0 in
     ext_get_or 0 _ _ (length-swz_l w8 16 t 0 js ∙ long ∙ sym (length-map v (λ x. get_or t (g x) 0) ∙ fits.0)) (λ i h.
+    -- entry i of js is g of byte i of the block v, and so less than 16
     let lt : i < 64 = omega (arith, length-swz_l w8 16 t 0 js) in
     let within : i < length v = omega (arith, fits.0) in
     let is : get_or js i 0 ≡ g (get_or v i 0) = ap (λ l. get_or l i 0) e ∙ get_or-map g v i 0 0 within in
     let below : get_or js i 0 < 16 = omega (arith, small (get_or v i 0) (Each1-get_or (Fits w8) v i 0 within fits.1).fits) in
+    -- the byte is looked up at its index within its own sixteen entries
     let at = 16 * ((0 + i) / 16) + get_or js i 0 in
     let same = eqb-true _ _ (agree_below_at (repeats t) always 64 at four (omega (arith, below))) in
     let low : at % 16 ≡ g (get_or v i 0) = omega (arith, below, is) in

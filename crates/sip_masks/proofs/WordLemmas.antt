@@ -26,6 +26,7 @@ or-false false = refl
 -- in the word that x from bit r on and y after it make, bit j is bit r + j of x where that is below 64
 pub joined : (x y r j : ℕ) → x < 2 ^ 64 → r < 64 → j < 64 → r + j < 64 → test (bit_or (x / 2 ^ r) (shl (63 - r) (shl 1 y))) j ≡ test x (r + j)
 joined x y r j small rl jl low =
+    -- bit j of x, moved down by r, is bit r + j of x; y has been moved up so far that it does not reach bit j
     test-or (x / 2 ^ r) (shl (63 - r) (shl 1 y)) j
     ∙ ap₂ (λ a b. a || b) (test-shr x r j) (elim (cases_lt j (63 - r)) [
       | inl before ↦ test-shl_low (63 - r) j (shl 1 y) before jl
@@ -38,6 +39,7 @@ joined x y r j small rl jl low =
 -- in the word that x from bit r on and y after it make, bit j is bit r + j - 64 of y where r + j is 64 or more
 pub joined-next : (x y r j : ℕ) → x < 2 ^ 64 → r < 64 → j < 64 → 64 ≤ r + j → test (bit_or (x / 2 ^ r) (shl (63 - r) (shl 1 y))) j ≡ test y (r + j - 64)
 joined-next x y r j small rl jl high =
+    -- bit j is past the bits of x, and is bit k of y, which was moved up by 64 - r
     let k = r + j - 64 in
     let is : 63 - r + (1 + k) ≡ j = omega (arith, high) in
     test-or (x / 2 ^ r) (shl (63 - r) (shl 1 y)) j
@@ -52,12 +54,15 @@ from_place words p j small jl =
     let y = get_or words (p / 64 + 1) 0 in
     let r = p % 64 in
     let rl : r < 64 = omega arith in
+    -- the bit lies in the word of the place, or in the next one
     elim (cases_lt (r + j) 64) [
       | inl low ↦
+          -- low: the bit r + j is within the word of the place p
           let word : p / 64 ≡ (p + j) / 64 = omega (arith, low) in
           let bit : r + j ≡ (p + j) % 64 = omega (arith, low) in
           joined x y r j small rl jl low ∙ ap₂ (λ w i. test (get_or words w 0) i) word bit
       | inr high ↦
+          -- high: it is in the next word, 64 bits on
           let word : p / 64 + 1 ≡ (p + j) / 64 = omega (arith, high, jl) in
           let bit : r + j - 64 ≡ (p + j) % 64 = omega (arith, high, jl) in
           joined-next x y r j small rl jl high ∙ ap₂ (λ w i. test (get_or words w 0) i) word bit
@@ -70,6 +75,7 @@ marks-more p text words k w within before now i below =
       | inl low ↦
           ap (λ x. test x (i % 64)) (get_or-set_other words k (i / 64) w 0 (λ same. omega (arith, same, low))) ∙ before i low
       | inr high ↦
+          -- the bit is one of the word that was put there
           let place : i / 64 ≡ k = omega (arith, high, below) in
           let at : 64 * k + i % 64 ≡ i = omega (arith, high, below) in
           ap (λ n. test (get_or (set words k w) n 0) (i % 64)) place
@@ -89,6 +95,7 @@ marks-front p text words n marks i below = marks i below ∙ ap p (sym (get_or-t
 pub front-ends : (p : ℕ → Bool) (text words : List ℕ) (k : ℕ) → p 0 ≡ true → 64 * k ≤ length text → k + 1 < length words → BitsTell p text words (64 * k)
     → BitsTell p (take (64 * k) text) (set (set words k 18446744073709551615) (k + 1) 18446744073709551615) (64 * words_for (64 * k))
 front-ends p text words k nul within room marks i below =
+    -- `front` ends at a word's end, so that each place past it is told by ones (`past`), in the first of the two words (`one`) and in the second
     let front = take (64 * k) text in
     let long : length front ≡ 64 * k = length-take-le (64 * k) text within in
     let past = λ (m j : ℕ) (from : k ≤ m) (h : j < 64). ones-past p front (64 * m) j nul (omega (arith, long, from)) h in

@@ -69,7 +69,7 @@ pub(crate) fn tail(text: &[u8], at: usize) -> u8x64
     u8x64::from_array(last)
 }
 
-// The bytes of a hostname, with the bit of small letters set, go from `-` up to `z`, which are so many bytes.
+// The first byte of the range from `-` up to `z`, in which the bytes of a hostname lie with the bit of small letters set.
 const FIRST: u8 = b'-';
 
 // How many bytes there are from `FIRST` up to `z`.

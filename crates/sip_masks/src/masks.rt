@@ -11,8 +11,11 @@ use std::simd::prelude::*;
 /// A text with its masks: it is seen as the text.
 #[derive(Debug, Drop)]
 pub struct Masks<'t, 'm> {
+    /// The text.
     text: &'t [u8],
+    /// A bit for each byte that is not plain.
     others: &'m [u64],
+    /// A bit for each control.
     controls: &'m [u64],
 }
 
@@ -38,6 +41,7 @@ fn mark(text: &[u8], other: &mut [u64], control: &mut [u64]) -> usize
     ensures lengths { (length other.new ≡ length other.old) × (length control.new ≡ length control.old) }
 {
     let mut word = 0;
+    // Each turn marks 64 bytes. It stops where the head of a message may end, since the rest is a body.
     while text.len() - 64 * word >= 64 {
         let v = u8x64::from_slice(&text[64 * word..]);
         let ends = controls(v);
@@ -45,6 +49,7 @@ fn mark(text: &[u8], other: &mut [u64], control: &mut [u64]) -> usize
         control[word] = ends;
         word += 1;
         if holds_empty_line(ends) {
+            // One word more is marked at all places, so that a search ends there.
             other[word] = !0;
             control[word] = !0;
             other[word + 1] = !0;
@@ -52,6 +57,7 @@ fn mark(text: &[u8], other: &mut [u64], control: &mut [u64]) -> usize
             return 64 * word;
         }
     }
+    // The last bytes are fewer than 64, and the places past the text are marked.
     let v = tail(text, 64 * word);
     other[word] = others(v);
     control[word] = controls(v);
@@ -60,12 +66,11 @@ fn mark(text: &[u8], other: &mut [u64], control: &mut [u64]) -> usize
     text.len()
 }
 
-// Whether four bits in a row are set, as those of the controls at the end of a head are. Nothing rests on the answer but how many
-// bytes are marked.
+// Whether a control stands three bytes after another, as at the end of a head, where the first of four controls in a row is a CR and the
+// last one a LF. Nothing rests on the answer but how many bytes are marked.
 #[inline(always)]
 fn holds_empty_line(ends: u64) -> bool {
-    let pairs = ends & (ends >> 1);
-    pairs & (pairs >> 2) != 0
+    ends & (ends >> 3) != 0
 }
 
 // The 64 bits of the words from place p on.

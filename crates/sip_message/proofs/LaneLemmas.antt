@@ -1,4 +1,5 @@
--- From the empty mask of one load to the bytes that pass a test.
+-- Where the mask of one load is 0, all bytes of the load pass a test, and a number of eight bytes keeps the first k of them when it is moved up.
+-- In the lemmas b0 to b7 are eight bytes, and h0 to h7 say that each is below 256; d is the bytes, i and j places in them, z a list of lanes.
 use Rattle.std.proofs.Common.{◌≡◌, ℕ, zero, suc, ◌+◌, ◌-◌, ◌*◌, ◌%◌, ◌^◌, ◌<◌, ◌≤◌, eqb, Bool, true, false, not, cond, ◌||◌, List, [], ◌∷◌, map, length, take, get_or, Fits, w8, w64, refl, sym, ap, ap₂, ◌∙◌, subst, arith}
 use Rattle.std.proofs.lemmas.Bool.{both_ways, agree_below, agree_below_at, not-true, eqb-true}
 use Rattle.std.proofs.lemmas.Simd.{map-map, mask_l-mod, length-chunk, length-zip2, get_or-chunk, get_or-zip2, leading_from_mask_l}
@@ -24,10 +25,13 @@ pub all_pass : (q : ℕ → Bool) (d : List ℕ) (i n : ℕ) (z : List ℕ) → 
     → eqb (mask_l (map (top 7) z) % 2 ^ 64) 0 ≡ true → (f : ℕ → ℕ) → z ≡ map f (chunk i n d)
     → agree_below (λ x. top 7 (f x) || q x) (λ _. true) 256 ≡ true → (k : ℕ) → i ≤ k → k < i + n → q (get_or d k 0) ≡ true
 all_pass q d i n z room few fits none f lanes all k from to =
+    -- v is the n bytes, whose top bits after f make the mask
     let v = chunk i n d in
     let long = length-chunk i n d room in
     let mask = ap (λ l. mask_l l % 2 ^ 64) (ap (map (top 7)) lanes ∙ map-map (top 7) f v) ∙ mask_l-mod (map (λ x. top 7 (f x)) v) 64 (omega (arith, length-map v (λ x. top 7 (f x)))) in
+    -- the mask is 0, so that all n bytes have no top bit
     let whole = leading_from_mask_l (λ x. top 7 (f x)) v (sym mask ∙ eqb-true _ 0 none) in
+    -- the byte at k is the one of the lane, whose top bit is not set
     let back : i + (k - i) ≡ k = omega arith in
     let at = get_or-chunk i n d (k - i) 0 (omega arith) ∙ ap (λ j. get_or d j 0) back in
     let clear = subst (λ x. top 7 (f x) ≡ false) at (not-true _ (prefix_len_passes (λ x. not (top 7 (f x))) v (k - i) 0 (omega arith))) in
@@ -40,12 +44,14 @@ none_set z n long few none k below =
     not-true _ (prefix_len_passes (λ x. not (top 7 x)) z k 0 (omega (arith, whole, long, below)))
 
 -- where the mask of the top bits of an operation on two loads of n bytes is 0, no top bit of the operation on a pair of their bytes is set
+-- a and b are made by f and g of the n bytes of d from i on and from j on, and o is the operation
 pub two_clear : (d : List ℕ) (i j n : ℕ) (o : ℕ → ℕ → ℕ) (f g : ℕ → ℕ) (a b : List ℕ) → i + n ≤ length d → j + n ≤ length d → n ≤ 64 → a ≡ map f (chunk i n d) → b ≡ map g (chunk j n d)
     → eqb (mask_l (map (top 7) (zip2 o a b)) % 2 ^ 64) 0 ≡ true → (k : ℕ) → k < n → top 7 (o (f (get_or d (i + k) 0)) (g (get_or d (j + k) 0))) ≡ false
 two_clear d i j n o f g a b room_i room_j few a_is b_is none k below =
     let long_a : length a ≡ n = ap length a_is ∙ length-map (chunk i n d) f ∙ length-chunk i n d room_i in
     let long_b : length b ≡ n = ap length b_is ∙ length-map (chunk j n d) g ∙ length-chunk j n d room_j in
     let long : length (zip2 o a b) ≡ n = length-zip2 o a b (long_a ∙ sym long_b) ∙ long_a in
+    -- each pair of lanes is of the bytes at the same distance from i and from j
     let first : get_or a k 0 ≡ f (get_or d (i + k) 0) =
     ap (λ l. get_or l k 0) a_is ∙ get_or-map f (chunk i n d) k 0 0 (omega (arith, length-chunk i n d room_i, below)) ∙ ap f (get_or-chunk i n d k 0 below) in
     let second : get_or b k 0 ≡ g (get_or d (j + k) 0) =
@@ -60,12 +66,14 @@ lanes_agree true false none = absurd (both_ways true none refl)
 lanes_agree false true none = absurd (both_ways true none refl)
 
 -- the number of eight bytes, moved up so that the first k are the highest, is the number of these k with NULs before them
+-- b0 to b7 are the eight bytes
 moved-up : (b0 b1 b2 b3 b4 b5 b6 b7 k : ℕ) → b0 < 256 → b1 < 256 → b2 < 256 → b3 < 256 → b4 < 256 → b5 < 256 → b6 < 256 → b7 < 256 → 1 ≤ k → k ≤ 8
     → from_le_bytes w64 (b0 ∷ b1 ∷ b2 ∷ b3 ∷ b4 ∷ b5 ∷ b6 ∷ b7 ∷ []) * 2 ^ (64 - 8 * k) % 2 ^ 64 ≡ from_le_bytes w64 (filled (take k (b0 ∷ b1 ∷ b2 ∷ b3 ∷ b4 ∷ b5 ∷ b6 ∷ b7 ∷ [])))
 moved-up b0 b1 b2 b3 b4 b5 b6 b7 zero h0 h1 h2 h3 h4 h5 h6 h7 some few = absurd (omega (arith, some))
 moved-up b0 b1 b2 b3 b4 b5 b6 b7 (suc zero) h0 h1 h2 h3 h4 h5 h6 h7 some few = omega (arith, h0, h1, h2, h3, h4, h5, h6, h7)
 moved-up b0 b1 b2 b3 b4 b5 b6 b7 (suc (suc zero)) h0 h1 h2 h3 h4 h5 h6 h7 some few = omega (arith, h0, h1, h2, h3, h4, h5, h6, h7)
 moved-up b0 b1 b2 b3 b4 b5 b6 b7 (suc (suc (suc zero))) h0 h1 h2 h3 h4 h5 h6 h7 some few = omega (arith, h0, h1, h2, h3, h4, h5, h6, h7)
+-- the number of bytes is 1 to 8, and each case is arithmetic
 moved-up b0 b1 b2 b3 b4 b5 b6 b7 (suc (suc (suc (suc zero)))) h0 h1 h2 h3 h4 h5 h6 h7 some few = omega (arith, h0, h1, h2, h3, h4, h5, h6, h7)
 moved-up b0 b1 b2 b3 b4 b5 b6 b7 (suc (suc (suc (suc (suc zero))))) h0 h1 h2 h3 h4 h5 h6 h7 some few = omega (arith, h0, h1, h2, h3, h4, h5, h6, h7)
 moved-up b0 b1 b2 b3 b4 b5 b6 b7 (suc (suc (suc (suc (suc (suc zero)))))) h0 h1 h2 h3 h4 h5 h6 h7 some few = omega (arith, h0, h1, h2, h3, h4, h5, h6, h7)
@@ -80,9 +88,11 @@ number-front [] k room fits some few = absurd (omega (arith, room))
 number-front (b0 ∷ []) k room fits some few = absurd (omega (arith, room))
 number-front (b0 ∷ b1 ∷ []) k room fits some few = absurd (omega (arith, room))
 number-front (b0 ∷ b1 ∷ b2 ∷ []) k room fits some few = absurd (omega (arith, room))
+-- fewer than eight bytes are no window
 number-front (b0 ∷ b1 ∷ b2 ∷ b3 ∷ []) k room fits some few = absurd (omega (arith, room))
 number-front (b0 ∷ b1 ∷ b2 ∷ b3 ∷ b4 ∷ []) k room fits some few = absurd (omega (arith, room))
 number-front (b0 ∷ b1 ∷ b2 ∷ b3 ∷ b4 ∷ b5 ∷ []) k room fits some few = absurd (omega (arith, room))
 number-front (b0 ∷ b1 ∷ b2 ∷ b3 ∷ b4 ∷ b5 ∷ b6 ∷ []) k room fits some few = absurd (omega (arith, room))
+-- eight bytes or more: the first eight make the number
 number-front (b0 ∷ b1 ∷ b2 ∷ b3 ∷ b4 ∷ b5 ∷ b6 ∷ b7 ∷ rest) k room fits some few =
     moved-up (small b0) (small b1) (small b2) (small b3) (small b4) (small b5) (small b6) (small b7) k (or_of_8 b0 32 (fits 0).fits (omega arith)) (or_of_8 b1 32 (fits 1).fits (omega arith)) (or_of_8 b2 32 (fits 2).fits (omega arith)) (or_of_8 b3 32 (fits 3).fits (omega arith)) (or_of_8 b4 32 (fits 4).fits (omega arith)) (or_of_8 b5 32 (fits 5).fits (omega arith)) (or_of_8 b6 32 (fits 6).fits (omega arith)) (or_of_8 b7 32 (fits 7).fits (omega arith)) some few ∙ ap (λ t. from_le_bytes w64 (filled t)) (take-map small k (b0 ∷ b1 ∷ b2 ∷ b3 ∷ b4 ∷ b5 ∷ b6 ∷ b7 ∷ []) ∙ ap (map small) (take-take k 8 (b0 ∷ b1 ∷ b2 ∷ b3 ∷ b4 ∷ b5 ∷ b6 ∷ b7 ∷ rest) few))

@@ -1,15 +1,17 @@
 -- Plain parts of values, and the texts of the grammar that they are.
+-- In the lemmas `at`, mid, to and end are places of a text in this order, h is a host, and u the text that it is of.
 use Rattle.std.proofs.Common.{◌≡◌, ℕ, suc, ◌+◌, ◌-◌, ◌<◌, ◌≤◌, true, false, ◌&&◌, ◌||◌, List, [], ◌∷◌, ◌++◌, Option, None, Some, length, take, drop, get_or, refl, sym, ap, ap₂, ◌∙◌, subst, inl, inr, arith}
 use Rattle.std.specs.Prelude.{codes}
 use Rattle.std.specs.Char.{is_ascii_alphanumeric}
 use Rattle.std.specs.List.{AllByRecursion, prefix_len}
 use Rattle.std.proofs.Math.Seq.{drop-cons, take-add}
-use Rattle.std.proofs.lemmas.Bool.{agree_below_at, and_parts, or_cases}
-use Rattle.std.proofs.lemmas.List.{drop-drop, append_assoc, append-nil, length-append, length-drop, length-take-le}
+use Rattle.std.proofs.lemmas.List.Sums.{prefix_len_passes}
+use Rattle.std.proofs.lemmas.Bool.{both_ways, agree_below_at, and_parts, or_cases, cases_lt}
+use Rattle.std.proofs.lemmas.List.{get_or-drop, drop-drop, append_assoc, append-nil, length-append, length-drop, length-take-le}
 use Rattle.sip_standard.specs.Text.{One, Exactly, ◌then◌, ◌or◌}
 use Rattle.sip_standard.specs.Chars.{is_among}
 use Rattle.sip_standard.specs.Profile.{Token, Sws, Blanks, Hostname, Ipv4, Bracketed, User, Port}
-use Rattle.sip_text.specs.Bytes.{at_sign, colon, equals, semicolon, space, Byte}
+use Rattle.sip_text.specs.Bytes.{carriage_return, at_sign, colon, equals, semicolon, space, Byte}
 use Rattle.sip_text.specs.Host.{HostParts, HostText, name, v4, v6, host_text}
 use Rattle.sip_text.specs.Uri.{SipParts, SipFits, sip, hostport_text, sip_text}
 use Rattle.sip_text.specs.inner.Class.{is_unreserved, is_user_unreserved}
@@ -21,7 +23,7 @@ use Rattle.sip_message.specs.Params.{OpensSolid, ParamsText, ParamsPart, BehindB
 use Rattle.sip_message.specs.inner.Marks.{left_angle, right_angle, Mark}
 use Rattle.sip_message.specs.Address.{AddressParts, AddressFits, DisplayName, name_addr}
 use Rattle.sip_message.specs.inner.AddressFronts.{Words}
-use Rattle.sip_message.specs.inner.Plain.{segment, LiesWithin, PlainRun, HostPort, SomeUri, Opening, PlainParam, SomeParams, SomeAddress}
+use Rattle.sip_message.specs.inner.Plain.{segment, EndsAt, LiesWithin, PlainRun, HostPort, SomeUri, Opening, PlainParam, SomeParams, SomeAddress}
 use Rattle.sip_message.proofs.QuickLemmas.{low-one, plain-token}
 use Rattle.sip_message.proofs.lemmas.front.Prefix.{prefix-at, all-some}
 use Rattle.sip_message.proofs.lemmas.params.Closed.{blanks-space}
@@ -40,7 +42,7 @@ segment-none text at =
     let none : at - at ≡ 0 = omega arith in
     ap (λ n. take n (drop at text)) none
 
--- a segment that begins with a SP is the SP and the segment behind it
+-- a segment that begins with a SP is the SP and the segment after it
 pub segment-space : (text : List ℕ) (at end : ℕ) → at < end → end ≤ length text → get_or text at 0 ≡ space → segment at end text ≡ space ∷ segment (at + 1) end text
 segment-space text at end some within is =
     let count : end - at ≡ suc (end - (at + 1)) = omega (arith, some) in
@@ -53,6 +55,7 @@ then-stands P Q text at end mid to p q =
     (omega (arith, p.0, q.0), q.1, (segment at mid text, segment mid to text, p.2, q.2, segment-cut text at mid to p.0 q.0))
 
 -- where a text of P lies between two places, and each text of P is of Q, a text of Q lies there
+-- the text of P, u, lies between the places `at` and `to`, of which `to` is not after `end`
 pub stands-as : (P Q : List ℕ → Type 0) (text : List ℕ) (at end to : ℕ) → ((u : List ℕ) → P u → Q u) → LiesWithin P text at end to → LiesWithin Q text at end to
 stands-as P Q text at end to turn p = (p.0, p.1, turn (segment at to text) p.2)
 
@@ -60,14 +63,41 @@ stands-as P Q text at end to turn p = (p.0, p.1, turn (segment at to text) p.2)
 pub whole-stands : (P : List ℕ → Type 0) (text : List ℕ) (at end : ℕ) → at ≤ end → P (segment at end text) → LiesWithin P text at end end
 whole-stands P text at end within p = (within, omega arith, p)
 
+-- the plain bytes from a place on end before the CR at the end of the line
+pub run-ends : (text : List ℕ) (at end n : ℕ) → at ≤ end → EndsAt text end → n ≡ prefix_len is_plain (drop at text) → at + n ≤ end
+run-ends text at end n before (within, stop) is =
+    elim (cases_lt (end - at) n) [
+      | inl past ↦
+          let place : at + (end - at) ≡ end = omega (arith, before) in
+          let byte : get_or (drop at text) (end - at) 0 ≡ carriage_return = get_or-drop at text (end - at) 0 ∙ ap (λ k. get_or text k 0) place ∙ stop in
+          let plain = prefix_len_passes is_plain (drop at text) (end - at) 0 (subst (λ k. end - at < k) is past) in
+          absurd (both_ways _ (ap is_plain byte) plain)
+      | inr most ↦ omega (arith, before, most)
+    ]
+
+-- a byte that is no control and stands at a place of the line stands before the CR at its end
+pub byte-before : (text : List ℕ) (at end byte : ℕ) → at ≤ end → EndsAt text end → 32 ≤ byte → get_or text at 0 ≡ byte → at < end
+byte-before text at end byte before (within, stop) mark is =
+    elim (cases_lt at end) [
+      | inl less ↦ less
+      | inr most ↦
+          let same : at ≡ end = omega (arith, before, most) in
+          absurd (omega (arith, mark, is, stop, ap (λ k. get_or text k 0) same))
+    ]
+
+-- a colon that follows the plain bytes from a place on stands before the CR at the end of the line
+pub colon-before : (text : List ℕ) (at end n : ℕ) → at ≤ end → EndsAt text end → n ≡ prefix_len is_plain (drop at text) → get_or text (at + n) 0 ≡ colon → at + n < end
+colon-before text at end n before ends is mark = byte-before text (at + n) end colon (run-ends text at end n before ends is) ends (omega arith) mark
+
 -- where some plain bytes stand from a place on, a run of plain bytes lies there
-pub run-stands : (text : List ℕ) (at end n : ℕ) → at < end → end ≤ length text → n ≡ prefix_len is_plain (drop at text) → 0 < n → n ≤ end - at → LiesWithin PlainRun text at end (at + n)
-run-stands text at end n before within is some most =
+pub run-stands : (text : List ℕ) (at end n : ℕ) → at ≤ end → EndsAt text end → n ≡ prefix_len is_plain (drop at text) → 0 < n → LiesWithin PlainRun text at end (at + n)
+run-stands text at end n before ends is some =
     let count : at + n - at ≡ n = omega arith in
+    let most = run-ends text at end n before ends is in
     let front = take n (drop at text) in
-    let len : length front ≡ n = length-take-le n (drop at text) (omega (arith, length-drop at text, before, within, most)) in
+    let len : length front ≡ n = length-take-le n (drop at text) (omega (arith, length-drop at text, ends.0, most)) in
     let run : PlainRun front = all-some is_plain front (prefix-at is_plain (drop at text) n is).0 (λ none. omega (arith, some, len, ap length none)) in
-    (omega arith, omega (arith, before, most), subst (λ k. PlainRun (take k (drop at text))) (sym count) run)
+    (omega arith, most, subst (λ k. PlainRun (take k (drop at text))) (sym count) run)
 
 -- a plain byte may stand in a user
 user-byte : (b : ℕ) → is_plain b ≡ true → (is_unreserved b || is_user_unreserved b) ≡ true
@@ -78,6 +108,7 @@ user-byte b is =
           (and_parts (is_unreserved b || is_user_unreserved b) (is_plain b) (agree_below_at (λ x. (is_unreserved x || is_user_unreserved x) && is_plain x) is_plain 256 b refl (low-one (codes "-.!*_+'~") b low mark) ∙ is)).0
     ]
   where
+    -- each of these bytes is below 256
     low : AllByRecursion (λ x. x < 256) (codes "-.!*_+'~")
     low = (omega arith, (omega arith, (omega arith, (omega arith, (omega arith, (omega arith, (omega arith, (omega arith, tt))))))))
 
@@ -85,6 +116,7 @@ user-byte b is =
 plain-user : (u : List ℕ) → PlainRun u → User u
 plain-user u run = some-map (One is_plain) (One is_user_unreserved or One is_unreserved or Escaped) u piece run
   where
+    -- a plain byte is a piece of a user
     piece : (v : List ℕ) → One is_plain v → (One is_user_unreserved or One is_unreserved or Escaped) v
     piece v one = elim (or_cases (is_unreserved one.0) (is_user_unreserved one.0) (user-byte one.0 one.1)) [
       | inl is ↦ inr (inl (one.0, is, one.2))
@@ -131,6 +163,7 @@ uri-owned u w =
     let hp = w.3.3.3 in
     let at = hostport_text hp.0 hp.1 in
     let p : SipParts = record { secure = false; user = Some user; password = None; host = hp.0; port = hp.1; params = []; headers = None } in
+    -- the user is plain, there is no password, and the URI has neither parameters nor headers
     let fits : SipFits p = record { user = plain-user user w.3.2; password = tt; owner = λ none. refl; host = hp.2; port = hp.3; params = many-nil _; headers = tt } in
     let text : sip_text p ≡ user ++ at_sign ∷ at =
     ap₂ (λ x y. (x ++ at_sign ∷ []) ++ y) (append-nil user) (append-nil (at ++ []) ∙ append-nil at) ∙ append_assoc user (at_sign ∷ []) at in
@@ -155,11 +188,13 @@ words-more u w =
 pub front-cut : (text u rest : List ℕ) (at end : ℕ) → at ≤ end → end ≤ length text → segment at end text ≡ u ++ rest
     → (at + length u ≤ end) × (segment at (at + length u) text ≡ u) × (segment (at + length u) end text ≡ rest)
 front-cut text u rest at end before within is =
+    -- n is the length of u; the segment is as long as u and the rest, so that u ends within it (`most`)
     let n = length u in
     let long : length (segment at end text) ≡ end - at = length-take-le (end - at) (drop at text) (omega (arith, length-drop at text, before, within)) in
     let most : at + n ≤ end = omega (arith, before, sym long ∙ ap length is ∙ length-append u rest) in
     let count : at + n - at ≡ n = omega arith in
     let len : length (segment at (at + n) text) ≡ n = length-take-le (at + n - at) (drop at text) (omega (arith, length-drop at text, most, within)) ∙ count in
+    -- two cuts at the same place have the same parts
     let same = append_cancel_both (segment at (at + n) text) (segment (at + n) end text) u rest len (sym (segment-cut text at (at + n) end (omega arith) most) ∙ is) in
     (most, same.0, same.1)
 
@@ -189,6 +224,7 @@ param-some text at end start behind first to mark run equal value =
     let name = segment start behind text in
     let v = segment first to text in
     let later : behind ≤ to = omega (arith, equal.0, value.0) in
+    -- the equals sign and the value stand after the name
     let led : (Mark equals then Exactly v) (segment behind to text) =
     (segment behind first text, v, subst (Mark equals) (sym equal.2) (mark-alone equals), refl, segment-cut text behind first to equal.0 value.0) in
     let whole : (Exactly name then Mark equals then Exactly v) (segment start to text) =
@@ -199,6 +235,7 @@ param-some text at end start behind first to mark run equal value =
 pub params-part : (p : List ℕ × Option (List ℕ)) (ps : List (List ℕ × Option (List ℕ))) (text : List ℕ) (at end to : ℕ) → LiesWithin (PlainParam p) text at end to → ParamsPart (segment to end text) ps → ParamsPart (segment at end text) (p ∷ ps)
 params-part p ps text at end to param later =
     let rest = segment to end text in
+    -- w.1 is the parameter without its ";", and `rest` the segment behind it
     let w = param.2 in
     let front : segment at to text ≡ semicolon ∷ w.1 = w.4 ∙ ap (λ t. t ++ w.1) w.2 in
     let whole : segment at end text ≡ semicolon ∷ (w.1 ++ rest) = segment-cut text at to end param.0 param.1 ∙ ap (λ t. t ++ rest) front in
@@ -217,6 +254,7 @@ behind-self (b ∷ u) = ([], b ∷ u, inl refl, refl, refl)
 -- what opens a URI in angles, a URI, ">" and parameters are an address
 pub address-plain : (u : List ℕ) → (Opening then SomeUri then Byte right_angle then SomeParams) u → SomeAddress u
 address-plain u w =
+    -- the text is w.0, the opening with "<", then the URI, ">" and the parameters; a is the address of these parts
     let opening = w.2 in
     let uri = w.3.0 in
     let params = w.3.3.1 in

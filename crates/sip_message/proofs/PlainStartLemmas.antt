@@ -22,7 +22,7 @@ reason-byte b clear =
       | inr high ↦ over (is_in_range 0x20 0x7E b) (b == tab) (nat_le 128 b) (le-leb 128 b (omega (arith, high)))
     ]
   where
-    -- the third test is enough
+    -- where z, the third of three tests that are joined by "or", passes, they pass together
     over : (x y z : Bool) → z ≡ true → (x || y || z) ≡ true
     over true y true is = refl
     over false true true is = refl
@@ -52,6 +52,7 @@ request-plain text end method uri to run mark is version =
     let m = segment 0 method text in
     let u = segment uri to text in
     let last : (Byte space then Version) (segment to end text) = (space ∷ [], codes "SIP/2.0", refl, refl, version) in
+    -- the parts are put together from the version, at the end, back to the method, each before those that were put together already
     let s1 = whole-stands (Byte space then Version) text to end is.1 last in
     let s2 = then-stands (Exactly u) (Byte space then Version) text uri end to end (is.0, is.1, refl) s1 in
     let s3 = then-stands (Byte space) (Exactly u then Byte space then Version) text method end uri end mark s2 in

@@ -13,7 +13,9 @@ PlainUser u = (u ≡ []) ⊎ (PlainRun then Byte at_sign) u
 
 -- "sip:", a plain user with its "@" or none, and a host with an optional port are a URI
 pub uri-plain : (u : List ℕ) → (Exactly (codes "sip:") then PlainUser then HostPort) u → SomeUri u
+-- s is "sip:" and r what follows it; x is the user with its "@", or nothing, and y the host with its port
 uri-plain u (s, r, scheme, (x, y, inl none, host, r_is), is) =
     uri-bare u (s, y, scheme, host, is ∙ ap (λ t. s ++ t) (r_is ∙ ap (λ t. t ++ y) none))
+-- p is the user and b the "@"
 uri-plain u (s, r, scheme, (x, y, inr (p, b, run, mark, x_is), host, r_is), is) =
     uri-owned u (s, r, scheme, (p, b ++ y, run, (b, y, mark, host, refl), r_is ∙ ap (λ t. t ++ y) x_is ∙ append_assoc p b y), is)

@@ -38,6 +38,7 @@ word-byte b is =
       | inr mark ↦ (and_parts (is_word_byte b) (is_plain b) (agree_below_at (λ x. is_word_byte x && is_plain x) is_plain 256 b refl (low-one (codes "-.!*_+'~") b low mark) ∙ is)).0
     ]
   where
+    -- each of these bytes is below 256
     low : AllByRecursion (λ x. x < 256) (codes "-.!*_+'~")
     low = (omega arith, (omega arith, (omega arith, (omega arith, (omega arith, (omega arith, (omega arith, (omega arith, tt))))))))
 
@@ -61,7 +62,7 @@ quoted-byte b is =
       | inr high ↦ over (b == 0x21) (is_in_range 0x23 0x5B b) (is_in_range 0x5D 0x7E b) (nat_le 128 b) (le-leb 128 b (omega (arith, high)))
     ]
   where
-    -- the fourth test is enough
+    -- where w, the fourth of four tests that are joined by "or", passes, they pass together
     over : (x y z w : Bool) → w ≡ true → (x || y || z || w) ≡ true
     over true y z true is = refl
     over false true z true is = refl
@@ -97,7 +98,7 @@ pub record ReadsShort (text : List ℕ) (at number : ℕ) : Type 0 where
   pub value : number ≡ digits_value 10 (take at text)
   pub small : number < 2 ^ 31
 
--- where the digits before the index write a number of at most eight digits, and the byte at the index is one, those up to it write ten times as much and it
+-- where the digits before the index write a number of at most eight digits, and a digit follows, all of them write ten times that number, plus the digit
 pub short-more : (text : List ℕ) (at number : ℕ) → at < length text → ReadsShort text at number → is_ascii_digit (get_or text at 0) ≡ true → number ≤ 99999999 → ReadsShort text (at + 1) (number * 10 + (get_or text at 0 - 48))
 short-more text at number within reads is short =
     let digit = digit-above (get_or text at 0) is in record {
@@ -120,6 +121,7 @@ pub cseq-plain : (text : List ℕ) (at end digits method number : ℕ) → LiesW
 cseq-plain text at end digits method number run mark is are value low =
     let d = segment at digits text in
     let m = segment method end text in
+    -- the SP and the method stand after the digits
     let behind : LiesWithin (Blanks then Exactly m) text digits end end = then-stands Blanks (Exactly m) text digits end method end (mark.0, mark.1, subst Blanks (sym mark.2) blanks-space) (is.0, is.1, refl) in
     record {
       digits = d;

@@ -1,4 +1,5 @@
 -- Plain elements of Via.
+-- In the lemmas `at`, to and end are places of a text in this order.
 use Rattle.std.proofs.Common.{◌≡◌, ℕ, List, [], ◌∷◌, Option, None, Some, refl, sym, ap, subst, inl}
 use Rattle.std.specs.Prelude.{IfSome}
 use Rattle.std.specs.Option.{option_or}
@@ -58,12 +59,13 @@ pub via-plain : (text : List ℕ) (at end name first version second transport se
     → LiesWithin (λ u. ColonPort port u × IfSome port Port) text behind end params → ViaParams (segment params end text) branch
     → ViaText (segment at end text) (record { protocol = segment at name text; version = segment first version text; transport = segment second transport text; host = host; port = port; params = segment params end text; branch = branch })
 via-plain text at end name first version second transport sent_by behind params host port branch protocol_is mark_is version_is mark_too transport_is space_is host_is port_is params_is =
+    -- p, v, t and `tail` are the texts of the protocol's name, the version, the transport and the parameters
     let p = segment at name text in
     let v = segment first version text in
     let t = segment second transport text in
     let tail = segment params end text in
     let own = host-own (segment sent_by behind text) host host_is.2 in
-    -- the parts fit
+    -- the parts are those of a Via
     let fits : ViaFits (record { protocol = p; version = v; transport = t; host = host; port = port; params = tail; branch = branch }) =
     record { protocol = run-token p protocol_is.2; version = run-token v version_is.2; transport = run-token t transport_is.2; host = own.0; port = port_is.2.1; params = params_is } in
     -- T1 to T8 are the texts of the last part, of the last two, and so on up to all but the first
@@ -75,7 +77,7 @@ via-plain text at end name first version second transport sent_by behind params 
     let T6 = Mark slash then T5 in
     let T7 = Exactly v then T6 in
     let T8 = Mark slash then T7 in
-    -- each of them stands from the beginning of its first part to the end
+    -- s1 to s8 say that each of these texts stands from the beginning of its first part to the end
     let s1 : LiesWithin T1 text params end end = whole-stands T1 text params end port_is.1 (behind-self tail) in
     let s2 : LiesWithin T2 text behind end end = then-stands (ColonPort port) T1 text behind end params end (port_is.0, port_is.1, port_is.2.0) s1 in
     let s3 : LiesWithin T3 text sent_by end end = then-stands (Exactly (host_text host)) T2 text sent_by end behind end (host_is.0, host_is.1, own.1) s2 in

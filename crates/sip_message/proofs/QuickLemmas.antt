@@ -7,6 +7,7 @@ use Rattle.std.specs.List.{AllByRecursion, filter, flat_map, list_all, list_any,
 use Rattle.std.proofs.Math.Seq.{drop-cons, take-append_seam, take-append-add}
 use Rattle.std.proofs.lemmas.Bool.{both_ways, agree_below_at, and_parts, or_cases, cases_lt, eqb-true, ltb-true, le-leb, ne_eqb}
 use Rattle.std.proofs.lemmas.List.{take-append-drop, drop-drop, append_assoc, append-nil, length-append, length-drop, length-take-le, length-map, length-replicate, map-append, take-map, drop-map}
+use Rattle.std.proofs.lemmas.List.Sums.{prefix_len-le-length}
 use Rattle.std.proofs.lemmas.Nat.{le_bytes_8, or_of_8}
 use Rattle.std.proofs.lemmas.Slice.Eq.{bytes_eq-Decides}
 use Rattle.std.proofs.lemmas.Grind.{flat_map-append}
@@ -29,12 +30,14 @@ use Rattle.sip_standard.specs.StartLine.{StartLine, request, status}
 use Rattle.sip_message.specs.inner.StartLine.{StartText}
 use Rattle.sip_message.specs.Field.{Field}
 use Rattle.sip_message.specs.inner.FieldText.{NameText, ValueText, FieldText, FieldsText}
+use Rattle.sip_standard.specs.Canonical.{unfolded}
+use Rattle.sip_message.specs.inner.MessageText.{AreUnfolded}
 use Rattle.sip_message.specs.inner.Quick.{is_open, IsOpen, AreOrdinary, IsOrdinary}
 use Rattle.sip_message.specs.inner.Numbers.{small, filled, number_of}
 use Rattle.sip_message.proofs.lemmas.text.Cuts.{All, all_left, all_right}
 use Rattle.sip_message.proofs.lemmas.text.Each.{each-one, each-many, wsp-blank}
 use Rattle.sip_message.proofs.lemmas.field.OneWay.{each-token, blank-token, name_whole}
-use Rattle.sip_message.proofs.lemmas.canon.Spelling.{Inner, AreInner, lines-head, inner-folds, inner-no_bare}
+use Rattle.sip_message.proofs.lemmas.canon.Spelling.{Inner, AreInner, unfolded-same, lines-head, inner-folds, inner-no_bare}
 use Rattle.sip_message.proofs.lemmas.lines.Reading.{fields-push}
 use Rattle.sip_message.proofs.lemmas.start_line.OneWay.{length-folded}
 
@@ -54,12 +57,17 @@ open-line text at end is room cr lf =
     let rest = drop (end + 2) text in
     let one : suc end ≡ end + 1 = omega arith in
     let two : suc (end + 1) ≡ end + 2 = omega arith in
+    -- at the end of the line stand CR, LF and the rest
     let ends : drop end text ≡ crlf ++ rest =
     drop-cons text end 0 (omega (arith, room)) ∙ ap₂ (λ b t. b ∷ t) cr (ap (λ k. drop k text) one ∙ drop-cons text (end + 1) 0 (omega (arith, room)) ∙ ap₂ (λ b t. b ∷ t) lf (ap (λ k. drop k text) two)) in
     let behind : drop n (drop at text) ≡ crlf ++ rest = drop-drop n at text ∙ ap (λ k. drop k text) (sym is) ∙ ends in (
       subst (λ k. IsOpen (take k (drop at text))) len (open-front (drop at text)),
       sym (take-append-drop n (drop at text)) ∙ ap₂ (λ k t. take k (drop at text) ++ t) len behind ∙ sym (append_assoc (take (end - at) (drop at text)) crlf rest),
     )
+
+-- the next control of a text, or its end, stands within it
+pub control-within : (text : List ℕ) (at end : ℕ) → at ≤ length text → end ≡ at + prefix_len is_open (drop at text) → end ≤ length text
+control-within text at end within is = omega (arith, within, is, length-drop at text, prefix_len-le-length is_open (drop at text))
 
 -- a byte that is no control may stand in a value that is not looked into, or is a blank
 open-byte : (b : ℕ) → is_open b ≡ true → (is_value_byte b || is_wsp b) ≡ true
@@ -70,7 +78,7 @@ open-byte b clear =
       | inr high ↦ over (nat_le 128 b) _ (is_wsp b) (le-leb 128 b (omega (arith, high)))
     ]
   where
-    -- the second test is enough
+    -- where x, the second of three tests that are joined by "or", passes, they pass together
     over : (x y z : Bool) → x ≡ true → ((y || x) || z) ≡ true
     over true true z is = refl
     over true false z is = refl
@@ -81,6 +89,7 @@ pub open-other : (text : List ℕ) → IsOpen text → OtherText text
 open-other [] clear = many-nil _
 open-other (b ∷ text) clear = many-cons _ (b ∷ []) text (piece (or_cases (is_value_byte b) (is_wsp b) (open-byte b clear.0))) (open-other text clear.1)
   where
+    -- whether b is a byte of a value or a blank, it is a piece of a value
     piece : (is_value_byte b ≡ true) ⊎ (is_wsp b ≡ true) → (Lws or One is_value_byte) (b ∷ [])
     piece (inl byte) = inr (b, byte, refl)
     piece (inr wsp) = inl (lws-blank (b ∷ []) ([], b ∷ [], inl refl, (b, wsp, refl), refl))
@@ -90,6 +99,7 @@ open-inner : (line : List ℕ) → IsOpen line → Inner line
 open-inner [] clear = tt
 open-inner (b ∷ line) clear = (inner b clear.0, open-inner line clear.1)
   where
+    -- a byte that is no control is neither CR nor LF
     inner : (b : ℕ) → is_open b ≡ true → is_inner_byte b ≡ true
     inner b clear =
         elim (cases_lt b 32) [
@@ -104,6 +114,7 @@ line-cut text at n end less within is =
     let t = drop at text in
     let long : n ≤ length t = omega (arith, length-drop at text, less, within) in
     let next : suc (at + n) ≡ at + n + 1 = omega arith in
+    -- after the n bytes stand the colon and what follows it
     let behind : drop n t ≡ colon ∷ drop (at + n + 1) text =
     drop-drop n at text ∙ drop-cons text (at + n) 0 (omega (arith, less, within)) ∙ ap₂ (λ b k. b ∷ drop k text) is next in
     let parts : t ≡ take n t ++ colon ∷ drop (at + n + 1) text = sym (take-append-drop n t) ∙ ap (λ r. take n t ++ r) behind in
@@ -128,6 +139,7 @@ plain-token b is =
           (and_parts (is_token_byte b) (is_plain b) (agree_below_at (λ x. is_token_byte x && is_plain x) is_plain 256 b refl (low-one (codes "-.!*_+'~") b low mark) ∙ is)).0
     ]
   where
+    -- each of these bytes is below 256
     low : AllByRecursion (λ x. x < 256) (codes "-.!*_+'~")
     low = (omega arith, (omega arith, (omega arith, (omega arith, (omega arith, (omega arith, (omega arith, (omega arith, tt))))))))
 
@@ -151,6 +163,7 @@ plain-named text at n end is some less within mark =
       spelled = name;
       is_token = plain-run (drop at text) n is some;
       name_is = refl;
+      -- the name, no blanks and the colon stand before the rest
       whole = (name, colon ∷ rest, refl, ([], colon ∷ rest, many-nil _, (colon ∷ [], rest, refl, refl, refl), refl), line-cut text at n end less within mark);
     }
 
@@ -175,6 +188,7 @@ line-begins line f is =
     let whole = name_whole line is.rest f.name n in
     (λ none. absurd (omega (arith, ap length (sym none ∙ whole), length-append n.spelled (n.whole.3.0 ++ colon ∷ is.rest), length-append n.whole.3.0 (colon ∷ is.rest))), λ begins. at n.spelled n.is_token _ (subst OpensBlank whole begins))
   where
+    -- a name begins with no blank, whatever follows it
     at : (name : List ℕ) → Token name → (more : List ℕ) → OpensBlank (name ++ more) → ⊥
     at [] token more begins = absurd (omega (arith, length-append token.0 token.1, ap length token.4, ap length token.2.2))
     at (b ∷ name) token more begins = both_ways (is_token_byte b) (blank-token b (wsp-blank b begins)) (each-token (b ∷ name) token).0
@@ -187,6 +201,21 @@ lines-begin (line ∷ lines) fields (f, fs, is, are, whole) clear =
     let later = lines-begin lines fs are clear.1 in
     (((open-inner line clear.0, begins.0), later.0), (begins.1, later.1))
 
+-- the value of a field whose line has no controls is not folded
+field-unfolded : (line : List ℕ) (f : Field) → FieldText line f → IsOpen line → unfolded f.value ≡ f.value
+field-unfolded line f is clear =
+    let n = is.named in
+    -- what follows the colon has no controls, and so the value has none
+    let behind = all_right is_open n.spelled (n.whole.3.0 ++ colon ∷ is.rest) (subst IsOpen (name_whole line is.rest f.name n) clear) in
+    let rest = (all_right is_open n.whole.3.0 (colon ∷ is.rest) behind).1 in
+    unfolded-same f.value (open-inner f.value (value-open is.rest f.value rest is.valued))
+
+-- where lines are fields and have no controls, no value of the fields is folded
+fields-unfolded : (lines : List (List ℕ)) (fields : List Field) → FieldsText lines fields → AllByRecursion IsOpen lines → AreUnfolded fields
+fields-unfolded [] fields are clear = subst AreUnfolded (sym are) tt
+fields-unfolded (line ∷ lines) fields (f, fs, is, are, whole) clear =
+    subst AreUnfolded (sym whole) (field-unfolded line f is clear.0, fields-unfolded lines fs are clear.1)
+
 -- a start line is not empty
 start-some : (line : List ℕ) (start : StartLine) → StartText line start → line ≡ [] → ⊥
 start-some line (request method uri) is none =
@@ -196,7 +225,7 @@ start-some line (status code reason) is none =
     let w = is.1 in
     absurd (omega (arith, ap length (sym none ∙ w.4), length-append w.0 w.1, ap length w.3.4, length-append w.3.0 w.3.1, ap length w.3.2))
 
--- the text between the two places is whole lines without controls, and they are these fields
+-- the text from the place `from` up to the place `at` is whole lines without controls, and they are these fields
 pub record LinesSoFar (text : List ℕ) (from at : ℕ) (fields : List Field) : Type 0 where
   pub lines : List (List ℕ)
   pub within : at ≤ length text
@@ -211,11 +240,13 @@ so_far-more text from at end fields f so room clear is field =
     let line = take (end - at) (drop at text) in
     let one : flat_map with_end (line ∷ []) ≡ with_end line = append-nil (with_end line) in
     record {
+      -- the line stands after the lines so far, and its field after theirs
       lines = so.lines ++ line ∷ [];
       within = room;
       whole = so.whole ∙ ap (λ t. flat_map with_end so.lines ++ t) is ∙ sym (append_assoc (flat_map with_end so.lines) (with_end line) (drop (end + 2) text))
           ∙ ap (λ t. t ++ drop (end + 2) text) (sym (flat_map-append with_end so.lines (line ∷ []) ∙ ap (λ t. flat_map with_end so.lines ++ t) one));
       are_open = AllByRecursion-append IsOpen so.lines (line ∷ []) so.are_open (clear, tt);
+      -- the new line has no controls, as the lines before it have none
       are = fields-push so.lines fields line f so.are field;
     }
 
@@ -231,10 +262,12 @@ ordinary-head bytes text more rest start fields end at bytes_is clear is is_star
     let first = take (end - 0) (drop 0 text) in
     let ls = flat_map with_end are.lines in
     let behind = drop (at + 2) text in
+    -- the lines have neither CR nor LF, and none of them is empty
     let begins = lines-begin are.lines fields are.are are.are_open in
     let inner : AreInner (first ∷ are.lines) = ((open-inner first clear, start-some first start is_start), begins.0) in
     let text_is : text ≡ (with_end first ++ ls) ++ (crlf ++ behind) =
     is ∙ ap (λ t. with_end first ++ t) (are.whole ∙ ap (λ t. ls ++ t) are.ends) ∙ sym (append_assoc (with_end first) ls (crlf ++ behind)) in
+    -- the head is the start line and these lines, and the empty line follows it
     let whole : bytes ≡ (with_end first ++ ls) ++ (crlf ++ rest) =
     bytes_is ∙ ap (λ t. t ++ more) text_is ∙ append_assoc (with_end first ++ ls) (crlf ++ behind) more ∙ ap (λ t. (with_end first ++ ls) ++ (crlf ++ t)) (sym rest_is) in
     record {
@@ -243,9 +276,11 @@ ordinary-head bytes text more rest start fields end at bytes_is clear is is_star
       others = are.lines;
       is_head = subst (λ t. CutSays t (with_end first ++ ls, rest)) (sym whole) (lines-head first are.lines rest inner);
       no_bare = inner-no_bare (first ∷ are.lines) inner;
+      -- the lines of the head are the start line and the fields
       are_lines = record { whole = refl; folded = inner-folds (first ∷ are.lines) inner; cut = begins.1 };
       is_start = is_start;
       are_fields = are.are;
+      no_folds = fields-unfolded are.lines fields are.are are.are_open;
     }
 
 -- each number of the text is a byte
@@ -261,6 +296,7 @@ token-small : (b : ℕ) → b < 256 → is_token_byte b ≡ true → is_name_byt
 token-small b low token name =
     eqb-true _ _ (by (is_token_byte b) (is_name_byte (small b)) _ token name (agree_below_at (λ x. not (is_token_byte x && is_name_byte (small x)) || to_ascii_lowercase x == small x) (λ _. true) 256 b refl low))
   where
+    -- where x and y hold, and z holds wherever both do, z holds
     by : (x y z : Bool) → x ≡ true → y ≡ true → (not (x && y) || z) ≡ true → z ≡ true
     by true true z one two is = is
     by true false z one two is = absurd (both_ways false refl two)
@@ -271,6 +307,7 @@ lower-small : (b : ℕ) → b < 256 → is_name_byte (to_ascii_lowercase b) ≡ 
 lower-small b low name =
     eqb-true _ _ (by (is_name_byte (to_ascii_lowercase b)) _ name (agree_below_at (λ x. not (is_name_byte (to_ascii_lowercase x)) || small x == to_ascii_lowercase x) (λ _. true) 256 b refl low))
   where
+    -- where x holds, and z holds wherever x does, z holds
     by : (x z : Bool) → x ≡ true → (not x || z) ≡ true → z ≡ true
     by true z one is = is
     by false z one is = absurd (both_ways false refl one)
@@ -293,7 +330,7 @@ folded-small (b ∷ text) fits name =
 abbrev pub is_some_byte : ℕ → Bool
 is_some_byte b = nat_lt 0 b
 
--- NULs before a text are no bytes of it that are not NUL
+-- without its NULs a text with n NULs before it is the text without its NULs
 without-nul : (n : ℕ) (text : List ℕ) → filter is_some_byte (replicate n 0 ++ text) ≡ filter is_some_byte text
 without-nul zero text = refl
 without-nul (suc n) text = without-nul n text
@@ -336,6 +373,7 @@ known-by text s k fits token is name found =
     sym (ap (λ t. spelled_by spellings t text) lower ∙ found)
 
 -- a token of at most eight bytes whose number is that of a spelling of a known name has that name
+-- n is the number of the token and k the known name; i is a place in the token
 pub short-known : (text : List ℕ) (n : ℕ) (k : Known) → ((i : ℕ) → Fits w8 (get_or text i 0)) → Token text → length text ≤ 8 → n ≡ number_of text
     → list_all is_name_byte (spelled n) ≡ true → spelled_by spellings (spelled n) text ≡ known k → known k ≡ name_of text
 short-known text n k fits token few is name found =
@@ -362,22 +400,25 @@ bytes-drop (suc n) [] fits = fits
 bytes-drop (suc n) (b ∷ text) fits = bytes-drop n text (λ j. fits (suc j))
 
 -- a token of at most sixteen bytes whose halves have the numbers of a spelling of a known name has that name
+-- m and n are the numbers of the two halves, k is the known name, and i a place in the text
 pub halved-known : (text : List ℕ) (m n : ℕ) (k : Known) → ((i : ℕ) → Fits w8 (get_or text i 0)) → Token text → length text ≤ 16 → m ≡ number_of (take 8 text) → n ≡ number_of (drop 8 text)
     → list_all is_name_byte (spelled m ++ spelled n) ≡ true → spelled_by spellings (spelled m ++ spelled n) text ≡ known k → known k ≡ name_of text
 halved-known text m n k fits token few first second name found =
     let bytes : Bytes text = λ i. (fits i).fits in
+    -- each half is as its number spells it, but for the case of its letters, so the whole name is what both numbers spell
     let front = number-bytes (take 8 text) m (bytes-take 8 text bytes) (few-front 8 text) first in
     let rest = number-bytes (drop 8 text) n (bytes-drop 8 text bytes) (omega (arith, few, length-drop 8 text)) second in
     let whole : map small text ≡ spelled m ++ spelled n =
     ap (map small) (sym (take-append-drop 8 text)) ∙ map-append small (take 8 text) (drop 8 text) ∙ ap₂ (λ a b. a ++ b) (sym front) (sym rest) in
     known-by text (spelled m ++ spelled n) k bytes token whole name found
 
--- a text whose lower case is none of the spellings of a list has no known name by it
+-- a text whose lower case is none of the spellings of a list is by the list a name that is not known
 unlisted : (list : List (List ℕ × Known)) (text : List ℕ) → AllByRecursion (λ s. folded text ≡ s.0 → ⊥) list → name_by list text ≡ other text
 unlisted [] text none = refl
 unlisted ((s, k) ∷ more) text none =
     ap (λ is. cond is (known k) (name_by more text)) (not_equal (bytes_eq (folded text) s) refl) ∙ unlisted more text none.1
   where
+    -- the text is not the first spelling of the list
     not_equal : (equal : Bool) → bytes_eq (folded text) s ≡ equal → bytes_eq (folded text) s ≡ false
     not_equal true is = absurd (none.0 ((bytes_eq-Decides (folded text) s).0 is))
     not_equal false is = is
@@ -389,6 +430,7 @@ pub short-other : (text : List ℕ) → ((i : ℕ) → Fits w8 (get_or text i 0)
 short-other text fits some few (via, (from, (to, (call_id, (cseq, (contact, (subject, (route, end)))))))) =
     sym (unlisted spellings text (name refl via, (one refl, (name refl from, (one refl, (name refl to, (one refl, (name refl call_id, (one refl, (name refl cseq, (long refl, (one refl, (name refl contact, (one refl, (long refl, (one refl, (long refl, (one refl, (name refl subject, (one refl, (long refl, (one refl, (name refl route, tt)))))))))))))))))))))))
   where
+    -- a text that spells a name has the number of that name
     name : {s : List ℕ} → list_all is_name_byte s ≡ true → (number_of text ≡ from_le_bytes w64 (filled s) → ⊥) → folded text ≡ s → ⊥
     name {s = s} all differs is = differs (ap (λ t. from_le_bytes w64 (filled t)) (folded-small text (λ i. (fits i).fits) (ap (list_all is_name_byte) is ∙ all) ∙ is))
 

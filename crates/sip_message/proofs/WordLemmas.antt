@@ -31,10 +31,12 @@ word_len text = if is_token_byte (slice_index text 0) then 1 else blank_len text
 
 -- where a blank stands at the front of a text, `word_len` gives its length
 word-blank : (u v : List ℕ) → Blank u → word_len (u ++ v) ≡ blank_len (u ++ v)
+-- the blank is one byte, which is no byte of a token
 word-blank u v (front, b, inl none, one, whole) =
     let text : u ≡ one.0 ∷ [] = whole ∙ ap (λ t. t ++ b) none ∙ one.2 in
     ap (λ t. word_len (t ++ v)) text ∙ ap (λ q. cond q 1 (blank_len (one.0 ∷ v))) (blank-token one.0 (wsp-blank one.0 one.1))
     ∙ sym (ap (λ t. blank_len (t ++ v)) text)
+-- the blank is a fold, which begins with CR
 word-blank u v (front, b, inr fold, one, whole) =
     let text : u ≡ crlf ++ (one.0 ∷ []) = whole ∙ ap (λ t. t ++ b) fold ∙ ap (λ t. crlf ++ t) one.2 in
     ap (λ t. word_len (t ++ v)) text ∙ sym (ap (λ t. blank_len (t ++ v)) text)
@@ -55,13 +57,14 @@ word-piece : (text : List ℕ) → (word_len text ≡ 0) ⊎ HasFront WordItem t
 word-piece [] = inl refl
 word-piece (a ∷ text) = at (is_token_byte a) refl
   where
+    -- a blank at the front is a piece of words
     blank : (blank_len (a ∷ text) ≡ 0) ⊎ HasFront WordItem (a ∷ text) (blank_len (a ∷ text))
     blank = elim (blank-step.piece (a ∷ text)) [
       | inl none ↦ inl none
       | inr front ↦ inr (front.0, front.1, inr front.2, front.3, front.4)
     ]
 
-    -- whether the first byte is one of a token
+    -- the claim holds whether or not the first byte is one of a token
     at : (token : Bool) → is_token_byte a ≡ token → (cond token 1 (blank_len (a ∷ text)) ≡ 0) ⊎ HasFront WordItem (a ∷ text) (cond token 1 (blank_len (a ∷ text)))
     at true is = inr (a ∷ [], text, inl (a, is, refl), refl, refl)
     at false is = blank
@@ -88,6 +91,7 @@ words-items : (w : List ℕ) → Words w → Many WordItem w
 words-items w (t, more, token, many, whole) =
     subst (Many WordItem) (sym whole) (many-append WordItem t more (token-items t token) (many-flat (Blanks then Token) WordItem more word many))
   where
+    -- blanks and a token are pieces of words
     word : (u : List ℕ) → (Blanks then Token) u → Many WordItem u
     word u (b, v, blanks, is, u_is) = subst (Many WordItem) (sym u_is) (many-append WordItem b v (blank-items b blanks) (token-items v is))
 
@@ -101,14 +105,18 @@ no_item : (t : List ℕ) → StopsBlank t → Stops is_token_byte t → word_len
 no_item [] blank token = refl
 no_item (a ∷ t) blank token = ap (λ q. cond q 1 (blank_len (a ∷ t))) token ∙ blank
 
--- the words at the front of a text are read in one way
+-- the words at the front of a text are read in one way: (w, r) and (x, s) are two readings, with the words and what is left; k and l are the blanks at
+-- the front of r and s, and stop and halt follow them
 pub one-words : (text : List ℕ) → AtMostOne (WordsFront text)
 one-words text (w, r) (x, s) (w_is, (stop, (stop_blank, (k, y, k_is, y_is, r_is)), stop_token), whole) (x_is, (halt, (halt_blank, (l, z, l_is, z_is, s_is)), halt_token), whole_too) =
+    -- the text is read in both ways as words, blanks and what follows
     let left : text ≡ (w ++ k) ++ stop = whole ∙ ap (λ t. w ++ t) (r_is ∙ ap (λ t. k ++ t) y_is) ∙ sym (append_assoc w k stop) in
     let right : text ≡ (x ++ l) ++ halt = whole_too ∙ ap (λ t. x ++ t) (s_is ∙ ap (λ t. l ++ t) z_is) ∙ sym (append_assoc x l halt) in
+    -- word items and blanks are told apart byte by byte, so that words and blanks together are the same texts in both readings
     let same = same_many WordItem word_len (w ++ k) stop (x ++ l) halt word-step
     (many-append WordItem w k (words-items w w_is) (sws-items k k_is)) (many-append WordItem x l (words-items x x_is) (sws-items l l_is))
     (sym left ∙ right) (no_item stop stop_blank stop_token) (no_item halt halt_blank halt_token) in
+    -- the words end where no blank does, and so they are the same, and so is what is left
     let words : w ≡ x = same_solid w k x l (words-solid w w_is) (words-solid x x_is) (each-sws k k_is) (each-sws l l_is) same.0 in
     let rests : r ≡ s = append_cancel_left x r s (ap (λ t. t ++ r) (sym words) ∙ sym whole ∙ whole_too) in
     ap (λ t. (t, r)) words ∙ ap (λ t. (x, t)) rests
@@ -139,7 +147,8 @@ cut-at text front rest n whole n_is = (
   ap (λ m. drop m text) n_is ∙ ap (drop (length front)) whole ∙ drop-append_seam front rest,
 )
 
--- where blanks and a token follow the words so far, they and these are the words so far
+-- where blanks and a token follow the words so far, the words so far with the blanks and the token are words so far, too
+-- `at` is how far the words so far go, b how many blanks follow, and w how long the token after these is
 pub words-more : (text rest stop : List ℕ) (at b w : ℕ) → rest ≡ drop at text → stop ≡ drop b rest → WordsSoFar text at → b ≤ length rest → w ≤ length stop → IsLongestFront Blanks rest b → (b ≡ 0 → ⊥) → IsLongestFront Token stop w → (w ≡ 0 → ⊥) → WordsSoFar text (at + (b + w))
 words-more text rest stop at b w rest_is stop_is so b_in w_in blanks some_b token some_w = record {
   within = omega (arith, ap length whole, length-append (take at text ++ (u ++ take w stop)) (drop w stop), size);
@@ -147,26 +156,33 @@ words-more text rest stop at b w rest_is stop_is so b_in w_in blanks some_b toke
   stops = subst (Stops is_token_byte) (sym cut.1) word.1;
 }
   where
+    -- blanks stand at the front of the rest
     front : BlanksFront rest (drop b rest)
     front = (longest-blanks_front rest b blanks some_b).0
 
+    -- a token stands after the blanks
     word : TokenFront stop (take w stop, drop w stop)
     word = token-cut stop w token some_w
 
+    -- the blanks that stand before the rest
     u : List ℕ
     u = front.1.0
 
+    -- the rest is the blanks and what stops them
     rest_whole : rest ≡ u ++ stop
     rest_whole = front.1.4 ∙ ap (λ t. u ++ t) (front.1.3 ∙ sym stop_is)
 
+    -- the text is the words so far, the blanks, the token and what is left
     whole : text ≡ (take at text ++ (u ++ take w stop)) ++ drop w stop
     whole =
         sym (take-append-drop at text) ∙ ap (λ t. take at text ++ t) (sym rest_is ∙ rest_whole ∙ ap (λ t. u ++ t) (sym (take-append-drop w stop)) ∙ sym (append_assoc u (take w stop) (drop w stop)))
         ∙ sym (append_assoc (take at text) (u ++ take w stop) (drop w stop))
 
+    -- the words, the blanks and the token have this length together
     size : length (take at text ++ (u ++ take w stop)) ≡ at + (b + w)
     size = omega (arith, length-append (take at text) (u ++ take w stop), length-append u (take w stop), length-take-le at text so.within, length-take-le w stop w_in, ap length rest_whole, length-append u stop, ap length stop_is, length-drop b rest, b_in)
 
+    -- the text is cut after the token
     cut : (take (at + (b + w)) text ≡ take at text ++ (u ++ take w stop)) × (drop (at + (b + w)) text ≡ drop w stop)
     cut = cut-at text (take at text ++ (u ++ take w stop)) (drop w stop) (at + (b + w)) whole (sym size)
 
@@ -176,12 +192,14 @@ words-all text rest stop at b w rest_is stop_is so blanks token none =
     read-one (WordsFront text) (take at text, rest) (one-words text)
     (so.words, (drop b rest, (longest-behind rest b blanks).0, stops none), sym (take-append-drop at text) ∙ ap (λ t. take at text ++ t) (sym rest_is))
   where
+    -- where no blank or no token follows the words so far, no token follows the blanks
     stops : (b ≡ 0) ⊎ (w ≡ 0) → Stops is_token_byte (drop b rest)
     stops (inl no_blank) = subst (Stops is_token_byte) (sym (ap (λ n. drop n rest) no_blank ∙ rest_is)) so.stops
     stops (inr no_word) = subst (Stops is_token_byte) stop_is (longest-stops stop 0 (subst (IsLongestFront Token stop) no_word token))
 
 -- where no token stands at the front of a text, no words do
 pub no-words : (text : List ℕ) (n : ℕ) → IsLongestFront Token text n → n ≡ 0 → NotRead (WordsFront text)
+-- w would be the words and r what is left, t the first token of w
 no-words text n longest none (w, r) ((t, more, token, many, w_is), no_word, whole) =
     let low = longest.longest (length t) (t, more ++ r, token, whole ∙ ap (λ x. x ++ r) w_is ∙ append_assoc t more r, refl) in
     some-run is_token_byte t token (length-none t (omega (arith, low, none)))

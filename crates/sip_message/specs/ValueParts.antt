@@ -8,12 +8,12 @@ use Rattle.sip_message.specs.declared.start_line.StartLine.TheVariants as varian
 use Rattle.sip_standard.specs.StartLine.{StartLine, request, status}
 use Rattle.sip_message.specs.Address.{AddressParts}
 
--- the start line that the code's one means
+-- the start line that a start line of the code means
 abbrev pub start_parts : Code → StartLine
 start_parts (variant.Request method uri) = request method.now uri.now
 start_parts (variant.Status code reason) = status code reason.now
 
--- the address that the code's one means, with its whole text
+-- the address that an address of the code means, with its whole text
 abbrev pub address_parts : Address → List ℕ × AddressParts
 address_parts a = (a.whole.now, record { display = option_copied a.display; uri_text = a.uri_text.now; uri = uri_parts a.uri; params = a.params.now })
 

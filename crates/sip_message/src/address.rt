@@ -29,8 +29,11 @@ pub struct Address<'a> {
 // The texts in which an address is cut before they are judged.
 #[derive(Clone, Copy)]
 struct Cuts<'a> {
+    // The text of the display name, if there is one.
     display: Option<&'a [u8]>,
+    // The text of the URI.
     uri: &'a [u8],
+    // What follows the URI, or the ">" after it.
     rest: &'a [u8],
 }
 

@@ -1,18 +1,18 @@
 //! The canonical form of a message, and how it is written.
-ghost use Rattle.std.specs.Prelude.{◌≡◌, ◌≤◌, ◌<◌, ◌++◌, ℕ, List, decimal, OnOk, OnErr};
+ghost use Rattle.std.specs.Prelude.{◌≡◌, ◌≤◌, ◌<◌, ◌++◌, ℕ, List, decimal, false, OnOk, OnErr};
 ghost use Rattle.std.specs.List.{list_any};
-ghost use Rattle.sip_message.specs.inner.Lines.{with_end};
 ghost use Rattle.sip_standard.specs.Field.{is_lws_byte};
 ghost use Rattle.sip_standard.specs.Canonical.{is_end_byte, unfolded, unfolded_run, start_text};
+ghost use Rattle.sip_message.specs.Name.{known};
 ghost use Rattle.sip_message.specs.Canon.{IsFormOf};
-ghost use Rattle.sip_message.specs.inner.Canon.{name_text, field_text, canon, Appends, HasCode, fields_text};
-ghost use Rattle.sip_message.specs.inner.MessageText.{unfolded_field, message_of};
+ghost use Rattle.sip_message.specs.inner.Canon.{front_text, after_end, written_value, written_field, field_text, canon, Appends, HasCode, fields_text};
+ghost use Rattle.sip_message.specs.inner.MessageText.{AreUnfolded, message_of};
 ghost use Rattle.sip_message.specs.inner.Views.{name_parts, field_parts, slice_fields};
 ghost use Rattle.sip_message.specs.ValueParts.{start_parts};
 
 use crate::field::Field;
 use crate::message::Message;
-use crate::name::{Name, long_name};
+use crate::name::{Known, Name};
 use crate::start_line::StartLine;
 use memchr::memchr2;
 use std::alloc::AllocError;
@@ -50,13 +50,37 @@ fn code_text(code: u16) -> [u8; 3]
     ]
 }
 
-// Appends the name, in its long form if it is known.
-fn append_name(name: Name<'_>, out: &mut Vec<u8>) -> Result<(), AllocError>
-    ensures { Appends out.old.items out.new.items (name_text (name_parts name.entry)) result }
+// Appends what stands before the value of a field of this name: the end of the line before it, the name and ": ".
+fn append_front(name: Name<'_>, out: &mut Vec<u8>) -> Result<(), AllocError>
+    ensures { Appends out.old.items out.new.items (front_text (name_parts name.entry)) result }
 {
     match name {
-        Name::Known(known) => append(long_name(known), out),
-        Name::Other(text) => append(text, out),
+        Name::Known(long) => append(front_of(long), out),
+        Name::Other(text) => {
+            append(b"\r\n", out)?;
+            append(text, out)?;
+            append(b": ", out)
+        }
+    }
+}
+
+// What stands before the value of a field of a known name, which is written in its long form.
+fn front_of(name: Known) -> &'static [u8]
+    ensures { result.now ≡ front_text (known name) }
+{
+    match name {
+        Known::Via => b"\r\nVia: ",
+        Known::From => b"\r\nFrom: ",
+        Known::To => b"\r\nTo: ",
+        Known::CallId => b"\r\nCall-ID: ",
+        Known::CSeq => b"\r\nCSeq: ",
+        Known::ContentLength => b"\r\nContent-Length: ",
+        Known::Contact => b"\r\nContact: ",
+        Known::ContentEncoding => b"\r\nContent-Encoding: ",
+        Known::ContentType => b"\r\nContent-Type: ",
+        Known::Subject => b"\r\nSubject: ",
+        Known::Supported => b"\r\nSupported: ",
+        Known::Route => b"\r\nRoute: ",
     }
 }
 
@@ -111,40 +135,58 @@ fn append(text: &[u8], out: &mut Vec<u8>) -> Result<(), AllocError>
     out.extend_from_slice(text)
 }
 
-// Appends the field with its line end.
-pub(crate) fn append_field(field: &Field<'_>, out: &mut Vec<u8>) -> Result<(), AllocError>
-    ensures { Appends out.old.items out.new.items (with_end (field_text (unfolded_field (field_parts field.entry.now)))) result }
+// Appends the value, unfolded where it may be folded.
+fn append_value(value: &[u8], may_fold: bool, out: &mut Vec<u8>) -> Result<(), AllocError>
+    ensures { Appends out.old.items out.new.items (written_value may_fold value.now) result }
 {
-    append_name(field.name, out)?;
-    append(b": ", out)?;
-    append_unfolded(field.value, out)?;
-    append(b"\r\n", out)
+    if may_fold {
+        append_unfolded(value, out)
+    } else {
+        append(value, out)
+    }
 }
 
-// Appends the fields, each with its line end.
-pub(crate) fn append_fields(fields: &[Field<'_>], out: &mut Vec<u8>) -> Result<(), AllocError>
-    ensures { Appends out.old.items out.new.items (fields_text (slice_fields fields.entry)) result }
+// Appends the field, after the end of the line before it.
+pub(crate) fn append_field(
+    field: &Field<'_>,
+    may_fold: bool,
+    out: &mut Vec<u8>,
+) -> Result<(), AllocError>
+    ensures { Appends out.old.items out.new.items (after_end (field_text (written_field may_fold (field_parts field.entry.now)))) result }
+{
+    append_front(field.name, out)?;
+    append_value(field.value, may_fold, out)
+}
+
+// Appends the fields, each after the end of the line before it.
+pub(crate) fn append_fields(
+    fields: &[Field<'_>],
+    may_fold: bool,
+    out: &mut Vec<u8>,
+) -> Result<(), AllocError>
+    ensures { Appends out.old.items out.new.items (fields_text may_fold (slice_fields fields.entry)) result }
 {
     'fields: for field in fields {
-        append_field(field, out)?;
+        append_field(field, may_fold, out)?;
     }
     Ok(())
 }
 
-// Appends all that stands before the body.
+// Appends the form of a message of these parts.
 fn append_all(
     start: StartLine<'_>,
     fields: &[Field<'_>],
+    may_fold: bool,
     body: &[u8],
     out: &mut Vec<u8>,
 ) -> Result<(), AllocError>
-    requires { HasCode (start_parts start) }
+    requires code { HasCode (start_parts start) }
+    requires no_folds { may_fold ≡ false → AreUnfolded (slice_fields fields) }
     ensures { Appends out.old.items out.new.items (canon (message_of (record { start = start_parts start.entry; fields = slice_fields fields.entry; body = body.now }))) result }
 {
     append_start(start, out)?;
-    append(b"\r\n", out)?;
-    append_fields(fields, out)?;
-    append(b"\r\n", out)?;
+    append_fields(fields, may_fold, out)?;
+    append(b"\r\n\r\n", out)?;
     append(body, out)
 }
 
@@ -155,7 +197,7 @@ pub fn write(m: &Message<'_>, out: &mut Vec<u8>) -> Result<(), AllocError>
 {
     m.known();
     let len = out.len();
-    if let Err(e) = append_all(m.start(), m.fields(), m.body(), out) {
+    if let Err(e) = append_all(m.start(), m.fields(), m.may_fold(), m.body(), out) {
         out.truncate(len);
         return Err(e);
     }

@@ -1,10 +1,11 @@
 //! Messages.
-ghost use Rattle.std.specs.Prelude.{◌≡◌, ◌∷◌, ℕ, List, IsTrue};
+ghost use Rattle.std.specs.Prelude.{◌≡◌, ◌∷◌, ℕ, List, false, IsTrue};
 ghost use Rattle.sip_message.specs.Only.{IsOnly};
 ghost use Rattle.sip_message.specs.inner.Only.{ExactlyOne, the, One-prop};
 ghost use Rattle.sip_message.specs.Reading.{Reading, Parts, HasParts};
 ghost use Rattle.sip_message.specs.inner.Codes.{parts_code};
 ghost use Rattle.sip_message.specs.inner.Kept.{KeepsRead};
+ghost use Rattle.sip_message.specs.inner.MessageText.{AreUnfolded};
 ghost use Rattle.sip_message.specs.inner.Views.{fields_parts, slice_fields};
 ghost use Rattle.sip_message.specs.ValueParts.{start_parts, address_parts, cseq_parts};
 ghost use Rattle.sip_message.specs.ViaParts.{element};
@@ -31,11 +32,15 @@ pub struct Message<'a> {
     start: StartLine<'a>,
     fields: Vec<Field<'a>>,
     body: &'a [u8],
+    /// The top Via, and the values of From, To and Call-ID, and the CSeq, as they were found in the fields.
     via: Via<'a>,
     from: &'a [u8],
     to: &'a [u8],
     call_id: &'a [u8],
     cseq: CSeq<'a>,
+    /// Whether a value of the fields may be folded.
+    may_fold: bool,
+    // The fields have the parts of a message in one way only.
     ghost parts: { ExactlyOne (HasParts (fields_parts fields)) } by { One-prop parts_code (HasParts (fields_parts fields)) },
 }
 
@@ -44,7 +49,7 @@ impl<'a> Model for Message<'a> {
 
     ghost view = { λ m. record { message = record { start = start_parts m.start; fields = fields_parts m.fields; body = m.body.now }; parts = the m.parts } };
 
-    ghost invariant = { λ m. KeepsRead (record { start = start_parts m.start; fields = fields_parts m.fields; body = m.body.now }) (the m.parts) (element m.via) m.from.now m.to.now m.call_id.now (cseq_parts m.cseq) };
+    ghost invariant = { λ m. KeepsRead (record { start = start_parts m.start; fields = fields_parts m.fields; body = m.body.now }) (the m.parts) (element m.via) m.from.now m.to.now m.call_id.now (cseq_parts m.cseq) × (m.may_fold ≡ false → AreUnfolded (fields_parts m.fields)) };
 }
 
 impl<'a> Message<'a> {
@@ -61,8 +66,10 @@ impl<'a> Message<'a> {
         to: &'a [u8],
         call_id: &'a [u8],
         cseq: CSeq<'a>,
+        may_fold: bool,
     ) -> Self
-        requires { (p : Parts) × KeepsRead (record { start = start_parts start; fields = fields_parts fields; body = body.now }) p (element via) from.now to.now call_id.now (cseq_parts cseq) }
+        requires keeps { (p : Parts) × KeepsRead (record { start = start_parts start; fields = fields_parts fields; body = body.now }) p (element via) from.now to.now call_id.now (cseq_parts cseq) }
+        requires no_folds { may_fold ≡ false → AreUnfolded (fields_parts fields) }
         ensures message { ◌≡◌ {A = Text} result.message (record { start = start_parts start.entry; fields = fields_parts fields.entry; body = body.entry.now }) }
         ensures parts { IsOnly (HasParts result.message.fields) result.parts }
     {
@@ -75,6 +82,7 @@ impl<'a> Message<'a> {
             to,
             call_id,
             cseq,
+            may_fold,
         }
     }
 
@@ -91,17 +99,28 @@ impl<'a> Message<'a> {
             return Message::any(alloc, bytes);
         }
         let via = asked.via.unwrap();
-        let from = asked.from.unwrap();
-        let to = asked.to.unwrap();
-        let call_id = asked.call_id.unwrap();
         let cseq = asked.cseq.unwrap();
         let Some(len) = body_len(&start, &via, &cseq, asked.content_length, rest) else {
             return Message::any(alloc, bytes);
         };
-        Ok(Message::new(start, fields, &rest[..len], via, from, to, call_id, cseq))
+        let from = asked.from.unwrap();
+        let to = asked.to.unwrap();
+        let call_id = asked.call_id.unwrap();
+        Ok(Message::new(
+            start,
+            fields,
+            &rest[..len],
+            via,
+            from,
+            to,
+            call_id,
+            cseq,
+            false,
+        ))
     }
 
-    // The same for any message. The answer comes into a place of its own, so that an ordinary message needs none.
+    // The message that the bytes spell, whatever its head is like, or their first fault. The answer comes into a place of its own, so that an
+    // ordinary message needs none.
     #[inline(always)]
     fn any(alloc: Global, bytes: &'a [u8]) -> Result<Self, ReadError>
         ensures { ReadsTo bytes.entry.now result }
@@ -109,11 +128,12 @@ impl<'a> Message<'a> {
         Message::whole(alloc, bytes)
     }
 
-    // The same, read anew.
+    // The message that the bytes spell, or their first fault, by the reader of all heads. It reads the bytes from their front.
     #[inline(never)]
     fn whole(alloc: Global, bytes: &'a [u8]) -> Result<Self, ReadError>
         ensures { ReadsTo bytes.entry.now result }
     {
+        // The head ends at the first empty line, and each CR in it is followed by LF.
         let Some((head, rest)) = cut_head(bytes) else {
             return Err(ReadError::Fault(Fault {
                 unit: Unit::Head,
@@ -126,6 +146,7 @@ impl<'a> Message<'a> {
                 reason: Reason::BareLineEnd,
             }));
         }
+        // The first line is the start line, and the others are fields.
         let (first, lines) = cut_first(head);
         let Some(start) = read_start(first) else {
             return Err(ReadError::Fault(Fault {
@@ -133,6 +154,7 @@ impl<'a> Message<'a> {
                 reason: Reason::StartLine,
             }));
         };
+        // The fields that are asked for are kept as they are read.
         let (fields, kept) = read_fields(alloc, lines)?;
         let named = find_named(&fields)?;
         let via = kept.via.unwrap();
@@ -147,6 +169,7 @@ impl<'a> Message<'a> {
             named.to,
             named.call_id,
             cseq,
+            true,
         ))
     }
 
@@ -233,6 +256,13 @@ impl<'a> Message<'a> {
         ensures { slice_fields result ≡ self.now.message.fields }
     {
         &self.fields
+    }
+
+    // Whether a value of the fields may be folded.
+    pub(crate) fn may_fold(&self) -> bool
+        ensures { result ≡ false → AreUnfolded self.now.message.fields }
+    {
+        self.may_fold
     }
 
     /// Does nothing. Its contract tells that some bytes are read as this message.

@@ -1,6 +1,6 @@
 //! The names of fields.
 ghost use Rattle.std.specs.Prelude.{◌≡◌, ◌≢◌, ◌≤◌, ◌∷◌, [], length, take, drop};
-ghost use Rattle.sip_message.specs.Name.{name_of, long_name};
+ghost use Rattle.sip_message.specs.Name.{name_of};
 ghost use Rattle.sip_message.specs.inner.Views.{name_parts};
 ghost use Rattle.sip_standard.specs.Profile.{Token};
 ghost use Rattle.sip_message.specs.inner.Names.{name_or};
@@ -88,30 +88,43 @@ fn known_name(text: &[u8]) -> Option<Known>
 // a name is the highest byte of its number.
 const VIA: u64 = 0x6169_7600_0000_0000;
 
+// The number of From.
 const FROM: u64 = 0x6d6f_7266_0000_0000;
 
+// The number of To.
 const TO: u64 = 0x6f74_0000_0000_0000;
 
+// The number of Call-ID.
 const CALL_ID: u64 = 0x6469_2d6c_6c61_6300;
 
+// The number of CSeq.
 const CSEQ: u64 = 0x7165_7363_0000_0000;
 
+// The number of Contact.
 const CONTACT: u64 = 0x7463_6174_6e6f_6300;
 
+// The number of Subject.
 const SUBJECT: u64 = 0x7463_656a_6275_7300;
 
+// The number of Route.
 const ROUTE: u64 = 0x6574_756f_7200_0000;
 
+// The number of the first eight letters of Supported.
 const SUPPORTE: u64 = 0x6574_726f_7070_7573;
 
+// The number of the last letter of Supported.
 const D: u64 = 0x6400_0000_0000_0000;
 
+// The number of `content-`, the first half of Content-Length, Content-Type and Content-Encoding.
 const CONTENT: u64 = 0x2d74_6e65_746e_6f63;
 
+// The number of the second half of Content-Length.
 const LENGTH: u64 = 0x6874_676e_656c_0000;
 
+// The number of the second half of Content-Type.
 const TYPE: u64 = 0x6570_7974_0000_0000;
 
+// The number of the second half of Content-Encoding.
 const ENCODING: u64 = 0x676e_6964_6f63_6e65;
 
 /// The name that the first `len` bytes of the window, which are a token, spell. Where the window has 16 bytes or more, the
@@ -224,25 +237,5 @@ fn full_name(text: &[u8]) -> Option<Known>
         14 if same_text(text, b"Content-Length") => Some(Known::ContentLength),
         16 if same_text(text, b"Content-Encoding") => Some(Known::ContentEncoding),
         _ => None,
-    }
-}
-
-/// The long form of a known name.
-pub(crate) fn long_name(name: Known) -> &'static [u8]
-    ensures { result.now ≡ long_name name }
-{
-    match name {
-        Known::Via => b"Via",
-        Known::From => b"From",
-        Known::To => b"To",
-        Known::CallId => b"Call-ID",
-        Known::CSeq => b"CSeq",
-        Known::ContentLength => b"Content-Length",
-        Known::Contact => b"Contact",
-        Known::ContentEncoding => b"Content-Encoding",
-        Known::ContentType => b"Content-Type",
-        Known::Subject => b"Subject",
-        Known::Supported => b"Supported",
-        Known::Route => b"Route",
     }
 }

@@ -6,7 +6,7 @@ ghost use Rattle.sip_message.specs.inner.Values.{OtherText, is_plain_byte, ArePl
 
 use std::simd::prelude::*;
 
-// How many bytes are looked at in one step, and how many of a short text.
+// How many bytes are looked at in one step.
 const BLOCK: usize = 16;
 
 // How many bytes of a short text are looked at in one step.
@@ -55,7 +55,8 @@ fn blocks_len(text: &[u8]) -> usize
     if at == 0 { halves_len(text) } else { at }
 }
 
-// The length of such a front of a short text, found by its first 8 bytes and its last 8.
+// The length of a front of bytes of a value and blanks, of a text whose first 16 bytes are not all such, found by its first 8 bytes and
+// its last 8.
 #[inline]
 fn halves_len(text: &[u8]) -> usize
     ensures plain { ArePlain text.now 0 result }

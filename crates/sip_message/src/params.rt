@@ -42,7 +42,8 @@ pub(crate) fn cut_param(text: &[u8]) -> Option<(&[u8], Option<&[u8]>, &[u8])>
     Some((name, value, rest))
 }
 
-// The value at the front after its `=`, if there is a `=`, and what is left.
+// The value at the front after its `=`, and what is left. A text without a `=` at its front gives no value, and is left whole. The result is
+// None where no value stands after the `=`.
 #[inline(always)]
 fn cut_led_value(text: &[u8]) -> Option<(Option<&[u8]>, &[u8])>
     ensures { IsOnlyValue (LedFront equals ValueFront) led_parts text.now result }

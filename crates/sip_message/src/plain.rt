@@ -1,13 +1,14 @@
 //! Plain parts of values, found by the masks of their text. A function answers with the place after the part, or None: what is not plain may
-//! still be well spelled, and is left to the readers of all values.
-ghost use Rattle.std.specs.Prelude.{◌≡◌, ◌⊎◌, ◌≤◌, [], IfSome, IsTrue, codes, length, option_copied};
+//! still be well spelled, and is left to the readers of all values. A CR stands at the end of the line, and no part goes past it, so that
+//! no place is held against the end.
+ghost use Rattle.std.specs.Prelude.{◌≡◌, ◌⊎◌, ◌≤◌, [], IfSome, IsTrue, codes, option_copied};
 ghost use Rattle.sip_standard.specs.Text.{Exactly, ◌then◌};
 ghost use Rattle.sip_standard.specs.Profile.{Sws, Token, Hostname, Port, Quoted};
 ghost use Rattle.sip_text.specs.Bytes.{at_sign, Byte};
 ghost use Rattle.sip_text.specs.Host.{HostParts, HostText, host_parts};
 ghost use Rattle.sip_message.specs.Address.{DisplayName};
 ghost use Rattle.sip_message.specs.inner.AddressFronts.{Words};
-ghost use Rattle.sip_message.specs.inner.Plain.{segment, LiesWithin, PlainRun, PlainParam, HostPort, SomeUri, Opening, SomeParams, SomeAddress};
+ghost use Rattle.sip_message.specs.inner.Plain.{segment, EndsAt, LiesWithin, PlainRun, PlainParam, HostPort, SomeUri, Opening, SomeParams, SomeAddress};
 
 use crate::params::cut_quoted;
 use sip_masks::Masks;
@@ -15,7 +16,7 @@ use sip_text::{Host, is_port, read_host};
 
 /// Whether an address stands from one place up to another, with a URI in `<` and `>`.
 pub(crate) fn is_plain_address(masks: &Masks<'_, '_>, at: usize, end: usize) -> bool
-    requires { (at ≤ end) × (end ≤ length masks.now) }
+    requires { (at ≤ end) × EndsAt masks.now end }
     ensures { IsTrue result → SomeAddress (segment at end masks.now) }
 {
     let Some(inner) = past_opening(masks, at, end) else {
@@ -32,7 +33,7 @@ pub(crate) fn is_plain_address(masks: &Masks<'_, '_>, at: usize, end: usize) -> 
 
 // The place after the `<` that stands at `at`, or after a display name there.
 fn past_opening(masks: &Masks<'_, '_>, at: usize, end: usize) -> Option<usize>
-    requires { (at ≤ end) × (end ≤ length masks.now) }
+    requires { (at ≤ end) × EndsAt masks.now end }
     ensures { IfSome result (LiesWithin Opening masks.now at end) }
 {
     if let Some(inner) = past_byte(masks, at, end, b'<') {
@@ -44,7 +45,7 @@ fn past_opening(masks: &Masks<'_, '_>, at: usize, end: usize) -> Option<usize>
 
 // The place after the SP that stands at `at`, and `at` itself if none does.
 fn past_space(masks: &Masks<'_, '_>, at: usize, end: usize) -> usize
-    requires { (at ≤ end) × (end ≤ length masks.now) }
+    requires { (at ≤ end) × EndsAt masks.now end }
     ensures { LiesWithin Sws masks.now at end result }
 {
     match past_byte(masks, at, end, b' ') {
@@ -55,7 +56,7 @@ fn past_space(masks: &Masks<'_, '_>, at: usize, end: usize) -> usize
 
 // The place after the display name that stands at `at`.
 fn past_name(masks: &Masks<'_, '_>, at: usize, end: usize) -> Option<usize>
-    requires { (at ≤ end) × (end ≤ length masks.now) }
+    requires { (at ≤ end) × EndsAt masks.now end }
     ensures { IfSome result (LiesWithin DisplayName masks.now at end) }
 {
     if let Some(name) = past_plain_quoted(masks, at, end) {
@@ -69,7 +70,7 @@ fn past_name(masks: &Masks<'_, '_>, at: usize, end: usize) -> Option<usize>
 
 // The place after the quoted string of plain words that stands at `at`.
 fn past_plain_quoted(masks: &Masks<'_, '_>, at: usize, end: usize) -> Option<usize>
-    requires { end ≤ length masks.now }
+    requires { (at ≤ end) × EndsAt masks.now end }
     ensures { IfSome result (LiesWithin Quoted masks.now at end) }
 {
     let first = past_byte(masks, at, end, b'"')?;
@@ -80,7 +81,7 @@ fn past_plain_quoted(masks: &Masks<'_, '_>, at: usize, end: usize) -> Option<usi
 // The place after the plain runs, with a SP between any two, that stand at `at`.
 #[inline(always)]
 fn past_words(masks: &Masks<'_, '_>, at: usize, end: usize) -> Option<usize>
-    requires { (at ≤ end) × (end ≤ length masks.now) }
+    requires { (at ≤ end) × EndsAt masks.now end }
     ensures { IfSome result (LiesWithin Words masks.now at end) }
 {
     let mut to = past_run(masks, at, end)?;
@@ -97,7 +98,7 @@ fn past_words(masks: &Masks<'_, '_>, at: usize, end: usize) -> Option<usize>
 
 /// The place after the SIP URI without parameters and headers that stands at `at`.
 pub(crate) fn past_uri(masks: &Masks<'_, '_>, at: usize, end: usize) -> Option<usize>
-    requires { (at ≤ end) × (end ≤ length masks.now) }
+    requires { (at ≤ end) × EndsAt masks.now end }
     ensures { IfSome result (LiesWithin SomeUri masks.now at end) }
 {
     let start = past_sip(masks, at, end)?;
@@ -108,7 +109,7 @@ pub(crate) fn past_uri(masks: &Masks<'_, '_>, at: usize, end: usize) -> Option<u
 // The place after the user and its `@` that stand at `at`, and `at` itself if no `@` follows the plain run there.
 #[inline]
 fn past_user(masks: &Masks<'_, '_>, at: usize, end: usize) -> Option<usize>
-    requires { (at ≤ end) × (end ≤ length masks.now) }
+    requires { (at ≤ end) × EndsAt masks.now end }
     ensures { IfSome result (LiesWithin (λ u. (u ≡ []) ⊎ (PlainRun then Byte at_sign) u) masks.now at end) }
 {
     let user = past_run(masks, at, end)?;
@@ -120,7 +121,7 @@ fn past_user(masks: &Masks<'_, '_>, at: usize, end: usize) -> Option<usize>
 
 // The place after the `sip:` that stands at `at`.
 fn past_sip(masks: &Masks<'_, '_>, at: usize, end: usize) -> Option<usize>
-    requires { (at ≤ end) × (end ≤ length masks.now) }
+    requires { (at ≤ end) × EndsAt masks.now end }
     ensures { IfSome result (LiesWithin (Exactly (codes "sip:")) masks.now at end) }
 {
     match &masks.text()[at..end] {
@@ -132,7 +133,7 @@ fn past_sip(masks: &Masks<'_, '_>, at: usize, end: usize) -> Option<usize>
 // The place after the host that stands at `at`, and after its port if it has one.
 #[inline]
 fn past_hostport(masks: &Masks<'_, '_>, at: usize, end: usize) -> Option<usize>
-    requires { (at ≤ end) × (end ≤ length masks.now) }
+    requires { (at ≤ end) × EndsAt masks.now end }
     ensures { IfSome result (LiesWithin HostPort masks.now at end) }
 {
     let host = past_any_host(masks, at, end)?;
@@ -145,7 +146,7 @@ fn past_hostport(masks: &Masks<'_, '_>, at: usize, end: usize) -> Option<usize>
 // The place after the host that stands at `at`. Most hosts are names of an ordinary kind.
 #[inline]
 fn past_any_host(masks: &Masks<'_, '_>, at: usize, end: usize) -> Option<usize>
-    requires { (at ≤ end) × (end ≤ length masks.now) }
+    requires { (at ≤ end) × EndsAt masks.now end }
     ensures { IfSome result (LiesWithin (λ u. (host : HostParts) × HostText u host) masks.now at end) }
 {
     match past_hostname(masks, at, end) {
@@ -160,20 +161,17 @@ fn past_any_host(masks: &Masks<'_, '_>, at: usize, end: usize) -> Option<usize>
 // The place after the hostname of an ordinary kind that stands at `at`.
 #[inline]
 fn past_hostname(masks: &Masks<'_, '_>, at: usize, end: usize) -> Option<usize>
-    requires { (at ≤ end) × (end ≤ length masks.now) }
+    requires { (at ≤ end) × EndsAt masks.now end }
     ensures { IfSome result (LiesWithin Hostname masks.now at end) }
 {
     let len = masks.name_at(at)?;
-    if len > end - at {
-        return None;
-    }
     Some(at + len)
 }
 
 // The host of any kind that the plain run at `at` is, and the place after it.
 #[inline(never)]
 fn past_other_host<'a>(masks: &Masks<'a, '_>, at: usize, end: usize) -> Option<(Host<'a>, usize)>
-    requires { (at ≤ end) × (end ≤ length masks.now) }
+    requires { (at ≤ end) × EndsAt masks.now end }
     ensures { IfSome result (λ found. LiesWithin (λ u. HostText u (host_parts found.0)) masks.now at end found.1) }
 {
     let to = past_run(masks, at, end)?;
@@ -188,7 +186,7 @@ pub(crate) fn past_host<'a>(
     at: usize,
     end: usize,
 ) -> Option<(Host<'a>, usize)>
-    requires { (at ≤ end) × (end ≤ length masks.now) }
+    requires { (at ≤ end) × EndsAt masks.now end }
     ensures { IfSome result (λ found. LiesWithin (λ u. HostText u (host_parts found.0)) masks.now at end found.1) }
 {
     if let Some(to) = past_hostname(masks, at, end) {
@@ -199,7 +197,7 @@ pub(crate) fn past_host<'a>(
 
 /// The place after the port that stands at `at`.
 pub(crate) fn past_port(masks: &Masks<'_, '_>, at: usize, end: usize) -> Option<usize>
-    requires { (at ≤ end) × (end ≤ length masks.now) }
+    requires { (at ≤ end) × EndsAt masks.now end }
     ensures { IfSome result (LiesWithin Port masks.now at end) }
 {
     let to = past_run(masks, at, end)?;
@@ -212,7 +210,7 @@ pub(crate) fn past_port(masks: &Masks<'_, '_>, at: usize, end: usize) -> Option<
 
 // Whether parameters stand from one place up to another.
 fn are_plain_params(masks: &Masks<'_, '_>, at: usize, end: usize) -> bool
-    requires { (at ≤ end) × (end ≤ length masks.now) }
+    requires { (at ≤ end) × EndsAt masks.now end }
     ensures { IsTrue result → SomeParams (segment at end masks.now) }
 {
     let mut from = at;
@@ -232,7 +230,7 @@ pub(crate) fn past_param<'a>(
     at: usize,
     end: usize,
 ) -> Option<(&'a [u8], Option<&'a [u8]>, usize)>
-    requires { end ≤ length masks.now }
+    requires { (at ≤ end) × EndsAt masks.now end }
     ensures param { IfSome result (λ p. LiesWithin (PlainParam (p.0.now, option_copied p.1)) masks.now at end p.2) }
     ensures value { IfSome result (λ p. IfSome (option_copied p.1) Token) }
 {
@@ -249,11 +247,11 @@ pub(crate) fn past_param<'a>(
 /// The place after the run of plain bytes that stands at `at`, however long it is.
 #[inline]
 pub(crate) fn past_any_run(masks: &Masks<'_, '_>, at: usize, end: usize) -> Option<usize>
-    requires { (at ≤ end) × (end ≤ length masks.now) }
+    requires { (at ≤ end) × EndsAt masks.now end }
     ensures { IfSome result (LiesWithin PlainRun masks.now at end) }
 {
     let len = masks.run_at(at);
-    if len == 0 || len > end - at {
+    if len == 0 {
         return None;
     }
     Some(at + len)
@@ -262,23 +260,24 @@ pub(crate) fn past_any_run(masks: &Masks<'_, '_>, at: usize, end: usize) -> Opti
 /// The place after the run of plain bytes that stands at `at`, if it has fewer than 64.
 #[inline(always)]
 pub(crate) fn past_run(masks: &Masks<'_, '_>, at: usize, end: usize) -> Option<usize>
-    requires { (at ≤ end) × (end ≤ length masks.now) }
+    requires { (at ≤ end) × EndsAt masks.now end }
     ensures { IfSome result (LiesWithin PlainRun masks.now at end) }
 {
     let len = masks.short_run_at(at)?;
-    if len == 0 || len > end - at {
+    if len == 0 {
         return None;
     }
     Some(at + len)
 }
 
-/// The place after this byte, if it stands at `at`.
+/// The place after this byte, if it stands at `at`. The byte is no control, so it does not stand at `end`.
 #[inline]
 pub(crate) fn past_byte(masks: &Masks<'_, '_>, at: usize, end: usize, byte: u8) -> Option<usize>
-    requires { end ≤ length masks.now }
+    requires within { (at ≤ end) × EndsAt masks.now end }
+    requires mark { 32 ≤ byte }
     ensures { IfSome result (LiesWithin (Byte byte) masks.now at end) }
 {
-    if at < end && masks.text()[at] == byte {
+    if masks.text()[at] == byte {
         Some(at + 1)
     } else {
         None

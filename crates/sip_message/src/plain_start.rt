@@ -1,8 +1,8 @@
 //! Start lines of ordinary heads.
-ghost use Rattle.std.specs.Prelude.{◌≡◌, ◌≤◌, IfSome, IsTrue, codes, length};
+ghost use Rattle.std.specs.Prelude.{◌≡◌, IfSome, IsTrue, codes};
 ghost use Rattle.sip_message.specs.inner.StartLine.{StartText};
 ghost use Rattle.sip_message.specs.ValueParts.{start_parts};
-ghost use Rattle.sip_message.specs.inner.Plain.{segment};
+ghost use Rattle.sip_message.specs.inner.Plain.{segment, EndsAt};
 ghost use Rattle.sip_message.specs.inner.Quick.{IsOpen};
 
 use crate::plain::{past_byte, past_run, past_uri};
@@ -12,7 +12,7 @@ use sip_text::same_text;
 
 /// The start line that the text up to `end` is, in which no control stands.
 pub(crate) fn start_up_to<'a>(masks: &Masks<'a, '_>, end: usize) -> Option<StartLine<'a>>
-    requires within { end ≤ length masks.now }
+    requires within { EndsAt masks.now end }
     requires clear { IsOpen (segment 0 end masks.now) }
     ensures { IfSome result (λ start. StartText (segment 0 end masks.now) (start_parts start)) }
 {
@@ -44,7 +44,7 @@ fn open_status(line: &[u8]) -> Option<StartLine<'_>>
 
 // The Request-Line that the text up to `end` is, if its method is plain and its URI is a SIP URI of plain parts.
 fn plain_request<'a>(masks: &Masks<'a, '_>, end: usize) -> Option<StartLine<'a>>
-    requires { end ≤ length masks.now }
+    requires { EndsAt masks.now end }
     ensures { IfSome result (λ start. StartText (segment 0 end masks.now) (start_parts start)) }
 {
     let text = masks.text();

@@ -1,11 +1,11 @@
 //! Call-IDs and CSeqs whose parts are plain.
-ghost use Rattle.std.specs.Prelude.{◌≡◌, ◌≤◌, ◌<◌, ◌^◌, IfSome, IsTrue, length};
+ghost use Rattle.std.specs.Prelude.{◌≡◌, ◌≤◌, ◌<◌, ◌^◌, IfSome, IsTrue};
 ghost use Rattle.std.specs.Str.Parse.{digits_value};
 ghost use Rattle.sip_text.specs.Parts.{IsOnlyValue};
 ghost use Rattle.sip_standard.specs.Values.{CallId};
 ghost use Rattle.sip_message.specs.inner.Values.{Digits, CSeqValue};
 ghost use Rattle.sip_message.specs.ValueParts.{cseq_parts};
-ghost use Rattle.sip_message.specs.inner.Plain.{segment};
+ghost use Rattle.sip_message.specs.inner.Plain.{segment, EndsAt};
 
 use crate::plain::{past_any_run, past_byte, past_run};
 use crate::values::{CSeq, is_call_id, read_cseq};
@@ -14,7 +14,7 @@ use sip_masks::Masks;
 /// Whether a Call-ID stands from one place up to another.
 #[inline(never)]
 pub(crate) fn is_call_id_at(masks: &Masks<'_, '_>, at: usize, end: usize) -> bool
-    requires { (at ≤ end) × (end ≤ length masks.now) }
+    requires { (at ≤ end) × EndsAt masks.now end }
     ensures { IsTrue result → CallId (segment at end masks.now) }
 {
     is_plain_call_id(masks, at, end) || is_call_id(&masks.text()[at..end])
@@ -22,7 +22,7 @@ pub(crate) fn is_call_id_at(masks: &Masks<'_, '_>, at: usize, end: usize) -> boo
 
 // Whether one plain run stands from one place up to another, or two with an `@` between them.
 fn is_plain_call_id(masks: &Masks<'_, '_>, at: usize, end: usize) -> bool
-    requires { (at ≤ end) × (end ≤ length masks.now) }
+    requires { (at ≤ end) × EndsAt masks.now end }
     ensures { IsTrue result → CallId (segment at end masks.now) }
 {
     let Some(word) = past_any_run(masks, at, end) else {
@@ -42,7 +42,7 @@ fn is_plain_call_id(masks: &Masks<'_, '_>, at: usize, end: usize) -> bool
 
 /// The CSeq from one place up to another, if one stands there.
 pub(crate) fn cseq_at<'a>(masks: &Masks<'a, '_>, at: usize, end: usize) -> Option<CSeq<'a>>
-    requires { (at ≤ end) × (end ≤ length masks.now) }
+    requires { (at ≤ end) × EndsAt masks.now end }
     ensures { IsOnlyValue CSeqValue cseq_parts (segment at end masks.now) result }
 {
     match plain_cseq(masks, at, end) {
@@ -53,7 +53,7 @@ pub(crate) fn cseq_at<'a>(masks: &Masks<'a, '_>, at: usize, end: usize) -> Optio
 
 // The CSeq from one place up to another, if a short number, a SP and a plain method stand there.
 fn plain_cseq<'a>(masks: &Masks<'a, '_>, at: usize, end: usize) -> Option<CSeq<'a>>
-    requires { (at ≤ end) × (end ≤ length masks.now) }
+    requires { (at ≤ end) × EndsAt masks.now end }
     ensures { IfSome result (λ cseq. CSeqValue (segment at end masks.now) (cseq_parts cseq)) }
 {
     let digits = past_run(masks, at, end)?;

@@ -1,11 +1,11 @@
 //! Elements of Via whose parts are plain, with no blanks but the one before the host.
-ghost use Rattle.std.specs.Prelude.{◌≤◌, IfSome, length, option_copied};
+ghost use Rattle.std.specs.Prelude.{◌≤◌, IfSome, option_copied};
 ghost use Rattle.sip_standard.specs.Profile.{Token, Port};
 ghost use Rattle.sip_message.specs.Via.{ColonPort, ViaParams};
 ghost use Rattle.sip_message.specs.ViaParts.{element};
 ghost use Rattle.sip_message.specs.inner.ElementFronts.{FirstVia};
 ghost use Rattle.sip_message.specs.inner.ViaFronts.{BranchOf};
-ghost use Rattle.sip_message.specs.inner.Plain.{segment, LiesWithin};
+ghost use Rattle.sip_message.specs.inner.Plain.{segment, EndsAt, LiesWithin};
 
 use crate::plain::{past_byte, past_host, past_param, past_port, past_run};
 use crate::via::Via;
@@ -14,9 +14,10 @@ use sip_text::same_text;
 
 /// The element of Via that stands from one place up to another, if it is the only one there and its parts are plain.
 pub(crate) fn plain_via<'a>(masks: &Masks<'a, '_>, at: usize, end: usize) -> Option<Via<'a>>
-    requires { (at ≤ end) × (end ≤ length masks.now) }
+    requires { (at ≤ end) × EndsAt masks.now end }
     ensures { IfSome result (λ v. FirstVia (segment at end masks.now) (element v)) }
 {
+    // Each step takes one part and its mark, and tells the place after them: `name/version/transport sent-by:port;params`.
     let text = masks.text();
     let name = past_run(masks, at, end)?;
     let first = past_byte(masks, name, end, b'/')?;
@@ -46,7 +47,7 @@ fn past_led_port<'a>(
     at: usize,
     end: usize,
 ) -> Option<(Option<&'a [u8]>, usize)>
-    requires { (at ≤ end) × (end ≤ length masks.now) }
+    requires { (at ≤ end) × EndsAt masks.now end }
     ensures { IfSome result (λ found. LiesWithin (λ u. ColonPort (option_copied found.0) u × IfSome (option_copied found.0) Port) masks.now at end found.1) }
 {
     let Some(port) = past_byte(masks, at, end, b':') else {
@@ -58,7 +59,7 @@ fn past_led_port<'a>(
 
 // The branch of the plain parameters that stand from one place up to another.
 fn plain_branch<'a>(masks: &Masks<'a, '_>, at: usize, end: usize) -> Option<Option<&'a [u8]>>
-    requires { (at ≤ end) × (end ≤ length masks.now) }
+    requires { (at ≤ end) × EndsAt masks.now end }
     ensures { IfSome result (λ branch. ViaParams (segment at end masks.now) (option_copied branch)) }
 {
     let mut branch = None;

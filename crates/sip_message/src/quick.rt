@@ -1,13 +1,15 @@
 //! The quick reader of ordinary heads: no line of theirs is folded, and no blank stands before a colon.
 //! It finds the ends of lines and of names in masks of the text. What is not ordinary it leaves to the
 //! reader of all heads.
-ghost use Rattle.std.specs.Prelude.{◌≡◌, ◌+◌, ◌-◌, ◌^◌, ◌≤◌, ◌<◌, ◌++◌, [], true, IsTrue, IfOk, IfSome, length, take, drop};
+ghost use Rattle.std.specs.Prelude.{◌≡◌, ◌+◌, ◌-◌, ◌^◌, ◌≤◌, ◌<◌, ◌++◌, [], not, true, IsTrue, IfOk, IfSome, length, take, drop};
+ghost use Rattle.std.specs.List.{prefix_len};
+ghost use Rattle.sip_masks.specs.Marks.{is_control};
 ghost use Rattle.sip_message.specs.inner.Lines.{with_end};
 ghost use Rattle.sip_message.specs.inner.FieldText.{Row, ValueText, FieldText};
 ghost use Rattle.sip_message.specs.inner.Views.{name_parts, field_parts, fields_parts};
 ghost use Rattle.sip_message.specs.ValueParts.{start_parts};
 ghost use Rattle.sip_message.specs.inner.Asked.{AskedOf, AsksMore, KeepsVia};
-ghost use Rattle.sip_message.specs.inner.Plain.{segment, SomeAddress};
+ghost use Rattle.sip_message.specs.inner.Plain.{segment, EndsAt, SomeAddress};
 ghost use Rattle.sip_message.specs.inner.Values.{is_solid};
 ghost use Rattle.sip_message.specs.inner.Quick.{IsOpen, AreOrdinary, IsOrdinary, PushesField};
 
@@ -25,7 +27,7 @@ use crate::via::{Via, first_via};
 use sip_masks::Masks;
 use std::alloc::AllocError;
 
-// How many bytes of a message are looked at, and how many words each of its masks takes.
+// How many bytes of a message are looked at, at most.
 const LONGEST: usize = 2047;
 
 // How many words each mask of a message takes.
@@ -43,12 +45,14 @@ pub(crate) fn read_ordinary<'a>(
     ensures head { IfOk result (λ found. IfSome found (λ read. IsOrdinary bytes.now (start_parts read.0) (fields_parts fields.new) read.1.now)) }
     ensures asked { IfOk result (λ found. IfSome found (λ _. AskedOf (fields_parts fields.new) asked.new)) }
 {
+    // The first line ends at the first control, and the fields follow up to the empty line.
     let mut words = [0; 2 * WORDS];
     let (others, controls) = words.split_at_mut(WORDS);
     let masks = Masks::of(front(bytes), others, controls);
-    let Some(end) = line_end(&masks, 0) else {
+    let end = masks.next_control(0);
+    if !is_line(&masks, 0, end) {
         return Ok(None);
-    };
+    }
     let Some(start) = start_up_to(&masks, end) else {
         return Ok(None);
     };
@@ -88,9 +92,10 @@ fn ordinary_fields<'a>(
 {
     let mut at = from;
     'lines: loop {
-        let Some(end) = line_end(masks, at) else {
+        let end = masks.next_control(at);
+        if !is_line(masks, at, end) {
             return Ok(None);
-        };
+        }
         if end == at {
             return Ok(Some(at));
         }
@@ -101,22 +106,24 @@ fn ordinary_fields<'a>(
     }
 }
 
-// The place where the line at this place ends, if a CRLF is the first control from there on.
-#[inline]
-fn line_end(masks: &Masks<'_, '_>, at: usize) -> Option<usize>
-    requires { at ≤ length masks.now }
-    ensures fits { IfSome result (λ end. end + 2 < 2 ^ 64) }
-    ensures line { IfSome result (λ end. (at ≤ end) × (end + 2 ≤ length masks.now) × IsOpen (take (end - at) (drop at masks.now)) × (drop at masks.now ≡ with_end (take (end - at) (drop at masks.now)) ++ drop (end + 2) masks.now)) }
+// Whether the line at this place ends at `end`, its next control: whether CR and LF stand there.
+#[inline(always)]
+fn is_line(masks: &Masks<'_, '_>, at: usize, end: usize) -> bool
+    requires within { end ≤ length masks.now }
+    requires control { end ≡ at + prefix_len (λ b. not (is_control b)) (drop at masks.now) }
+    ensures fits { IsTrue result → end + 2 < 2 ^ 64 }
+    ensures ends { IsTrue result → EndsAt masks.now end }
+    ensures line { IsTrue result → (at ≤ end) × (end + 2 ≤ length masks.now) × IsOpen (take (end - at) (drop at masks.now)) × (drop at masks.now ≡ with_end (take (end - at) (drop at masks.now)) ++ drop (end + 2) masks.now) }
 {
     let text = masks.text();
-    let end = masks.next_control(at);
-    if text.len() < 2 || end > text.len() - 2 {
-        return None;
+    let left = text.len() - end;
+    if left < 2 {
+        return false;
     }
     if text[end] != b'\r' || text[end + 1] != b'\n' {
-        return None;
+        return false;
     }
-    Some(end)
+    true
 }
 
 // Puts the field that the line from `at` up to `end` is after the others, if its name is plain and its colon stands
@@ -129,13 +136,14 @@ fn push_ordinary<'a>(
     fields: &mut Vec<Field<'a>>,
     asked: &mut Asked<'a>,
 ) -> Result<bool, AllocError>
-    requires within { (at ≤ end) × (end ≤ length masks.now) }
+    requires within { (at ≤ end) × EndsAt masks.now end }
     requires clear { IsOpen (take (end - at) (drop at masks.now)) }
     ensures { IfOk result (λ is. IsTrue is → PushesField (take (end - at) (drop at masks.now)) (fields_parts fields.old) (fields_parts fields.new) asked.old asked.new) }
 {
     let text = masks.text();
+    // The name has `len` bytes and ends at a colon. The value begins at `from`.
     let len = masks.run_at(at);
-    if len == 0 || len >= end - at || text[at + len] != b':' {
+    if len == 0 || text[at + len] != b':' {
         return Ok(false);
     }
     let Some(from) = value_place(text, at + len + 1, end) else {
@@ -156,11 +164,11 @@ fn push_ordinary<'a>(
 // ends with a blank.
 #[inline(always)]
 fn value_place(text: &[u8], at: usize, end: usize) -> Option<usize>
-    requires { (at ≤ end) × (end ≤ length text.now) }
+    requires { (at ≤ end) × EndsAt text.now end }
     ensures within { IfSome result (λ from. (at ≤ from) × (from ≤ end)) }
     ensures value { IfSome result (λ from. ValueText (segment at end text.now) (segment from end text.now)) }
 {
-    if at < end && text[at] == b' ' && is_solid_at(text, at + 1, end) {
+    if text[at] == b' ' && is_solid_at(text, at + 1, end) {
         return Some(at + 1);
     }
     if is_solid_at(text, at, end) {
@@ -170,13 +178,14 @@ fn value_place(text: &[u8], at: usize, end: usize) -> Option<usize>
     }
 }
 
-// Whether the bytes between two places neither begin nor end with SP or with a byte below it.
+// Whether the bytes between two places neither begin nor end with SP or with a byte below it. Where there are none, the CR at
+// `end` is looked at, which is such a byte.
 #[inline(always)]
 fn is_solid_at(text: &[u8], at: usize, end: usize) -> bool
-    requires { (at ≤ end) × (end ≤ length text.now) }
+    requires { (at ≤ end) × EndsAt text.now end }
     ensures { IsTrue result → is_solid (segment at end text.now) ≡ true }
 {
-    if at == end || text[at] <= b' ' || text[end - 1] <= b' ' {
+    if text[at] <= b' ' || text[end - 1] <= b' ' {
         return false;
     }
     true
@@ -192,11 +201,12 @@ fn is_value_at<'a>(
     name: Name<'a>,
     asked: &mut Asked<'a>,
 ) -> bool
-    requires within { (at ≤ end) × (end ≤ length masks.now) }
+    requires within { (at ≤ end) × EndsAt masks.now end }
     requires clear { IsOpen (segment at end masks.now) }
     ensures row { IsTrue result → Row (name_parts name.entry) (segment at end masks.now) }
     ensures asked { IsTrue result → AsksMore (record { name = name_parts name.entry; value = segment at end masks.now }) asked.old asked.new }
 {
+    // The value of a field of which the reader asks more is kept. Any other field may have any value.
     let value = &masks.text()[at..end];
     match name {
         Name::Known(Known::Via) => keep_via(masks, at, end, &mut asked.via),
@@ -219,7 +229,7 @@ fn is_value_at<'a>(
 // Answers whether elements stand there.
 #[inline(never)]
 fn keep_via<'a>(masks: &Masks<'a, '_>, at: usize, end: usize, kept: &mut Option<Via<'a>>) -> bool
-    requires { (at ≤ end) × (end ≤ length masks.now) }
+    requires { (at ≤ end) × EndsAt masks.now end }
     ensures { KeepsVia (segment at end masks.now) result kept.old kept.new }
 {
     if kept.is_none() {
@@ -231,7 +241,8 @@ fn keep_via<'a>(masks: &Masks<'a, '_>, at: usize, end: usize, kept: &mut Option<
     keep_any_via(&masks.text()[at..end], kept)
 }
 
-// The same for the elements of a text. It is seldom called, and is a call so that `keep_via` clears no place for what it reads.
+// Keeps the first element of Via of a text, if the text is elements and none is kept yet. Answers whether it is elements. It is seldom
+// called, and is a call so that `keep_via` clears no place for what it reads.
 #[inline(never)]
 fn keep_any_via<'a>(text: &'a [u8], kept: &mut Option<Via<'a>>) -> bool
     ensures { KeepsVia text.entry.now result kept.old kept.new }
@@ -245,7 +256,7 @@ fn keep_any_via<'a>(text: &'a [u8], kept: &mut Option<Via<'a>>) -> bool
 
 // Whether an address stands between two places.
 fn is_address_at(masks: &Masks<'_, '_>, at: usize, end: usize) -> bool
-    requires { (at ≤ end) × (end ≤ length masks.now) }
+    requires { (at ≤ end) × EndsAt masks.now end }
     ensures { IsTrue result → SomeAddress (segment at end masks.now) }
 {
     is_plain_address(masks, at, end) || is_address(&masks.text()[at..end])

@@ -87,7 +87,7 @@ pub(crate) fn cut_first(head: &[u8]) -> (&[u8], &[u8])
     }
 }
 
-// The values of the named fields, or the fault that the first of them that does so is missing or stands twice.
+// The values of the named fields, or the fault of the first of them that is missing or stands twice.
 pub(crate) fn find_named<'a>(fields: &[Field<'a>]) -> Result<Named<'a>, Fault>
     ensures names { NamesOf (slice_fields fields.entry) (outcome_of names_parts result) }
     ensures stand { IfOk result (λ named. Stand (slice_fields fields.entry) (names_of named)) }
@@ -188,12 +188,14 @@ pub(crate) fn body_by_length<'a>(
     requires cseq { CSeqValue named.cseq.now (cseq_parts cseq) }
     ensures { BodyOf (start_parts start.entry) ((names_parts named.entry).1) ((names_parts named.entry).0.1) (option_map (digits_value 10) (option_copied length.entry)) rest.entry.now (outcome_of text_parts result) }
 {
+    // The method of a request stands in its CSeq too.
     if !fits_method(start, cseq) {
         return Err(Fault {
             unit: Unit::Line(named.cseq_line),
             reason: Reason::MethodMismatch,
         });
     }
+    // Without a length a datagram's body is all that comes, and a stream has none that ends.
     let Some(digits) = length else {
         if is_stream(via.transport) {
             return Err(Fault {
@@ -203,6 +205,7 @@ pub(crate) fn body_by_length<'a>(
         }
         return Ok(rest);
     };
+    // The length is at most what comes.
     let Some(len) = number_at_most(digits, rest.len()) else {
         return Err(Fault {
             unit: Unit::Body,
@@ -212,6 +215,7 @@ pub(crate) fn body_by_length<'a>(
     if len == rest.len() {
         return Ok(rest);
     }
+    // What comes after the body is the next message of a stream, and nothing in a datagram.
     if is_stream(via.transport) {
         return Err(Fault {
             unit: Unit::Body,
@@ -236,6 +240,7 @@ pub(crate) fn body_len(
     if !fits_method(*start, *cseq) {
         return None;
     }
+    // A stream needs Content-Length. A datagram without one has its body up to its end.
     let Some(digits) = content_length else {
         return if is_stream(via.transport) {
             None
@@ -243,6 +248,7 @@ pub(crate) fn body_len(
             Some(rest.len())
         };
     };
+    // In a stream the body has to end where the bytes do. In a datagram more bytes may follow it.
     let len = number_at_most(digits, rest.len())?;
     if len == rest.len() {
         return Some(len);

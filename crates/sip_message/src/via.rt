@@ -93,7 +93,7 @@ fn ends_element(text: &[u8]) -> bool
     text.is_empty() || past_mark(text, b',').is_some()
 }
 
-// The host at the front, and what is left after it.
+// The host at the front, and what is left after it. It is None where what may be a host is none.
 fn cut_host(text: &[u8]) -> Option<(Host<'_>, &[u8])>
     ensures { IsOnlyValue HostFront host_front_parts text.now result }
 {
@@ -112,7 +112,8 @@ fn cut_host_text(text: &[u8]) -> Option<(&[u8], &[u8])>
     cut_token(text)
 }
 
-// The port at the front after its colon, if there is a colon, and what is left.
+// The port at the front after its colon, and what is left. A text without a colon at its front gives no port, and is left whole.
+// The result is None where no port stands after the colon.
 fn cut_led_port(text: &[u8]) -> Option<(Option<&[u8]>, &[u8])>
     ensures { IsOnlyValue (LedFront colon PortFront) led_parts text.now result }
 {
@@ -123,7 +124,7 @@ fn cut_led_port(text: &[u8]) -> Option<(Option<&[u8]>, &[u8])>
     Some((Some(port), rest))
 }
 
-// The port at the front, and what is left after it.
+// The longest token at the front, if it is a port, and what is left after it.
 fn cut_port(text: &[u8]) -> Option<(&[u8], &[u8])>
     ensures { IsOnlyValue PortFront pair_parts text.now result }
 {
@@ -143,7 +144,8 @@ fn cut_tail(text: &[u8]) -> Option<(&[u8], Option<&[u8]>, &[u8])>
     Some((skip_blanks(&text[..text.len() - rest.len()]), branch, rest))
 }
 
-// The branch of the parameters at the front, and what is left after them.
+// The branch of the parameters at the front, if one of them is named branch, and what is left after them. It is None where such a one has no token
+// for value.
 fn cut_branch(text: &[u8]) -> Option<(Option<&[u8]>, &[u8])>
     ensures { IsOnlyValue BranchFront led_parts text.now result }
 {

@@ -18,9 +18,13 @@ use std::marker::Model;
 /// The elements of all Via fields, in order.
 #[derive(Debug, Drop)]
 pub struct Vias<'s, 'a> {
+    /// The fields of the message.
     fields: &'s [Field<'a>],
+    /// The place of the first field that was not looked at yet.
     at: usize,
+    /// What is left of the value of the Via field that was looked at last.
     rest: &'a [u8],
+    // One list of elements is left from this place on.
     ghost left: { ExactlyOne (AreLeft rest.now (values known_name.Via (drop at (slice_fields fields)))) } by { One-prop elements_code (AreLeft rest.now (values known_name.Via (drop at (slice_fields fields)))) },
 }
 
@@ -81,7 +85,9 @@ fn next_text<'a>(fields: &[Field<'a>], at: usize, rest: &'a [u8]) -> Option<(&'a
 /// The values of the Route fields, in order.
 #[derive(Debug, Drop)]
 pub struct Routes<'s, 'a> {
+    /// The fields of the message.
     fields: &'s [Field<'a>],
+    /// The place of the first field that was not looked at yet.
     at: usize,
 }
 

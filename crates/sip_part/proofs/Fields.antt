@@ -1,4 +1,5 @@
 -- Where a plain branch is found in a message that is read, it is the branch of the top Via: from one field to the bytes of the message.
+-- In the lemmas b is the branch that is found, n the number of a line, f a field, and s what a message says; as Bools s and o are what two tests say.
 use Rattle.std.proofs.Common.{◌≡◌, ◌∙◌, ◌⊎◌, inl, inr, ℕ, ◌+◌, List, [], ◌∷◌, ◌++◌, Bool, Some, None, drop, filter, flat_map, map, cond, ◌&&◌, if◌then◌else◌, nat_eq, true, false, refl, sym, ap, subst, append_assoc, arith}
 use Rattle.std.proofs.lemmas.Bool.{eqb-true, false_from_ne_true}
 use Rattle.std.specs.Prelude.{codes, bytes_eq, nat_lt}
@@ -33,14 +34,17 @@ wsp_open w (v ∷ vs, all, whole) =
 colon_no_token : (w rest : List ℕ) → Many Wsp w → NoToken (w ++ (58 ∷ rest))
 colon_no_token w rest many = by (wsp_open w many)
   where
+    -- no token stands at the front, whether or not there are blanks before the colon
     by : (w ≡ []) ⊎ Open w → NoToken (w ++ (58 ∷ rest))
     by (inl none) = subst (λ t. NoToken (t ++ (58 ∷ rest))) (sym none) refl
     by (inr o) = open_no_token w (58 ∷ rest) o
 
 -- where blanks come before a colon and the text begins with a colon, there are no blanks
+-- w is the blanks, and x and y are what follows the colons
 colon_front : (w x y : List ℕ) → Many Wsp w → w ++ (58 ∷ x) ≡ 58 ∷ y → x ≡ y
 colon_front w x y many same = by (wsp_open w many)
   where
+    -- what follows the colons is the same: there are no blanks, since both texts would else begin with different bytes
     by : (w ≡ []) ⊎ Open w → x ≡ y
     by (inl none) = let e : 58 ∷ x ≡ 58 ∷ y = ap (λ t. t ++ (58 ∷ x)) (sym none) ∙ same in cc
     by (inr o) =
@@ -57,6 +61,7 @@ pub record Spelled (word field b : List ℕ) : Type 0 where
 via_spelled : (field b : List ℕ) → via_branch field ≡ Some b → Spelled (codes "Via") field b ⊎ Spelled (codes "v") field b
 via_spelled field b found = by (starts_with nat_eq field (codes "Via:")) (starts_with nat_eq field (codes "v:")) refl refl found
   where
+    -- b is found after "Via:" or after "v:", with which the field begins, since nothing would be found if it began with neither
     by : (s o : Bool) → starts_with nat_eq field (codes "Via:") ≡ s → starts_with nat_eq field (codes "v:") ≡ o
         → (if s then branch_in (from_stop (drop 4 field)) else if o then branch_in (from_stop (drop 2 field)) else None) ≡ Some b → Spelled (codes "Via") field b ⊎ Spelled (codes "v") field b
     by true o is other f = inl (record { rest = drop 4 field; is = starts_is field (codes "Via:") is; found = f })
@@ -70,6 +75,7 @@ pub record Found (b : List ℕ) (f : SaidField) : Type 0 where
 
 -- a field that is spelled with a word for Via is a Via, and the branch that is found after its colon is that of its first element
 word_found : (n : ℕ) (word line rest b : List ℕ) (f : SaidField) → Token word → full_name (folded word) ≡ codes "via" → FieldSays n line (gives f) → Spelled word (line ++ (13 ∷ rest)) b → Found b f
+-- n is the name and r what follows: w the blanks, c the colon and v the value, of which r2 is the last two
 word_found number word line rest b f token full (passes named (n, r, (is_token, n_is), (w, r2, wsp, (c, v, c_is, v_is, r2_is), r_is), line_is) (passes value ((trimmed, whole), row) given)) spelled =
     -- the line is the name, the blanks before the colon, the colon and the value
     let flat : line ++ (13 ∷ rest) ≡ n ++ (w ++ (58 ∷ (v ++ (13 ∷ rest)))) =
@@ -86,6 +92,7 @@ word_found number word line rest b f token full (passes named (n, r, (is_token, 
           value_found v value rest b (subst (Sws then Exactly value then Sws) (sym v_is) whole) (ap (λ t. branch_in (from_stop t)) after ∙ spelled.found) via vias
           (subst (ViasSay (via ∷ vias)) (ap (λ g. g.value) field) says);
     }
+-- a line whose name or value has a fault says no field
 word_found number word line rest b f token full (passes named is (stopped fault stops_at e)) spelled = absurd (cc)
 word_found number word line rest b f token full (stopped fault stops_at e) spelled = absurd (cc)
 
@@ -97,13 +104,15 @@ token_of x u is many = (x ∷ [], u, (x, is, refl), many, refl)
 field_found : (n : ℕ) (line rest b : List ℕ) (f : SaidField) → FieldSays n line (gives f) → via_branch (line ++ (13 ∷ rest)) ≡ Some b → Found b f
 field_found n line rest b f says found = by (via_spelled (line ++ (13 ∷ rest)) b found)
   where
+    -- "Via" is a token
     full_word : Token (codes "Via")
     full_word = token_of 86 (codes "ia") refl ((105 ∷ []) ∷ (97 ∷ []) ∷ [], ((105, refl, refl), ((97, refl, refl), tt)), refl)
 
+    -- "v" is a token
     short_word : Token (codes "v")
     short_word = token_of 118 [] refl ([], tt, refl)
 
-    -- the name is spelled in full or by its short form
+    -- the claim holds whether the name is spelled in full or by its short form
     by : Spelled (codes "Via") (line ++ (13 ∷ rest)) b ⊎ Spelled (codes "v") (line ++ (13 ∷ rest)) b → Found b f
     by (inl spelled) = word_found n (codes "Via") line rest b f full_word refl says spelled
     by (inr spelled) = word_found n (codes "v") line rest b f short_word refl says spelled
@@ -122,8 +131,11 @@ later_value f fs other =
 other_name : (name : List ℕ) → bytes_eq name (codes "v") ≡ false → bytes_eq name (codes "via") ≡ false → bytes_eq (full_name name) (codes "via") ≡ false
 other_name name compact full = by (bytes_eq name (codes "v")) (bytes_eq name (codes "f")) (bytes_eq name (codes "t")) (bytes_eq name (codes "i")) (bytes_eq name (codes "l")) compact
   where
+    -- whichever of the short forms the name is, or none, its full form is not "via"
+    -- v, f, t, i and l say whether the name is that letter
     by : (v f t i l : Bool) → v ≡ false
         → bytes_eq (if v then codes "via" else if f then codes "from" else if t then codes "to" else if i then codes "call-id" else if l then codes "content-length" else name) (codes "via") ≡ false
+    -- where the name is "f", "t", "i" or "l", its full form is another word; where it is none of these, it is its own full form
     by true f t i l is = absurd (cc)
     by false true t i l is = refl
     by false false true i l is = refl
@@ -135,6 +147,7 @@ other_name name compact full = by (bytes_eq name (codes "v")) (bytes_eq name (co
 lower_v : (x : ℕ) → is_among "vV" x ≡ false → nat_eq (to_ascii_lowercase x) 118 ≡ false
 lower_v x other = false_from_ne_true (nat_eq (to_ascii_lowercase x) 118) (λ is. by (nat_lt x 65) (nat_lt x 91) (eqb-true (to_ascii_lowercase x) 118 is))
   where
+    -- the lower case of the byte cannot be v: the byte is below the capital letters, is one, or is above them, and is neither v nor V
     by : (low high : Bool) → cond low x (cond high (x + 32) x) ≡ 118 → ⊥
     by true high e = let f : true ≡ false = ap (is_among "vV") (sym e) ∙ other in absurd (cc)
     by false true e = let up : x ≡ 86 = omega (arith, e) in let f : true ≡ false = ap (is_among "vV") (sym up) ∙ other in absurd (cc)
@@ -142,6 +155,7 @@ lower_v x other = false_from_ne_true (nat_eq (to_ascii_lowercase x) 118) (λ is.
 
 -- a name at the front of a line that does not begin as a Via is not that of Via
 named_other : (name rest : List ℕ) → Token name → opens_via (name ++ rest) ≡ false → bytes_eq (full_name (folded name)) (codes "via") ≡ false
+-- u is the first byte x of the token, and us the others
 named_other name rest (u, us, (x, is, one), others, whole) opens =
     let flat : name ≡ x ∷ us = whole ∙ ap (λ t. t ++ us) one in
     let first = lower_v x (sym (ap (λ t. opens_via (t ++ rest)) flat) ∙ opens) in
@@ -168,11 +182,11 @@ top_found b value values via others first (v ∷ vias, more, says, later, same) 
 abbrev Ended : List (List ℕ) → List ℕ
 Ended lines = flat_map (λ line. line ++ codes "\r\n") lines
 
--- lines and what follows them: the first line, its CRLF, the other lines and what follows
+-- lines, each with its CRLF, and what follows them are the first line, its CRLF, the other lines and what follows
 ended_on : (line : List ℕ) (more : List (List ℕ)) (tail : List ℕ) → Ended (line ∷ more) ++ tail ≡ line ++ (13 ∷ (10 ∷ (Ended more ++ tail)))
 ended_on line more tail = append_assoc (line ++ codes "\r\n") (Ended more) tail ∙ append_assoc line (codes "\r\n") (Ended more ++ tail)
 
--- lines: the first line, its CRLF and the other lines
+-- lines, each with its CRLF, are the first line, its CRLF and the other lines
 ended_one : (line : List ℕ) (more : List (List ℕ)) → Ended (line ∷ more) ≡ line ++ (13 ∷ (10 ∷ Ended more))
 ended_one line more = append_assoc line (codes "\r\n") (Ended more)
 
@@ -181,18 +195,21 @@ passed : (line : List ℕ) (more : List (List ℕ)) → Many Unit (Ended (line �
 passed line more (us, all, whole) folded = pass_line us line (Ended more) all (sym whole ∙ ended_one line more) folded
 
 -- where a branch is found from a line of the head on, it is the top Via's, if it is the top Via's wherever it is found after that line
+-- n is the number of the line, f the field that it says, fs are the fields after it, and b is the branch
 line_found : (n : ℕ) (line rest b : List ℕ) (more : List (List ℕ)) (f : SaidField) (fs : List SaidField) (via : SaidVia) (vias : List SaidVia) → FieldSays n line (gives f) → Passed line (Ended more)
     → branch_at (line_from (line ++ (13 ∷ (10 ∷ (Ended more ++ (13 ∷ rest)))))) ≡ Some b → ViasTell (said_values "via" (f ∷ fs)) (via ∷ vias)
     → (branch_at (line_from (Ended more ++ (13 ∷ rest))) ≡ Some b → ViasTell (said_values "via" fs) (via ∷ vias) → via.branch ≡ Some b) → via.branch ≡ Some b
 line_found n line rest b more f fs via vias says passed found tells on = by (opens_via text) refl found
   where
+    -- the other lines, and what follows the head
     tail : List ℕ
     tail = Ended more ++ (13 ∷ rest)
 
+    -- the text from this line on
     text : List ℕ
     text = line ++ (13 ∷ (10 ∷ tail))
 
-    -- whether the text opens with the name of a Via
+    -- the claim holds whether or not the text opens with the name of a Via
     by : (opens : Bool) → opens_via text ≡ opens → branch_at (if opens then Some text else via_line text) ≡ Some b → via.branch ≡ Some b
     by true is at =
         let here = field_found n line (10 ∷ tail) b f says at in
@@ -206,6 +223,8 @@ lines_found : (n : ℕ) (others : List (List ℕ)) (rest b : List ℕ) (fields :
 lines_found n [] rest b fields via vias clean folds says found tells =
     let list : fields ≡ [] = cc in
     let none : via ∷ vias ≡ [] = subst (λ fs. ViasTell (said_values "via" fs) (via ∷ vias)) list tells in absurd (cc)
+-- the first line has the branch, or it is passed over and a later one has it
+-- f is the field of the first line, and fs are those of the others
 lines_found n (line ∷ more) rest b fields via vias clean (fold, folds) (passes f f_is (passes fs fs_is e)) found tells =
     let list : fields ≡ f ∷ fs = cc in
     let on = passed line more clean fold in
@@ -221,10 +240,12 @@ told_found : (bytes rest first : List ℕ) (others : List (List ℕ)) (b : List 
 told_found bytes rest first others b told s clean (fold, folds) whole behind (passes start starts (passes fields fields_is (passes names names_is (passes body body_is given)))) found tell =
     let tail = Ended others ++ (13 ∷ rest) in
     let on = passed first others clean fold in
+    -- after the start line the search goes on with the fields
     let at : via_line bytes ≡ line_from tail = ap via_line (whole ∙ ended_on first others (13 ∷ rest)) ∙ on.over tail in
     let e : told ≡ (start, fields, body) = cc in
     let same : told.1 ≡ fields = ap (λ t. t.1) e in
     lines_found 1 others rest b (told.1) s.via s.others on.clean folds (subst (λ fs. FieldsSay 1 others (gives fs)) (sym same) fields_is) (sym (ap branch_at at) ∙ found) tell.vias
+-- a head with a fault has no fields
 told_found bytes rest first others b told s clean folds whole behind (passes start starts (passes fields fields_is (passes names names_is (stopped fault stops_at e)))) found tell = absurd (cc)
 told_found bytes rest first others b told s clean folds whole behind (passes start starts (passes fields fields_is (stopped fault stops_at e))) found tell = absurd (cc)
 told_found bytes rest first others b told s clean folds whole behind (passes start starts (stopped fault stops_at e)) found tell = absurd (cc)

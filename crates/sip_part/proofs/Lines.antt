@@ -12,7 +12,7 @@ use Rattle.sip_text.proofs.cuts.CutLemmas.{before-first, before-nowhere}
 use Rattle.memchr.specs.Find.{Nowhere, Passes, is_byte}
 use Rattle.sip_part.specs.Led.{opens_via, via_line}
 
--- the text from the first line that begins as a Via does, where the text's own front is such a line too
+-- the text from the first line on that begins as a Via does, where the line at the text's own front counts too
 abbrev pub line_from : List ℕ → Option (List ℕ)
 line_from text = if opens_via text then Some text else via_line text
 
@@ -26,6 +26,7 @@ pub after_end : (text : List ℕ) → via_line text ≡ found_in (behind line_fe
 after_end [] = refl
 after_end (b ∷ text) = by (nat_eq b line_feed) (after_end text)
   where
+    -- the claim holds whether the text begins with a line end or goes on
     by : (ends : Bool) → via_line text ≡ found_in (behind line_feed text) → (if ends then line_from text else via_line text) ≡ found_in (if ends then Some text else behind line_feed text)
     by true on = refl
     by false on = on
@@ -51,6 +52,7 @@ blank_no_via : (text rest : List ℕ) → OpensBlank text → opens_via (text ++
 blank_no_via [] rest blank = absurd blank
 blank_no_via (b ∷ text) rest blank = by (nat_eq b 32) (nat_eq b 9) refl refl blank
   where
+    -- a blank is no v in either case, whether it is SP or HTAB
     by : (x y : Bool) → nat_eq b 32 ≡ x → nat_eq b 9 ≡ y → (x || y) ≡ true → is_among "vV" b ≡ false
     by true y one two is = ap (is_among "vV") (eqb-true b 32 one)
     by false true one two is = ap (is_among "vV") (eqb-true b 9 two)
@@ -73,6 +75,7 @@ OnFrom us more = (line : List ℕ) → concat us ≡ line ++ (13 ∷ (10 ∷ mor
 pass_end : (us : List (List ℕ)) (line more : List ℕ) → AllByRecursion Unit us → 13 ∷ (10 ∷ concat us) ≡ line ++ (13 ∷ (10 ∷ more)) → Folded line → OnFrom us more → Passed line more
 pass_end us [] more all same folded on = let rest : concat us ≡ more = cc in record { over = λ tail. refl; clean = (us, all, sym rest) }
 pass_end us (x ∷ []) more all same folded on = let odd : ◌≡◌ {A = ℕ} 10 13 = cc in absurd (omega (arith, odd))
+-- the line goes on after the CRLF with what follows it
 pass_end us (x ∷ y ∷ line) more all same folded on =
     let rest : concat us ≡ line ++ (13 ∷ (10 ∷ more)) = cc in
     let whole : x ∷ y ∷ line ≡ 13 ∷ (10 ∷ line) = cc in
@@ -88,6 +91,7 @@ pass_end us (x ∷ y ∷ line) more all same folded on =
 no_end : (b : ℕ) → (not (nat_eq b 13) && not (nat_eq b 10)) ≡ true → nat_eq b 10 ≡ false
 no_end b plain = by (nat_eq b 13) (nat_eq b 10) plain
   where
+    -- where neither x nor y holds, y does not
     by : (x y : Bool) → (not x && not y) ≡ true → y ≡ false
     by true y is = absurd (cc)
     by false true is = absurd (cc)
@@ -97,6 +101,7 @@ no_end b plain = by (nat_eq b 13) (nat_eq b 10) plain
 pass_byte : (b : ℕ) (us : List (List ℕ)) (line more : List ℕ) → (not (nat_eq b 13) && not (nat_eq b 10)) ≡ true → b ∷ concat us ≡ line ++ (13 ∷ (10 ∷ more)) → Folded line → OnFrom us more → Passed line more
 pass_byte b us [] more plain same folded on =
     let odd : b ≡ 13 = cc in let e : false ≡ true = ap (λ x. not (nat_eq x 13) && not (nat_eq x 10)) (sym odd) ∙ plain in absurd (cc)
+-- the line goes on after the byte with what follows it
 pass_byte b us (x ∷ line) more plain same folded on =
     let first : x ≡ b = cc in
     let rest : concat us ≡ line ++ (13 ∷ (10 ∷ more)) = cc in

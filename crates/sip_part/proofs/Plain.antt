@@ -1,4 +1,5 @@
 -- A branch that stands plainly in the first Via of a message is that of its top Via.
+-- In the lemmas b is the branch that is found, and u, v, x and y are texts; a Bool is what a test says, as `comma` and `cr`.
 use Rattle.std.proofs.Common.{◌≡◌, ◌∙◌, ◌⊎◌, inl, inr, ◌+◌, ◌||◌, ℕ, List, [], ◌∷◌, ◌++◌, Bool, Option, Some, None, take, drop, length, if◌then◌else◌, cond, nat_eq, true, false, refl, sym, ap, subst, append_assoc, arith}
 use Rattle.std.proofs.lemmas.Bool.{eqb-true}
 use Rattle.std.specs.Prelude.{codes, nat_lt}
@@ -39,6 +40,7 @@ pub record Open (u : List ℕ) : Type 0 where
 pub wsp_opens : (b : ℕ) → is_wsp b ≡ true → Opens b
 wsp_opens b is = by (nat_eq b 32) (nat_eq b 9) refl refl is
   where
+    -- a blank may begin blanks, whether it is SP or HTAB
     by : (x y : Bool) → nat_eq b 32 ≡ x → nat_eq b 9 ≡ y → (x || y) ≡ true → Opens b
     by true y one two is = inl (eqb-true b 32 one)
     by false true one two is = inr (inl (eqb-true b 9 two))
@@ -56,6 +58,7 @@ sws_open : (u : List ℕ) → Sws u → (u ≡ []) ⊎ Open u
 sws_open u (inl none) = inl none
 sws_open u (inr blanks) = by (units-blanks u blanks)
   where
+    -- the claim holds whether there are no blanks or some
     by : Many Blank u → (u ≡ []) ⊎ Open u
     by ([], all, whole) = inl whole
     by (v ∷ vs, all, whole) = let o = blank_open v _ all.0 in inr (record { first = o.first; rest = o.rest; is = whole ∙ o.is; opens = o.opens })
@@ -68,6 +71,7 @@ NoToken text = prefix_len is_token_byte text ≡ 0
 pub open_no_token : (u rest : List ℕ) → Open u → NoToken (u ++ rest)
 open_no_token u rest o = by o.opens
   where
+    -- no token stands at the front, whether the first byte is SP, HTAB or CR, since none of these is a byte of a token
     by : Opens o.first → NoToken (u ++ rest)
     by (inl is) = ap (λ t. prefix_len is_token_byte (t ++ rest)) (o.is ∙ ap (λ x. x ∷ o.rest) is)
     by (inr (inl is)) = ap (λ t. prefix_len is_token_byte (t ++ rest)) (o.is ∙ ap (λ x. x ∷ o.rest) is)
@@ -77,6 +81,7 @@ open_no_token u rest o = by o.opens
 sws_no_token : (u rest : List ℕ) → Sws u → NoToken rest → NoToken (u ++ rest)
 sws_no_token u rest sws ends = by (sws_open u sws)
   where
+    -- no token stands at the front, whether or not there are blanks
     by : (u ≡ []) ⊎ Open u → NoToken (u ++ rest)
     by (inl none) = subst (λ t. NoToken (t ++ rest)) (sym none) ends
     by (inr o) = open_no_token u rest o
@@ -129,6 +134,7 @@ lack-a-host u host = let parts = host-parts u host in subst (Lacks semicolon) (s
 -- What follows shows that the search passes over a text without a semicolon, or ends in it.
 
 -- where a byte is no semicolon and the search finds a branch, the search found it after the byte
+-- where a byte is no semicolon, and the search finds a branch from it on, the search finds that branch from the byte after it on
 on_without : (ends semi : Bool) (here on : Option (List ℕ)) (b : List ℕ) → semi ≡ false → (if ends then None else if semi then here else on) ≡ Some b → on ≡ Some b
 on_without true semi here on b is found = absurd (cc)
 on_without false true here on b is found = absurd (cc)
@@ -163,6 +169,7 @@ passed_from : (u rest : List ℕ) (b : List ℕ) → Lacks semicolon u → branc
 passed_from [] rest b lacks found = found
 passed_from (x ∷ u) rest b (other, lacks) found = passed_from u rest b lacks (by (nat_eq x 44) (nat_eq x 13) refl refl)
   where
+    -- b is found after x, since the search would find nothing at a comma or a CR
     by : (comma cr : Bool) → nat_eq x 44 ≡ comma → nat_eq x 13 ≡ cr → branch_from (u ++ rest) ≡ Some b
     by true cr one two = let e : None ≡ Some b = ap (λ y. branch_from (y ∷ (u ++ rest))) (sym (eqb-true x 44 one)) ∙ found in absurd (cc)
     by false true one two = let e : None ≡ Some b = ap (λ y. branch_from (y ∷ (u ++ rest))) (sym (eqb-true x 13 two)) ∙ found in absurd (cc)
@@ -184,10 +191,12 @@ record Led (c : ℕ) (m : List ℕ) : Type 0 where
 
 -- a mark of this byte begins with it, but for blanks
 mark_led : (char : String) (c : ℕ) (m : List ℕ) → codes char ≡ c ∷ [] → Mark char m → Led c m
+-- s1 is the blanks before the byte e and s2 those after it; r is e and s2
 mark_led char c m one (s1, r, sws1, (e, s2, e_is, sws2, r_is), m_is) =
     record { before = s1; after = s2; is = m_is ∙ ap (λ t. s1 ++ t) (r_is ∙ ap (λ t. t ++ s2) (e_is ∙ one)); blanks = sws1; more = sws2 }
 
 -- a mark with blanks and the text after it is the blanks, the byte, and all that comes after it
+-- m is the mark c with blanks around it, as l tells
 led_rest : (c : ℕ) (m rest : List ℕ) (l : Led c m) → m ++ rest ≡ l.before ++ (c ∷ (l.after ++ rest))
 led_rest c m rest l = ap (λ t. t ++ rest) l.is ∙ append_assoc l.before (c ∷ l.after) rest
 
@@ -200,6 +209,7 @@ led_no_token c m rest other l =
 pub at_front : (c : ℕ) (before x y : List ℕ) → Sws before → (Opens c → ⊥) → before ++ (c ∷ x) ≡ c ∷ y → x ≡ y
 at_front c before x y sws not_blank same = by (sws_open before sws)
   where
+    -- there are no blanks before c, since both texts would else begin with different bytes, and so x is y
     by : (before ≡ []) ⊎ Open before → x ≡ y
     by (inl none) = let e : c ∷ x ≡ c ∷ y = ap (λ t. t ++ (c ∷ x)) (sym none) ∙ same in cc
     by (inr o) =
@@ -232,15 +242,17 @@ Seen b t = ((t ≡ codes "branch" ++ (61 ∷ drop 7 t)) × (token_at (drop 7 t) 
 param_seen : (t b : List ℕ) → branch_in (semicolon ∷ t) ≡ Some b → Seen b t
 param_seen t b found = by (starts_with nat_eq t (codes "branch=")) (opens_other t) refl refl found
   where
+    -- the claim holds whether "branch=" follows the semicolon, or what a branch that is spelled otherwise may begin with, or neither
     by : (s o : Bool) → starts_with nat_eq t (codes "branch=") ≡ s → opens_other t ≡ o → (if s then token_at (drop 7 t) else if o then None else branch_in t) ≡ Some b → Seen b t
     by true o is other f = inl (starts_is t (codes "branch=") is, f)
     by false true is other f = absurd (cc)
     by false false is other f = inr (other, f)
 
--- a byte whose lower case is b is b or B
+-- a byte whose lower case is b is among SP, HTAB, b and B, since it is b or B
 lower_b : (x : ℕ) → to_ascii_lowercase x ≡ 98 → is_among " \tbB" x ≡ true
 lower_b x is = by (nat_lt x 65) (nat_lt x 91) is
   where
+    -- the claim holds whether the byte is below the capital letters, is one, or is above them
     by : (low high : Bool) → cond low x (cond high (x + 32) x) ≡ 98 → is_among " \tbB" x ≡ true
     by true high e = ap (is_among " \tbB") e
     by false true e = let up : x ≡ 66 = omega (arith, e) in ap (is_among " \tbB") up
@@ -255,6 +267,7 @@ named_opens (x ∷ name) rest any = let e : to_ascii_lowercase x ∷ folded name
 token_after : (after value rest b : List ℕ) → Sws after → Token value → NoToken rest → token_at (after ++ (value ++ rest)) ≡ Some b → value ≡ b
 token_after after value rest b sws token ends found = by (sws_open after sws)
   where
+    -- the value is b: there are no blanks before it, since no token would else stand at the front
     by : (after ≡ []) ⊎ Open after → value ≡ b
     by (inl none) =
         let e : Some value ≡ Some b = sym (token_whole value rest token ends) ∙ sym (ap (λ t. token_at (t ++ (value ++ rest))) none) ∙ found in cc
@@ -263,11 +276,13 @@ token_after after value rest b sws token ends found = by (sws_open after sws)
 -- where b is found from a parameter with the name branch on, its value is b
 branch_seen : (name m value rest b : List ℕ) → Token name → AnyCase "branch" name → Mark "=" m → Token value → NoToken rest → Seen b (name ++ (m ++ (value ++ rest))) → value ≡ b
 branch_seen name m value rest b token any mark is_token ends (inl (is, found)) =
+    -- t is the text from the name on, and l the "=" with blanks around it; the name is `branch`, since both are runs of bytes of a token
     let t = name ++ (m ++ (value ++ rest)) in
     let l = mark_led "=" 61 m refl mark in
     let same = same_run name (codes "branch") (m ++ (value ++ rest)) (61 ∷ drop 7 t) (token_run name token) refl (led_no_token 61 m (value ++ rest) refl l) refl is in
     let after : l.after ++ (value ++ rest) ≡ drop 7 t = at_front 61 l.before (l.after ++ (value ++ rest)) (drop 7 t) l.blanks not_equal (sym (led_rest 61 m (value ++ rest) l) ∙ same.1) in
     token_after l.after value rest b l.more is_token ends (ap token_at after ∙ found)
+-- the parameter has another name, which is not so
 branch_seen name m value rest b token any mark is_token ends (inr (other, found)) =
     let e : true ≡ false = sym (named_opens name (m ++ (value ++ rest)) any) ∙ other in absurd (cc)
 
@@ -313,6 +328,7 @@ other_seen name tail rest b token other valued ends (inr (opens, found)) = value
 
 -- where b is found from a parameter on, the parameter has the branch b, or it has none and b is found after it
 param_step : (p : Option (List ℕ)) (param rest b : List ℕ) → ParamSays p param → NoToken rest → Seen b (param ++ rest) → (p ≡ Some b) ⊎ ((p ≡ None) × (branch_in rest ≡ Some b))
+-- the parameter is its name, and then "=" with its blanks, m, and the value; or its name and what else may follow, `tail`
 param_step (Some branch) param rest b (name, r, (token, any), (m, value, mark, (is_token, is), r_is), whole) ends seen =
     let flat : param ++ rest ≡ name ++ (m ++ (value ++ rest)) =
     ap (λ t. t ++ rest) (whole ∙ ap (λ t. name ++ t) r_is) ∙ append_assoc name (m ++ value) rest ∙ ap (λ t. name ++ t) (append_assoc m value rest) in
@@ -325,9 +341,11 @@ param_step None param rest b (name, tail, (token, other), valued, whole) ends se
 seen_open : (after x b : List ℕ) → Open after → Seen b (after ++ x) → ⊥
 seen_open after x b o seen = by o.opens
   where
+    -- b is found from the first blank on
     at : Seen b (o.first ∷ (o.rest ++ x))
     at = subst (λ t. Seen b (t ++ x)) o.is seen
 
+    -- b is found from any byte on that is equal to this blank
     here : (c : ℕ) → o.first ≡ c → Seen b (c ∷ (o.rest ++ x))
     here c is = subst (λ f. Seen b (f ∷ (o.rest ++ x))) is at
 
@@ -346,7 +364,7 @@ seen_open after x b o seen = by o.opens
     line (inl (is, found)) = let e : ◌≡◌ {A = ℕ} 13 98 = cc in omega (arith, e)
     line (inr (other, found)) = absurd (cc)
 
-    -- blanks begin with a SP, a HTAB or a CR
+    -- none of SP, HTAB and CR, with which blanks begin, can stand first
     by : Opens o.first → ⊥
     by (inl is) = blank (here 32 is)
     by (inr (inl is)) = tab (here 9 is)
@@ -356,18 +374,21 @@ seen_open after x b o seen = by o.opens
 seen_after : (after x b : List ℕ) → Sws after → Seen b (after ++ x) → Seen b x
 seen_after after x b sws seen = by (sws_open after sws)
   where
+    -- b is found from x on: there are no blanks, since b would else not be found
     by : (after ≡ []) ⊎ Open after → Seen b x
     by (inl none) = subst (λ t. Seen b (t ++ x)) none seen
     by (inr o) = absurd (seen_open after x b o seen)
 
 -- What follows is of parameters, one after another.
 
+-- the text is parameters, each of which says one of these
 abbrev Params : List (Option (List ℕ)) → List ℕ → Type 0
 Params params = EachSays (λ param. Mark ";" then ParamSays param) params
 
 -- no token stands at the front of parameters before a text at whose front none stands
 params_no_token : (params : List (Option (List ℕ))) (text tail : List ℕ) → Params params text → NoToken tail → NoToken (text ++ tail)
 params_no_token [] text tail is ends = subst (λ t. NoToken (t ++ tail)) (sym is) ends
+-- u is the first ";" (m, with its blanks) and its parameter, and v the others
 params_no_token (p ∷ ps) text tail (u, v, (m, param, mark, says, u_is), more, whole) ends =
     let flat : text ++ tail ≡ m ++ (param ++ (v ++ tail)) = ap (λ t. t ++ tail) (whole ∙ ap (λ t. t ++ v) u_is) ∙ append_assoc (m ++ param) v tail ∙ append_assoc m param (v ++ tail) in
     subst NoToken (sym flat) (led_no_token 59 m (param ++ (v ++ tail)) refl (mark_led ";" 59 m refl mark))
@@ -381,11 +402,14 @@ first_more p ps b X (inr (is, x)) on = ap (λ q. first_some (q ∷ ps)) is ∙ o
 params_found : (find : List ℕ → Option (List ℕ)) (params : List (Option (List ℕ))) (text tail b : List ℕ) → Search find b → NoToken tail → (find tail ≡ Some b → ⊥) → (branch_in tail ≡ Some b → ⊥) → Params params text
     → find (text ++ tail) ≡ Some b → first_some params ≡ Some b
 params_found find [] text tail b search ends none never is found = absurd (none (subst (λ t. find (t ++ tail) ≡ Some b) is found))
+-- u is the first ";" (m, with its blanks) and its parameter, and v the others
 params_found find (p ∷ ps) text tail b search ends none never (u, v, (m, param, mark, says, u_is), more, whole) found =
     let l = mark_led ";" 59 m refl mark in
     let rest = v ++ tail in
+    -- the text begins with a semicolon, blanks and the first parameter
     let flat : text ++ tail ≡ l.before ++ (59 ∷ (l.after ++ (param ++ rest))) =
     ap (λ t. t ++ tail) (whole ∙ ap (λ t. t ++ v) u_is) ∙ append_assoc (m ++ param) v tail ∙ append_assoc m param rest ∙ led_rest 59 m (param ++ rest) l in
+    -- the search passes over the blanks and comes to this parameter
     let at = search.pass l.before (59 ∷ (l.after ++ (param ++ rest))) (lack-sws l.before l.blanks) (subst (λ t. find t ≡ Some b) flat found) in
     let seen = seen_after l.after (param ++ rest) b l.more (param_seen (l.after ++ (param ++ rest)) b (sym (search.at_semicolon (l.after ++ (param ++ rest))) ∙ at)) in
     first_more p ps b (branch_in rest ≡ Some b) (param_step p param rest b says (params_no_token ps v tail more ends) seen) (λ f. params_found branch_in ps v tail b (among b) ends never never more f)
@@ -404,9 +428,12 @@ step_from u v text tail b lacks whole found = passed_from u (v ++ tail) b lacks 
 
 -- where b is found in an element of Via, and nothing after it, b is the element's branch
 via_found : (via : SaidVia) (text tail b : List ℕ) → NoToken tail → (branch_from tail ≡ Some b → ⊥) → (branch_in tail ≡ Some b → ⊥) → ViaSays via text → branch_from (text ++ tail) ≡ Some b → via.branch ≡ Some b
+-- t1 to t8 are the parts before the parameters (protocol, slash, version, slash, transport, blanks, host and port), r1 to r8 what follows each, and e1 to e8
+-- say so
 via_found via text tail b ends none never
     (params, is, same, (t1, r1, one, (t2, r2, two, (t3, r3, three, (t4, r4, four, (t5, r5, five, (t6, r6, six, (t7, r7, seven, (t8, r8, eight, each, e8), e7), e6), e5), e4), e3), e2), e1)) found =
     is ∙ params_found branch_from params r8 tail b (from_first b) ends none never each
+    -- from the parameters back to the protocol, the search passes over each part
     (step_from t8 r8 r7 tail b (lack-port-says via.port t8 eight) e8
     (step_from t7 r7 r6 tail b (lack-a-host t7 seven.0) e7
     (step_from t6 r6 r5 tail b (lack-blanks t6 six) e6
@@ -423,14 +450,18 @@ More vias = EachSays (λ v. Mark "," then ViaSays v) vias
 -- no token stands at the front of further elements before a text at whose front none stands
 more_no_token : (vias : List SaidVia) (text tail : List ℕ) → More vias text → NoToken tail → NoToken (text ++ tail)
 more_no_token [] text tail is ends = subst (λ t. NoToken (t ++ tail)) (sym is) ends
+-- u is the first comma (m, with its blanks) and its element x, and v the others
 more_no_token (via ∷ vias) text tail (u, v, (m, x, mark, says, u_is), more, whole) ends =
     let flat : text ++ tail ≡ m ++ (x ++ (v ++ tail)) = ap (λ t. t ++ tail) (whole ∙ ap (λ t. t ++ v) u_is) ∙ append_assoc (m ++ x) v tail ∙ append_assoc m x (v ++ tail) in
     subst NoToken (sym flat) (led_no_token 44 m (x ++ (v ++ tail)) refl (mark_led "," 44 m refl mark))
 
 -- a search that finds nothing after further elements of Via finds nothing from their comma on
 more_ends : (find : List ℕ → Option (List ℕ)) (vias : List SaidVia) (text tail b : List ℕ) → Search find b → More vias text → (find tail ≡ Some b → ⊥) → find (text ++ tail) ≡ Some b → ⊥
+-- without further elements only the tail is left
 more_ends find [] text tail b search is none found = none (subst (λ t. find (t ++ tail) ≡ Some b) is found)
+-- u is the first comma with its element
 more_ends find (via ∷ vias) text tail b search (u, v, (m, x, mark, says, u_is), more, whole) none found =
+    -- m is the comma with blanks around it, x the next element, and v the elements after it; the search passes over blanks and ends at the comma
     let l = mark_led "," 44 m refl mark in
     let flat : text ++ tail ≡ l.before ++ (44 ∷ (l.after ++ (x ++ (v ++ tail)))) =
     ap (λ t. t ++ tail) (whole ∙ ap (λ t. t ++ v) u_is) ∙ append_assoc (m ++ x) v tail ∙ append_assoc m x (v ++ tail) ∙ led_rest 44 m (x ++ (v ++ tail)) l in
@@ -451,6 +482,7 @@ line_ends find s rest b search sws found = let e : None ≡ Some b = sym (search
 -- The branch that is found in the rest of a field's line is that of the first element of its value.
 pub value_found : (text value rest b : List ℕ) → (Sws then Exactly value then Sws) text → branch_in (from_stop (text ++ (13 ∷ rest))) ≡ Some b → (via : SaidVia) (vias : List SaidVia) → ViasSay (via ∷ vias) value
     → via.branch ≡ Some b
+-- s1 is the blanks before the value and r what follows them: the value and the blanks s2 after it
 value_found text value rest b (s1, r, sws1, (val, s2, val_is, sws2, r_is), whole) found via vias says =
     let at = step_from s1 r text (13 ∷ rest) b (lack-sws s1 sws1) whole found in
     let flat : r ++ (13 ∷ rest) ≡ value ++ (s2 ++ (13 ∷ rest)) = ap (λ t. t ++ (13 ∷ rest)) (r_is ∙ ap (λ t. t ++ s2) val_is) ∙ append_assoc value s2 (13 ∷ rest) in

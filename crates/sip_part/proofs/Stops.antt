@@ -9,6 +9,7 @@ use Rattle.sip_part.specs.Led.{from_stop}
 either_way : (a b : ℕ) → nat_eq a b ≡ nat_eq b a
 either_way a b = by (nat_eq a b) (nat_eq b a) refl refl
   where
+    -- where one of the two tests passes, the other does
     by : (x y : Bool) → nat_eq a b ≡ x → nat_eq b a ≡ y → x ≡ y
     by true true is other = refl
     by false false is other = refl
@@ -21,6 +22,7 @@ same_stops b =
     ap (λ x. x || (nat_eq 59 b || (nat_eq 13 b || false))) (either_way 44 b) ∙ ap (λ y. nat_eq b 44 || (y || (nat_eq 13 b || false))) (either_way 59 b)
     ∙ ap (λ z. nat_eq b 44 || (nat_eq b 59 || (z || false))) (either_way 13 b) ∙ by (nat_eq b 44) (nat_eq b 59) (nat_eq b 13)
   where
+    -- three tests that are joined by "or" come to the same, whichever two are joined first
     by : (x y z : Bool) → (x || (y || (z || false))) ≡ ((x || y) || z)
     by true y z = refl
     by false true z = refl

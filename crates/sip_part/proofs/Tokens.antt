@@ -17,6 +17,7 @@ token_none text none = rw none refl
 pub token_some : (text : List ℕ) (n : ℕ) → prefix_len is_token_byte text ≡ n → n ≢ 0 → token_at text ≡ Some (take n text)
 token_some text n is some = by (nat_eq (prefix_len is_token_byte text) 0) refl
   where
+    -- the token is the first n bytes, since n is not 0 and so the text begins with a byte of a token
     by : (b : Bool) → nat_eq (prefix_len is_token_byte text) 0 ≡ b → token_at text ≡ Some (take n text)
     by true zero = absurd (some (sym is ∙ eqb-true (prefix_len is_token_byte text) 0 zero))
     by false more = rw more (ap (λ k. Some (take k text)) is)
@@ -31,6 +32,7 @@ pub same_run : (u v rest more : List ℕ) → list_all is_token_byte u ≡ true 
 same_run [] [] rest more left right ends stops same = (refl, same)
 same_run [] (y ∷ v) rest more left right ends stops same = absurd (no_front y (v ++ more) (and_parts (is_token_byte y) (list_all is_token_byte v) right).0 (ap (prefix_len is_token_byte) (sym same) ∙ ends))
 same_run (x ∷ u) [] rest more left right ends stops same = absurd (no_front x (u ++ rest) (and_parts (is_token_byte x) (list_all is_token_byte u) left).0 (ap (prefix_len is_token_byte) same ∙ stops))
+-- both begin with the same byte, and what follows it is the same
 same_run (x ∷ u) (y ∷ v) rest more left right ends stops same =
     let heads : x ≡ y = cc in
     let tails : u ++ rest ≡ v ++ more = cc in

@@ -39,9 +39,11 @@ fault_told text fault none has = ((λ s says. absurd (says-no_fault text s fault
 pub one_told : (text a b : List ℕ) → TellsBranch text a → TellsBranch text b → a ≡ b
 one_told text a b one other = by (bytes_eq a b) (bytes_eq-Decides a b)
   where
+    -- branches that the test finds different are different
     differ : Decides false (a ≡ b) → a ≡ b → ⊥
     differ decides same = let e : false ≡ true = decides.1 same in absurd (cc)
 
+    -- the test finds the two branches the same, since else they would fall by different ones
     by : (same : Bool) → Decides same (a ≡ b) → a ≡ b
     by true decides = decides.0 refl
     by false decides =

@@ -13,7 +13,9 @@ use std::marker::Model;
 /// One of the parts of a log that is cut by branch: part `number` of `count`, counted from 1.
 #[derive(Debug, Drop)]
 pub struct Part {
+    /// Which part this is, from 1.
     number: u32,
+    /// How many parts there are.
     count: u32,
 }
 

@@ -6,6 +6,7 @@ use Rattle.sip_standard.specs.declared.asked.Asked.TheVariants.{Input, Check, Sh
 use Rattle.sip_standard.specs.Answers.{IsJudged, IsShown, IsListed, IsAnswer, IsAnswerTo}
 
 -- bytes that were appended are appended still, where the writer keeps all its bytes
+-- a is what was written before the bytes, b after them, and c later
 Appends-kept : (a b c : Option (List ℕ)) (bytes : List ℕ) → Appends a b bytes → Keeps b c → Appends a c bytes
 Appends-kept None b c bytes appended kept = tt
 Appends-kept (Some x) None c bytes appended kept = absurd appended
@@ -26,6 +27,7 @@ IsListed-kept : (entry : ℕ) (input a b c : Option (List ℕ)) (status : ℕ) �
 IsListed-kept entry input a b c status it kept = record { listing = it.listing; is = it.is; written = Appends-kept a b c _ it.written kept; ends = it.ends }
 
 -- where the writer keeps its bytes, an answer to what is asked is one still
+-- a is what was written before the answer, b after it, and c later
 pub IsAnswer-kept : (asked : Asked) (input a b c : Option (List ℕ)) (status : ℕ) → IsAnswer asked input a b status → Keeps b c → IsAnswer asked input a c status
 IsAnswer-kept Input input a b c status it kept = IsJudged-kept input a b c status it kept
 IsAnswer-kept (Check path) input a b c status it kept = IsJudged-kept input a b c status it kept

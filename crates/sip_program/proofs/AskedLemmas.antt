@@ -1,4 +1,5 @@
 -- Words are told by the bytes of each, at its place.
+-- In the lemmas f gives the bytes of a word, a and b are the first two words, s and t their bytes, and d what stands for no word.
 use Rattle.std.proofs.Common.{◌≡◌, ◌≢◌, ℕ, ◌<◌, ◌≤◌, false, List, [], ◌∷◌, codes, length, map, get_or, ap, sym, ◌∙◌, arith}
 use Rattle.std.specs.Prelude.{bytes_eq, decimal}
 use Rattle.std.proofs.lemmas.Bool.{both_ways}
@@ -12,6 +13,7 @@ use Rattle.sip_standard.specs.Asked.{words_for}
 pub two-words : {X : Type 0} (f : X → List ℕ) (words : List X) (a b : X) (first second : List ℕ) →
     2 ≤ length words → length words < 3 → a ≡ get_or words 0 a → b ≡ get_or words 1 b → first ≡ f a → second ≡ f b →
     map f words ≡ first ∷ second ∷ []
+-- there are neither fewer words than two nor more
 two-words f [] a b first second some few is-a is-b is-first is-second = absurd (omega arith)
 two-words f (x ∷ []) a b first second some few is-a is-b is-first is-second = absurd (omega arith)
 two-words f (x ∷ y ∷ []) a b first second some few is-a is-b is-first is-second =
@@ -19,6 +21,7 @@ two-words f (x ∷ y ∷ []) a b first second some few is-a is-b is-first is-sec
 two-words f (x ∷ y ∷ z ∷ rest) a b first second some few is-a is-b is-first is-second = absurd (omega arith)
 
 -- three words are the first, the second and the third one, each told by its bytes
+-- a, b and c are the words, and f gives the bytes of a word
 pub three-words : {X : Type 0} (f : X → List ℕ) (words : List X) (a b c : X) (first second third : List ℕ) →
     3 ≤ length words → length words < 4 → a ≡ get_or words 0 a → b ≡ get_or words 1 b → c ≡ get_or words 2 c → first ≡ f a → second ≡ f b → third ≡ f c →
     map f words ≡ first ∷ second ∷ third ∷ []
@@ -36,7 +39,7 @@ not-word : {X : Type 0} (f : X → List ℕ) (words : List X) (a : X) (text want
 not-word f words a text wanted rest is told differ same =
     both_ways (bytes_eq text wanted) (sym differ) ((bytes_eq-Decides text wanted).1 (told ∙ first-word f words a wanted rest is same))
 
--- there are as many words as texts by which they are told
+-- where the texts of words are other texts, there are as many words as those
 as-many : {X : Type 0} (f : X → List ℕ) (words : List X) (others : List (List ℕ)) → map f words ≡ others → length words ≡ length others
 as-many f words others same = sym (length-map words f) ∙ ap length same
 
@@ -48,8 +51,10 @@ not-long f words none two three (Show file) same = two (sym (as-many f words (wo
 not-long f words none two three (States file entry) same = three (sym (as-many f words (words_for (States file entry)) same))
 
 -- two words ask for nothing where the first is neither `check` nor `show`
+-- a and b are the words, and s and t their bytes
 pub not-two : {X : Type 0} (f : X → List ℕ) (words : List X) (a b : X) (s t : List ℕ) → 2 ≤ length words → length words < 3 → a ≡ get_or words 0 a → b ≡ get_or words 0 b → s ≡ f a → t ≡ f b
     → false ≡ bytes_eq s (codes "check") → false ≡ bytes_eq t (codes "show") → (asked : Asked) → map f words ≡ words_for asked → ⊥
+-- nothing to ask for has no words, a file to check or to show has a first word of its own, and an entry to list has three words
 not-two f words a b s t some few is-a is-b told-a told-b check show Input same = let many = as-many f words [] same in omega (arith, many, some)
 not-two f words a b s t some few is-a is-b told-a told-b check show (Check file) same = not-word f words a s (codes "check") (file.now ∷ []) is-a told-a check same
 not-two f words a b s t some few is-a is-b told-a told-b check show (Show file) same = not-word f words b t (codes "show") (file.now ∷ []) is-b told-b show same

@@ -1,3 +1,4 @@
+-- The word that names an entry by its number.
 use Rattle.std.specs.Prelude.{◌≡◌, ◌≢◌, ℕ, List, Option, None, Some, decimal}
 use Rattle.sip_standard.specs.Asked.{IsEntryNumber}
 

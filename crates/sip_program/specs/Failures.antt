@@ -1,3 +1,4 @@
+-- The failures of the program: the status of each, and when each can come.
 use Rattle.std.specs.Prelude.{◌≡◌, ℕ, Bool, true, ⊤}
 use Rattle.sip_standard.specs.declared.failure.Failure.{Failure}
 use Rattle.sip_standard.specs.declared.failure.Failure.TheVariants.{Read, Write, Memory, Usage}

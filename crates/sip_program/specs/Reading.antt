@@ -1,3 +1,4 @@
+-- What the program has still to read of a log.
 use Rattle.std.specs.Prelude.{ℕ, List, Option}
 use Rattle.sip_log.specs.declared.source.FromRead.{FromRead}
 use Rattle.sip_program.specs.declared.host.Log.{Log}

@@ -20,7 +20,9 @@ enum Log<I, F> {
 #[derive_where(Debug; P, I, P::File)]
 pub struct Host<P: Platform + Drop, I: Drop> {
     platform: P,
+    /// The standard input, or the file that was opened in its place.
     log: Log<I, P::File>,
+    /// Whether the platform or a read has failed.
     failed: bool,
 }
 
@@ -51,10 +53,12 @@ fn behind_name(mut words: Vec<String>) -> Vec<String>
 }
 
 impl<P: Platform + Drop, I: Read + Drop> Source for Host<P, I> {
+    // What is left to read is that of the log that was opened, or of the standard input.
     ghost left = { λ host. left_of ⟦<FromRead<I> as Source>⟧.left ⟦<FromRead<P::File> as Source>⟧.left host.log };
 
     ghost has_failed = { λ host. host.failed };
 
+    // Bytes come from the log that is open; where a read fails, it is kept that one has.
     fn fill(&mut self, buf: &mut [u8]) -> Result<usize, Broken> {
         let count = match &mut self.log {
             Log::Input(input) => input.fill(buf),
@@ -70,12 +74,14 @@ impl<P: Platform + Drop, I: Read + Drop> Source for Host<P, I> {
 }
 
 impl<P: Platform + Drop, I: Read + Drop> System for Host<P, I> {
+    // The words are those of the platform without the name of the program, and a path opens what it opens there.
     ghost words = { λ host. option_map (drop 1) (P.words host.platform) };
 
     ghost file = { λ host. P.file host.platform };
 
     type Seed = P::Seed;
 
+    // The words come without the program's name; where they, a seed or a file cannot be had, it is kept that something has failed.
     fn words(&mut self) -> io::Result<Vec<String>> {
         let words = self.platform.words();
         self.failed |= words.is_err();

@@ -28,6 +28,7 @@ fn answer<S: System, W: Sink>(
     ensures fine { OnOk result ((S.has_failed system.new ≡ false) × (W.has_failed writer.new ≡ W.has_failed writer.old)) }
     ensures err { IfErr result (Blames (S.has_failed system.new) (W.has_failed writer.new)) }
 {
+    // What judges a log needs a seed for its hashers; what shows one needs none.
     match asked {
         Asked::Input => {
             let seed = system.seed().map_err(read_failure)?;

@@ -31,6 +31,7 @@ module _ {X : Type 0} (xs : List X) (i : ℕ) (within : i < length xs) (x : X) w
   pub still_has : (y : X) → get_or xs i y ≡ y → y ≢ x → Contains xs x → Contains (remove xs i) x
   still_has y is differs (k, low, at) = go (dec_lt k i) (dec_lt i k)
     where
+      -- the place k is before i, after it, or i itself
       go : Dec (k < i) → Dec (i < k) → Contains (remove xs i) x
       go (yes before) _ = before_it k before at
       go (no _) (yes after) = after_it k after low at
@@ -42,6 +43,7 @@ module _ {X : Type 0} (xs : List X) (i : ℕ) (within : i < length xs) (x : X) w
 pub distinct_few : {X : Type 0} (ys xs : List X) → AllPairs (λ x y. x ≢ y) ys → All (Contains xs) ys → length ys ≤ length xs
 distinct_few [] xs apart each = omega arith
 distinct_few (y ∷ ys) xs apart each =
+    -- y stands at the place i of xs, and the other elements of ys stand in xs without that place
     let (i, within, is) = All-head (Contains xs) y ys each in
     let rest : All (Contains (remove xs i)) ys =
     λ k d low. still_has xs i within (get_or ys k d) y is (AllPairs-head (λ a b. a ≢ b) y ys apart k d low) (All-tail (Contains xs) y ys each k d low) in

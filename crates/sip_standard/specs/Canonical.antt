@@ -8,7 +8,7 @@ use Rattle.sip_standard.specs.StartLine.{StartLine, request, status}
 use Rattle.sip_standard.specs.Field.{SaidField, is_lws_byte}
 use Rattle.sip_standard.specs.Says.{BytesTell}
 
--- the name of a field in full, where it is one of these or its compact form (sections 7.3.3 and 20); any other as it is spelled
+-- the name of a field in full, where it is one of these or its compact form, by `has` without case (sections 7.3.3 and 20); any other as it is spelled
 abbrev pub long_name : List ℕ → List ℕ
 long_name name =
     let has = λ (text : String). bytes_eq (folded name) (codes text) in

@@ -1,6 +1,5 @@
-use Rattle.std.specs.Prelude.{◌≡◌, ℕ, Bool, false, List, ◌∷◌, ◌++◌, All, map}
-
 -- What a machine owes, oldest cause first: replies to repeated requests (RFC 3261 sections 17.2.1 and 17.2.2), and ACKs (section 17.1.1.2).
+use Rattle.std.specs.Prelude.{◌≡◌, ℕ, Bool, false, List, ◌∷◌, ◌++◌, All, map}
 
 -- a message that is to be sent by its deadline, or that may be sent until then
 pub record Owed : Type 0 where

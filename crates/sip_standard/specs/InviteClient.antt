@@ -1,3 +1,4 @@
+-- The INVITE client transaction, RFC 3261 section 17.1.1 and its figure 5, with the accepted state of RFC 6026 section 7.2.
 use Rattle.std.specs.Prelude.{◌≡◌, ◌*◌, ◌⊎◌, ℕ, Bool, true, false, Option, Some, None, List, [], ◌∷◌, if◌then◌else◌}
 use Rattle.sip_standard.specs.AckOf.{AckOf}
 use Rattle.sip_standard.specs.declared.kind.Method.TheVariants.{Invite, Ack, Cancel}
@@ -10,8 +11,6 @@ use Rattle.sip_standard.specs.Retransmits.{Retransmits}
 use Rattle.sip_standard.specs.Waiting.{Waiting}
 use Rattle.sip_standard.specs.Kind.{IsProvisional, IsSuccess, IsUnsuccessful}
 use Rattle.sip_standard.specs.Figure.{Figure, Change, keeps, gains}
-
--- The INVITE client transaction, RFC 3261 section 17.1.1 and its figure 5, with the accepted state of RFC 6026 section 7.2.
 
 -- the phases of section 17.1.1.2 and of RFC 6026, with the one before the INVITE and the one after the end
 pub data InviteClientPhase : Type 0 where

@@ -1,3 +1,5 @@
+-- The INVITE server transaction of RFC 3261 section 17.2.1 and its figure 7, without RFC 6026: a 2xx is the last that it does, and the INVITE, when it
+-- comes again after one, begins it anew.
 use Rattle.std.specs.Prelude.{◌≡◌, ◌⊎◌, ℕ, Bool, true, false, Option, None, List, []}
 use Rattle.sip_standard.specs.declared.kind.Method.TheVariants.{Invite}
 use Rattle.sip_standard.specs.declared.kind.Kind.{Kind}
@@ -8,9 +10,6 @@ use Rattle.sip_standard.specs.Kind.{IsSuccess}
 use Rattle.sip_standard.specs.Figure.{Figure, Change, keeps, drops}
 use Rattle.sip_standard.specs.InviteServer as corrected
 use Rattle.sip_standard.specs.InviteServer.{InviteServerPhase, Idle, Proceeding, Accepted, Completed}
-
--- The INVITE server transaction of RFC 3261 section 17.2.1 and its figure 7, without RFC 6026: a 2xx is the last that it does, and the INVITE, when it
--- comes again after one, begins it anew.
 
 -- its phases: those of InviteServer, of which it never enters accepted, and whether the INVITE came again after a 2xx; and the one after a 2xx
 pub data InviteServer3261Phase : Type 0 where

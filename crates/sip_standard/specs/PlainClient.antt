@@ -1,3 +1,4 @@
+-- The non-INVITE client transaction, RFC 3261 section 17.1.2 and its figure 6.
 use Rattle.std.specs.Prelude.{◌≡◌, ◌*◌, ◌⊎◌, ℕ, Bool, true, Option, None, List, [], ◌∷◌, if◌then◌else◌, min}
 use Rattle.sip_standard.specs.declared.kind.Kind.{Kind}
 use Rattle.sip_standard.specs.declared.kind.Kind.TheVariants.{Request, Response}
@@ -8,8 +9,6 @@ use Rattle.sip_standard.specs.Retransmits.{Retransmits}
 use Rattle.sip_standard.specs.Waiting.{Waiting}
 use Rattle.sip_standard.specs.Kind.{IsProvisional, IsFinal}
 use Rattle.sip_standard.specs.Figure.{Figure, Change, keeps}
-
--- The non-INVITE client transaction, RFC 3261 section 17.1.2 and its figure 6.
 
 -- the phases of section 17.1.2.2, with the one before the request and the one after the end
 pub data PlainClientPhase : Type 0 where
@@ -24,7 +23,7 @@ Receives p (Trying w) (Response code) e y =
 Receives p (Proceeding w) (Response code) e y = IsFinal code × (y ≡ (Completed w.reliable e.moment, keeps))
 Receives p x k e y = ⊥
 
--- the rows of a sent request: timers E and F start, E at T1; E fires, and starts again at twice its interval up to T2, in proceeding at T2
+-- the rows of a sent request: timers E and F start, E at T1; E fires, and starts again at twice its interval up to T2, in proceeding at T2; e leads to y
 abbrev pub Sends : Times → PlainClientPhase → Kind → MachineEvent → PlainClientPhase × Change → Type 0
 Sends p Idle (Request method) e y =
     y ≡ (Trying (record { reliable = e.reliable; request = e.text; start = e.moment; set = e.moment; interval = p.t1 }), keeps)

@@ -1,3 +1,4 @@
+-- The non-INVITE server transaction, RFC 3261 section 17.2.2 and its figure 8.
 use Rattle.std.specs.Prelude.{◌≡◌, ◌*◌, ◌⊎◌, ℕ, Bool, true, false, Option, None, List, [], if◌then◌else◌}
 use Rattle.sip_standard.specs.declared.kind.Kind.{Kind}
 use Rattle.sip_standard.specs.declared.kind.Kind.TheVariants.{Request, Response}
@@ -7,8 +8,6 @@ use Rattle.sip_standard.specs.MachineEvent.{MachineEvent}
 use Rattle.sip_standard.specs.Kind.{IsProvisional, IsFinal}
 use Rattle.sip_standard.specs.Figure.{Figure, Change, keeps, softens, gains}
 use Rattle.sip_standard.specs.Replies.{Replies}
-
--- The non-INVITE server transaction, RFC 3261 section 17.2.2 and its figure 8.
 
 -- the phases of section 17.2.2, with the one before the request, which is the one after the end too
 pub data PlainServerPhase : Type 0 where

@@ -7,7 +7,7 @@ use Rattle.sip_standard.specs.Figure.{Figure, Owing, quiet, Takes, Lasts, MayEnd
 pub data Stands {X : Type 0} (f : Figure X) (p : Times) : List MachineEvent → ℕ → Owing X → Type 0 where
   -- the run begins in idle at moment 0
   begins : Stands f p [] 0 (quiet f.idle)
-  -- the run waits in a state that lasts until then
+  -- the run stands in the state x at the moment h, and waits there until the moment m, until which x lasts
   waits : (events : List MachineEvent) (h m : ℕ) (x : Owing X) → Stands f p events h x → h ≤ m → Lasts f p x m → Stands f p events m x
   -- the run ends where its state may end
   ends : (events : List MachineEvent) (h : ℕ) (x : Owing X) → Stands f p events h x → MayEnd f p x h → Stands f p events h (quiet f.ended)

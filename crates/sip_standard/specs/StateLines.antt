@@ -1,10 +1,9 @@
+-- The lines of the states in a listing.
 use Rattle.std.specs.Prelude.{◌≢◌, ◌↔◌, ◌++◌, ℕ, List, AllPairs, Contains, codes, map}
 use Rattle.std.specs.Ordering.{nat_cmp}
 use Rattle.std.specs.List.Sorted.{IsSorted, IsPermutation}
 use Rattle.std.specs.List.{flat_map}
 use Rattle.std.specs.Cmp.Lexicographic.{slice_cmp}
-
--- The lines of the states in a listing.
 
 -- the lines are these texts, in ascending order of their bytes
 pub record AreInOrder (texts lines : List (List ℕ)) : Type 0 where

@@ -1,7 +1,6 @@
+-- A phase in words, as a listing tells it: of messages M, which are bytes in a figure, and numbers of entries in a text.
 use Rattle.std.specs.Prelude.{ℕ, Bool, Option, List, map}
 use Rattle.std.specs.Option.{option_map}
-
--- A phase in words, as a listing tells it: of messages M, which are bytes in a figure, and numbers of entries in a text.
 
 -- a field of a phase: its name, and as its value a flag, a moment or an interval if there is one, or a message if there is one
 pub data ToldField (M : Type 0) : Type 0 where

@@ -1,10 +1,9 @@
+-- A transaction in a listing: its number, its key in words, and its states.
 use Rattle.std.specs.Prelude.{◌++◌, ℕ, List, codes, decimal, length}
 use Rattle.sip_standard.specs.declared.role.Role.{Role}
 use Rattle.sip_standard.specs.declared.role.Role.TheVariants.{Client, Server}
 use Rattle.sip_standard.specs.Key.{KeyParts}
 use Rattle.sip_standard.specs.StateLines.{indented}
-
--- A transaction in a listing: its number, its key in words, and its states.
 
 -- the role of a transaction in a word
 abbrev pub role_text : Role → List ℕ

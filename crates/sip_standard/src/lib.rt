@@ -1,6 +1,6 @@
 //! What one must believe of SIP (RFC 3261) to read what this repository proves: the definitions that its contracts cite, each once, in the
 //! order in which one reads, and the types that entries and answers are made of. `specs/` has a file for each noun: sets of texts, case, characters,
-//! the profile of the grammar, what a message says or why bytes are none, keys, times and windows, what an input says as a log, the six machines,
+//! the profile of the grammar, what a message says, or why bytes are no message, keys, times and windows, what an input says as a log, the six machines,
 //! runs, the verdict, what is shown of a log, what is listed of an entry, and what the words of the program ask for and get. `Judges` and `Program`
 //! are the theorem over them.
 #![tactic(auto)]

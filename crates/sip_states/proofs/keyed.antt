@@ -1,3 +1,4 @@
+-- The set of a key, whichever machine it has.
 pub mod KeySetLaws
 pub mod AnyLemmas
 pub mod ByMachine

@@ -1,3 +1,4 @@
+-- Lists of any elements.
 pub mod EachOnce
 pub mod Kept
 pub mod Listed

@@ -1,3 +1,4 @@
+-- The runs of machines, and what they send.
 pub mod Reaching
 pub mod RunLemmas
 pub mod StandsLemmas

@@ -1,3 +1,4 @@
+-- How the states of a set wait, and take an event.
 pub mod Advancing
 pub mod Following
 pub mod Stepping

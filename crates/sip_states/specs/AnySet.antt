@@ -23,6 +23,7 @@ meaning_of machine =
       names = owing_names c.names;
       seen = owing_seen c.seen;
       in_range = OwingInRange c.InRange;
+      -- the rules by which it steps, how long it lasts, and its ended state
       rules = rules_of_figure figure;
       until = λ p x. until_of figure p (owing_seen c.seen [] x);
       ended = λ p. ended_state c;

@@ -1,3 +1,4 @@
+-- What a set of states holds.
 use Rattle.std.specs.Prelude.{◌≢◌, ◌≤◌, ◌+◌, ◌⊎◌, ℕ, Option, List, All, AllPairs, Contains, length}
 use Rattle.sip_machine.specs.Limits.{IsWithin}
 use Rattle.sip_states.specs.Runs.{widest}

@@ -19,7 +19,8 @@ Saying = Told (List ℕ) × List ℕ × List Debt
 abbrev pub said_state : Texts → ToldState → Saying
 said_state texts state = (told_by (text_of texts) (told_of state.phase), messages_told (told_of state.phase), debts_in state.owes.items)
 
--- What follows is of the states of one machine: the words of its phases, what they stand for and what they name.
+-- What follows is of the states of one machine: `words` are the words of its phases, `seen` gives what they stand for, and `names` the messages that they
+-- name.
 module _ {S X : Type 0} (words : X → Told (List ℕ)) (seen : Texts → S → X) (names : S → List ℕ) where
   -- what a told state must say of a state of the code
   abbrev pub meant : Texts → CodeOwing S → Saying

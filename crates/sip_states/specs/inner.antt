@@ -1,3 +1,4 @@
+-- How the code has sets and tables.
 pub mod Lines
 pub mod Ways
 pub mod Marks

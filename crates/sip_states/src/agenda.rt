@@ -21,6 +21,7 @@ impl Model for Agenda {
     ghost use Rattle.sip_states.specs.Agenda.{Records};
     ghost use Rattle.sip_states.specs.inner.Lines.{IsInOrder};
 
+    // An agenda means the record of each index, and its order has the line of each last moment on record.
     ghost Value = { Records };
 
     ghost view = { λ a. a.records.items };
@@ -63,6 +64,7 @@ fn leave(order: &mut BTreeSet<(u64, usize)>, index: usize, limit: Option<u64>)
 }
 
 impl Agenda {
+    /// An agenda of no index.
     pub(crate) fn new(alloc: Global) -> Self
         ensures { result ≡ [] }
     {

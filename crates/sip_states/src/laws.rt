@@ -1,4 +1,5 @@
 //! Laws of runs. The functions do nothing: their contracts are the laws.
+//! In each law p are the times; h, m and n are moments, x and y states, `events` what has come, and e the event that comes next.
 ghost use Rattle.std.specs.List.{Any};
 ghost use Rattle.std.specs.Prelude.{◌≡◌, ◌≤◌, ◌↔◌, ◌⊎◌, ◌++◌, ◌∷◌, [], ℕ, Bool, true, false, List, All, Contains};
 ghost use Rattle.sip_standard.specs.declared.kind.Kind.TheVariants.{Request, Response};

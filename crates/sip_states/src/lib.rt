@@ -8,6 +8,7 @@ mod ends;
 mod keeping;
 mod laws;
 mod marks;
+mod moment;
 mod recorded;
 mod state_set;
 mod steps;

@@ -21,6 +21,7 @@ impl Model for Marks {
     ghost use Rattle.std.specs.Prelude.{◌≤◌};
     ghost use Rattle.sip_states.specs.inner.Marks.{marks, IsPlaced, Marked};
 
+    // What marks mean is, for each index, whether it is named and whether it is moved. Each index stands in the order once, the named ones first.
     ghost Value = { Marked };
 
     ghost view = { λ m. record { named = marks m.places.items m.named; moved = marks m.places.items m.moved } };
@@ -29,6 +30,7 @@ impl Model for Marks {
 }
 
 impl Marks {
+    /// Marks of no index.
     pub(crate) fn new(alloc: Global) -> Self
         ensures { result ≡ record { named = []; moved = [] } }
     {
@@ -139,6 +141,7 @@ impl Marks {
     {
         let place = self.places[index] as usize;
         if place < self.moved {
+            // The marked indices stand first: this one changes places with the last of them, which is then no longer among the first.
             exchange(&mut self.order, &mut self.places, place, self.moved - 1);
             self.moved -= 1;
         }

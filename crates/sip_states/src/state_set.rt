@@ -14,6 +14,7 @@ ghost use Rattle.sip_states.specs.Runs.{Wait, RunGives, IsAgenda, IsWide, widest
 ghost use Rattle.sip_states.specs.inner.Ways.{GivesAfter};
 
 use crate::ends::{advance_states, last_of_all};
+use crate::moment::Moment;
 use crate::steps::{find_given, step_alone};
 use sip_machine::{Book, Event, Machine, Phases, Pool};
 use std::alloc::{AllocError, Global};
@@ -38,6 +39,7 @@ impl From<AllocError> for TakeError {
     ghost use Rattle.std.specs.Prelude.{◌≡◌};
     ghost use Rattle.sip_states.specs.declared.state_set.TakeError.TheVariants.{Memory};
 
+    // A refused growth becomes `Memory`.
     ghost from_gives = { λ _ e. e ≡ Memory };
 
     fn from(_error: AllocError) -> Self {
@@ -50,7 +52,7 @@ impl From<AllocError> for TakeError {
 #[derive_where(Debug; M, M::Phase)]
 pub struct StateSet<M: Machine> {
     machine: M,
-    moment: u64,
+    moment: Moment,
     states: Pool<M::Phase>,
 }
 
@@ -58,6 +60,7 @@ impl<M: Machine> Model for StateSet<M> {
     ghost use Rattle.sip_machine.specs.Owing.{CodeOwing};
     ghost use Rattle.sip_states.specs.Held.{Held, IsKept};
 
+    // A set means its machine, its moment and its states. The states differ, their numbers are in range, and each can last until the moment.
     ghost Value = { Held M (CodeOwing M.Phase) };
 
     ghost view = { λ s. record { machine = s.machine; moment = s.moment; states = s.states } };
@@ -74,7 +77,7 @@ impl<M: Machine> StateSet<M> {
         states.push(machine.first())?;
         Ok(StateSet {
             machine,
-            moment: 0,
+            moment: Moment::zero(),
             states,
         })
     }
@@ -89,8 +92,9 @@ impl<M: Machine> StateSet<M> {
         ensures one_more { OnOk result (length self.new.states ≤ length self.old.states + 1) }
         ensures err { OnErr result (self.new ≡ self.old) }
     {
-        advance_states(&self.machine, &mut self.states, self.moment, moment)?;
-        self.moment = moment;
+        let at = Moment::new(moment)?;
+        advance_states(&self.machine, &mut self.states, self.moment.get(), moment)?;
+        self.moment = at;
         Ok(())
     }
 
@@ -132,9 +136,15 @@ impl<M: Machine> StateSet<M> {
         ensures other { IfOk result (λ taken. OnFalse taken (self.new ≡ self.old)) }
         ensures err { OnErr result (self.new ≡ self.old) }
     {
-        let stepped = step_alone(&self.machine, book, &mut self.states, self.moment, event)?;
+        let stepped = step_alone(
+            &self.machine,
+            book,
+            &mut self.states,
+            self.moment.get(),
+            event,
+        )?;
         if stepped {
-            self.moment = event.moment();
+            self.moment = Moment::within(event.moment());
         }
         Ok(stepped)
     }
@@ -157,10 +167,16 @@ impl<M: Machine> StateSet<M> {
     {
         book.known();
         let before = self.states.len();
-        match given_rows(&self.machine, book, &mut self.states, self.moment, event) {
+        match given_rows(
+            &self.machine,
+            book,
+            &mut self.states,
+            self.moment.get(),
+            event,
+        ) {
             Ok(rows) => {
                 self.states.keep(&rows);
-                self.moment = event.moment();
+                self.moment = Moment::within(event.moment());
                 Ok(())
             }
             Err(error) => {
@@ -190,7 +206,7 @@ impl<M: Machine> StateSet<M> {
         requires { self.now.states ≢ [] }
         ensures { (texts : Texts) → IsAgenda (M.rules self.now.machine) (Contains (map (M.seen texts) self.now.states)) self.now.moment result }
     {
-        last_of_all(&self.machine, &self.states, self.moment)
+        last_of_all(&self.machine, &self.states, self.moment.get())
     }
 
     /// Appends the numbers of the messages that the states name, each at least once.

@@ -43,6 +43,7 @@ impl<H: BuildHasher> Model for Tables<H> {
     ghost use Rattle.sip_states.specs.Tables.{Tabled, most_keys};
     ghost use Rattle.sip_states.specs.inner.Marks.{AreMarked, AreMoved};
 
+    // What tables mean is their times, and each key with its set and its last moment on record. The marks are right of each set.
     ghost Value = { Tabled };
 
     ghost view = { λ t. record { times = t.params; keys = keys t.sets; sets = values t.sets; records = t.agenda } };
@@ -133,7 +134,7 @@ fn put_at<H: BuildHasher>(sets: &mut IndexMap<Key, AnySet, H>, index: usize, set
     sets[index] = set;
 }
 
-/// Takes the mark off each set that names no message, and gives back the room that it does not need. On an error some of these sets
+/// Takes the mark off each set that names no message, and gives back the memory that this set does not need. On an error some of these sets
 /// are still marked.
 fn unmark_silent<H: BuildHasher>(
     marks: &mut Marks,
@@ -162,7 +163,7 @@ fn unmark_silent<H: BuildHasher>(
     Ok(())
 }
 
-/// Takes both marks off each set that is quiet, and gives back the room that it does not need.
+/// Takes both marks off each set that is quiet, and gives back the memory that this set does not need.
 fn unmark_quiet<H: BuildHasher>(marks: &mut Marks, sets: &mut IndexMap<Key, AnySet, H>)
     requires long { (length marks.old.moved ≡ index_map_len sets.old) × (length marks.old.named ≡ index_map_len sets.old) }
     requires marked { AreMarked marks.old.named (values sets.old) }

@@ -16,6 +16,7 @@ pub answered : (forget : Option ℕ) (part : Option PartOf) (left input before a
     → ((found : List Finding) → SumsUp found s → status ≡ status_of found s.end) → IsSurveyed forget part input before after status
 answered forget part left input before after s status same written counts = subst (λ log. IsSurveyed forget part log before after status) same (by left written)
   where
+    -- the survey is told to the sink with this status, whether or not the log is known
     by : (log : Option (List ℕ)) → IfSome log (λ bytes. (found : List Finding) × (text : List ℕ) × IsSurveyFor forget part bytes found s.end text × SumsUp found s × Appends before after text)
         → IsSurveyed forget part log before after status
     by None none = tt
@@ -27,6 +28,7 @@ pub answered_to : {E : Type 0} (known : Option (List (List ℕ))) (words : List 
     → IfOk r (IsSurveyed asked.forget asked.part (log_for asked.log now after_words) before after) → IfOk r (λ status. IfSome known (λ told. IsAnswerTo told input file before after status))
 answered_to known words asked (Err e) now input after_words file before after told asks same files written = tt
 answered_to None words asked (Ok status) now input after_words file before after told asks same files written = tt
+-- the words are those that are known, and so are the input and the file
 answered_to (Some known) words asked (Ok status) now input after_words file before after told asks same files written = record {
   asked = asked;
   is_asked = subst (λ w. IsAskedBy w (Some asked)) told asks;

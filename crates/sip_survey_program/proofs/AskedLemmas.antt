@@ -9,7 +9,7 @@ use Rattle.sip_survey_program.specs.declared.words.Log.{Log}
 use Rattle.sip_survey_program.specs.declared.words.Log.TheVariants.{Input, File}
 use Rattle.sip_survey_program.specs.Asked.{CanBeNamed, IsAskedBy, IsRestFor, begin_with, forget_words, log_words, part_words, words_for}
 
--- What follows is of words that are seen as texts by f.
+-- What follows is of words of any type X, of which f gives the text.
 module _ {X : Type 0} (f : X → List ℕ) where
   -- words of which the first is the given one are this word, the one after it, and the others
   pub split_first : (first : List ℕ) (words : List X) (b : X) → begin_with first (map f words) ≡ true → b ≡ get_or words 1 b → map f words ≡ first ∷ f b ∷ map f (drop 2 words)
@@ -29,7 +29,9 @@ without_forget words (Some asked) other (is, part, none) =
     (is ∙ ap (Forgetting asked) (sym none), (part, subst (λ o. IfSome o (λ age. age < 2 ^ 32)) (sym none) tt))
 without_forget words None other never = λ asked can same. by asked can same asked.forget refl
   where
+    -- no request has these words: they do not begin with `--forget`, and the words of a survey that forgets do
     by : (asked : Asked) → CanBeNamed asked → words ≡ words_for asked → (forget : Option ℕ) → asked.forget ≡ forget → ⊥
+    -- what is asked for forgets nothing, since the words would else begin with `--forget`
     by asked can same None is = never asked can.0 (same ∙ ap (Forgetting asked) is)
     by asked can same (Some age) is =
         let whole : words ≡ codes "--forget" ∷ decimal age ∷ (part_words asked.part ++ log_words asked.log) = same ∙ ap (Forgetting asked) is in
@@ -49,11 +51,14 @@ forgets asked second more same =
     let (age, is, next, rest) = by asked.forget asked.part asked.log refl same in
     record { age = age; is = is; word = next; others = rest }
   where
+    -- the words begin with `--forget`, so the survey forgets by the age after it
     by : (forget : Option ℕ) (part : Option PartOf) (log : Log) → asked.forget ≡ forget → codes "--forget" ∷ second ∷ more ≡ forget_words forget ++ part_words part ++ log_words log
         → (age : ℕ) × (asked.forget ≡ Some age) × (second ≡ decimal age) × (more ≡ part_words part ++ log_words log)
+    -- without an age the words would begin with something else
     by None None Input is words = absurd (cc)
     by None None (File file) is words = absurd (cc)
     by None (Some part) log is words = absurd (false≢true (ap (begin_with (codes "--part")) words))
+    -- with an age it stands after `--forget`
     by (Some age) part log is words =
         let next : second ≡ decimal age = cc in
         let rest : more ≡ part_words part ++ log_words log = cc in

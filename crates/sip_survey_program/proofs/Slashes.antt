@@ -17,6 +17,7 @@ is_slash b = nat_eq b 47
 digit_lacks : (d : ℕ) → nat_eq (48 + d) 47 ≡ false
 digit_lacks d = by (nat_eq (48 + d) 47) refl
   where
+    -- the byte of a digit d is not that of a slash, since 48 + d would be 47
     by : (b : Bool) → nat_eq (48 + d) 47 ≡ b → nat_eq (48 + d) 47 ≡ false
     by true e = let same = eqb-true (48 + d) 47 e in absurd (omega (arith, same))
     by false e = e
@@ -32,7 +33,7 @@ slash_at (x ∷ xs) ys (other, lacks) =
     let on = slash_at xs ys lacks in
     ap (λ b. cond (not b) (1 + position_or_len is_slash (xs ++ 47 ∷ ys)) 0) other ∙ omega (arith, on)
 
--- What follows is of a word of two numbers with a slash between them.
+-- What follows is of a word of two numbers, k and n, with a slash between them.
 module _ (k n : ℕ) (low : k < 2 ^ 64) where
   -- the first slash of K/N comes right after K
   at : position_or_len is_slash (decimal k ++ 47 ∷ decimal n) ≡ length (decimal k)
@@ -56,6 +57,7 @@ split_slash word within =
     let found = prefix_len_stops (λ b. not (is_slash b)) word 0 within in
     split_at_first is_slash word 0 within ∙ ap (λ b. before_first is_slash word ++ b ∷ after_first is_slash word) (by (get_or word (position_or_len is_slash word) 0) found)
   where
+    -- a byte that stops the first part is a slash
     by : (b : ℕ) → not (is_slash b) ≡ false → b ≡ 47
     by b is = or_not (is_slash b) refl is
       where

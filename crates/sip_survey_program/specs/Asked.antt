@@ -1,3 +1,4 @@
+-- What words ask of the survey program.
 use Rattle.std.specs.Prelude.{◌≡◌, ◌≢◌, ◌<◌, ◌^◌, ◌++◌, ℕ, Bool, false, List, [], ◌∷◌, Option, None, Some, IfSome, codes, decimal, bytes_eq}
 use Rattle.sip_part.specs.Part.{PartOf}
 use Rattle.sip_survey_program.specs.PartWords.{IsPart, part_word}

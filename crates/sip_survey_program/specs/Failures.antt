@@ -1,3 +1,4 @@
+-- The failures of the survey program: the status and the line of each, and when each can come.
 use Rattle.std.specs.Prelude.{◌≡◌, ℕ, Bool, true, ⊤, List, codes}
 use Rattle.sip_verdict.specs.declared.survey_error.SurveyError.{SurveyError}
 use Rattle.sip_verdict.specs.declared.survey_error.SurveyError.TheVariants as surveying

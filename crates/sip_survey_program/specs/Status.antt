@@ -1,3 +1,4 @@
+-- The status with which the survey program ends.
 use Rattle.std.specs.Prelude.{ℕ, List, [], ◌∷◌, if◌then◌else◌}
 use Rattle.std.specs.List.{list_all}
 use Rattle.sip_verdict.specs.declared.finding.Finding.{Finding}

@@ -43,6 +43,7 @@ impl Failure {
 }
 
 impl From<AllocError> for Failure {
+    // A refused growth becomes `Memory`.
     ghost from_gives = { λ _ failure. failure ≡ Memory };
 
     fn from(_: AllocError) -> Failure {
@@ -51,6 +52,7 @@ impl From<AllocError> for Failure {
 }
 
 impl From<SurveyError> for Failure {
+    // Each error of a survey becomes the failure that tells it.
     ghost from_gives = { λ error failure. failure ≡ failure_of error };
 
     fn from(error: SurveyError) -> Failure {

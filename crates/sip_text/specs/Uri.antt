@@ -74,6 +74,7 @@ uri_parts (variant.Sip secure user password host port params headers) = sip (rec
   secure = secure;
   user = option_copied user;
   password = option_copied password;
+  -- what follows is of the host, the port, the parameters and the headers
   host = host_parts host;
   port = option_copied port;
   params = params.now;

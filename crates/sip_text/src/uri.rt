@@ -137,6 +137,7 @@ fn cut_sip(text: &[u8]) -> Cuts<'_>
             headers: None,
         };
     }
+    // The headers follow the first `?`, and the parameters begin at the first `;` before it.
     let (front, headers) = cut(rest, b'?');
     let (hostport, _) = cut(front, b';');
     let params = &front[hostport.len()..];
@@ -205,9 +206,10 @@ fn is_scheme(text: &[u8]) -> bool
     }
 }
 
-// The most digits of a port, and the highest port.
+// The most digits of a port.
 const PORT_DIGITS: usize = 5;
 
+// The highest port.
 const LAST_PORT: u32 = 65535;
 
 /// Whether the whole text is a `port` (RFC 3261, section 25.1): one to five digits, at most 65535.

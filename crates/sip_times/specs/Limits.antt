@@ -1,3 +1,4 @@
+-- Moments before a limit, and moments at which a timer may fire.
 use Rattle.std.specs.Prelude.{◌≤◌, ℕ, Option, Some, None, ⊤}
 
 -- m is not past the limit, if there is one

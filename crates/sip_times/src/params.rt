@@ -16,20 +16,21 @@ pub struct Params {
     t2: u16,
     t4: u16,
     early: u16,
-    late: u16,
-    rules: Rules,
+    /// How late, and 32,768 more under the rules of RFC 3261.
+    lateness: u16,
 }
 
 impl Model for Params {
     ghost use Rattle.sip_standard.specs.Times.{Times, AreTimes};
+    ghost use Rattle.sip_times.specs.Times.{lateness_of, times_of};
 
     ghost Value = { Times };
 
-    ghost view = { λ p. record { t1 = p.t1; t2 = p.t2; t4 = p.t4; early = p.early; late = p.late; rules = p.rules } };
+    ghost view = { λ p. times_of p.t1 p.t2 p.t4 p.early p.lateness };
 
-    ghost invariant = { λ p. AreTimes (record { t1 = p.t1; t2 = p.t2; t4 = p.t4; early = p.early; late = p.late; rules = p.rules }) };
+    ghost invariant = { λ p. AreTimes (times_of p.t1 p.t2 p.t4 p.early p.lateness) };
 
-    ghost inverse = { λ p. record { t1 = p.t1; t2 = p.t2; t4 = p.t4; early = p.early; late = p.late; rules = p.rules } };
+    ghost inverse = { λ p. record { t1 = p.t1; t2 = p.t2; t4 = p.t4; early = p.early; lateness = lateness_of p.late p.rules } };
 }
 
 impl Params {
@@ -61,8 +62,7 @@ impl Params {
                 t2: t2 as u16,
                 t4: t4 as u16,
                 early: early as u16,
-                late: late as u16,
-                rules: Rules::R6026,
+                lateness: late as u16,
             })
         } else {
             None
@@ -74,7 +74,12 @@ impl Params {
         ensures value { result ≡ under rules self }
         ensures within { AreTimes result }
     {
-        Params { rules, ..self }
+        let late = self.late() as u16;
+        let lateness = match rules {
+            Rules::R6026 => late,
+            Rules::R3261 => late + 0x8000,
+        };
+        Params { lateness, ..self }
     }
 
     /// T1, the estimate of a round trip, in milliseconds.
@@ -114,14 +119,18 @@ impl Params {
         ensures value { result ≡ self.now.late }
         ensures within { AreTimes self.now }
     {
-        u64::from(self.late)
+        u64::from(self.lateness % 0x8000)
     }
 
     /// The rules that the element was built by.
     pub fn rules(&self) -> Rules
         ensures { result ≡ self.now.rules }
     {
-        self.rules
+        if self.lateness < 0x8000 {
+            Rules::R6026
+        } else {
+            Rules::R3261
+        }
     }
 
     /// The first moment, in milliseconds, at which a timer may fire that was set at the moment `set` for `duration` milliseconds.

@@ -1,3 +1,4 @@
+-- How a judge observes, judges and ends.
 pub mod DueLemmas
 pub mod JudgeLemmas
 pub mod JudgingLemmas

@@ -1,3 +1,4 @@
+-- The runs of one key, and the set that leads to them.
 pub mod AnyHearing
 pub mod FewerEntries
 pub mod Hearing

@@ -1,3 +1,4 @@
+-- How the states of an entry are listed.
 pub mod EntryText
 pub mod ListingLemmas
 pub mod NumberingLemmas

@@ -1,1 +1,2 @@
+-- How a log is shown.
 pub mod ShowingLemmas

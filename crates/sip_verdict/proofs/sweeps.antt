@@ -1,3 +1,4 @@
+-- Which messages are named still, and that the others can be dropped.
 pub mod FollowedLemmas
 pub mod NamedLemmas
 pub mod NewestLemmas

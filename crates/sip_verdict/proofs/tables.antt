@@ -1,3 +1,4 @@
+-- Tables of sets follow the entries.
 pub mod Halfway
 pub mod JudgeTables
 pub mod NamedTables

@@ -1,3 +1,4 @@
+-- There is one verdict on each input, and what it says.
 pub mod FormatLaws
 pub mod HasVerdict
 pub mod LegalMessages

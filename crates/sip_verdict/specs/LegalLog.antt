@@ -26,8 +26,8 @@ IsGood p es = (front : List (Observation KeyParts)) (e : Observation KeyParts) (
 abbrev pub IsFormed : Direction → List ℕ → Type 0
 IsFormed direction text = (s : Said) × Says text (gives s) × (lacks_cookie s direction ≡ false)
 
--- the log of the input is read whole and has so many entries, none of them in trouble and each with a message of the grammar if it has one, and so
--- many transactions, each with a run over all of them
+-- the log of the input is read whole and has this many entries, none of them in trouble and each with a message of the grammar if it has one, and
+-- this many transactions, each with a run over all of them
 pub record IsLegalLog (input : List ℕ) (entries transactions : ℕ) : Type 0 where
   pub times : Times
   pub items : List Item
@@ -35,6 +35,7 @@ pub record IsLegalLog (input : List ℕ) (entries transactions : ℕ) : Type 0 w
   pub whole : LogSays input times items Clean
   pub seen : AreSeen [] items es
   pub good : IsGood times es
+  -- the log has so many entries and transactions
   pub entries_are : length es ≡ entries
   pub transactions_are : length (keys_in es) ≡ transactions
   pub runs : All (RunsOver times es) (keys_in es)

@@ -9,6 +9,6 @@ most_surveyed = 1000000000000000
 abbrev pub most_transactions : ℕ
 most_transactions = 2000000
 
--- a survey of so many entries and transactions has room for one entry more, which may begin two transactions
+-- a survey of this many entries and transactions has room for one entry more, which may begin two transactions
 abbrev pub HasRoom : (entries transactions : ℕ) → Type 0
 HasRoom entries transactions = (entries < most_surveyed) × (transactions + 2 ≤ most_transactions)

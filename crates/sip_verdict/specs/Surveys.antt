@@ -78,7 +78,7 @@ pub record SurveysFor (s : Surveying) (es : List (Observation KeyParts)) : Type 
   pub follows : AreSurveyed s.texts s.tables s.deaf s.left es
   pub histories : AreHistories es s.histories
 
--- an entry of this number and moment may come after one of the number count and the moment last, to a survey of so many transactions
+-- an entry of this number and moment may come after one of the number count and the moment last, to a survey of this many transactions
 pub record MayFollow (count last transactions number moment : ℕ) : Type 0 where
   pub next : number ≡ count + 1
   pub order : last ≤ moment

@@ -1,3 +1,4 @@
+-- How the code has what a judge and a survey keep.
 pub mod Concerned
 pub mod Forgetting
 pub mod ForgettingLogs
@@ -13,5 +14,6 @@ pub mod Sweeping
 pub mod Surveying
 pub mod SurveyingLogs
 pub mod TablesTracking
+pub mod Taking
 pub mod Tracking
 pub mod Walking

@@ -1,4 +1,5 @@
 //! What is found at an entry.
+//! In the clauses es are the entries before this one, whichever they are, e is what is observed of this one, and `here` is what is found at it.
 ghost use Rattle.std.specs.Prelude.{◌≡◌, ◌≤◌, ◌+◌, ◌++◌, ◌∷◌, [], List, All, Contains, IfOk, OnOk, length};
 ghost use Rattle.sip_standard.specs.Key.{KeyParts};
 ghost use Rattle.sip_standard.specs.Times.{last_moment};
@@ -58,6 +59,7 @@ fn take<H: BuildHasher>(
 {
     let told = observe(alloc, &mut standing.book, entry)?;
     standing.book.known();
+    // An entry that concerns nothing, or whose message has a fault, lets time go by for all transactions.
     match told {
         Observed::Unheard => {
             pass_each(
@@ -79,6 +81,7 @@ fn take<H: BuildHasher>(
             )?;
             Ok(Some(fault))
         }
+        // A restart is heard by all transactions.
         Observed::Restart => {
             standing.tables.known();
             histories.restart = entry.number;
@@ -94,6 +97,7 @@ fn take<H: BuildHasher>(
             )?;
             Ok(None)
         }
+        // A message is heard by the transactions of its keys; a key that is new begins one.
         Observed::Heard { event, concerned } => {
             let concerned = touch_each(&mut standing.tables, concerned)?;
             troubled.grow(standing.tables.len())?;
@@ -107,6 +111,7 @@ fn take<H: BuildHasher>(
                 entry.moment,
                 Some(&hearing),
             )?;
+            // The entry's message is dropped where no transaction owes it or will be asked for it.
             standing.drop_unnamed(entry.number, concerned);
             Ok(None)
         }
@@ -159,8 +164,8 @@ fn find<H: BuildHasher>(
     troubled.tell(entry.number, found)
 }
 
-/// Appends what is found at the entry that comes next. Where many more messages are kept than the last sweep left, it drops those that no
-/// transaction needs.
+/// Appends what is found at the entry that comes next. Where many more messages are kept than the last sweep left, or searches among them are
+/// slow, it drops those that no transaction needs.
 pub(crate) fn find_next<H: BuildHasher>(
     alloc: Global,
     standing: &mut Standing<H>,
@@ -194,7 +199,8 @@ pub(crate) fn find_next<H: BuildHasher>(
         × AreSurveyed standing.new.book standing.new.tables troubled.new.deaf.items left.new (es ++ e ∷ [])) }
 {
     find(alloc, standing, troubled, histories, entry, found)?;
-    if standing.kept() <= 2 * *left + SPARE {
+    // `left` is how many messages the last sweep left.
+    if standing.kept() <= 2 * *left + SPARE && !standing.book.is_slow() {
         return Ok(());
     }
     standing.sweep(alloc, entry.moment)?;

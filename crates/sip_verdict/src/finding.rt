@@ -16,6 +16,7 @@ pub enum Finding {
 }
 
 impl From<Finding> for Verdict {
+    // A finding becomes the verdict that tells the same.
     ghost from_gives = { λ finding verdict. verdict ≡ verdict_of finding };
 
     fn from(finding: Finding) -> Self {

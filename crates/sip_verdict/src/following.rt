@@ -1,4 +1,5 @@
 //! A survey that takes the entries of a log as they come.
+//! In the clauses es are the entries so far, whichever they are, e is what is observed of the next one, and `here` is what is found at it.
 ghost use Rattle.std.specs.Prelude.{◌≡◌, ◌<◌, ◌≤◌, ◌+◌, ◌-◌, ◌↔◌, ◌++◌, ◌∷◌, [], Bool, false, List, Some, All, Contains, IfSome, IsSomeAnd, IsTrue, OnOk, OnErr, length, slice_get};
 ghost use Rattle.std.specs.Result.{is_err};
 ghost use Rattle.sip_standard.specs.Key.{KeyParts};
@@ -39,9 +40,13 @@ pub struct Survey<H: BuildHasher> {
     standing: Standing<H>,
     troubled: Troubled,
     histories: Histories,
+    /// The number of the newest entry.
     number: u64,
+    /// The moment of the newest entry.
     moment: u64,
+    /// How many messages the last sweep left.
     left: usize,
+    /// Whether memory was refused, after which every call fails.
     failed: bool,
 }
 
@@ -52,6 +57,7 @@ impl<H: BuildHasher> Model for Survey<H> {
     ghost use Rattle.sip_verdict.specs.inner.TablesTracking.{MayTake};
     ghost use Rattle.sip_verdict.specs.inner.Surveying.{AreWatched, IsFresh};
 
+    // A survey means what it keeps of the entries so far. As long as it has not failed, an entry more may come.
     ghost Value = { Surveying };
 
     ghost view = { λ s. record { number = s.number; moment = s.moment; texts = s.standing.book; tables = s.standing.tables; deaf = s.troubled.deaf.items; histories = s.histories; left = s.left; failed = s.failed } };
@@ -66,14 +72,14 @@ const MOST_ENTRIES: u64 = 1_000_000_000_000_000;
 /// The most transactions that a survey has at a time.
 const MOST_TRANSACTIONS: u64 = 2_000_000;
 
-/// Whether a survey of so many entries and transactions has room for one entry more, which may begin two transactions.
+/// Whether a survey of this many entries and transactions has room for one entry more, which may begin two transactions.
 fn is_room(entries: u64, transactions: u64) -> bool
     ensures { IsTrue result ↔ HasRoom entries transactions }
 {
     entries < MOST_ENTRIES && transactions <= MOST_TRANSACTIONS - 2
 }
 
-/// Whether the entry may come after one of this number and moment, where there are so many transactions.
+/// Whether the entry may come after one of this number and moment, where there are this many transactions.
 fn may_follow(number: u64, moment: u64, transactions: u64, entry: &Entry) -> bool
     ensures { IsTrue result ↔ MayFollow number moment transactions entry.now.number entry.now.moment }
 {
@@ -135,6 +141,7 @@ impl<H: BuildHasher + Drop> Survey<H> {
         ensures keys { OnOk result (length self.new.tables.keys ≤ length self.old.tables.keys + 2) }
         ensures times { OnOk result (self.new.tables.times ≡ self.old.tables.times) }
     {
+        // After an error the survey answers no more.
         if self.failed {
             return Err(StepError::Failed);
         }
@@ -148,6 +155,7 @@ impl<H: BuildHasher + Drop> Survey<H> {
             found,
         );
         match taken {
+            // The entry is the newest one now.
             Ok(()) => {
                 self.number = entry.number;
                 self.moment = entry.moment;
@@ -177,6 +185,7 @@ impl<H: BuildHasher + Drop> Survey<H> {
         ensures fewer { OnOk result (All (Contains self.old.texts) self.new.texts) }
         ensures times { OnOk result (self.new.tables.times ≡ self.old.tables.times) }
     {
+        // After an error the survey answers no more.
         if self.failed {
             return Err(StepError::Failed);
         }

@@ -1,4 +1,5 @@
 //! Forgets transactions that are over.
+//! In the clauses es are the entries so far, whichever they are, and `kept` says which keys are kept.
 ghost use Rattle.std.specs.Prelude.{◌≡◌, ◌↔◌, ◌≤◌, ◌+◌, ◌-◌, [], Bool, List, Some, All, Contains, IfOk, IsTrue, OnOk, length, slice_get};
 ghost use Rattle.sip_standard.specs.Key.{KeyParts};
 ghost use Rattle.sip_standard.specs.Observation.{Observation};
@@ -91,13 +92,16 @@ pub(crate) fn forget<H: BuildHasher>(
         × AreSurveyed standing.new.book standing.new.tables troubled.new.deaf.items left.new (remembered kept es) × AreHistories (remembered kept es) histories.new
         × AreMany (IsStillNamed standing.old.tables.times (remembered kept es)) (length standing.new.book)) }
 {
+    // All sets wait until the newest entry, so that it is known which of them are over.
     standing.wait(newest.moment)?;
     standing.tables.known();
+    // A flag for each transaction says whether it is kept, and drops it from the sets, the troubles and the histories alike.
     let flags = kept_flags(alloc, &standing.tables, histories, until)?;
     let flags = flags.as_slice();
     standing.tables.keep(flags)?;
     troubled.keep(flags);
     keep_each(&mut histories.each, flags);
+    // The messages that nothing names any more are dropped.
     standing.sweep(alloc, newest.moment)?;
     *left = standing.kept();
     Ok(())

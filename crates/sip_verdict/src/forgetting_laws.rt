@@ -1,4 +1,6 @@
 //! Laws of surveys that forget transactions. The functions do nothing: their contracts are the laws.
+//! In each law p are the times, `old` are the entries before some keys are forgotten, `kept` says which keys are kept, and `front` are the later entries
+//! before the entry e; age is in milliseconds.
 ghost use Rattle.std.specs.Prelude.{◌≡◌, ◌≢◌, ◌↔◌, ◌≤◌, ◌+◌, ◌++◌, ◌∷◌, [], ℕ, Bool, true, false, None, Some, List, AllPairs};
 ghost use Rattle.sip_standard.specs.Key.{KeyParts};
 ghost use Rattle.sip_standard.specs.KeyMachine.{machine_of_key};

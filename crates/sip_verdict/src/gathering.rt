@@ -51,6 +51,7 @@ fn gather_entries<R: Source, H: BuildHasher + Drop>(
         → IfSome start (λ input. IsSurveyOf input done.0.items done.1)) }
     ensures io { IsErrOf result JudgeError.Io → R.has_failed reader.new ≡ true }
 {
+    // The buffer goes from entry to entry, and `count` is the number of the newest one.
     let mut buffer = Vec::new(alloc);
     let mut found = Vec::new(alloc);
     let mut count = 0;

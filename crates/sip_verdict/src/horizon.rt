@@ -1,4 +1,5 @@
 //! Up to which entry a survey may forget, and when it does.
+//! In the clauses es are the entries so far, whichever they are.
 ghost use Rattle.std.specs.Prelude.{◌≡◌, ◌≢◌, ◌≤◌, ◌+◌, ◌↔◌, List, IsTrue, length};
 ghost use Rattle.sip_standard.specs.Key.{KeyParts};
 ghost use Rattle.sip_standard.specs.Observation.{Observation};

@@ -1,4 +1,5 @@
 //! Laws of verdicts. The functions do nothing: their contracts are the laws.
+//! In each law p are the times of the log's header, `items` its entries, and `behind` what stands after the header.
 ghost use Rattle.std.specs.Prelude.{◌≡◌, ◌↔◌, ◌≤◌, ◌++◌, ℕ, List};
 ghost use Rattle.sip_standard.specs.VerdictOf.{IsVerdictOf};
 ghost use Rattle.sip_verdict.specs.LegalLog.{IsLegalLog};

@@ -33,6 +33,7 @@ mod survey_error;
 mod survey_laws;
 mod surveying;
 mod sweeping;
+mod taking;
 mod transaction;
 mod troubled;
 mod walking;

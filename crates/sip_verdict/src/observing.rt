@@ -1,4 +1,5 @@
 //! What an entry of a log says to the judge.
+//! In the clauses es are the entries before this one, whichever they are, and e is what is observed of this one.
 ghost use Rattle.std.specs.Prelude.{◌≤◌, ◌<◌, ◌≡◌, ℕ, List, Some, IfOk, OnErr};
 ghost use Rattle.sip_standard.specs.Times.{last_moment};
 ghost use Rattle.sip_machine.specs.Texts.{Keeps};
@@ -116,6 +117,7 @@ fn observe_message(
         Err(ReadError::Fault(fault)) => return Ok(Observed::Fault(fault)),
         Err(ReadError::Memory) => return Err(AllocError),
     };
+    // A message that is sent without the cookie has a fault; one that is received without it concerns no transaction.
     let concerned = match keys_of(alloc, &message, direction) {
         Ok(concerned) => concerned,
         Err(KeyError::NoCookie) => return Ok(Observed::Fault(NO_COOKIE)),
@@ -124,6 +126,7 @@ fn observe_message(
     if let Concerned::None = concerned {
         return Ok(Observed::Unheard);
     }
+    // A message that concerns a transaction is kept, under the entry's number or under that of equal bytes.
     let number = book.add(entry.number, entry.bytes.as_slice())?;
     book.keep_to(number, &message);
     let event = Event::of(entry.moment, entry.action, number, &message);

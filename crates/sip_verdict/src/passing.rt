@@ -1,4 +1,6 @@
 //! Lets an entry pass, and says what it leaves of the runs of the transactions, up to the first trouble.
+//! In the clauses p are the times, es are the entries before this one, whichever they are, e is what is observed of this one, and `numbers` are those of the
+//! transactions that hear it.
 ghost use Rattle.std.specs.Prelude.{◌≡◌, ◌≤◌, ℕ, List, All, IfOk, OnOk};
 ghost use Rattle.std.specs.Option.{ForSome, option_copied};
 ghost use Rattle.sip_standard.specs.Key.{KeyParts};

@@ -1,4 +1,5 @@
 //! Reads a log entry by entry, for a judge or a survey, each of which answers a fault of the log in its own words.
+//! In the clauses `start` are the bytes of the whole input, `times` those of its header, and `items` the entries that were read of it.
 ghost use Rattle.std.specs.Prelude.{◌≡◌, ◌≤◌, true, Some, [], Option, List, ℕ, IfOk, IfErr, IfSome, OnOk, IsErrOf};
 ghost use Rattle.sip_standard.specs.Times.{Times};
 ghost use Rattle.sip_log.specs.Reading.{entries, beside_source};
@@ -66,6 +67,7 @@ pub(crate) fn read_on<R: Source>(
     ensures ok { OnOk result (R.has_failed reader.new ≡ R.has_failed reader.old) }
     ensures io { IsErrOf result JudgeError.Io → R.has_failed reader.new ≡ true }
 {
+    // The place counts anew, since there may be more entries than a log has.
     progress.count_anew();
     match progress.next_into(buffer, reader) {
         Ok(Some(mut entry)) => {

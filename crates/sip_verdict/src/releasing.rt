@@ -1,4 +1,6 @@
 //! Lets an entry pass in a survey: a transaction that comes into trouble starts anew and hears nothing more, and the others go on.
+//! In the clauses p are the times, es are the entries before this one, whichever they are, e is what is observed of this one, and `waits` are the numbers of
+//! those that are still to hear it.
 ghost use Rattle.std.specs.Prelude.{◌≡◌, ◌≢◌, ◌≤◌, ◌+◌, ◌∷◌, [], ℕ, false, Some, None, List, All, OnOk, length, slice_get};
 ghost use Rattle.std.specs.Option.{ForSome, option_copied};
 ghost use Rattle.sip_standard.specs.Key.{KeyParts};
@@ -44,15 +46,18 @@ fn hear_or_release<H: BuildHasher>(
         → is_among waits number ≡ false → AreConcerned book.now p es e event.now (number ∷ waits) tables.old.keys
         → ArePassing book.now p es e (is_among (number ∷ waits)) tables.old troubled.old → ArePassing book.now p es e (is_among waits) tables.new troubled.new) }
 {
+    // A transaction in trouble hears no more.
     if troubled.has(number) {
         return Ok(());
     }
     match hear(tables.set_mut(number), number, book, event)? {
         Outcome::Fine => tables.settle(number),
+        // No state takes the event: the transaction breaks, and its set starts anew.
         Outcome::NoRun(_) => {
             tables.restart_key(number)?;
             troubled.add_broken(number)
         }
+        // There are too many states: the transaction is followed no further, and its set starts anew.
         Outcome::TooWide(_) => {
             tables.restart_key(number)?;
             troubled.add_wide(number)

@@ -1,4 +1,5 @@
 //! Surveys a log from its first byte to its last, and forgets transactions that are over.
+//! In the clauses `found` are the findings and `text` their lines, and es are the entries that are remembered, whichever they are.
 ghost use Rattle.std.specs.Prelude.{◌≡◌, ◌≢◌, ◌≤◌, ◌+◌, ◌++◌, [], ℕ, Bool, false, true, List, Option, IfOk, IfSome, OnOk, IsErrOf, length, option_copied};
 ghost use Rattle.std.specs.Result.{is_err};
 ghost use Rattle.std.specs.Io.KnownBytes.{Appends};
@@ -79,6 +80,7 @@ fn write_on<R: Source, W: Sink, H: BuildHasher + Drop>(
     ensures read { IsErrOf result Read → R.has_failed reader.new ≡ true }
     ensures write { IsErrOf result Write → W.has_failed writer.new ≡ true }
 {
+    // `buffer` is where each entry is read into, `found` what is found at it, and `count` the number of the last one.
     let mut buffer = Vec::new(alloc);
     let mut found = Vec::new(alloc);
     let mut counts = Counts::none();
@@ -88,8 +90,10 @@ fn write_on<R: Source, W: Sink, H: BuildHasher + Drop>(
         match read_on(progress, buffer, reader, count)? {
             Next::Entry(mut entry) => {
                 found.clear();
+                // What belongs to another part becomes a mark; then what is due is forgotten, before the entry is taken.
                 cut_to(alloc, part, &mut entry)?;
                 forget_due(survey, &mut horizon)?;
+                // A survey without room for the entry ends there.
                 if !survey.has_room() {
                     let end = SurveyEnd::LogFault {
                         entry: entry.number,
@@ -98,6 +102,7 @@ fn write_on<R: Source, W: Sink, H: BuildHasher + Drop>(
                     return finish(alloc, writer, end, counts);
                 }
                 count = entry.number;
+                // The entry is taken, its findings are written, and the horizon notes when it came.
                 survey.entry(&entry, &mut found)?;
                 counts = put_findings(alloc, writer, survey, found.as_slice(), counts)?;
                 horizon.note(entry.number, entry.moment);

@@ -41,8 +41,10 @@ pub fn show<R: Source, W: Sink>(
         }
     };
     let mut count = 0;
+    let mut buffer = Vec::new(alloc);
+    let mut form = Vec::new(alloc);
     loop {
-        let entry = match progress.next(reader) {
+        let entry = match progress.next_into(buffer, reader) {
             Ok(Some(entry)) => entry,
             Ok(None) => return finish(alloc, writer, Shown::End { entries: count }),
             Err(error) => {
@@ -52,56 +54,66 @@ pub fn show<R: Source, W: Sink>(
             }
         };
         let number = entry.number;
-        if let Some(fault) = show_entry(alloc, writer, &entry)? {
+        if let Some(fault) = show_entry(alloc, writer, &entry, &mut form)? {
             let entry = number;
             return finish(alloc, writer, Shown::Malformed { entry, fault });
         }
         count = number;
+        buffer = entry.bytes;
     }
 }
 
-/// Writes an entry with its number, or answers the fault of its message and writes nothing.
+/// Writes an entry with its number, or answers the fault of its message and writes nothing. The form of its message comes into `form` in place of
+/// what stood there.
 fn show_entry<W: Sink>(
     alloc: Global,
     writer: &mut W,
     entry: &Entry,
+    form: &mut Vec<u8>,
 ) -> Result<Option<Fault>, ShowError>
     ensures { ShowsEntry entry.now.number (item entry.now) (W.written writer.old) (W.written writer.new) (W.has_failed writer.old) (W.has_failed writer.new) result }
 {
-    let form = match form_of(alloc, entry.action, entry.bytes.as_slice()) {
-        Ok(form) => form,
+    form.clear();
+    match append_form(alloc, entry.action, entry.bytes.as_slice(), form) {
+        Ok(()) => (),
         Err(ReadError::Fault(fault)) => return Ok(Some(fault)),
         Err(ReadError::Memory) => return Err(ShowError::Memory),
-    };
+    }
     writer.put(Buffer::new().format(entry.number).as_bytes())?;
     writer.put(b" ")?;
     put_entry(writer, entry.action, entry.moment, form.as_slice())?;
     Ok(None)
 }
 
-/// The canonical form of an entry's message, and no bytes where the entry has no message.
-fn form_of(alloc: Global, action: Action, bytes: &[u8]) -> Result<Vec<u8>, ReadError>
-    ensures form { IfOk result (λ form. IsCanonOf action bytes.now form.items) }
+/// Appends the canonical form of an entry's message to no bytes, and appends nothing where the entry has no message.
+fn append_form(
+    alloc: Global,
+    action: Action,
+    bytes: &[u8],
+    form: &mut Vec<u8>,
+) -> Result<(), ReadError>
+    requires { form.old.items ≡ [] }
+    ensures form { OnOk result (IsCanonOf action bytes.now form.new.items) }
     ensures fault { IfErr result (HasNoForm action bytes.now) }
 {
     match action {
-        Action::Sent | Action::Received | Action::Failed => canonical(alloc, bytes),
-        Action::Mark | Action::Restart => Ok(Vec::new(alloc)),
+        Action::Sent | Action::Received | Action::Failed => append_canonical(alloc, bytes, form),
+        Action::Mark | Action::Restart => Ok(()),
     }
 }
 
-/// The canonical form of a message.
-fn canonical(alloc: Global, bytes: &[u8]) -> Result<Vec<u8>, ReadError>
-    ensures form { IfOk result (λ form. IsCanonical bytes.now form.items) }
+/// Appends the canonical form of a message to no bytes.
+fn append_canonical(alloc: Global, bytes: &[u8], form: &mut Vec<u8>) -> Result<(), ReadError>
+    requires { form.old.items ≡ [] }
+    ensures form { OnOk result (IsCanonical bytes.now form.new.items) }
     ensures fault { IfErr result (IsFaulty bytes.now) }
 {
     let message = match Message::read(alloc, bytes) {
         Ok(message) => message,
         Err(error) => return Err(error),
     };
-    let mut form = Vec::new(alloc);
-    write(&message, &mut form)?;
-    Ok(form)
+    write(&message, form)?;
+    Ok(())
 }
 
 /// Writes the last line of a log that is shown.

@@ -1,4 +1,5 @@
 //! What a judge holds of the entries that it has judged: the messages, and the transactions with their sets.
+//! In the clauses es are the entries so far, whichever they are, and e is what is observed of the next one.
 ghost use Rattle.std.specs.Prelude.{◌≡◌, ◌≢◌, ◌≤◌, ◌<◌, ◌+◌, ◌++◌, ◌∷◌, [], ℕ, Bool, false, None, List, All, AllPairs, Contains, IfOk, IfNone, IsTrue, OnOk, length, string_bytes, ◌↔◌, IfSome, MatchOption};
 ghost use Rattle.std.specs.Option.{ForSome, option_copied};
 ghost use Rattle.sip_standard.specs.Key.{KeyParts};
@@ -150,6 +151,7 @@ impl<H: BuildHasher> Standing<H> {
             → length deaf ≡ length self.old.tables.keys
             → TablesSurvey self.new.book es self.new.tables deaf × AreMany (IsStillNamed self.old.tables.times es) (length self.new.book)) }
     {
+        // The sets wait first, and then `named` gets what their states name from the moment on.
         self.book.known();
         self.tables.advance_all(moment)?;
         let mut named = Vec::new(alloc);
@@ -181,6 +183,7 @@ impl<H: BuildHasher> Standing<H> {
         ensures others { IfOk result (λ verdict. LeavesOthers (option_copied hearing.entry) self.old.tables self.new.tables) }
     {
         let outcome = pass_all(&mut self.tables, &self.book, moment, hearing)?;
+        // The entry's number and the transaction's make the verdict.
         Ok(match outcome {
             Outcome::Fine => None,
             Outcome::NoRun(transaction) => Some(Verdict::Breach {
@@ -288,6 +291,7 @@ impl<H: BuildHasher> Standing<H> {
             × IsJudged self.old.tables.times (key_keeping self.new.book self.old.tables.times) es e (transactions_of self.new.tables) taken.verdict
             × HaveNumbers self.new.tables.keys (listed (length self.new.tables.keys) taken.concerned) e.keys) }
     {
+        // `told` is what is observed of the entry. A verdict is given where the entry is in trouble.
         let told = observe(alloc, &mut self.book, entry)?;
         self.book.known();
         match told {
@@ -314,6 +318,7 @@ impl<H: BuildHasher> Standing<H> {
                 Ok(Taken { verdict, concerned })
             }
             Observed::Heard { event, concerned } => {
+                // The keys of the message get their numbers, the new ones among them.
                 let concerned = touch_each(&mut self.tables, concerned)?;
                 self.tables.known();
                 let hearing = Hearing { event, concerned };

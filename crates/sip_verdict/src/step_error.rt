@@ -17,6 +17,7 @@ pub enum StepError {
 }
 
 impl From<StepError> for JudgeError {
+    // Each error of a step becomes `Memory`.
     ghost from_gives = { λ _ e. e ≡ judging.Memory };
 
     fn from(_: StepError) -> Self {

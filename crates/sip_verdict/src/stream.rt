@@ -1,4 +1,5 @@
 //! A judge that takes the entries of a log as they come.
+//! In the clauses es are the entries so far, whichever they are, and e is what is observed of the next one.
 ghost use Rattle.std.specs.Prelude.{◌≡◌, ◌≢◌, ◌↔◌, ◌≤◌, ◌-◌, [], ℕ, None, Some, List, All, Contains, IsTrue, IfOk, IfNone, IfSome, MatchOption, OnOk, length, slice_get};
 ghost use Rattle.sip_standard.specs.Key.{KeyParts};
 ghost use Rattle.sip_log.specs.Told.{item};
@@ -28,9 +29,13 @@ use std::marker::Model;
 pub struct Judge<H: BuildHasher> {
     alloc: Global,
     standing: Standing<H>,
+    /// The number of the newest entry.
     number: u64,
+    /// The moment of the newest entry.
     moment: u64,
+    /// How many messages the last sweep left.
     left: usize,
+    /// Whether the judge goes on, has told a verdict, or has failed.
     stage: Stage,
 }
 
@@ -41,6 +46,7 @@ impl<H: BuildHasher> Model for Judge<H> {
     ghost use Rattle.sip_verdict.specs.Judging.{Judging};
     ghost use Rattle.sip_verdict.specs.inner.TablesTracking.{MayTake};
 
+    // A judge means what it keeps of the entries so far. As long as it goes on, an entry more may come.
     ghost Value = { Judging };
 
     ghost view = { λ j. record { number = j.number; moment = j.moment; texts = j.standing.book; tables = j.standing.tables; left = j.left; stage = j.stage } };
@@ -104,6 +110,7 @@ impl<H: BuildHasher + Drop> Judge<H> {
         ensures times { OnOk result (self.new.tables.times ≡ self.old.tables.times) }
     {
         match self.stage {
+            // The first verdict, and any error, ends the judging: no later entry is looked at.
             Stage::Open => match judge_next(self.alloc, &mut self.standing, &mut self.left, entry) {
                 Ok(None) => {
                     self.number = entry.number;

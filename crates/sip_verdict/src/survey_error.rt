@@ -24,6 +24,7 @@ pub enum SurveyError {
 }
 
 impl From<JudgeError> for SurveyError {
+    // Each error of a judge becomes that of a survey for the same reason.
     ghost from_gives = { λ error e. e ≡ unsurveyed error };
 
     fn from(error: JudgeError) -> SurveyError {
@@ -35,6 +36,7 @@ impl From<JudgeError> for SurveyError {
 }
 
 impl From<StepError> for SurveyError {
+    // Each error of a step becomes `Memory`.
     ghost from_gives = { λ _ e. e ≡ Memory };
 
     fn from(_: StepError) -> SurveyError {
@@ -43,6 +45,7 @@ impl From<StepError> for SurveyError {
 }
 
 impl From<Broken> for SurveyError {
+    // A sink that is broken becomes `Write`.
     ghost from_gives = { λ _ e. e ≡ Write };
 
     fn from(_: Broken) -> SurveyError {
@@ -51,6 +54,7 @@ impl From<Broken> for SurveyError {
 }
 
 impl From<AllocError> for SurveyError {
+    // A refused growth becomes `Memory`.
     ghost from_gives = { λ _ e. e ≡ Memory };
 
     fn from(_: AllocError) -> SurveyError {

@@ -1,4 +1,5 @@
 //! Laws of surveys. The functions do nothing: their contracts are the laws.
+//! In each law `found` are the findings, `end` is how the survey ends, p are the times, es the entries and `front` those before the entry e.
 ghost use Rattle.std.specs.Prelude.{◌≡◌, ◌↔◌, ◌≤◌, ◌⊎◌, ◌++◌, ◌∷◌, [], ℕ, Bool, true, List, All, AllPairs, Contains};
 ghost use Rattle.sip_standard.specs.VerdictOf.{IsVerdictOf, keys_in, events_for, RunsOver, IsWideAt};
 ghost use Rattle.sip_verdict.specs.SurveyOf.{IsSound, Breaks, Widens, IsSurveyAfter, IsSurveyOf, verdict_in};

@@ -1,4 +1,5 @@
 //! Surveys a log from its first byte to its last.
+//! In the clauses `found` are the findings, and `text` is what was written of them.
 ghost use Rattle.std.specs.Prelude.{◌≡◌, ◌++◌, ◌∷◌, [], ℕ, false, true, List, Option, IfOk, IfSome, OnOk, IsErrOf, option_copied};
 ghost use Rattle.std.specs.Io.KnownBytes.{Appends};
 ghost use Rattle.sip_log.specs.Reading.{beside_source};
@@ -12,11 +13,12 @@ ghost use Rattle.sip_verdict.specs.inner.SurveyingLogs.{AreCounted, AreLinesBy, 
 use crate::finding::Finding;
 use crate::following::Survey;
 use crate::observing::direction_of;
-use crate::reading::{Next, read_header, read_next};
+use crate::reading::{Next, read_header};
 use crate::rendering::{end_line, finding_line};
 use crate::summary::Summary;
 use crate::survey_end::SurveyEnd;
 use crate::survey_error::SurveyError;
+use crate::taking::read_taken;
 use crate::transaction::Transaction;
 use sip_log::{Entry, Progress, Sink, Source};
 use sip_machine::Action;
@@ -145,9 +147,9 @@ fn write_entries<R: Source, W: Sink, H: BuildHasher + Drop>(
     let mut counts = Counts::none();
     let mut count = 0;
     loop {
-        match read_next(progress, buffer, reader)? {
+        match read_taken(alloc, part, progress, buffer, reader)? {
             Next::Entry(entry) => {
-                let mut entry = Entry {
+                let entry = Entry {
                     number: entry.number,
                     moment: entry.moment,
                     action: entry.action,
@@ -155,7 +157,6 @@ fn write_entries<R: Source, W: Sink, H: BuildHasher + Drop>(
                 };
                 count = entry.number;
                 found.clear();
-                cut_to(alloc, part, &mut entry)?;
                 survey.entry(&entry, &mut found)?;
                 counts = put_findings(alloc, writer, survey, found.as_slice(), counts)?;
                 buffer = entry.bytes;

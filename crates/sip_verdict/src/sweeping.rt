@@ -1,4 +1,5 @@
 //! Judges entries, and drops messages that no transaction needs any more.
+//! In the clauses es are the entries so far, whichever they are, and e is what is observed of the next one.
 ghost use Rattle.std.specs.Prelude.{◌≡◌, ◌≤◌, ◌+◌, List, All, Contains, IfOk, IfNone, OnOk, length};
 ghost use Rattle.sip_standard.specs.Key.{KeyParts};
 ghost use Rattle.sip_standard.specs.Times.{last_moment};
@@ -21,7 +22,7 @@ use std::hash::BuildHasher;
 pub(crate) const SPARE: usize = 64;
 
 /// Judges the entry that comes next, and answers the verdict if it is in trouble. Where many more messages are kept than the last sweep left,
-/// it drops those that no transaction needs.
+/// or searches among them are slow, it drops those that no transaction needs.
 pub(crate) fn judge_next<H: BuildHasher>(
     alloc: Global,
     standing: &mut Standing<H>,
@@ -44,7 +45,8 @@ pub(crate) fn judge_next<H: BuildHasher>(
     if let Some(verdict) = standing.judge(alloc, entry)? {
         return Ok(Some(verdict));
     }
-    if standing.kept() <= 2 * *left + SPARE {
+    // A sweep costs as much as what is kept, so it waits until as much more is kept as the last sweep left.
+    if standing.kept() <= 2 * *left + SPARE && !standing.book.is_slow() {
         return Ok(None);
     }
     standing.sweep(alloc, entry.moment)?;

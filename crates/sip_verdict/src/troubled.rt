@@ -1,4 +1,5 @@
 //! Which transactions are in trouble.
+//! In the clauses `more` is what was added to a list.
 ghost use Rattle.std.specs.Prelude.{◌≡◌, ◌↔◌, ◌<◌, ◌≤◌, ◌-◌, ◌++◌, ◌∷◌, [], Bool, List, Some, true, false, All, IsTrue, OnOk, length, map, slice_get, slice_set};
 ghost use Rattle.sip_states.specs.Kept.{kept_of};
 ghost use Rattle.sip_verdict.specs.declared.finding.Finding.{Finding};

@@ -75,9 +75,11 @@ pub(crate) fn walk<R: Source, H: BuildHasher + Drop>(
         Ok(opened) => opened,
         Err(verdict) => return Ok(Err(verdict)),
     };
+    // There is no entry 0, so that nothing is listed of it.
     if aim.is_entry(0) {
         return Ok(Ok(Listing::NoEntry));
     }
+    // `left` is how many messages the last sweep left, and `count` the number of the last entry.
     let mut standing = Standing::new(alloc, params, hasher);
     let mut left = 0;
     let mut buffer = Vec::new(alloc);
@@ -91,6 +93,7 @@ pub(crate) fn walk<R: Source, H: BuildHasher + Drop>(
                     action: entry.action,
                     bytes: entry.bytes,
                 };
+                // The entry that is the aim is listed; any other one is judged, and ends the walk where it is in trouble.
                 if aim.is_entry(entry.number) {
                     return Ok(Ok(standing.list(alloc, &entry)?));
                 }
@@ -100,6 +103,7 @@ pub(crate) fn walk<R: Source, H: BuildHasher + Drop>(
                 count = entry.number;
                 buffer = entry.bytes;
             }
+            // The log ends in no trouble.
             Next::End => {
                 let entries = count;
                 let transactions = standing.transactions();
@@ -108,6 +112,7 @@ pub(crate) fn walk<R: Source, H: BuildHasher + Drop>(
                     transactions,
                 }));
             }
+            // What cannot be read is told of the entry that comes next.
             Next::Fault(reason) => {
                 let entry = count + 1;
                 return Ok(Err(Verdict::LogFault { entry, reason }));

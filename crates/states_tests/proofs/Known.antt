@@ -11,7 +11,7 @@ use Rattle.sip_states.specs.Sweep.{AdvancesSome}
 use Rattle.sip_states.specs.Tables.{Tabled}
 use Rattle.sip_states.specs.declared.any_set.AnySet.{AnySet}
 
--- What follows is of one set, before the call `StateSet::take` and after it.
+-- What follows is of one set: `old` is what it holds before the call `StateSet::take`, and `new` after it. P says which states the call asks for.
 module _ {X M S T E : Type 0} (names : S → List ℕ) (InRange : S → Type 0) (seen : Texts → S → X) (texts : Texts) (P : X → Type 0) (old new : Held M S) where
   -- whatever `StateSet::take` answers, the book has all that the set's states name
   pub known-after : (r : Result T E) → OnOk r (StandFor names InRange seen texts P new.states) → OnErr r (new ≡ old)
@@ -20,6 +20,7 @@ module _ {X M S T E : Type 0} (names : S → List ℕ) (InRange : S → Type 0) 
   known-after (Err e) stands stays known = subst (λ (h : Held M S). All (Knows names texts) h.states) (sym stays) known
 
 -- whatever `StateSet::take` answers, the moment of the set is then at most the moment of the event
+-- r is the result of `take`, and `old` and `new` are the set before and after
 pub moment-after : {M S T E : Type 0} (moment : ℕ) (old new : Held M S) (r : Result T E) → OnOk r ((new.machine ≡ old.machine) × (new.moment ≡ moment)) → OnErr r (new ≡ old)
     → old.moment ≤ moment → new.moment ≤ moment
 moment-after moment old new (Ok x) at stays early = (let is = at.1 in omega arith)
@@ -38,6 +39,7 @@ some_early moment old new some early n d low =
     let long = some.long in
     let before = get_or old.sets n d in
     let after = get_or new.sets n d in
+    -- the set has waited until the moment, or is as it was
     elim (some.each n before after (slice_get-get_or old.sets n d (omega arith)) (slice_get-get_or new.sets n d low)) [
       | inl advanced ↦ elim advanced [
         | inl waits ↦ (let at = waits_moment moment before after waits in omega arith)

@@ -1,12 +1,14 @@
 //! Which key is due, worked out by hand for T1 500, T2 4000, T4 5000 and a tolerance of 50. An INVITE at m waits for its first
 //! response until m + 250, and a 486 at m is sent again by m + 550. After a 180 or a 200 there is no last moment.
-ghost use Rattle.std.specs.Prelude.{◌≡◌, [], IfOk};
+ghost use Rattle.std.specs.Prelude.{◌≡◌, ◌≤◌, [], IfOk};
+ghost use Rattle.sip_states.specs.AnySet.{moment_of};
 
 use crate::keys::touch;
 use crate::played::{BUSY, Entry, INVITE, OK, RINGING, book, served};
+use crate::rows::LATE;
 use crate::wants::{is, is_at};
-use sip_machine::{Action, Book, Params};
-use sip_states::{AnySet, Tables};
+use sip_machine::{Action, Book, InviteServer, Params};
+use sip_states::{AnySet, StateSet, Tables};
 use std::alloc::{AllocError, Global};
 use std::hash::{BuildHasherDefault, FoldHasher};
 use std::process::Abort;
@@ -23,6 +25,27 @@ pub(crate) fn empty(alloc: Global) -> Result<Folded, Fail>
     Ok(Tables::new(alloc, params, BuildHasherDefault::<FoldHasher>::new()))
 }
 
+/// Puts the set into the place.
+fn lay(place: &mut AnySet, set: StateSet<InviteServer>)
+    ensures { moment_of place.new ≡ set.moment }
+{
+    *place = AnySet::InviteServer(set);
+}
+
+/// Gives the place a set that has taken the entries, and returns the moment of the last one.
+pub(crate) fn give(
+    alloc: Global,
+    place: &mut AnySet,
+    book: &Book,
+    entries: &[Entry],
+) -> Result<u64, Fail>
+    ensures { IfOk result (λ last. moment_of place.new ≤ last) }
+{
+    let (set, last) = served(alloc, book, entries)?;
+    lay(place, set);
+    Ok(last)
+}
+
 /// Gives the key with this number a set that has taken the entries.
 pub(crate) fn put(
     alloc: Global,
@@ -34,8 +57,7 @@ pub(crate) fn put(
     if number == 0 || number > tables.len() {
         return Err("not given".into());
     }
-    let (set, _) = served(alloc, book, entries)?;
-    *tables.set_mut(number) = AnySet::InviteServer(set);
+    give(alloc, tables.set_mut(number), book, entries)?;
     Ok(())
 }
 
@@ -50,7 +72,7 @@ pub(crate) fn settle(tables: &mut Folded, number: u64) -> Result<Result<(), Allo
     Ok(tables.settle(number))
 }
 
-/// The numbers of transactions whose machine is the INVITE server.
+/// The transactions of `keys.rt`, by their numbers there, whose machine is the INVITE server.
 const SERVERS: [u64; 4] = [2, 6, 10, 14];
 
 /// Touches the keys of the servers, which get the numbers from 1 on.
@@ -62,10 +84,12 @@ fn touch_servers(rt: &(impl Abort + AllocGlobal), tables: &mut Folded) -> Result
     Ok(())
 }
 
-/// A row: the number of a key, the entries of its set, which is settled, and which key is then due at each moment.
+/// A row: the number of a key, the entries of its set, which is settled, and for some moments which key is due then: one whose last moment is below.
 type Row = (u64, &'static [Entry], &'static [(u64, Option<u64>)]);
 
+/// The rows are taken one after another by the same tables: a key keeps its last moment until a later row gives it another set.
 static ROWS: &[Row] = &[
+    // The key 3 has an INVITE at 0 to answer by 250, so it is due from 251 on.
     (
         3,
         &[(0, Action::Received, INVITE)],
@@ -124,7 +148,19 @@ static ROWS: &[Row] = &[
         &[(1_000, Action::Received, INVITE)],
         &[(1_250, None), (1_251, Some(1))],
     ),
+    (
+        1,
+        &[(LATE, Action::Received, INVITE)],
+        &[(LATE + 250, None), (LATE + 251, Some(1))],
+    ),
 ];
+
+/// Asserts which key is due at each moment of the row with this number.
+fn are_due(rt: &impl Abort, tables: &Folded, number: usize, row: &Row) {
+    for &(moment, due) in row.2 {
+        is_at(rt, tables.due(moment), due, number, moment);
+    }
+}
 
 /// Gives a key the set of the row with this number, settles it, and asserts which key is due at each moment of the row.
 fn answers_as_settled(
@@ -136,21 +172,28 @@ fn answers_as_settled(
 ) -> Result<(), Fail> {
     put(rt.alloc(), tables, book, row.0, row.1)?;
     settle(tables, row.0)??;
-    for &(moment, due) in row.2 {
-        is_at(rt, tables.due(moment), due, number, moment);
+    are_due(rt, tables, number, row);
+    Ok(())
+}
+
+/// Settles the keys of the servers as the rows say, one row after another.
+fn answers_each(
+    rt: &(impl Abort + AllocGlobal),
+    tables: &mut Folded,
+    book: &Book,
+) -> Result<(), Fail> {
+    for (number, row) in ROWS.iter().enumerate() {
+        answers_as_settled(rt, tables, book, number, row)?;
     }
     Ok(())
 }
 
-/// Touches the keys of the servers, and settles them as the rows say, one row after another.
+/// Touches the keys of the servers, and settles them as the rows say.
 fn answers_in_turn(rt: &(impl Abort + AllocGlobal), tables: &mut Folded) -> Result<(), Fail> {
     touch_servers(rt, tables)?;
-    let book = book(rt.alloc())?;
     is(rt, tables.due(u64::MAX), None, "before any is settled");
-    for (number, row) in ROWS.iter().enumerate() {
-        answers_as_settled(rt, tables, &book, number, row)?;
-    }
-    Ok(())
+    let book = book(rt.alloc())?;
+    answers_each(rt, tables, &book)
 }
 
 /// The rows settle three keys of four, so that the fourth is never due.

@@ -219,7 +219,8 @@ fn play_again(
     play_both_again(rt, &mut set, &mut twin, book, entries, waits)
 }
 
-/// The server receives an INVITE, sends a 180, receives the INVITE twice more, sends the 180 again, and sends a 486.
+/// The server receives an INVITE, sends a 180, receives the INVITE twice more, sends the 180 four times, of which each may pay for a repeat or be a new
+/// one, sends a 486, and the 180 once more.
 static SENDS: &[Entry] = &[
     (0, Action::Received, INVITE),
     (1, Action::Sent, RINGING),

@@ -1,5 +1,6 @@
 //! Entries of tests, which a set of the INVITE server takes.
 ghost use Rattle.std.specs.Prelude.{◌≡◌, ◌≤◌, [], ℕ, All, IfOk, OnOk};
+ghost use Rattle.sip_machine.specs.NumberedEvent.{FitsBook};
 ghost use Rattle.sip_machine.specs.Rules.{Knows};
 ghost use Rattle.sip_machine.specs.Texts.{Keeps};
 ghost use Rattle.sip_machine.specs.Owing.{owing_names};
@@ -109,6 +110,21 @@ pub(crate) fn ok(moment: u64) -> Entry
     sent(moment, OK)
 }
 
+/// The event of an entry. It fails where the entry has no message in the book.
+fn event_of(alloc: Global, book: &Book, entry: Entry) -> Result<Event, Fail>
+    ensures { IfOk result (λ event. (event.moment ≡ entry.0) × FitsBook book.now event) }
+{
+    let (moment, action, number) = entry;
+    if moment > 9_999_999_999_999 || matches!(action, Action::Mark | Action::Restart) {
+        return Err("not an entry".into());
+    }
+    let Some(bytes) = book.bytes(number) else {
+        return Err("not kept".into());
+    };
+    let message = Message::read(alloc, bytes)?;
+    Ok(Event::of(moment, action, number, &message))
+}
+
 /// Lets the set take the entry, and returns what the set answers. It fails where the entry has no message in the book.
 pub(crate) fn take(
     alloc: Global,
@@ -121,15 +137,7 @@ pub(crate) fn take(
     ensures order { OnOk result (set.new.moment ≤ entry.0) }
     ensures known { OnOk result (All (Knows (owing_names invite_server_names) book.now) set.new.states) }
 {
-    let (moment, action, number) = entry;
-    if moment > 9_999_999_999_999 || matches!(action, Action::Mark | Action::Restart) {
-        return Err("not an entry".into());
-    }
-    let Some(bytes) = book.bytes(number) else {
-        return Err("not kept".into());
-    };
-    let message = Message::read(alloc, bytes)?;
-    let event = Event::of(moment, action, number, &message);
+    let event = event_of(alloc, book, entry)?;
     Ok(set.take(book, &event))
 }
 

@@ -9,7 +9,8 @@ use std::mem::size_of;
 use std::process::Abort;
 use std::test::Fail;
 
-/// Lets the set wait until each of the moments, and asserts how many states it has then. Returns the last moment.
+/// Lets the set of the row with this number, whose last entry is at `from`, wait until each of the moments, and asserts how many states it has then.
+/// Returns the last moment.
 fn are_left(
     rt: &impl Abort,
     set: &mut StateSet<InviteServer>,
@@ -32,12 +33,15 @@ fn are_left(
 }
 
 /// The moment at which a transaction begins, which is later than 32 bits can count.
-const LATE: u64 = 9_000_000_000_000;
+pub(crate) const LATE: u64 = 9_000_000_000_000;
 
 /// A row: its entries, the last moment to which one can wait after them, and how many states there are after each wait.
 type Row = (&'static [Entry], Option<u64>, &'static [(u64, usize)]);
 
+/// Logs of one transaction, each with what a set that took it does as time goes by.
 static ROWS: &[Row] = &[
+    // The 486 at 490 is that of timer G, or the answer to the INVITE that came again. The latter way ends after 550, since timer G fires by
+    // then, and the former after 1,540.
     (
         &[
             (0, Action::Received, INVITE),
@@ -48,6 +52,7 @@ static ROWS: &[Row] = &[
         Some(1_540),
         &[(490, 2), (550, 2), (551, 1), (1_541, 0)],
     ),
+    // The same near the last moment that a log may have.
     (
         &[
             (LATE, Action::Received, INVITE),
@@ -63,6 +68,7 @@ static ROWS: &[Row] = &[
             (LATE + 1_541, 0),
         ],
     ),
+    // The transaction of a 200 may end from 31,950 on, and has ended by 32,050. An ended one waits for ever.
     (
         &[(0, Action::Received, INVITE), (0, Action::Sent, OK)],
         None,
@@ -115,7 +121,7 @@ fn waits_as_timers_fire(rt: HostRuntime) -> Result<(), Fail> {
     Ok(())
 }
 
-/// A phase takes less than 48 bytes.
+/// A phase of the non-INVITE client, and a request that waits for its response, take at most 48 bytes each.
 #[test]
 fn states_are_small(rt: HostRuntime) {
     assert!(rt; size_of::<PlainClientPhase>() <= 48);

@@ -2,16 +2,16 @@
 ghost use Rattle.std.specs.Prelude.{◌≡◌, ◌≤◌, [], All, IfOk};
 ghost use Rattle.sip_states.specs.AnySet.{moment_of};
 
-use crate::agenda::{Folded, empty, put};
+use crate::agenda::{Folded, empty, give, put};
 use crate::keys::{key, touch};
-use crate::played::{BUSY, Entry, INVITE, OK, PROGRESS, RINGING, book, served};
+use crate::played::{BUSY, Entry, INVITE, OK, PROGRESS, RINGING, book};
 use crate::wants::{is, is_at};
 use sip_machine::{Action, Book};
-use sip_states::AnySet;
 use std::alloc::{AllocError, Global};
 use std::process::Abort;
 use std::test::Fail;
 
+/// INVITE servers, each by the number that its transaction has in `keys.rt`, and the entries that it takes.
 static SERVED: &[(u64, &[Entry])] = &[
     (
         2,
@@ -103,9 +103,7 @@ fn serve_alone(
 {
     let key = key(alloc, 2)?;
     let number = tables.touch(key)?;
-    let (set, last) = served(alloc, book, entries)?;
-    *tables.set_mut(number) = AnySet::InviteServer(set);
-    Ok(last)
+    give(alloc, tables.set_mut(number), book, entries)
 }
 
 /// Lets the sets wait until the moment, and again where memory was refused. Returns the first answer.
@@ -124,7 +122,9 @@ fn wait_again(tables: &mut Folded, moment: u64) -> Result<Result<(), AllocError>
 /// A row: the entries of the set, the moment until which it waits then, and the numbers of the messages that it names there.
 type Row = (&'static [Entry], u64, &'static [u64]);
 
+/// The message 4 is the 486, and 2 the 180.
 static ROWS: &[Row] = &[
+    // Up to 650 the 486 may be sent again, and so is named. From 651 on the set has no run.
     (
         &[(0, Action::Received, INVITE), (100, Action::Sent, BUSY)],
         650,
@@ -135,11 +135,13 @@ static ROWS: &[Row] = &[
         651,
         &[],
     ),
+    // A 180 is named for ever, since the INVITE may come again.
     (
         &[(0, Action::Received, INVITE), (100, Action::Sent, RINGING)],
         1_000_000,
         &[2],
     ),
+    // Neither a 2xx nor an INVITE without a response is named.
     (
         &[(0, Action::Received, INVITE), (100, Action::Sent, OK)],
         100,

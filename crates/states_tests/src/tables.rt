@@ -16,6 +16,7 @@ use std::test::Fail;
 struct Zero;
 
 impl Hasher for Zero {
+    // This hasher keeps nothing of what it is given.
     ghost write = { λ s _. s };
 
     ghost finish = { λ _. 0 };
@@ -27,6 +28,7 @@ impl Hasher for Zero {
     fn write(&mut self, _bytes: &[u8]) {}
 }
 
+/// Makes hashers that hash everything to 0.
 #[derive(Drop)]
 struct AllZero;
 
@@ -48,6 +50,7 @@ fn number_of<H: BuildHasher + Drop>(
     number: u64,
 ) -> Result<(u64, bool), Fail> {
     let given = touch(alloc, tables, number)??;
+    // The machine of a transaction follows from what is left of its number after division by 4, as `keys.rt` has it, and from the rules.
     let is_own = match tables.set(given) {
         AnySet::InviteClient(_) => number % 4 == 0 && rules == Rules::R6026,
         AnySet::PlainClient(_) => number % 4 == 1,

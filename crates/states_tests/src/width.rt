@@ -18,6 +18,7 @@ fn entry_at(repeats: u64, moment: u64) -> Entry
     requires { repeats ≤ 40 }
     ensures { result.0 ≡ moment }
 {
+    // The sends begin after the INVITE, the 180, its repeats, the 183 and 40 repeats.
     let sends = 43 + repeats;
     if moment == 1 || (sends <= moment && moment < sends + repeats) {
         ringing(moment)
@@ -65,6 +66,7 @@ fn widens(
     let first = 43 + 2 * repeats;
     for sends in 0..count {
         take(alloc, set, book, entry_at(repeats, first + sends))??;
+        // The 183 has been sent `sends` + 1 times by now, and each time it may have paid for a repeat or not.
         if set.states().len() as u64 != (repeats + 1) * (sends + 2) {
             return Ok(false);
         }
@@ -86,6 +88,7 @@ fn is_widest(
     requires start { set.old.moment ≡ 0 }
     requires known { All (Knows (owing_names invite_server_names) book.now) set.old.states }
 {
+    // Before the sends the set has a state for each number of repeats that may have been paid.
     let alloc = rt.alloc();
     take_before_sends(alloc, set, book, repeats)?;
     is(
@@ -101,6 +104,7 @@ fn is_widest(
         "the sends",
     );
     is(rt, set.states().len(), most, "after the sends");
+    // One send of the 183 more would lead to too many states, and leaves the set as it is.
     let next = entry_at(repeats, 43 + 2 * repeats + sends);
     is(
         rt,

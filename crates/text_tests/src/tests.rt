@@ -10,6 +10,7 @@ static FRONTS: &[(&[u8], usize, usize)] = &[
     (b"a-b c", 3, 0),
     (b"<x>", 0, 0),
     (b"", 0, 0),
+    // Each line end within a blank run has a blank behind it.
     (b" \t\r\n x", 0, 5),
     (b"\r\nx", 0, 0),
     (b" \r\nx", 0, 1),
@@ -19,9 +20,11 @@ static FRONTS: &[(&[u8], usize, usize)] = &[
 
 // A text, and the length of the quoted string at its front, if there is one.
 static QUOTED: &[(&[u8], Option<usize>)] = &[
+    // Blanks may stand before it, and a backslash before a quote that does not end it.
     (b" \"a\\\"b\"c", Some(7)),
     (b"\"\"", Some(2)),
     (b"\"a", None),
+    // A CR has no backslash before it, and a line end in it has a blank behind it.
     (b"\"\\\r\"", None),
     (b"\"a\r\n b\"", Some(7)),
     (b"\"a\r\nb\"", None),
@@ -29,16 +32,20 @@ static QUOTED: &[(&[u8], Option<usize>)] = &[
 
 // A text, and what kind of host it is.
 static HOSTS: &[(&[u8], &str)] = &[
+    // A name ends with a label that begins with a letter, and perhaps a dot.
     (b"a.example.com.", "name"),
     (b"x--y", "name"),
     (b"1.2.3.4.a", "name"),
+    // The groups of an IPv4 address are not looked into beyond their three digits.
     (b"999.1.1.1", "v4"),
+    // The grammar of RFC 3261 lets more through than addresses have.
     (b"[::ffff:1.2.3.4]", "v6"),
     (b"[64:ff9b::1.2.3.4]", "v6"),
     (b"[:::1.2.3.4]", "v6"),
     (b"[1:::1.2.3.4]", "v6"),
     (b"[1:2:3:4:5:6:7:8:9]", "v6"),
     (b"[::]", "v6"),
+    // A last label of digits, an empty one, a hyphen at an end, and what is neither.
     (b"a.1", "none"),
     (b"a..b", "none"),
     (b"a-.b", "none"),
@@ -51,6 +58,7 @@ static HOSTS: &[(&[u8], &str)] = &[
 
 // A text, whether it is an IPv6 address, and whether it is a port.
 static ADDRESSES: &[(&[u8], bool, bool)] = &[
+    // An address stands without its brackets. A port has at most five digits, and is at most 65535.
     (b"2001:db8::9:1", true, false),
     (b"::ffff:192.0.2.10", true, false),
     (b"[::1]", false, false),
@@ -61,6 +69,7 @@ static ADDRESSES: &[(&[u8], bool, bool)] = &[
 
 // Two texts, and whether they are the same without case.
 static PAIRS: &[(&[u8], &[u8], bool)] = &[
+    // Letters of ASCII alone have a case.
     (b"z9hG4bK", b"Z9HG4BK", true),
     (b"a[", b"a{", false),
     (b"a", b"ab", false),
@@ -77,6 +86,7 @@ fn kind(host: Option<Host<'_>>) -> &'static str {
     }
 }
 
+/// How long the token, the blanks and the quoted string at the front of a text are.
 #[test]
 fn reads_fronts(rt: HostRuntime) {
     for &(text, token, blanks) in FRONTS {
@@ -88,6 +98,7 @@ fn reads_fronts(rt: HostRuntime) {
     }
 }
 
+/// Which kind of host a text is, and whether it is an IPv6 address or a port.
 #[test]
 fn reads_hosts(rt: HostRuntime) {
     for &(text, want) in HOSTS {
@@ -99,6 +110,7 @@ fn reads_hosts(rt: HostRuntime) {
     }
 }
 
+/// Whether two texts are the same without case.
 #[test]
 fn folds_case(rt: HostRuntime) {
     for &(a, b, same) in PAIRS {

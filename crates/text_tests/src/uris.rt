@@ -10,6 +10,7 @@ static URIS: &[(&[u8], [&[u8]; 7])] = &[
         b"sip:bob:pw@b.c:5060;lr?x=1&y=",
         [b"sip", b"bob", b"pw", b"b.c", b"5060", b";lr", b"x=1&y="],
     ),
+    // A user may have marks that end a host, and a password may be empty.
     (b"sip:a;b@c", [b"sip", b"a;b", b"-", b"c", b"-", b"", b"-"]),
     (
         b"SIPS:[::1]:5061",
@@ -24,6 +25,7 @@ static URIS: &[(&[u8], [&[u8]; 7])] = &[
         b"sip:b;x=%7e;[y]:z?a=&[b]=:",
         [b"sip", b"-", b"-", b"b", b"-", b";x=%7e;[y]:z", b"a=&[b]=:"],
     ),
+    // Of another scheme nothing is cut but the scheme.
     (b"tel:+1", [b"tel", b"+1", b"-", b"-", b"-", b"-", b"-"]),
     (
         b"x-1.y+z::@?%7e",
@@ -31,19 +33,24 @@ static URIS: &[(&[u8], [&[u8]; 7])] = &[
     ),
 ];
 
+/// Texts that are no URI.
 static NONE: &[&[u8]] = &[
+    // A second @, or a user that is empty.
     b"sip:a@b@c",
     b"sip:@b",
     b"SIP:@b",
+    // Headers, parameters and a port that are empty or wrong.
     b"sip:b?x",
     b"sip:b?",
     b"sip:b;",
     b"sip:b:70000",
     b"sip:b:005060",
     b"sip:b:",
+    // A host with more behind it, a sign % without two digits, and a password with a colon.
     b"sip:[::1]x:80",
     b"sip:%4@b",
     b"sip:a:b:c@d",
+    // No colon, nothing behind it, no scheme before it, and a byte that no URI has.
     b"sip",
     b"mailto:",
     b"1x:a",
@@ -51,6 +58,7 @@ static NONE: &[&[u8]] = &[
     b"http:[a]",
 ];
 
+/// The text of a host, of whichever kind it is.
 fn spelled(host: Host<'_>) -> &[u8] {
     match host {
         Host::Name(text) | Host::V4(text) | Host::V6(text) => text,
@@ -86,6 +94,7 @@ fn parts(uri: Option<Uri<'_>>) -> [&[u8]; 7] {
     }
 }
 
+/// Each URI has the parts of its row, and no other text is a URI.
 #[test]
 fn reads_uris(rt: HostRuntime) {
     for &(text, want) in URIS {

@@ -3,7 +3,7 @@
 use std::fmt::Debug;
 use std::process::Abort;
 
-/// What is read of the text is what is wanted.
+/// Asserts that what is read of the text is what is wanted.
 pub(crate) fn is<T: PartialEq + Debug + Drop>(rt: &impl Abort, read: T, want: T, text: &[u8]) {
     assert_eq!(rt; read, want, "{text:?}");
 }

@@ -1,3 +1,4 @@
+-- What clients send, and when they end.
 pub mod InviteClients
 pub mod Unanswered
 pub mod Acknowledging

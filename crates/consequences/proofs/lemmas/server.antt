@@ -1,3 +1,4 @@
+-- What servers send, before their final response and after it.
 pub mod Asleep
 pub mod Said
 pub mod InviteServers

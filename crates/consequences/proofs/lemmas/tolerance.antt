@@ -1,3 +1,4 @@
+-- What a wider tolerance keeps, machine by machine.
 pub mod Wider
 pub mod AllWider
 pub mod Steady

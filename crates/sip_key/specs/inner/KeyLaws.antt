@@ -28,6 +28,7 @@ bytes_eq-itself xs = (bytes_decides xs xs).1 refl
 -- keys that the test finds equal are the same
 same_key-exact : (a b : KeyParts) → same_key a b ≡ true → a ≡ b
 same_key-exact a b h =
+    -- the test is four tests in a row: `rest` has the last three of them and `last` the last two
     let rest = second_so _ _ h in
     let last = second_so _ _ rest in
     let role : a.role ≡ b.role = same_role-so a.role b.role (first_so _ _ h) in

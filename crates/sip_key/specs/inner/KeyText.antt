@@ -1,3 +1,4 @@
+-- A key as one text, from which its parts can be read again.
 use Rattle.std.specs.Prelude.{ℕ, zero, suc, ◌/◌, ◌%◌, ◌+◌, ◌-◌, ◌==◌, List, [], ◌∷◌, ◌++◌, cond, length, drop, replicate, slice_range, take}
 use Rattle.sip_standard.specs.declared.role.Role.{Role}
 use Rattle.sip_standard.specs.declared.role.Role.TheVariants.{Client, Server}

@@ -1,5 +1,5 @@
 -- What an account owes, place by place: its debts, whether another account owes the same, and the least deadline of what it must send.
-use Rattle.sip_ledger.proofs.Words.{max, ◌≡◌, ◌≢◌, ℕ, ◌+◌, ◌<◌, ◌≤◌, ◌==◌, ◌&&◌, Bool, true, false, not, List, [], ◌∷◌, ◌++◌, length, take, drop, map, refl, sym, ap, ap₂, ◌∙◌, inl, ◌⊎◌, arith, append-nil, nat_tests, IsTrue, Option, Some, None, ◌↔◌, nat_le, option_to_list, OnTrue, and_left, and_right, cases_eq, cases_lt, eq-eqb, eqb-true, le-leb, true≢false, append_cancel_left, get_or-drop, get_or_default, length-append, length-drop, length-take-le, map-append, take-append-le, take_all, All-map, Debt, Entry, Account, Gains, Strike, debt_deadlines, earliest, debt_of, debts_from, IsGap, AreAlike, AreGains, IsAccount, SharesRest, account_debts, entries_of, entry_at, is_struck, must_at, owes_at, strikes_of, holds}
+use Rattle.sip_ledger.proofs.Words.{max, ◌≡◌, ◌≢◌, ℕ, ◌+◌, ◌<◌, ◌≤◌, ◌==◌, ◌&&◌, Bool, true, false, List, [], ◌∷◌, ◌++◌, length, take, drop, map, refl, sym, ap, ap₂, ◌∙◌, arith, append-nil, nat_tests, IsTrue, Option, Some, None, ◌↔◌, nat_le, option_to_list, OnTrue, and_left, and_right, cases_eq, cases_lt, eq-eqb, eqb-true, le-leb, true≢false, append_cancel_left, get_or-drop, get_or_default, length-append, length-drop, length-take-le, map-append, take-append-le, take_all, All-map, Debt, Entry, Account, Gains, Strike, debt_deadlines, earliest, debt_of, debts_from, IsGap, AreAlike, AreGains, IsAccount, SharesRest, account_debts, entries_of, entry_at, is_struck, must_at, owes_at, strikes_of, holds}
 use Rattle.sip_ledger.proofs.gains.LeftLemmas.{entries_long, gone-same, left-kept, owed-left, rising_kept}
 use Rattle.sip_ledger.proofs.debts.ListedLemmas.{back, back-none, back-same, back-set, earliest-first, earliest-push, front, front-gap, front-next, listed-All, listed-must, listed-none, listed-same, no_entry, parts}
 use Rattle.sip_ledger.proofs.account.AccountLemmas.{must-below, must-from, past-end, soft-must}
@@ -18,7 +18,7 @@ pub record IsToldTo (gains : Gains) (strikes : List Strike) (a : Account) (place
   pub end : place ≤ a.end
   pub owed : place < a.end → owes_at gains strikes a place ≡ true
 
--- What follows is of one account.
+-- What follows is of one account a, by the list of what was gained and by what was struck from it.
 module _ {gains : Gains} {strikes : List Strike} {a : Account} where
   -- an account owes nothing before its start
   pub told-none : {debts : List Debt} → IsAccount gains strikes a → debts ≡ [] → IsToldTo gains strikes a a.start debts
@@ -65,7 +65,7 @@ pub record AreAt (gains : Gains) (strikes : List Strike) (one other : Account) (
   pub told : IsToldTo gains strikes one at debts
   pub told_beside : IsToldTo gains strikes other beside debts
 
--- What follows is of two accounts that are compared.
+-- What follows is of two accounts that are compared, `one` and `other`, by one list of gains and what was struck from it.
 module _ {gains : Gains} {strikes : List Strike} {one other : Account} (is : IsAccount gains strikes one) (is_other : IsAccount gains strikes other) where
   -- AreAt holds at the starts of two accounts
   pub at-start : AreAt gains strikes one other one.start other.start
@@ -174,6 +174,7 @@ pub least-rising : (entries : List Entry) (m : ℕ → Bool) (at : ℕ) → ((k 
     at < length entries → ((k : ℕ) → k < at → m k ≡ false) → m at ≡ true → Some (entry_at entries at).deadline ≡ earliest (map (λ d. d.deadline) (debts_from m m 0 entries))
 least-rising entries m at rising inside none is =
     let later = back m m entries (at + 1) in
+    -- nothing is due before the place, so its debt comes first
     let nothing : front m m entries at ≡ [] = grind (arith, listed-none, length-take-le) in
     let whole : debts_from m m 0 entries ≡ debt_of (entry_at entries at) (m at) ∷ later =
     parts m m entries at (omega (arith, inside)) ∙ ap₂ (λ a b. a ++ b) nothing (back-set m m entries at no_entry inside is) in

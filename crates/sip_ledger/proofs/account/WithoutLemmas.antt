@@ -1,10 +1,10 @@
--- An account loses one of its debts.
-use Rattle.sip_ledger.proofs.Words.{common_steps, ◌≡◌, ◌≢◌, ℕ, ◌+◌, ◌-◌, ◌<◌, ◌≤◌, ◌%◌, ◌^◌, ◌&&◌, Bool, true, false, not, List, length, refl, sym, ap, ◌∙◌, arith, lit<, nat_lt, sum_by, and_right, cases_lt, eq-eqb, le-leb, lt-leb, lt-ltb, ne_eqb, true≢false, and-false, or-false, or-true, nat_tests, sum_by-append, sum_by-cons, mod_below, add-mod_right, mod-add-mod, mod-eq_of_lt, Debt, Account, Gains, Strike, debts_print, worth_of, debt_of, IsAccount, IsStruck, IsWithout, account_debts, entries_of, entry_at, is_gone, is_struck, must_at, owes_at, strikes_of}
-use Rattle.sip_ledger.proofs.debts.OwedLemmas.{IsCut, cut-at}
-use Rattle.sip_ledger.proofs.gains.LeftLemmas.{gone-same, gone-struck}
-use Rattle.sip_ledger.proofs.account.AccountLemmas.{owed-within, past-end, soft-must}
+-- An account loses one of its debts, or gains one: a is the account before and b after it, and `old` and `new` are the strikes before and after it.
+use Rattle.sip_ledger.proofs.Words.{◌≡◌, ◌≢◌, ℕ, ◌+◌, ◌<◌, ◌≤◌, ◌%◌, ◌^◌, ◌&&◌, true, false, List, [], ◌∷◌, ◌++◌, length, get_or, sym, ap, ◌∙◌, arith, nat_tests, nat_le, and_right, cases_lt, le-leb, lt-leb, lt-ltb, and-false, or-false, or-true, get_or_push, length-append, sum_by_push, mod-add-mod, Debt, Account, Gains, Strike, debts_print, worth_of, debt_of, IsAccount, IsGain, IsNextGain, IsStruck, KeepsAccounts, account_debts, entries_of, entry_at, is_left, is_struck, must_at, owes_at, strikes_of, holds, common_steps, ◌-◌, Bool, not, refl, lit<, nat_lt, sum_by, eq-eqb, ne_eqb, true≢false, sum_by-append, sum_by-cons, mod_below, add-mod_right, mod-eq_of_lt, IsWithout, is_gone}
+use Rattle.sip_ledger.proofs.debts.OwedLemmas.{gained-debts, IsCut, cut-at}
+use Rattle.sip_ledger.proofs.gains.LeftLemmas.{entries_long, gone-left, gone-same, gone-struck, held_left, left-kept, owed-left}
+use Rattle.sip_ledger.proofs.account.AccountLemmas.{grown-alike, over-all, past-end, owed-within, same-keeps, soft-must}
 
--- the sum of the worths of debts
+-- the sum of the worths of debts, of which their print is made
 abbrev worths : List Debt → ℕ
 worths debts = sum_by (λ debt. worth_of debt.message debt.deadline) debts
 
@@ -58,6 +58,7 @@ pub without-account : (gains : Gains) (old new : List Strike) (a b : Account) (p
     w < 2 ^ 64 → IsAccount gains new b
 unfolding account_debts
 without-account gains old new a b place w is owed without soft order end first last bound begins worth print less =
+    -- the debts are those of before without one, and the number made of them is without its share
     let cut = cut-at (entries_of gains) (owes_at gains old a) (must_at gains a) (owes_at gains new b) (must_at gains b) place (omega (arith, owed-within gains old a place owed, is.end)) owed without
     (λ k. soft-must gains a b k soft) in
     let printed = print ∙ ap (λ n. (n + (2 ^ 64 - w)) % 2 ^ 64) (is.print ∙ sym (cut-print (debt_of (entry_at (entries_of gains) place) (must_at gains a place)) (account_debts gains old a) (account_debts gains new b) cut w worth))
@@ -81,6 +82,7 @@ pub without-first : (gains : Gains) (strikes : List Strike) (a : Account) (place
     IsAccount gains strikes (record a { start = next; print = print }) ×
     IsWithout place (owes_at gains strikes a) (owes_at gains strikes (record a { start = next; print = print }))
 without-first gains strikes a place w next print is owed here worth printed order none begins =
+    -- the account that begins later does not owe the place, and owes all others
     let b : Account = record a { start = next; print = print } in
     let without : IsWithout place (owes_at gains strikes a) (owes_at gains strikes b) =
     later-start gains strikes a b place (sym here) (omega (arith, order.0)) refl refl refl (λ k above below. none k (omega (arith, above)) below) in
@@ -94,6 +96,7 @@ pub without-last : (gains : Gains) (strikes : List Strike) (a : Account) (place 
     IsAccount gains strikes (record a { end = place; print = print }) ×
     IsWithout place (owes_at gains strikes a) (owes_at gains strikes (record a { end = place; print = print }))
 without-last gains strikes a place w print is owed later last worth printed =
+    -- the account that ends earlier does not owe the place, and owes all others
     let b : Account = record a { end = place; print = print } in
     let from = owed-from gains strikes a place owed in
     let without : IsWithout place (owes_at gains strikes a) (owes_at gains strikes b) = earlier-end gains strikes a b place last refl refl refl refl in
@@ -107,8 +110,94 @@ pub without-middle : (gains : Gains) (old new : List Strike) (a b : Account) (pl
     IsAccount gains new (record b { print = print }) ×
     IsWithout place (owes_at gains old a) (owes_at gains new (record b { print = print }))
 without-middle gains old new a b place w print is owed later struck worth printed =
+    -- the account with one strike more does not owe the place, and owes all others
     let c : Account = record b { print = print } in
     let from = owed-from gains old a place owed in
     let without : IsWithout place (owes_at gains old a) (owes_at gains new c) = struck-without gains old new a b c place struck from refl refl refl refl in
     let account : IsAccount gains new c = grind (arith, nat_tests, without-account gains old new a c place w, without, worth-fits, without.others a.start) in
     (account, without)
+
+-- the print of debts with one debt more is their print and the worth of that debt
+pub print-more : (debts : List Debt) (debt : Debt) → debts_print (debts ++ debt ∷ []) ≡ (debts_print debts + worth_of debt.message debt.deadline) % 2 ^ 64
+unfolding debts_print
+print-more debts debt = grind (arith, sum_by_push, mod-add-mod)
+
+-- an account that owes what was gained at one place more, after all that it owes, has that debt more, and is an account
+pub gained-account : (gains : Gains) (old new : List Strike) (a b : Account) (debt : Debt) (place : ℕ) → IsAccount gains old a → IsNextGain gains old a debt place →
+    owes_at gains new b place ≡ true → ((k : ℕ) → k ≢ place → owes_at gains new b k ≡ owes_at gains old a k) →
+    b.soft ≡ a.soft → b.start ≤ place → b.end ≡ place + 1 → b.first ≤ b.last → b.last ≤ length new →
+    ((m k : ℕ) → length (entries_of gains) ≤ k → is_struck (strikes_of new b) m k ≡ false) → (b.start < b.end → owes_at gains new b b.start ≡ true) →
+    b.print ≡ (a.print + worth_of debt.message debt.deadline) % 2 ^ 64 →
+    IsAccount gains new b × (account_debts gains new b ≡ account_debts gains old a ++ debt ∷ [])
+unfolding account_debts must_at
+gained-account gains old new a b debt place is next here others soft low end first last bound begins print =
+    let entries = (entries_of gains) in
+    -- the debt at the place is the one that was gained
+    let due : must_at gains b place ≡ debt.must = grind (arith, nat_tests) in
+    let same : debt_of (entry_at entries place) (must_at gains b place) ≡ debt = grind arith in
+    let debts : account_debts gains new b ≡ account_debts gains old a ++ debt ∷ [] =
+    gained-debts entries (owes_at gains old a) (must_at gains a) (owes_at gains new b) (must_at gains b) place next.gain.within
+    (λ k past. past-end gains old a k (omega (arith, past, next.end))) here others
+    (λ k other. ap (λ s. holds gains.musts 0 k && nat_le s k) soft)
+    ∙ ap (λ d. account_debts gains old a ++ d ∷ []) same in
+    -- it stands after all others, and the account is right with it
+    let account : IsAccount gains new b = grind (arith, print-more) in
+    (account, debts)
+
+-- an account that owes nothing, and gains at a place, owes that gain alone
+pub first-gain : (gains : Gains) (old new : List Strike) (a b : Account) (debt : Debt) (place : ℕ) → IsAccount gains old a → IsNextGain gains old a debt place → a.start ≡ a.end →
+    b ≡ record { start = place; end = place + 1; soft = a.soft; first = 0; last = 0; print = b.print } → b.print ≡ (a.print + worth_of debt.message debt.deadline) % 2 ^ 64 →
+    IsAccount gains new b × (account_debts gains new b ≡ account_debts gains old a ++ debt ∷ [])
+unfolding owes_at is_struck
+first-gain gains old new a b debt place is next none same print =
+    let own : strikes_of new b ≡ [] = grind arith in
+    let left : is_left gains place ≡ true = sym (held_left gains debt.message place next.gain.message) ∙ next.gain.left in
+    let here : owes_at gains new b place ≡ true = grind (arith, nat_tests, gone-left) in
+    let others : (k : ℕ) → k ≢ place → owes_at gains new b k ≡ owes_at gains old a k = grind (arith, before-start, past-end) in
+    gained-account gains old new a b debt place is next here others (grind arith) (grind arith) (grind arith) (grind arith) (grind arith) (grind arith) (grind arith) print
+
+-- at other places an account that gains at a place owes what it owed, where the gains between its end and the place are struck
+passed-others : (gains : Gains) (old new : List Strike) (a p b : Account) (place k : ℕ) → IsStruck gains a.end place old new a p → a.end ≤ length (entries_of gains) → a.end ≤ place →
+    place < length (entries_of gains) → b.start ≡ a.start → b.end ≡ place + 1 → strikes_of new b ≡ strikes_of new p → k ≢ place → owes_at gains new b k ≡ owes_at gains old a k
+unfolding owes_at
+passed-others gains old new a p b place k passed within low inside start end own other = grind (arith, nat_tests, cases_lt, before-start, gone-same, lt-leb, or-false, le-leb, lt-ltb, gone-struck, or-true, and_right, and-false, past-end)
+
+-- an account that owes something gains at a place, where the gains between its end and the place are struck
+pub more-gain : (gains : Gains) (old new : List Strike) (a p b : Account) (debt : Debt) (place : ℕ) → IsAccount gains old a → IsNextGain gains old a debt place → a.start ≢ a.end →
+    IsStruck gains a.end place old new a p → b ≡ record p { end = place + 1; print = b.print } → b.print ≡ (a.print + worth_of debt.message debt.deadline) % 2 ^ 64 →
+    IsAccount gains new b × (account_debts gains new b ≡ account_debts gains old a ++ debt ∷ [])
+unfolding owes_at
+more-gain gains old new a p b debt place is next some passed same print =
+    -- the account begins where it did and ends with the place
+    let order = is.order in
+    let start : b.start ≡ a.start = ap (λ (x : Account). x.start) same ∙ passed.start in
+    let end : b.end ≡ place + 1 = ap (λ (x : Account). x.end) same in
+    let own : strikes_of new b ≡ strikes_of new p = grind arith in
+    -- the account owes the place, and of the other places those that it owed
+    let left : is_left gains place ≡ true = sym (held_left gains debt.message place next.gain.message) ∙ next.gain.left in
+    let free : is_struck (strikes_of new b) (entry_at (entries_of gains) place).message place ≡ false = grind (arith, nat_tests) in
+    let here : owes_at gains new b place ≡ true = grind (arith, nat_tests, gone-left) in
+    let others = λ (k : ℕ) (other : k ≢ place). passed-others gains old new a p b place k passed is.end next.end next.gain.within start end own other in
+    gained-account gains old new a b debt place is next here others (grind arith) (grind arith) end (grind arith) (grind arith) (grind arith)
+    (λ _. let other : a.start ≢ place = omega (arith, order, next.end, some) in
+    ap (owes_at gains new b) start ∙ others a.start other ∙ is.begins (omega (arith, order, some)))
+    print
+
+-- the newest gain comes after all that an account owes, so the account can gain it next
+pub new-gain : (old new : Gains) (strikes : List Strike) (a : Account) (debt : Debt) → IsGain debt old new → IsAccount old strikes a → IsNextGain new strikes a debt (length (entries_of old))
+new-gain old new strikes a debt gain is = grind (arith, nat_tests, length-append, get_or_push)
+
+-- accounts keep what they owe when a gain comes
+pub gain-keeps : (old new : Gains) (debt : Debt) → IsGain debt old new → KeepsAccounts old new
+gain-keeps old new debt gain =
+    let more = length-append (entries_of old) ((record { message = debt.message; deadline = debt.deadline }) ∷ []) in
+    record {
+      each = λ strikes accounts are.
+          over-all old new strikes accounts (omega (arith, ap length gain.entries, more)) (λ k d below. grown-alike old new debt strikes (get_or accounts k d) gain (are k d below).end) are;
+    }
+
+-- accounts keep what they owe, whether a gain comes or memory is refused
+pub ruleset gains_keep = (gain-keeps, same-keeps)
+
+-- what an account owes at a place that it loses
+pub ruleset lost_at_place = (entries_long, left-kept, owed-left, owed-within, without-first, without-last, without-middle)

@@ -1,5 +1,5 @@
--- Which gains are left, and what changes of that when gains come, are let go or are dropped.
-use Rattle.sip_ledger.proofs.Words.{◌≡◌, ◌≢◌, ℕ, suc, ◌+◌, ◌-◌, ◌^◌, ◌<◌, ◌≤◌, ◌==◌, ◌&&◌, ◌||◌, Bool, true, false, cond, not, List, [], ◌∷◌, ◌++◌, length, drop, get_or, refl, sym, ap, ap₂, arith, nat_tests, replicate, cases_eq, cases_lt, eq-eqb, false_from_ne_true, ne_eqb, true≢false, and-false, append_assoc, get_or-append_right, get_or_append_left, get_or-drop, get_or_default, get_or_past, get_or_push, length-append, length-drop, length-replicate, Debt, Entry, Account, Gains, Strike, debts_from, AreFlags, AreGains, AreSameGains, IsDropped, IsGain, IsKept, IsLetGo, IsNoted, IsPlaceOf, blank, entries_of, entry_at, is_gone, is_left, is_struck, owes_at, holds, AreRising}
+-- Which gains are left, whether their deadlines rise, what is known beside each by its flags, and what changes of that when gains come, are let go or are dropped.
+use Rattle.sip_ledger.proofs.Words.{nat_tests, ◌-◌, ◌<◌, ◌≤◌, List, [], ◌∷◌, ◌++◌, length, get_or, arith, cases_lt, cases_eq, get_or_append_left, get_or_push, length_push, Entry, AreRising, ◌≡◌, ℕ, Bool, ◌+◌, true, false, drop, set, ap, ◌∙◌, get_or-drop, get_or-set_other, get_or-set_same, length-append, length-drop, length-set, Debt, Gains, AreFlags, AreSameGains, IsDropped, IsGain, IsKept, IsLetGo, blank, entries_of, entry_at, is_left, no_flags, holds, suc, ◌^◌, ◌==◌, ◌&&◌, ◌||◌, cond, not, refl, sym, ap₂, replicate, eq-eqb, false_from_ne_true, ne_eqb, true≢false, and-false, append_assoc, get_or-append_right, get_or_default, get_or_past, length-replicate, Account, Strike, debts_from, AreGains, IsNoted, IsPlaceOf, is_gone, is_struck, owes_at}
 use Rattle.sip_ledger.proofs.debts.ListedLemmas.{no_entry}
 
 -- there are as many entries as there were gains
@@ -90,6 +90,7 @@ pub gains-more : (old new : Gains) (debt : Debt) → AreGains old → new.entrie
     (new.rises ≡ true → AreRising (old.entries.items ++ (record { message = debt.message; deadline = debt.deadline }) ∷ [])) → old.highest ≤ new.highest → debt.message ≤ new.highest →
     (IsGain debt old new → AreFlags new) → AreGains new × IsGain debt old new
 gains-more old new debt are entries end small noted rises higher own flags =
+    -- all entries are the old ones and the new one
     let all : entries_of new ≡ entries_of old ++ (record { message = debt.message; deadline = debt.deadline }) ∷ [] = more-entries old new (record { message = debt.message; deadline = debt.deadline }) are.long entries end in
     let count = entries_long old are.long in
     let longer = length-append old.entries.items ((record { message = debt.message; deadline = debt.deadline }) ∷ []) in
@@ -131,5 +132,35 @@ listed-alike o m o' m' i (x ∷ xs) (y ∷ ys) long same alike =
     let rest : debts_from o m (i + 1) xs ≡ debts_from o' m' (i + 1) ys = listed-alike o m o' m' (i + 1) xs ys (omega (arith, long)) (λ j below. grind (arith, same (suc j))) (λ j below is. grind (arith, alike (suc j))) in
     grind (arith, same 0, alike 0)
 
--- what is gone, by what is left
-pub ruleset gone_of_left = (gone-left, gone-struck, gone-unleft)
+-- whether a gain is left depends on its entry and the index alone
+pub left-as : (old new : Gains) (k : ℕ) → entry_at (entries_of new) k ≡ entry_at (entries_of old) k → ((m : ℕ) → holds new.messages m k ≡ holds old.messages m k) → is_left new k ≡ is_left old k
+unfolding is_left
+left-as old new k same messages = ap (λ (e : Entry). holds new.messages e.message k) same ∙ messages (entry_at (entries_of old) k).message
+
+-- flags stay right where entries, flags and index stay the same
+pub flags-same : (old new : Gains) → AreFlags old → new.entries.items ≡ old.entries.items → new.flags.items ≡ old.flags.items → new.end ≡ old.end → AreSameGains old new → AreFlags new
+flags-same old new are entries flags end same = grind (arith, nat_tests, left-as)
+
+-- where a gain is put after the others, with flags of its own, the flags are right still
+pub flags-more : (old new : Gains) (debt : Debt) (newest : Bool) → AreFlags old → (newest ≡ true → (k : ℕ) → IsKept old k → (entry_at (entries_of old) k).message ≤ debt.message) →
+    length old.entries.items ≤ old.end → length (entries_of old) ≡ old.end →
+    new.entries.items ≡ old.entries.items ++ (record { message = debt.message; deadline = debt.deadline }) ∷ [] →
+    new.flags.items ≡ old.flags.items ++ (record { must = debt.must; left = true; newest = newest }) ∷ [] → new.end ≡ old.end + 1 → IsGain debt old new → AreFlags new
+unfolding is_left
+flags-more old new debt newest are above long count entries flags end gain = grind (arith, nat_tests, length-append, get_or_push, get_or_append_left, cases_eq, left-as)
+
+-- where a gain is let go, and its flags are blank then, the flags are right still
+pub flags-let_go : (old new : Gains) (place : ℕ) → AreFlags old → length old.entries.items ≤ old.end → IsKept old place → new.entries.items ≡ old.entries.items →
+    new.flags.items ≡ set old.flags.items (place - (old.end - length old.entries.items)) no_flags → holds new.musts 0 place ≡ false → IsLetGo place old new → AreFlags new
+unfolding is_left
+flags-let_go old new place are long kept entries flags must gone = grind (arith, nat_tests, get_or-set_same, get_or-set_other, length-set, cases_eq, left-as)
+
+-- where the first gains are dropped, with their flags, the flags are right still
+pub flags-dropped : (old new : Gains) (place count : ℕ) → AreFlags old → length old.entries.items ≤ old.end → count + (old.end - length old.entries.items) ≡ place → place ≤ old.end →
+    new.entries.items ≡ drop count old.entries.items → new.flags.items ≡ drop count old.flags.items → new.end ≡ old.end → IsDropped place old new → AreFlags new
+flags-dropped old new place count are long here within entries flags end dropped = grind (arith, nat_tests, length-drop, get_or-drop, left-as)
+
+-- where deadlines never fall, and that of a further entry is not before the last, those with it never fall
+pub rising-push : (entries : List Entry) (entry : Entry) → AreRising entries → ((e : Entry) → 0 < length entries → (get_or entries (length entries - 1) e).deadline ≤ entry.deadline) →
+    AreRising (entries ++ entry ∷ [])
+rising-push entries entry rises last i k e order below = grind (arith, nat_tests, cases_lt, cases_eq, length_push, get_or_push entries entry e, get_or_append_left entries (entry ∷ []) e, rises i k e, rises i (length entries - 1) e, last e)

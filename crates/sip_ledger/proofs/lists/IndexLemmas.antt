@@ -1,5 +1,5 @@
--- Indexes as pairs of a key and a number, and the order of the pairs.
-use Rattle.sip_ledger.proofs.Words.{◌≡◌, ◌==◌, ◌&&◌, ◌<◌, ◌≤◌, ℕ, Bool, true, false, List, [], ◌∷◌, cond, length, refl, sym, ap, arith, true≢false, is_eq, is_gt, BTreeSet, IsKeyRangeOf, IsLowerBound, IsUpperBound, Included, Unbounded, nat_tests, pair_cmp, holds, IsFrom, IsFirstFrom, NoneFrom}
+-- Indexes as pairs of a key and a number, the order of the pairs, and how many numbers stand under a key.
+use Rattle.sip_ledger.proofs.Words.{◌≡◌, ◌==◌, ◌&&◌, ◌<◌, ◌≤◌, ℕ, Bool, true, false, List, [], ◌∷◌, cond, refl, sym, ap, ◌∙◌, arith, true≢false, ◌||◌, nat_le, count_by, is_at, nat_tests, sum_by-cons, count_under, holds, pair_cmp, length, is_eq, is_gt, BTreeSet, IsKeyRangeOf, IsLowerBound, IsUpperBound, Included, Unbounded, IsFrom, IsFirstFrom, NoneFrom}
 
 -- two pairs compare as equal exactly if both their numbers are equal
 pub is_pair : (a b c d : ℕ) → is_eq (pair_cmp (a, b) (c, d)) ≡ (c == a && d == b)
@@ -35,3 +35,71 @@ pub none-held : (pairs : List (ℕ × ℕ)) → ¬ (0 < length pairs) → (k n :
 unfolding holds
 none-held [] none k n held = true≢false (sym held)
 none-held (pair ∷ pairs) none k n held = none (omega arith)
+
+-- whether the pair is of the key, and its number is not below another one
+abbrev is_from : ℕ → ℕ → ℕ × ℕ → Bool
+is_from key from pair = pair.0 == key && nat_le from pair.1
+
+-- what a pair counts
+abbrev counted : Bool → ℕ
+counted b = cond b 1 0
+
+-- how many numbers from one on stand under the key
+unfoldable pub count_from : List (ℕ × ℕ) → ℕ → ℕ → ℕ
+count_from pairs key from = count_by (is_from key from) pairs
+
+-- all numbers are from 0 on
+pub count_all : (pairs : List (ℕ × ℕ)) (key : ℕ) → count_from pairs key 0 ≡ count_under pairs key
+unfolding count_from
+count_all [] key = refl
+count_all (pair ∷ pairs) key =
+    let same : is_from key 0 pair ≡ (pair.0 == key) = grind (arith, nat_tests) in
+    let one = ap counted same in
+    let rest = count_all pairs key in
+    let left = sum_by-cons (λ p. cond (is_from key 0 p) 1 0) pair pairs in
+    let right = sum_by-cons (λ p. cond (p.0 == key) 1 0) pair pairs in
+    omega (arith, one, rest, left, right)
+
+module _ (key from to : ℕ) where
+  counts-less : (pair : ℕ × ℕ) → from ≤ to → cond (is_from key to pair) 1 0 ≤ cond (is_from key from pair) 1 0
+  counts-less pair low = grind (arith, nat_tests)
+
+  -- from a greater number on there are no more
+  count_less : (pairs : List (ℕ × ℕ)) → from ≤ to → count_from pairs key to ≤ count_from pairs key from
+  unfolding count_from
+  count_less [] low = omega arith
+  count_less (pair ∷ pairs) low =
+      let one = counts-less pair low in
+      let rest = count_less pairs low in
+      let left = sum_by-cons (λ p. cond (is_from key to p) 1 0) pair pairs in
+      let right = sum_by-cons (λ p. cond (is_from key from p) 1 0) pair pairs in
+      omega (arith, one, rest, left, right)
+
+  module _ (number : ℕ) (after : from ≤ number) (before : number < to) where
+    counts-one : (pair : ℕ × ℕ) → (pair.0 == key && pair.1 == number) ≡ true → cond (is_from key to pair) 1 0 < cond (is_from key from pair) 1 0
+    counts-one pair is = grind (arith, nat_tests)
+
+    passed-one : (pair : ℕ × ℕ) (pairs : List (ℕ × ℕ)) (b : Bool) → is_at (pair_cmp (key, number)) pair ≡ b →
+        (holds pairs key number ≡ true → count_from pairs key to < count_from pairs key from) → (b || holds pairs key number) ≡ true →
+        count_from (pair ∷ pairs) key to < count_from (pair ∷ pairs) key from
+    unfolding count_from
+    -- the first pair is the passed one: it counts from its number on, and not after it
+    passed-one pair pairs true is fewer any =
+        let one = counts-one pair (sym (is_pair key number pair.0 pair.1) ∙ is) in
+        let rest = count_less pairs (omega (arith, after, before)) in
+        let left = sum_by-cons (λ p. cond (is_from key to p) 1 0) pair pairs in
+        let right = sum_by-cons (λ p. cond (is_from key from p) 1 0) pair pairs in
+        omega (arith, one, rest, left, right)
+    -- the first pair is another one, and the passed one is among the rest
+    passed-one pair pairs false is fewer any =
+        let one = counts-less pair (omega (arith, after, before)) in
+        let rest = fewer any in
+        let left = sum_by-cons (λ p. cond (is_from key to p) 1 0) pair pairs in
+        let right = sum_by-cons (λ p. cond (is_from key from p) 1 0) pair pairs in
+        omega (arith, one, rest, left, right)
+
+    -- where a number is passed that stands under the key, fewer are left
+    pub count_passed : (pairs : List (ℕ × ℕ)) → holds pairs key number ≡ true → count_from pairs key to < count_from pairs key from
+    unfolding holds
+    count_passed [] held = absurd (true≢false (sym held))
+    count_passed (pair ∷ pairs) held = passed-one pair pairs (is_at (pair_cmp (key, number)) pair) refl (count_passed pairs) held

@@ -1,10 +1,105 @@
--- Rows that a send pays are put after the others, without the debt that it pays.
-use Rattle.sip_ledger.proofs.Words.{common_steps, nat_tests, ◌≡◌, ◌<◌, ◌≤◌, ℕ, ◌+◌, Bool, true, false, cond, List, [], ◌∷◌, ◌++◌, length, take, get_or, map, filter, refl, sym, ap, ◌∙◌, arith, ◌&&◌, Option, Some, None, IfSome, option_to_list, list_any, take-append_seam, append-nil, append_assoc, get_or_append_left, length-append, map-append, Debt, Account, Gains, Strike, owed_in, paid_rows, counts_at, is_payable, is_timely, paid_by, from_to, AreAccounts, IsAccount, account_debts, accounts_debts}
-use Rattle.sip_ledger.proofs.debts.PayLemmas.{unpaid-is}
-use Rattle.sip_ledger.proofs.lists.EachLemmas.{from_to-end, passing-more}
-use Rattle.sip_ledger.proofs.account.AccountLemmas.{debts_length}
+-- Many rows gain a debt, lose what is past, place by place, or are paid and put after the others.
+use Rattle.sip_ledger.proofs.Words.{◌≡◌, ℕ, ◌+◌, ◌<◌, ◌≤◌, ◌&&◌, ◌||◌, Bool, true, false, List, length, take, filter, arith, nat_tests, nat_le, and-false, cases_eq, cases_lt, lt-leb, take-length, get_or_default, Entry, Account, Gains, Strike, counts_at, AreGains, IsAccount, IsExpiredTo, IsKept, IsWithout, account_debts, entries_of, entry_at, must_at, owes_at, [], ◌∷◌, ◌++◌, drop, get_or, set, map, refl, sym, ap, ◌∙◌, All, fold, min, le-leb, or_right, All-filter, All-get_or, All-head, All-map, All-tail, All-weaker, Debt, debt_deadlines, earliest, is_timely, is_within, AreAccounts, KeepsAccounts, accounts_debts, common_steps, cond, Option, Some, None, IfSome, option_to_list, list_any, take-append_seam, append-nil, append_assoc, get_or_append_left, length-append, map-append, owed_in, paid_rows, is_payable, paid_by, from_to}
+use Rattle.sip_ledger.proofs.gains.LeftLemmas.{entries_long, rising_kept, left-kept, owed-left}
+use Rattle.sip_ledger.proofs.debts.ListedLemmas.{listed-counting, listed-same, listed-each}
+use Rattle.sip_ledger.proofs.account.AccountLemmas.{empty-debts, kept-passed, past-end, soft-must, debts_length}
+use Rattle.sip_ledger.proofs.account.WithoutLemmas.{before-start}
+use Rattle.sip_ledger.proofs.lists.EachLemmas.{changing, changing-front, changing-length, changing-more, changing-all, unchanged-each, from_to-end, passing-more}
+use Rattle.sip_ledger.proofs.rows.SeenLemmas.{changed-by, on-error, over-to, unchanged, account-at, can-pay, pushed-to, row-inside}
+use Rattle.sip_ledger.proofs.debts.OwedLemmas.{unpaid-is}
 use Rattle.sip_ledger.proofs.account.FindLemmas.{paid-account, unpaid-account}
-use Rattle.sip_ledger.proofs.rows.SeenLemmas.{account-at, can-pay, on-error, pushed-to, row-inside, unchanged}
+
+-- what is owed, with one debt more
+abbrev pub with_debt : Debt → List Debt → List Debt
+with_debt debt owes = owes ++ debt ∷ []
+
+-- the rows from `from` up to k have gained the debt, and the others owe what they owed
+pub record HaveGained (debt : Debt) (from k : ℕ) (old : List (List Debt)) (gains : Gains) (strikes : List Strike) (rows : List Account) : Type 0 where
+  pub accounts : AreAccounts gains strikes rows
+  pub debts : accounts_debts gains strikes rows ≡ changing (with_debt debt) from k old
+
+-- there are as many lists of debts as accounts
+pub debts-count : (gains : Gains) (strikes : List Strike) (rows : List Account) (n : ℕ) → n ≡ length rows → n ≡ length (accounts_debts gains strikes rows)
+debts-count gains strikes rows n is = is ∙ sym (debts_length gains strikes rows)
+
+-- What follows is of the rows from `from` up to k, which gain a debt one after the other.
+module _ {debt : Debt} {from k : ℕ} {old : List (List Debt)} {gains : Gains} {strikes : List Strike} {rows : List Account} where
+  -- HaveGained stays true over more gains
+  pub gained-over : (new : Gains) → KeepsAccounts gains new → AreGains new → HaveGained debt from k old gains strikes rows → HaveGained debt from k old new strikes rows
+  gained-over new keeps gained are = grind (arith, over-to)
+
+  -- HaveGained stays true over more strikes
+  pub gained-grown : (new : List Strike) → take (length strikes) new ≡ strikes → HaveGained debt from k old gains strikes rows → HaveGained debt from k old gains new rows
+  gained-grown new kept are = let all = unchanged new kept are.accounts are.debts in grind (arith, all)
+
+  -- HaveGained stays true with one row more that gains the debt
+  pub gained-more : (new : List Strike) (a b : Account) → take (length strikes) new ≡ strikes → HaveGained debt from k old gains strikes rows → from ≤ k → k < length old →
+      a ≡ get_or rows k a → IsAccount gains new b → account_debts gains new b ≡ with_debt debt (account_debts gains strikes a) →
+      HaveGained debt from (k + 1) old gains new (set rows k b)
+  gained-more new a b kept are low within is account debts =
+      let inside : k < length (changing (with_debt debt) from k old) = omega (arith, within, changing-length (with_debt debt) from k old low) in
+      let all = changed-by (with_debt debt) new k a b kept are.accounts are.debts inside is account debts in
+      record { accounts = all.0; debts = all.1 ∙ changing-more (with_debt debt) from k old [] low within }
+
+  -- the rows before `from` owe what they owed
+  pub gained-front : HaveGained debt from k old gains strikes rows → from ≤ k → take from (accounts_debts gains strikes rows) ≡ take from old
+  gained-front are low = ap (take from) are.debts ∙ changing-front (with_debt debt) from k old low
+
+-- where no debt is past, none goes
+kept-each : (t : ℕ) (xs : List Debt) → All (λ d. counts_at t d ≡ true) xs → filter (counts_at t) xs ≡ xs
+kept-each t [] all = refl
+kept-each t (x ∷ xs) all = grind (arith, nat_tests, All-head (λ d. counts_at t d ≡ true) x xs all, kept-each t xs (All-tail (λ d. counts_at t d ≡ true) x xs all))
+
+-- where no gain that is kept is past, no debt of an account is
+debts-late : (gains : Gains) (strikes : List Strike) (a : Account) (t : ℕ) → AreGains gains → ((k : ℕ) → IsKept gains k → t ≤ (entry_at (entries_of gains) k).deadline) →
+    All (λ (d : Debt). t ≤ d.deadline) (account_debts gains strikes a)
+unfolding account_debts
+debts-late gains strikes a t are late =
+    listed-each (λ (d : Debt). t ≤ d.deadline) (owes_at gains strikes a) (must_at gains a) (entries_of gains) (λ k below owed. late k (left-kept gains k are (owed-left gains strikes a k owed)))
+
+-- a debt that is not past counts still
+late-counts : (t : ℕ) (d : Debt) → t ≤ d.deadline → counts_at t d ≡ true
+late-counts t d late = or_right d.must (nat_le t d.deadline) (le-leb t d.deadline late)
+
+-- where no gain that is kept is past, an account has no debt that goes
+pub none-goes : (gains : Gains) (strikes : List Strike) (a : Account) (t : ℕ) → AreGains gains → ((k : ℕ) → IsKept gains k → t ≤ (entry_at (entries_of gains) k).deadline) →
+    filter (counts_at t) (account_debts gains strikes a) ≡ account_debts gains strikes a
+none-goes gains strikes a t are late =
+    let debts = account_debts gains strikes a in
+    kept-each t debts (All-weaker (λ (d : Debt). t ≤ d.deadline) (λ d. counts_at t d ≡ true) (late-counts t) debts (debts-late gains strikes a t are late))
+
+-- where no gain that is kept is past, no row has a debt that goes
+rows-same : (gains : Gains) (strikes : List Strike) (rows : List Account) (t : ℕ) → AreGains gains → ((k : ℕ) → IsKept gains k → t ≤ (entry_at (entries_of gains) k).deadline) →
+    All (λ owes. filter (counts_at t) owes ≡ owes) (accounts_debts gains strikes rows)
+unfolding accounts_debts
+rows-same gains strikes rows t are late =
+    All-map (λ (owes : List Debt). filter (counts_at t) owes ≡ owes) (account_debts gains strikes) rows (λ k d below. none-goes gains strikes (get_or rows k d) t are late)
+
+-- where no gain that is kept is past, what many rows owe is as it is once what is past is dropped from some
+pub none-past : (gains : Gains) (strikes : List Strike) (rows : List Account) (seen : List (List Debt)) (from t : ℕ) → AreGains gains → accounts_debts gains strikes rows ≡ seen →
+    ((k : ℕ) → IsKept gains k → t ≤ (entry_at (entries_of gains) k).deadline) → seen ≡ take from seen ++ map (filter (counts_at t)) (drop from seen)
+none-past gains strikes rows seen from t are view late = grind (arith, rows-same, unchanged-each, All-get_or)
+
+-- the least of moments that are not before t is not before it
+least-late : (t x : ℕ) (ms : List ℕ) → t ≤ x → All (λ m. t ≤ m) ms → t ≤ fold min x ms
+least-late t x [] low all = low
+least-late t x (m ∷ ms) low all = least-late t (min x m) ms (omega (arith, low, All-head (λ n. t ≤ n) m ms all)) (All-tail (λ n. t ≤ n) m ms all)
+
+-- where no moment is before t, t is within the earliest of them
+within-all : (t : ℕ) (ms : List ℕ) → All (λ m. t ≤ m) ms → is_within t (earliest ms) ≡ true
+within-all t [] all = refl
+within-all t (m ∷ ms) all = le-leb t (fold min m ms) (least-late t m ms (All-head (λ n. t ≤ n) m ms all) (All-tail (λ n. t ≤ n) m ms all))
+
+-- where no gain is past, a row is timely
+pub none_late : (gains : Gains) (strikes : List Strike) (a : Account) (t : ℕ) → AreGains gains → ((k : ℕ) → IsKept gains k → t ≤ (entry_at (entries_of gains) k).deadline) →
+    is_timely t (account_debts gains strikes a) ≡ true
+none_late gains strikes a t are late =
+    let must = filter (λ (d : Debt). d.must) (account_debts gains strikes a) in
+    within-all t (debt_deadlines (account_debts gains strikes a))
+    (All-map (λ m. t ≤ m) (λ (d : Debt). d.deadline) must (All-filter (λ (d : Debt). d.must) (λ (d : Debt). t ≤ d.deadline) (account_debts gains strikes a) (debts-late gains strikes a t are late)))
+
+-- what rows owe once some of them have gained a debt
+pub ruleset gained_by_rows = (changing-all, debts-count, gained-front, gained-grown, gained-more, gained-over, on-error)
 
 -- whether a row is paid, and what is left to it
 abbrev pub is_paid : ℕ → ℕ → List Debt → Bool
@@ -76,3 +171,54 @@ pub ruleset paid_of_row = (paid-account, unpaid-account, unpaid-is, other-row, p
 
 -- what a send pays of many rows
 pub ruleset paid_of_rows = (from_to-end, debts_length, account-there, paid-front, paid-grown, paid-next, row-there, on-error)
+
+-- whether what is owed at a place counts still at t: it must be sent, or its deadline is not past
+abbrev counting : ℕ → List Entry → (ℕ → Bool) → (ℕ → Bool) → ℕ → Bool
+counting t entries m o k = o k && (m k || nat_le t (entry_at entries k).deadline)
+
+-- IsExpiredTo holds at the start of an account: nothing is owed before it
+pub expired-start : (t : ℕ) (gains : Gains) (strikes : List Strike) (m : ℕ → Bool) (a : Account) →
+    IsExpiredTo t (entries_of gains) m (owes_at gains strikes a) (owes_at gains strikes a) a.start
+expired-start t gains strikes m a = grind (arith, nat_tests, before-start)
+
+-- IsExpiredTo goes on over a gain that must be sent
+pub stays-must : (t : ℕ) (entries : List Entry) (m o o' : ℕ → Bool) (place : ℕ) → IsExpiredTo t entries m o o' place → m place ≡ true → IsExpiredTo t entries m o o' (place + 1)
+stays-must t entries m o o' place was must = grind (arith)
+
+-- where the gain at the place is past, may be sent, and is taken out, the account has expired one place further
+pub goes : (t : ℕ) (entries : List Entry) (m o o' o'' : ℕ → Bool) (place : ℕ) → IsExpiredTo t entries m o o' place → (entry_at entries place).deadline < t → m place ≡ false →
+    IsWithout place o' o'' → IsExpiredTo t entries m o o'' (place + 1)
+goes t entries m o o' o'' place was late may without = grind (arith, nat_tests, cases_eq, and-false, lt-leb)
+
+-- an account that owes at each place just what counts still at t has the debts that count at t
+finished : (gains : Gains) (old new : List Strike) (a b : Account) (t : ℕ) → b.soft ≡ a.soft →
+    ((k : ℕ) → k < length (entries_of gains) → owes_at gains new b k ≡ counting t (entries_of gains) (must_at gains a) (owes_at gains old a) k) →
+    account_debts gains new b ≡ filter (counts_at t) (account_debts gains old a)
+unfolding account_debts
+finished gains old new a b t soft each = grind (arith, listed-same, soft-must, listed-counting, get_or_default)
+
+-- an account that has expired up to its end has the debts that count at t
+pub expired-end : (gains : Gains) (old new : List Strike) (a b : Account) (t place : ℕ) → b.soft ≡ a.soft → b.end ≤ place →
+    IsExpiredTo t (entries_of gains) (must_at gains a) (owes_at gains old a) (owes_at gains new b) place →
+    account_debts gains new b ≡ filter (counts_at t) (account_debts gains old a)
+expired-end gains old new a b t place soft end is =
+    finished gains old new a b t soft (λ k within. grind (arith, nat_tests, cases_lt, past-end, is.gone k, is.later k))
+
+-- where deadlines rise, and that of this place is not past, the account has expired whole
+pub expired-rising : (gains : Gains) (old new : List Strike) (a b : Account) (t place : ℕ) → b.soft ≡ a.soft → AreGains gains → gains.rises ≡ true → IsKept gains place →
+    t ≤ (entry_at (entries_of gains) place).deadline → IsExpiredTo t (entries_of gains) (must_at gains a) (owes_at gains old a) (owes_at gains new b) place →
+    account_debts gains new b ≡ filter (counts_at t) (account_debts gains old a)
+expired-rising gains old new a b t place soft gained rises kept early is =
+    let count = entries_long gains gained.long in
+    finished gains old new a b t soft (λ k within. grind (arith, nat_tests, cases_lt, count, rising_kept gains place k gained rises kept, is.gone k, is.later k))
+
+-- the account b is a, without what is past at t before the place
+pub record IsExpiring (gains : Gains) (old new : List Strike) (a b : Account) (t place : ℕ) : Type 0 where
+  pub kept : take (length old) new ≡ old
+  pub low : a.start ≤ place
+  pub account : IsAccount gains new b
+  pub soft : b.soft ≡ a.soft
+  pub gone : IsExpiredTo t (entries_of gains) (must_at gains a) (owes_at gains old a) (owes_at gains new b) place
+
+-- what is owed once what is past is dropped
+pub ruleset expired_by_place = (soft-must, goes, stays-must, take-length, empty-debts, kept-passed, expired-end, expired-rising, expired-start, none-goes)

@@ -1,10 +1,150 @@
--- Accounts whose strikes are written anew owe what they owed.
-use Rattle.sip_ledger.proofs.Words.{common_steps, ◌≡◌, ℕ, ◌+◌, ◌<◌, ◌≤◌, ◌||◌, false, List, [], ◌∷◌, ◌++◌, length, take, get_or, map, refl, sym, ap, ap₂, ◌∙◌, arith, nat_tests, All, max, cases_lt, false_from_ne_true, or_parts, true≢false, append_assoc, map-append, take_more, All-get_or, All-nil, All-push, Account, Gains, Strike, AreAppended, AreMoved, IsAccount, IsMoved, StrikesNoneFrom, account_debts, accounts_debts, entries_of, entry_at, is_out, is_struck, owes_at, holds}
-use Rattle.sip_ledger.proofs.strikes.StrikeLemmas.{out-parts, struck-next, struck-push}
-use Rattle.sip_ledger.proofs.gains.LeftLemmas.{gone-same, held_left}
-use Rattle.sip_ledger.proofs.debts.ListedLemmas.{listed-same}
-use Rattle.sip_ledger.proofs.account.AccountLemmas.{kept-all, soft-must}
+-- Which gains the strikes of an account strike, once strikes are longer, written anew or looked for, and gains are let go: m is a message, and k a place.
+use Rattle.sip_ledger.proofs.Words.{◌≡◌, ◌≢◌, ℕ, zero, suc, ◌+◌, ◌-◌, ◌<◌, ◌≤◌, ◌==◌, ◌&&◌, ◌||◌, Bool, true, false, List, [], ◌∷◌, ◌++◌, length, take, drop, get_or, set, filter, refl, sym, ap, ap₂, ◌∙◌, subst, arith, nat_le, nat_lt, list_any, or-false, or_assoc, true≢false, nat_tests, list_any-append, list_any_at, take-append_seam, drop-append_seam, drop-append-le, drop-set-add, get_or_default, get_or-drop, length-drop, take-append-le, take-set-le, take_more, Account, Strike, Gains, IsWritten, Lengthens, Reaches, StrikeToo, entries_of, entry_at, is_left, is_struck, strikes_of, is_out, All, cases_eq, cases_lt, All-push, All-weaker, AreGains, AreKept, IsClearedTo, IsDropped, IsLetGo, StartFrom, owes_at, common_steps, map, max, false_from_ne_true, or_parts, append_assoc, map-append, All-get_or, All-nil, AreAppended, AreMoved, IsAccount, IsMoved, StrikesNoneFrom, account_debts, accounts_debts, holds}
+use Rattle.sip_ledger.proofs.gains.LeftLemmas.{held_left, gone-same}
+use Rattle.sip_ledger.proofs.account.AccountLemmas.{OwesAlike, dropped-alike, let_go-alike, over-all, past-end, kept-all, soft-must}
 use Rattle.sip_ledger.proofs.account.WithoutLemmas.{before-start}
+use Rattle.sip_ledger.proofs.debts.ListedLemmas.{listed-same}
+
+-- those of the strikes that end after the place `start`
+abbrev pub ending : ℕ → List Strike → List Strike
+ending start strikes = filter (λ s. nat_lt start s.to) strikes
+
+-- strikes that end at the start or before it may be left out: the others strike the same from there on
+any-ending : (m k start : ℕ) (xs : List Strike) → start ≤ k → list_any (is_out m k) (ending start xs) ≡ list_any (is_out m k) xs
+any-ending m k start [] above = refl
+any-ending m k start (s ∷ xs) above = grind (arith, nat_tests, any-ending m k start xs above)
+
+-- where no strike passes a test, none of those that end after the start does
+none-ending : (p : Strike → Bool) (start : ℕ) (xs : List Strike) → list_any p xs ≡ false → list_any p (ending start xs) ≡ false
+none-ending p start [] none = refl
+none-ending p start (s ∷ xs) none = grind (arith, none-ending p start xs)
+
+-- where the strike at a place is replaced, some strike passes if one did before, or if q holds
+any-set : (p : Strike → Bool) (q : Bool) (xs : List Strike) (at : ℕ) (s : Strike) → at < length xs → p s ≡ (p (get_or xs at s) || q) →
+    list_any p (set xs at s) ≡ (list_any p xs || q)
+any-set p q [] at s within same = grind arith
+any-set p q (x ∷ xs) zero s within same = grind arith
+any-set p q (x ∷ xs) (suc at) s within same = grind (arith, any-set p q xs at s)
+
+-- where no strike passes, none passes after one that does not pass took the place of another
+none-set : (p : Strike → Bool) (xs : List Strike) (at : ℕ) (s : Strike) → p s ≡ false → list_any p xs ≡ false → list_any p (set xs at s) ≡ false
+none-set p [] at s not none = refl
+none-set p (x ∷ xs) zero s not none = grind arith
+none-set p (x ∷ xs) (suc at) s not none = grind (arith, none-set p xs at s)
+
+-- a strike that is made longer up to a place strikes the gain there too, and nothing else that is left
+longer-out : (m mp sm from to place k : ℕ) → sm ≡ mp → from ≤ place → to ≤ place → (to ≤ k → k < place → m ≢ mp) → (k ≡ place → m ≡ mp) →
+    (sm == m && (nat_le from k && nat_lt k (place + 1))) ≡ ((sm == m && (nat_le from k && nat_lt k to)) || k == place)
+longer-out m mp sm from to place k is low high between here = grind (arith, nat_tests)
+
+-- a strike strikes nothing at its end or after it
+pub struck-by_end : (m k sm from to : ℕ) → to ≤ k → (sm == m && (nat_le from k && nat_lt k to)) ≡ false
+struck-by_end m k sm from to past = grind (arith, nat_tests)
+
+-- where a strike is made longer by the place that it reaches, it strikes the gain there too, and no other that is left
+pub lengthened : (gains : Gains) (place k : ℕ) (old : List Strike) (at : ℕ) (s : Strike) → at < length old → Reaches gains place (get_or old at s) → is_left gains k ≡ true →
+    is_struck (set old at (record { message = (get_or old at s).message; from = (get_or old at s).from; to = place + 1 })) (entry_at (entries_of gains) k).message k
+    ≡ (is_struck old (entry_at (entries_of gains) k).message k || k == place)
+unfolding is_struck
+lengthened gains place k old at s within reaches left =
+    let m = (entry_at (entries_of gains) k).message in
+    let mp = (entry_at (entries_of gains) place).message in
+    let was = get_or old at s in
+    -- the strike that is one longer covers what it did, and the place that it reached
+    let longer : Strike = record { message = was.message; from = was.from; to = place + 1 } in
+    any-set (is_out m k) (k == place) old at longer within
+    (longer-out m mp was.message was.from was.to place k reaches.message reaches.from reaches.to (λ above below same. true≢false (sym (held_left gains mp k same ∙ left) ∙ reaches.between k above below))
+    (λ is. ap (λ n. (entry_at (entries_of gains) n).message) is)
+    ∙ ap (λ w. is_out m k w || k == place) (get_or_default old at s longer within))
+
+-- where a strike is made longer up to a place, nothing more is struck after the place
+pub lengthened-bound : (gains : Gains) (place m k : ℕ) (old : List Strike) (at : ℕ) (s : Strike) → place < k → is_struck old m k ≡ false →
+    is_struck (set old at (record { message = (get_or old at s).message; from = (get_or old at s).from; to = place + 1 })) m k ≡ false
+unfolding is_struck
+lengthened-bound gains place m k old at s past none = grind (arith, none-set, struck-by_end)
+
+-- strikes with one more strike what they struck and what the new one strikes
+pub struck-push : (xs : List Strike) (s : Strike) (m k : ℕ) → is_struck (xs ++ s ∷ []) m k ≡ (is_struck xs m k || is_out m k s)
+unfolding is_struck
+struck-push xs s m k = list_any-append (is_out m k) xs (s ∷ []) ∙ ap (λ b. list_any (is_out m k) xs || b) (or-false (is_out m k s))
+
+-- one strike more strikes what the others did, and what it strikes itself
+pub struck-next : (xs : List Strike) (at m k : ℕ) (d : Strike) → at < length xs → is_struck (take (at + 1) xs) m k ≡ (is_struck (take at xs) m k || is_out m k (get_or xs at d))
+struck-next xs at m k d within = ap (λ l. is_struck l m k) (take_more xs at d within) ∙ struck-push (take at xs) (get_or xs at d) m k
+
+-- where a strike of one place is put after the others, the gain there is struck too, and no other
+added : (gains : Gains) (place k : ℕ) (old : List Strike) →
+    is_struck (old ++ (record { message = (entry_at (entries_of gains) place).message; from = place; to = place + 1 }) ∷ []) (entry_at (entries_of gains) k).message k
+    ≡ (is_struck old (entry_at (entries_of gains) k).message k || k == place)
+added gains place k old = grind (arith, nat_tests, struck-push)
+
+-- where a strike of one place is put after the others, nothing more is struck after the place
+added-bound : (m mp place k : ℕ) (old : List Strike) → place < k → is_struck old m k ≡ false →
+    is_struck (old ++ (record { message = mp; from = place; to = place + 1 }) ∷ []) m k ≡ false
+added-bound m mp place k old past none = grind (arith, nat_tests, struck-push, struck-by_end)
+
+-- where one of the strikes from `first` on is made longer, they strike the gain at the place too
+pub longer-too : (gains : Gains) (place first : ℕ) (old new : List Strike) → Lengthens gains place first old new → StrikeToo gains place first old new
+longer-too gains place first old new l =
+    let s : Strike = record { message = 0; from = 0; to = 0 } in
+    let own = drop first old in
+    let i = l.at - first in
+    let was = get_or own i s in
+    let longer : Strike = record { message = was.message; from = was.from; to = place + 1 } in
+    -- from `first` on the strikes are those of before, but for the longer one
+    let here : l.at ≡ first + i = omega arith in
+    let same : get_or old l.at s ≡ was = ap (λ n. get_or old n s) here ∙ sym (get_or-drop first old i s) in
+    let low : i < length own = omega (arith, length-drop first old) in
+    let whole : new ≡ set old (first + i) longer = grind (arith, l.longer s) in
+    let rest : drop first new ≡ set own i longer = ap (drop first) whole ∙ drop-set-add first old i longer in
+    -- the strikes before `first` are as they were
+    record {
+      before = ap (take first) whole ∙ take-set-le first old (first + i) longer (omega arith);
+      struck = λ k left. ap (λ x. is_struck x (entry_at (entries_of gains) k).message k) rest ∙ lengthened gains place k own i s low (subst (Reaches gains place) same (l.reaches s)) left;
+      bound = λ m k past none. ap (λ x. is_struck x m k) rest ∙ lengthened-bound gains place m k own i s past none;
+    }
+
+-- where a new strike of the place is put after the others, the strikes strike the gain at the place too
+pub more-too : (gains : Gains) (place first : ℕ) (old new : List Strike) → first ≤ length old →
+    new ≡ old ++ (record { message = (entry_at (entries_of gains) place).message; from = place; to = place + 1 }) ∷ [] → StrikeToo gains place first old new
+more-too gains place first old new within is = grind (arith, nat_tests, drop-append-le, take-append-le, added, added-bound)
+
+-- a place lies up to `at` or is `at` exactly if it lies up to the one after `at`
+one-more : (from at k : ℕ) → from ≤ at → ((nat_le from k && nat_lt k at) || k == at) ≡ (nat_le from k && nat_lt k (at + 1))
+one-more from at k low = grind (arith, nat_tests)
+
+-- IsWritten holds once the account's strikes are written
+pub written-none : (gains : Gains) (from : ℕ) (old new : List Strike) (a : Account) → new ≡ old ++ ending a.start (strikes_of old a) → IsWritten gains from from old new a
+unfolding is_struck
+written-none gains from old new a is = grind (arith, nat_tests, drop-append_seam, take-append_seam, any-ending, none-ending, or-false)
+
+-- IsWritten goes on with the gain at the next place, where it is struck too
+pub written-more : (gains : Gains) (from at : ℕ) (old one new : List Strike) (a : Account) → IsWritten gains from at old one a → StrikeToo gains at (length old) one new → from ≤ at →
+    at < length (entries_of gains) → IsWritten gains from (at + 1) old new a
+written-more gains from at old one new a w too low inside = grind (arith, nat_tests, or_assoc, one-more)
+
+-- no strikes strike nothing
+pub none-struck : (m k : ℕ) → is_struck [] m k ≡ false
+unfolding is_struck
+none-struck m k = refl
+
+-- where neither the first i strikes nor the next one strikes the place, the first i + 1 do not strike it
+pub struck-more : (xs : List Strike) (i m k : ℕ) (s : Strike) → i < length xs → is_struck (take i xs) m k ≡ false → is_out m k (get_or xs i s) ≡ false →
+    is_struck (take (i + 1) xs) m k ≡ false
+struck-more xs i m k s within none not = struck-next xs i m k s within ∙ ap₂ (λ a b. a || b) none not
+
+-- what a strike strikes is of its message, and stands at its places
+pub out-parts : (m sm from to k : ℕ) → (sm == m && (nat_le from k && nat_lt k to)) ≡ true → (sm ≡ m) × (from ≤ k) × (k < to)
+out-parts m sm from to k is = (grind (arith, nat_tests), grind (arith, nat_tests), grind (arith, nat_tests))
+
+-- where a strike strikes a place, it strikes each place from there up to its end
+pub out-struck : (xs : List Strike) (i m k : ℕ) (s : Strike) → i < length xs → is_out m k (get_or xs i s) ≡ true →
+    (k < (get_or xs i s).to) × ((j : ℕ) → k ≤ j → j < (get_or xs i s).to → is_struck xs m j ≡ true)
+unfolding is_struck
+out-struck xs i m k s within out = grind (arith, nat_tests, list_any_at, out-parts m (get_or xs i s).message (get_or xs i s).from (get_or xs i s).to k out)
+
+-- what some of the strikes strike
+pub ruleset struck_by_some = (none-struck, out-struck, struck-more)
 
 -- AreAppended goes on with a strike that is written
 pub appended-more : (gains : Gains) (from : ℕ) (strikes old new new' : List Strike) (at : ℕ) (d : Strike) → at < length strikes → AreAppended gains from (take at strikes) old new →
@@ -48,9 +188,35 @@ unfolding accounts_debts
 moved-more gains strikes old new rows rows' at d b within was moved each =
     let is = All-get_or (IsAccount gains strikes) rows at d within each in
     let kept = kept-all gains old new rows' moved.kept was.each in
+    -- the account that was moved is right and owes the same, and so do those before it
     record {
       each = All-push (IsAccount gains new) rows' b kept.0 (moved-account gains strikes old new (get_or rows at d) b moved is);
       debts = map-append (account_debts gains new) rows' (b ∷ [])
           ∙ ap₂ (λ l d. l ++ d ∷ []) (kept.1 ∙ was.debts) (moved-debts gains strikes old new (get_or rows at d) b moved)
           ∙ sym (ap (map (account_debts gains strikes)) (take_more rows at d within) ∙ map-append (account_debts gains strikes) (take at rows) (get_or rows at d ∷ []));
     }
+
+-- all accounts are kept where a gain is let go that none of them owes
+pub kept-less : (first old new : Gains) (strikes : List Strike) (rows : List Account) (place : ℕ) → AreKept strikes rows first old → IsLetGo place old new → AreGains new →
+    All (λ a. owes_at old strikes a place ≡ false) rows → AreKept strikes rows first new
+kept-less first old new strikes rows place was gone are unowed =
+    let alike = All-weaker (λ a. owes_at old strikes a place ≡ false) (OwesAlike old new strikes) (λ a none. let_go-alike old new strikes a place gone none) rows unowed in
+    grind (arith, over-all old new strikes rows, alike)
+
+-- no account owes anything before the place from which on all start
+pub none-before : (gains : Gains) (strikes : List Strike) (rows : List Account) (place k : ℕ) → StartFrom place rows → k < place → All (λ a. owes_at gains strikes a k ≡ false) rows
+none-before gains strikes rows place k from early = grind (arith, nat_tests, All-weaker, cases_lt, before-start, past-end)
+
+-- where the gain at the next place is let go, and all accounts start after it, the gains are cleared one place further
+pub cleared-more : (first old new : Gains) (strikes : List Strike) (rows : List Account) (start place : ℕ) → IsClearedTo place strikes rows first old → IsLetGo place old new → AreGains new →
+    StartFrom start rows → place < start → IsClearedTo (place + 1) strikes rows first new
+cleared-more first old new strikes rows start place was gone are from early =
+    let kept = kept-less first old new strikes rows place was.kept gone are (none-before old strikes rows start place from early) in
+    grind (arith, nat_tests, cases_eq, kept, gone, was)
+
+-- all accounts are kept where gains are dropped that are cleared
+pub cleared-dropped : (first old new : Gains) (strikes : List Strike) (rows : List Account) (place : ℕ) → IsClearedTo place strikes rows first old → IsDropped place old new → AreGains new →
+    AreKept strikes rows first new
+cleared-dropped first old new strikes rows place was dropped are =
+    let all = over-all old new strikes rows (omega (arith, dropped.long)) (λ k d below. dropped-alike old new strikes (get_or rows k d) place dropped was.none) was.kept.accounts.each in
+    record { accounts = record { gained = are; each = all.0 }; debts = all.1 ∙ was.kept.debts }

@@ -2,6 +2,7 @@ use Rattle.std.specs.Prelude.{◌≡◌, ◌≢◌, ◌==◌, ◌&&◌, ◌||◌
 use Rattle.std.specs.List.{list_any}
 use Rattle.sip_ledger.specs.declared.debt.Debt.{Debt}
 use Rattle.sip_ledger.specs.declared.debt.Entry.{Entry}
+use Rattle.sip_ledger.specs.declared.run.Run.{Run}
 use Rattle.sip_ledger.specs.declared.accounts.account.Account.{Account}
 use Rattle.sip_ledger.specs.declared.accounts.gains.Flags.{Flags}
 use Rattle.sip_ledger.specs.declared.accounts.gains.Gains.{Gains}
@@ -11,7 +12,6 @@ use Rattle.sip_ledger.specs.Accounts.{debts_print}
 use Rattle.sip_ledger.specs.Lists.{from_to}
 use Rattle.sip_ledger.specs.Entries.{debts_from}
 use Rattle.sip_ledger.specs.Indexes.{holds}
-use Rattle.sip_ledger.specs.inner.Deadlines.{AreRising}
 
 -- Accounts over one list of gains. A place is the number of a gain; from its place on, an account owes what it gained, but for what is struck.
 
@@ -45,6 +45,10 @@ pub record IsKept (gains : Gains) (k : ℕ) : Type 0 where
 pub record IsPlaceOf (gains : Gains) (m k : ℕ) : Type 0 where
   pub kept : IsKept gains k
   pub message : (entry_at (entries_of gains) k).message ≡ m
+
+-- the deadlines of the entries never fall
+abbrev pub AreRising : List Entry → Type 0
+AreRising entries = (i k : ℕ) (e : Entry) → i ≤ k → k < length entries → (get_or entries i e).deadline ≤ (get_or entries k e).deadline
 
 -- what is kept beside a gain: whether it must be sent, and whether it is left
 abbrev pub no_flags : Flags
@@ -127,7 +131,7 @@ is_gone gains strikes k = not (is_left gains k) || is_struck strikes (entry_at (
 unfoldable pub owes_at : Gains → List Strike → Account → ℕ → Bool
 owes_at gains strikes account k = nat_le account.start k && (nat_lt k account.end && not (is_gone gains (strikes_of strikes account) k))
 
--- whether the account must send what was gained at place k
+-- whether the account must send what was gained at place k: the index `musts` has all its places under 0
 unfoldable pub must_at : Gains → Account → ℕ → Bool
 must_at gains account k = holds gains.musts 0 k && nat_le account.soft k
 
@@ -183,6 +187,7 @@ pub record Lengthens (gains : Gains) (place first : ℕ) (old new : List Strike)
 -- the place is the first from one on at which the message is left, if there is one
 pub record IsNext (gains : Gains) (message from : ℕ) (place : Option ℕ) : Type 0 where
   pub order : IfSome place (λ at. from ≤ at)
+  pub is : IfSome place (λ at. IsPlaceOf gains message at)
   pub left : IfSome place (λ at. holds gains.messages message at ≡ true)
   pub before : IfSome place (λ at. (k : ℕ) → from ≤ k → k < at → holds gains.messages message k ≡ false)
   pub none : IfNone place ((k : ℕ) → from ≤ k → holds gains.messages message k ≡ false)
@@ -296,11 +301,6 @@ pub record SharesRest (strikes : List Strike) (one other : Account) (place : ℕ
   pub soft : one.soft ≡ other.soft
   pub owes : (gains : Gains) (k : ℕ) → place ≤ k → owes_at gains strikes one k ≡ owes_at gains strikes other k
 
--- the account's strikes stand among these
-pub record HasStrikes (strikes : List Strike) (a : Account) : Type 0 where
-  pub first : a.first ≤ a.last
-  pub last : a.last ≤ length strikes
-
 -- the new strikes strike what the old ones strike of what is left from a place on, and strike nothing that the old ones do not
 pub record AreThinned (gains : Gains) (from : ℕ) (old new : List Strike) : Type 0 where
   pub same : (k : ℕ) → from ≤ k → is_left gains k ≡ true → is_struck new (entry_at (entries_of gains) k).message k ≡ is_struck old (entry_at (entries_of gains) k).message k
@@ -331,3 +331,8 @@ pub record IsMoved (gains : Gains) (strikes old new : List Strike) (a b : Accoun
 pub record AreMoved (gains : Gains) (strikes : List Strike) (rows : List Account) (strikes' : List Strike) (rows' : List Account) : Type 0 where
   pub each : All (IsAccount gains strikes') rows'
   pub debts : accounts_debts gains strikes' rows' ≡ accounts_debts gains strikes rows
+
+-- there is a last run, and it is of this debt
+pub record EndsWith (runs : List Run) (debt : Debt) : Type 0 where
+  pub filled : 0 < length runs
+  pub last : (d : Run) → (get_or runs (length runs - 1) d).debt ≡ debt

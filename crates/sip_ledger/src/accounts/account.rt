@@ -1,16 +1,10 @@
 //! What one row owes of what was gained.
-ghost use Rattle.std.specs.Prelude.{◌≡◌, ◌≢◌, ◌↔◌, ◌<◌, ◌≤◌, ◌*◌, ◌%◌, ◌^◌, ◌++◌, ◌∷◌, [], ℕ, ◌+◌, Bool, true, false, Some, IfOk, IfSome, IfNone, IsTrue, OnOk, OnErr, bit_xor, filter, length, option_to_list, take};
-ghost use Rattle.std.specs.Bool.{OnTrue};
-ghost use Rattle.sip_ledger.specs.Debts.{counts_at, debt_deadlines, earliest, is_timely, paid_by};
-ghost use Rattle.sip_ledger.specs.Accounts.{worth_of};
-ghost use Rattle.sip_ledger.specs.Entries.{debt_of};
-ghost use Rattle.sip_ledger.specs.declared.accounts.account.Account.{Account};
-ghost use Rattle.sip_ledger.specs.inner.Accounts.{AreAlike, AreGains, IsAccount, IsExpiredTo, IsFirstOf, IsFirstPayable, IsGainAt, IsKept, IsNextGain, IsPlaceOf, IsSeek, IsStruck, IsWithout, KeepsAccounts, SharesRest, account_debts, entries_of, entry_at, is_gone, is_struck, must_at, owes_at, pays_at, sooner, strikes_of};
-ghost use Rattle.sip_ledger.specs.Indexes.{count_under, holds};
+ghost use Rattle.std.specs.Prelude.{◌≡◌, ◌≢◌, ◌↔◌, ◌<◌, ◌≤◌, ◌*◌, ◌%◌, ◌^◌, ◌++◌, ◌∷◌, ◌+◌};
+ghost use Rattle.sip_ledger.specs.inner.Words.{[], ℕ, Bool, true, false, Some, IfOk, IfSome, IfNone, IsTrue, OnOk, OnErr, bit_xor, filter, length, option_to_list, take, OnTrue, counts_at, debt_deadlines, earliest, is_timely, paid_by, worth_of, debt_of, Account, AreAlike, AreGains, IsAccount, IsExpiredTo, IsFirstOf, IsFirstPayable, IsGainAt, IsKept, IsNextGain, IsPlaceOf, IsSeek, IsStruck, IsWithout, KeepsAccounts, SharesRest, account_debts, entries_of, entry_at, is_gone, is_struck, must_at, owes_at, pays_at, sooner, strikes_of, count_under, holds};
 
 use crate::accounts::gains::Gains;
 use crate::accounts::seek::Seek;
-use crate::accounts::strikes::{Strike, are_same, end_by, put, struck_to};
+use crate::accounts::strikes::{Strike, Strikes, are_same, end_by, put, struck_to};
 use crate::debt::Debt;
 use crate::index::Index;
 use std::alloc::{AllocError, Global};
@@ -28,6 +22,9 @@ pub(crate) struct Account {
     /// A number made of its debts: accounts that owe the same have the same one, and others hardly ever do.
     pub print: u64,
 }
+
+/// An account that was made of another one, if there was memory for it.
+pub(crate) type Made = Result<Account, AllocError>;
 
 /// Nothing is owed.
 pub(crate) const EMPTY: Account = Account {
@@ -48,7 +45,8 @@ pub(crate) fn own(strikes: &[Strike], account: Account) -> &[Strike]
     &strikes[account.first..account.last]
 }
 
-/// Whether the account owes what was gained at the place.
+/// Whether the account owes what was gained at the place: it is left, and not struck.
+#[tactic(auto, using(crate::proofs::account::FindLemmas::owed_at_place))]
 pub(crate) fn owes(gains: &Gains, strikes: &[Strike], account: Account, place: usize) -> bool
     requires gained { AreGains gains.now }
     requires account { IsAccount gains.now strikes.now account }
@@ -60,22 +58,12 @@ pub(crate) fn owes(gains: &Gains, strikes: &[Strike], account: Account, place: u
     if account.end <= place {
         return false;
     }
-    !is_gone(gains, own(strikes, account), place)
-}
-
-/// Whether what was gained at the place is not left, or is struck.
-#[tactic(auto, using(crate::proofs::gains::LeftLemmas::gone_of_left))]
-fn is_gone(gains: &Gains, strikes: &[Strike], place: usize) -> bool
-    requires gained { AreGains gains.now }
-    requires kept { IsKept gains.now place }
-    ensures { result ≡ is_gone gains.now strikes.now place }
-{
-    if !gains.is_left(place) {
-        return true;
+    if !gains.flags(place).left {
+        return false;
     }
-    match struck_to(strikes, gains.entry(place).message, place) {
-        Some(_) => true,
-        None => false,
+    match struck_to(own(strikes, account), gains.entry(place).message, place) {
+        Some(_) => false,
+        None => true,
     }
 }
 
@@ -111,14 +99,10 @@ fn mixed(number: u64, word: u64) -> u64
     (number ^ word).wrapping_mul(11_400_714_819_323_198_485)
 }
 
-/// The account without what was gained at the place, which it owes. On an error the strikes are as before.
+/// The account without what was gained at the place, which it owes. On an error the strikes that were there stay.
+#[tactic(auto, using(crate::proofs::account::WithoutLemmas::lost_at_place))]
 #[inline(always)]
-pub(crate) fn without(
-    gains: &Gains,
-    strikes: &mut Vec<Strike>,
-    account: Account,
-    place: usize,
-) -> Result<Account, AllocError>
+pub(crate) fn without(gains: &Gains, strikes: &mut Strikes, account: Account, place: usize) -> Made
     requires gained { AreGains gains.now }
     requires account { IsAccount gains.now strikes.old.items account }
     requires owed { owes_at gains.now strikes.old.items account place ≡ true }
@@ -257,14 +241,8 @@ fn must(gains: &Gains, account: Account, place: usize) -> bool
 }
 
 /// The account without what was gained at the place, if it owes and may send that and its deadline is below the moment.
-#[tactic(auto, using(crate::proofs::account::ExpiringLemmas::expired_by_place))]
-fn expired_at(
-    gains: &Gains,
-    strikes: &mut Vec<Strike>,
-    account: Account,
-    place: usize,
-    moment: u64,
-) -> Result<Account, AllocError>
+#[tactic(auto, using(crate::proofs::rows::PaidLemmas::expired_by_place))]
+fn expire(gains: &Gains, strikes: &mut Strikes, account: Account, place: usize, moment: u64) -> Made
     requires gained { AreGains gains.now }
     requires account { IsAccount gains.now strikes.old.items account }
     requires kept { IsKept gains.now place }
@@ -290,14 +268,9 @@ fn expired_at(
 
 /// The account without what it may send and whose deadline is below the moment. On an error what is left of the others' strikes is
 /// as before.
-#[tactic(auto, using(crate::proofs::account::ExpiringLemmas::expired_by_place))]
+#[tactic(auto, using(crate::proofs::rows::PaidLemmas::expired_by_place))]
 #[inline(always)]
-pub(crate) fn expired(
-    gains: &Gains,
-    strikes: &mut Vec<Strike>,
-    account: Account,
-    moment: u64,
-) -> Result<Account, AllocError>
+pub(crate) fn expired(gains: &Gains, strikes: &mut Strikes, account: Account, moment: u64) -> Made
     requires gained { AreGains gains.now }
     requires account { IsAccount gains.now strikes.old.items account }
     ensures kept { take (length strikes.old.items) strikes.new.items ≡ strikes.old.items }
@@ -316,7 +289,7 @@ pub(crate) fn expired(
         if gains.rises && moment <= gains.entry(place).deadline {
             return Ok(left);
         }
-        left = expired_at(gains, strikes, left, place, moment)?;
+        left = expire(gains, strikes, left, place, moment)?;
         place += 1;
     }
     Ok(left)
@@ -324,72 +297,38 @@ pub(crate) fn expired(
 
 /// The account without the first debt that a send of the message at the moment pays, if there is one, and without what is past then.
 /// The strikes that were there stay.
+#[tactic(auto, using(crate::proofs::rows::PaidLemmas::paid_of_row))]
 pub(crate) fn paid_and_expired(
     gains: &Gains,
-    strikes: &mut Vec<Strike>,
+    strikes: &mut Strikes,
     account: Account,
     message: u64,
     moment: u64,
-) -> Result<Account, AllocError>
+) -> Made
     requires gained { AreGains gains.now }
     requires account { IsAccount gains.now strikes.old.items account }
     ensures kept { take (length strikes.old.items) strikes.new.items ≡ strikes.old.items }
     ensures account { IfOk result (IsAccount gains.now strikes.new.items) }
     ensures debts { IfOk result (λ new. account_debts gains.now strikes.new.items new ≡ filter (counts_at moment) (paid_by message moment (account_debts gains.now strikes.old.items account))) }
 {
-    let rest = without_paid(gains, strikes, account, message, moment)?;
-    let left = expired(gains, strikes, rest, moment)?;
-    Ok(left)
-}
-
-/// The account without the first debt that a send of the message at the moment pays, if there is one. The strikes that were there stay.
-#[tactic(auto, using(crate::proofs::rows::PaidLemmas::paid_of_row))]
-fn without_paid(
-    gains: &Gains,
-    strikes: &mut Vec<Strike>,
-    account: Account,
-    message: u64,
-    moment: u64,
-) -> Result<Account, AllocError>
-    requires gained { AreGains gains.now }
-    requires account { IsAccount gains.now strikes.old.items account }
-    ensures kept { take (length strikes.old.items) strikes.new.items ≡ strikes.old.items }
-    ensures account { IfOk result (IsAccount gains.now strikes.new.items) }
-    ensures debts { IfOk result (λ new. account_debts gains.now strikes.new.items new ≡ paid_by message moment (account_debts gains.now strikes.old.items account)) }
-{
     let mut seek = Seek::new(gains, message, account.start);
     match find(gains, strikes, account, &mut seek, message, moment) {
         Some(place) => {
             let rest = without(gains, strikes, account, place)?;
-            Ok(rest)
+            let left = expired(gains, strikes, rest, moment)?;
+            Ok(left)
         }
-        None => Ok(account),
+        None => {
+            let left = expired(gains, strikes, account, moment)?;
+            Ok(left)
+        }
     }
 }
 
-/// A place at which the account can gain the debt: one of another account, or a new one. On an error the accounts owe what they owed.
+/// A place at which the account can gain the debt: one of another account, or a new one. The place at which another account gained it, if
+/// there is one, is looked at first. On an error the accounts owe what they owed.
+#[tactic(auto, using(crate::proofs::account::WithoutLemmas::gains_keep))]
 pub(crate) fn place_for(
-    gains: &mut Gains,
-    strikes: &[Strike],
-    account: Account,
-    debt: Debt,
-) -> Result<usize, AllocError>
-    requires gained { AreGains gains.old }
-    requires account { IsAccount gains.old strikes.now account }
-    ensures gained { AreGains gains.new }
-    ensures kept { KeepsAccounts gains.old gains.new }
-    ensures next { IfOk result (IsNextGain gains.new strikes.now account debt) }
-{
-    if let Some(place) = shared_place(gains, strikes, account, debt) {
-        return Ok(place);
-    }
-    let place = gains.end;
-    gains.push(debt)?;
-    Ok(place)
-}
-
-/// A place at which the account can gain the debt. The place at which another account gained it, if there is one, is looked at first.
-pub(crate) fn place_near(
     gains: &mut Gains,
     strikes: &[Strike],
     account: Account,
@@ -408,7 +347,12 @@ pub(crate) fn place_near(
             return Ok(place);
         }
     }
-    place_for(gains, strikes, account, debt)
+    if let Some(place) = shared_place(gains, strikes, account, debt) {
+        return Ok(place);
+    }
+    let place = gains.end;
+    gains.push(debt)?;
+    Ok(place)
 }
 
 /// Whether the account can gain the message at the place, as far as it is the account's own.
@@ -446,15 +390,13 @@ fn shared_place(gains: &Gains, strikes: &[Strike], account: Account, debt: Debt)
     None
 }
 
-/// Whether the account, which ends before the place, can gain the debt there, where its message was gained.
+/// Whether the account can gain the debt at the place, where its message was gained.
 #[tactic(auto, using(crate::proofs::gains::LeftLemmas::entries_long))]
 fn takes(gains: &Gains, strikes: &[Strike], account: Account, debt: Debt, place: usize) -> bool
     requires gained { AreGains gains.now }
     requires account { IsAccount gains.now strikes.now account }
     requires place { IsPlaceOf gains.now debt.message place }
     requires left { holds gains.now.messages debt.message place ≡ true }
-    requires end { account.end ≤ place }
-    requires soft { account.soft ≤ place }
     ensures { OnTrue result (IsNextGain gains.now strikes.now account debt place) }
 {
     if gains.entry(place).deadline != debt.deadline {
@@ -463,19 +405,11 @@ fn takes(gains: &Gains, strikes: &[Strike], account: Account, debt: Debt, place:
     if gains.flags(place).must != debt.must {
         return false;
     }
-    match struck_to(own(strikes, account), debt.message, place) {
-        Some(_) => false,
-        None => true,
-    }
+    fits(strikes, account, debt.message, place)
 }
 
 /// The account with what was gained at the places from its end up to this one struck.
-fn pass_to(
-    gains: &Gains,
-    strikes: &mut Vec<Strike>,
-    account: Account,
-    place: usize,
-) -> Result<Account, AllocError>
+fn pass_to(gains: &Gains, strikes: &mut Strikes, account: Account, place: usize) -> Made
     requires gained { AreGains gains.now }
     requires account { IsAccount gains.now strikes.old.items account }
     requires some { account.start < account.end }
@@ -493,11 +427,11 @@ fn pass_to(
 /// The account with what was gained at the place, after all that it owes.
 pub(crate) fn gained(
     gains: &Gains,
-    strikes: &mut Vec<Strike>,
+    strikes: &mut Strikes,
     account: Account,
     debt: Debt,
     place: usize,
-) -> Result<Account, AllocError>
+) -> Made
     requires gained { AreGains gains.now }
     requires account { IsAccount gains.now strikes.old.items account }
     requires next { IsNextGain gains.now strikes.old.items account debt place }
@@ -530,12 +464,12 @@ pub(crate) fn gained(
 /// there stay.
 pub(crate) fn gained_and_expired(
     gains: &Gains,
-    strikes: &mut Vec<Strike>,
+    strikes: &mut Strikes,
     account: Account,
     debt: Debt,
     place: usize,
     moment: u64,
-) -> Result<Account, AllocError>
+) -> Made
     requires gained { AreGains gains.now }
     requires account { IsAccount gains.now strikes.old.items account }
     requires next { IsNextGain gains.now strikes.old.items account debt place }
@@ -606,7 +540,7 @@ fn least_must(gains: &Gains, strikes: &[Strike], account: Account) -> Option<u64
 }
 
 /// Whether nothing that the account must send is past at the moment. It is asked first whether anything is past of what was gained.
-#[tactic(auto, using(crate::proofs::rows::GainEachLemmas::none_late))]
+#[tactic(auto, using(crate::proofs::rows::PaidLemmas::none_late))]
 pub(crate) fn is_timely(gains: &Gains, strikes: &[Strike], account: Account, moment: u64) -> bool
     requires gained { AreGains gains.now }
     requires account { IsAccount gains.now strikes.now account }
@@ -706,7 +640,7 @@ pub(crate) fn same(gains: &Gains, strikes: &[Strike], one: Account, other: Accou
     at == one.end && beside == other.end
 }
 
-/// What the account owes first: so many debts, or all where it owes fewer.
+/// What the account owes first: this many debts, or all where it owes fewer.
 pub(crate) fn first_debts(
     alloc: Global,
     gains: &Gains,

@@ -1,12 +1,9 @@
 //! What is done to many rows at once.
-ghost use Rattle.std.specs.Prelude.{◌≡◌, ◌<◌, ◌≤◌, ◌++◌, ◌∷◌, ◌+◌, ◌-◌, [], ℕ, IfOk, IfSome, OnOk, OnErr, drop, filter, get_or, length, map, option_to_list, take};
-ghost use Rattle.sip_ledger.specs.Accounts.{debts_print, owed_in, paid_rows};
-ghost use Rattle.sip_ledger.specs.Debts.{counts_at, is_timely};
-ghost use Rattle.sip_ledger.specs.Lists.{from_to};
-ghost use Rattle.sip_ledger.specs.inner.Accounts.{AreAccounts, AreGains, IsAccount, IsSeek, account_debts, accounts_debts};
+ghost use Rattle.std.specs.Prelude.{◌≡◌, ◌<◌, ◌≤◌, ◌++◌, ◌∷◌, ◌+◌, ◌-◌};
+ghost use Rattle.sip_ledger.specs.inner.Words.{[], ℕ, IfOk, IfSome, OnOk, OnErr, drop, filter, get_or, length, map, option_to_list, take, debts_print, owed_in, paid_rows, counts_at, is_timely, from_to, AreAccounts, AreGains, IsAccount, IsSeek, account_debts, accounts_debts};
 
 use crate::accounts::Accounts;
-use crate::accounts::account::{Account, expired, find, gained, is_timely, place_near, without};
+use crate::accounts::account::{Account, expired, find, gained, is_timely, place_for, without};
 use crate::accounts::gains::Gains;
 use crate::accounts::seek::Seek;
 use crate::accounts::strikes::Strike;
@@ -45,15 +42,8 @@ impl Accounts {
         ensures ok { OnOk result (self.new ≡ take from self.old ++ map (λ owes. owes ++ debt ∷ []) (drop from self.old)) }
         ensures err { OnErr result (self.new ≡ take from self.old) }
     {
-        if gain_some(
-            &mut self.gains,
-            &mut self.strikes,
-            &mut self.rows,
-            from,
-            debt,
-        )
-        .is_err()
-        {
+        let gains = &mut self.gains;
+        if gain_some(gains, &mut self.strikes, &mut self.rows, from, debt).is_err() {
             self.truncate(from);
             return Err(AllocError);
         }
@@ -105,17 +95,9 @@ impl Accounts {
     {
         let before = self.rows.len();
         self.paid = Some(message);
-        if push_some(
-            &self.gains,
-            &mut self.strikes,
-            &mut self.rows,
-            from,
-            to,
-            message,
-            moment,
-        )
-        .is_err()
-        {
+        let gains = &self.gains;
+        let strikes = &mut self.strikes;
+        if push_some(gains, strikes, &mut self.rows, from, to, message, moment).is_err() {
             self.rows.truncate(before);
             return Err(AllocError);
         }
@@ -124,7 +106,7 @@ impl Accounts {
 }
 
 /// Lets each account from one on owe one more debt, after its others. On an error some of them may owe it.
-#[tactic(auto, using(crate::proofs::rows::GainEachLemmas::gained_by_rows))]
+#[tactic(auto, using(crate::proofs::rows::PaidLemmas::gained_by_rows))]
 fn gain_some(
     gains: &mut Gains,
     strikes: &mut Vec<Strike>,
@@ -143,7 +125,7 @@ fn gain_some(
     let mut near = None;
     for row in from..rows.len() {
         let account = rows[row];
-        let place = place_near(gains, strikes, account, debt, near)?;
+        let place = place_for(gains, strikes, account, debt, near)?;
         let grown = gained(gains, strikes, account, debt, place)?;
         rows[row] = grown;
         near = Some(place);

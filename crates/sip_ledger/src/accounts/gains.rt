@@ -1,9 +1,6 @@
 //! What the rows gained: one list for all.
-ghost use Rattle.std.specs.Prelude.{◌≡◌, ◌<◌, ◌≤◌, ◌+◌, ◌==◌, ◌&&◌, ◌++◌, ◌∷◌, ℕ, [], IfSome, IfNone, MatchOption, OnOk, OnErr, cond, length, true, false};
-ghost use Rattle.std.specs.Bool.{OnTrue};
-ghost use Rattle.sip_ledger.specs.inner.Accounts.{AreGains, AreSameGains, IsDropped, IsGain, IsKept, IsLetGo, IsNoted, IsPlaceOf, entries_of, entry_at, first_after, flags_at, is_left};
-ghost use Rattle.sip_ledger.specs.Indexes.{holds, IsFirstFrom, NoneFrom};
-ghost use Rattle.sip_ledger.specs.inner.Deadlines.{AreRising};
+ghost use Rattle.std.specs.Prelude.{◌≡◌, ◌<◌, ◌≤◌, ◌+◌, ◌==◌, ◌&&◌, ◌++◌, ◌∷◌};
+ghost use Rattle.sip_ledger.specs.inner.Words.{ℕ, [], IfSome, IfNone, MatchOption, OnOk, OnErr, cond, length, true, false, OnTrue, AreGains, AreRising, AreSameGains, IsDropped, IsGain, IsKept, IsLetGo, IsNext, IsNoted, IsPlaceOf, entries_of, entry_at, first_after, flags_at, holds, IsFirstFrom, NoneFrom};
 
 use crate::debt::{Debt, Entry};
 use crate::front;
@@ -84,15 +81,6 @@ impl Gains {
         self.flags[place - (self.end - self.entries.len())]
     }
 
-    /// Whether the gain at the place is left.
-    pub(crate) fn is_left(&self, place: usize) -> bool
-        requires gained { AreGains self.now }
-        requires kept { IsKept self.now place }
-        ensures { result ≡ is_left self.now place }
-    {
-        self.flags(place).left
-    }
-
     /// Whether a gain of the message is left at the place.
     #[tactic(auto, using(crate::proofs::gains::LeftLemmas::held_left))]
     pub(crate) fn has(&self, message: u64, place: usize) -> bool
@@ -108,7 +96,7 @@ impl Gains {
         if self.entry(place).message != message {
             return false;
         }
-        self.is_left(place)
+        self.flags(place).left
     }
 
     /// Whether it is known that no deadline of what is kept is below the moment.
@@ -161,11 +149,7 @@ impl Gains {
     /// The first place of the message from this one on that is left.
     pub(crate) fn next(&self, message: u64, from: usize) -> Option<usize>
         requires { AreGains self.now }
-        ensures from { IfSome result (λ at. from ≤ at) }
-        ensures is { IfSome result (λ at. IsPlaceOf self.now message at) }
-        ensures left { IfSome result (λ at. holds self.now.messages message at ≡ true) }
-        ensures before { IfSome result (λ at. (k : ℕ) → from ≤ k → k < at → holds self.now.messages message k ≡ false) }
-        ensures none { IfNone result ((k : ℕ) → from ≤ k → holds self.now.messages message k ≡ false) }
+        ensures { IsNext self.now message from result }
     {
         match self.messages.next(message, from as u64) {
             Some(at) => Some(at as usize),
@@ -220,27 +204,13 @@ impl Gains {
         if self.end <= from {
             return None;
         }
-        if self.has_must(from) {
+        if self.first() <= from && self.flags(from).must {
             return Some(from);
         }
         match self.musts.next(0, from as u64) {
             Some(at) => Some(at as usize),
             None => None,
         }
-    }
-
-    /// Whether the gain at the place is kept, and must be sent.
-    fn has_must(&self, place: usize) -> bool
-        requires { AreGains self.now }
-        ensures { OnTrue result ((place < self.now.end) × (holds self.now.musts 0 place ≡ true)) }
-    {
-        if place < self.first() {
-            return false;
-        }
-        if self.end <= place {
-            return false;
-        }
-        self.flags(place).must
     }
 
     /// Lets the gain at the place go: it is not left any more.

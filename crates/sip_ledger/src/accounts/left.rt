@@ -1,7 +1,6 @@
 //! Gains that no account owes any more are let go.
-ghost use Rattle.std.specs.Prelude.{◌≡◌, ◌<◌, ◌≤◌, ◌+◌, ℕ, All, false, length};
-ghost use Rattle.std.specs.Bool.{OnFalse};
-ghost use Rattle.sip_ledger.specs.inner.Accounts.{AreAccounts, AreKept, IsClearedTo, StartFrom, owes_at};
+ghost use Rattle.std.specs.Prelude.{◌≡◌, ◌<◌, ◌≤◌, ◌+◌};
+ghost use Rattle.sip_ledger.specs.inner.Words.{ℕ, All, false, length, OnFalse, AreAccounts, AreKept, IsClearedTo, StartFrom, owes_at};
 
 use crate::accounts::account::{Account, owes};
 use crate::accounts::gains::Gains;
@@ -35,7 +34,7 @@ fn is_owed(gains: &Gains, strikes: &[Strike], rows: &[Account], place: usize) ->
     false
 }
 
-/// Drops the gains before all that the accounts owe, where they are more than half of those that are kept.
+/// Drops the gains before all that the accounts owe, where they are more than half of those that are kept. They are let go first.
 pub(crate) fn drop_front(gains: &mut Gains, strikes: &[Strike], rows: &[Account])
     requires { AreAccounts gains.old strikes.now rows.now }
     ensures { AreKept strikes.now rows.now gains.old gains.new }
@@ -45,22 +44,10 @@ pub(crate) fn drop_front(gains: &mut Gains, strikes: &[Strike], rows: &[Account]
     if start <= first || start - first <= gains.entries.len() / 2 {
         return;
     }
-    clear_to(gains, strikes, rows, first, start);
-    gains.drop_to(start);
-}
-
-/// Lets the gains go from the first that is kept up to a place, before which no account owes anything.
-fn clear_to(gains: &mut Gains, strikes: &[Strike], rows: &[Account], first: usize, start: usize)
-    requires accounts { AreAccounts gains.old strikes.now rows.now }
-    requires first { first + length gains.old.entries.items ≡ gains.old.end }
-    requires order { first ≤ start }
-    requires within { start ≤ gains.old.end }
-    requires start { StartFrom start rows.now }
-    ensures { IsClearedTo start strikes.now rows.now gains.old gains.new }
-{
     for place in first..start {
         gains.let_go(place);
     }
+    gains.drop_to(start);
 }
 
 /// The first place at which one of the accounts owes something, or the end.

@@ -1,30 +1,22 @@
 //! Accounts whose strikes are written anew, so that those that strike nothing any more go.
-ghost use Rattle.std.specs.Prelude.{◌≡◌, ◌≤◌, IfOk, OnOk, All};
-ghost use Rattle.std.specs.Bool.{OnFalse};
-ghost use Rattle.sip_ledger.specs.inner.Accounts.{AreAppended, AreGains, AreMoved, HasStrikes, IsAccount, IsMoved, StrikesNoneFrom};
+ghost use Rattle.std.specs.Prelude.{◌≡◌, ◌≤◌};
+ghost use Rattle.sip_ledger.specs.inner.Words.{IfOk, OnOk, All, length, OnFalse, AreAppended, AreGains, AreMoved, IsAccount, IsMoved, StrikesNoneFrom};
 
-use crate::accounts::account::{Account, own};
+use crate::accounts::account::{Account, Made, own};
 use crate::accounts::gains::Gains;
-use crate::accounts::strikes::Strike;
+use crate::accounts::strikes::{Strike, Strikes, Written};
 use std::alloc::{AllocError, Global};
 
-/// Accounts and their strikes.
-#[derive(Debug, Drop)]
-pub(crate) struct Moved {
-    pub strikes: Vec<Strike>,
-    pub rows: Vec<Account>,
-}
-
-/// The accounts over strikes that are theirs alone.
+/// Strikes of the accounts alone, and the accounts over these.
 pub(crate) fn move_all(
     alloc: Global,
     gains: &Gains,
     strikes: &[Strike],
     rows: &[Account],
-) -> Result<Moved, AllocError>
+) -> Result<(Vec<Strike>, Vec<Account>), AllocError>
     requires gained { AreGains gains.now }
     requires each { All (IsAccount gains.now strikes.now) rows.now }
-    ensures { IfOk result (λ moved. AreMoved gains.now strikes.now rows.now moved.strikes.items moved.rows.items) }
+    ensures { IfOk result (λ moved. AreMoved gains.now strikes.now rows.now moved.0.items moved.1.items) }
 {
     let mut kept = Vec::new(alloc);
     let mut moved = Vec::new(alloc);
@@ -32,21 +24,14 @@ pub(crate) fn move_all(
         let account = move_one(gains, strikes, &mut kept, rows[at])?;
         moved.push(account)?;
     }
-    Ok(Moved {
-        strikes: kept,
-        rows: moved,
-    })
+    Ok((kept, moved))
 }
 
 /// The account with its strikes written after the others.
-fn move_one(
-    gains: &Gains,
-    strikes: &[Strike],
-    kept: &mut Vec<Strike>,
-    account: Account,
-) -> Result<Account, AllocError>
+fn move_one(gains: &Gains, strikes: &[Strike], kept: &mut Strikes, account: Account) -> Made
     requires gained { AreGains gains.now }
-    requires strikes { HasStrikes strikes.now account }
+    requires first { account.first ≤ account.last }
+    requires last { account.last ≤ length strikes.now }
     ensures { IfOk result (IsMoved gains.now strikes.now kept.old.items kept.new.items account) }
 {
     let first = kept.len();
@@ -58,14 +43,9 @@ fn move_one(
     })
 }
 
-/// Writes those of the strikes that strike something that is left from the place on after the others. On an error some of them are
+/// Writes strikes after the kept ones: those that strike a gain that is left, at `place` or after it. On an error some of them are
 /// there.
-fn append_some(
-    gains: &Gains,
-    kept: &mut Vec<Strike>,
-    strikes: &[Strike],
-    place: usize,
-) -> Result<(), AllocError>
+fn append_some(gains: &Gains, kept: &mut Strikes, strikes: &[Strike], place: usize) -> Written
     requires { AreGains gains.now }
     ensures { OnOk result (AreAppended gains.now place strikes.now kept.old.items kept.new.items) }
 {

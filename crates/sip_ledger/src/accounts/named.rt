@@ -1,7 +1,6 @@
 //! Which messages the accounts owe.
-ghost use Rattle.std.specs.Prelude.{◌≡◌, OnOk, OnErr, length, take};
-ghost use Rattle.sip_ledger.specs.Accounts.{AppendsOwed, owes_message, some_owes};
-ghost use Rattle.sip_ledger.specs.inner.Accounts.{AreAccounts, AreGains, IsAccount, IsSeek, account_debts, accounts_debts};
+ghost use Rattle.std.specs.Prelude.{◌≡◌};
+ghost use Rattle.sip_ledger.specs.inner.Words.{OnOk, OnErr, length, take, AppendsOwed, some_owes, AreAccounts, accounts_debts};
 
 use crate::accounts::account::{Account, find};
 use crate::accounts::gains::Gains;
@@ -11,7 +10,7 @@ use std::alloc::AllocError;
 
 /// Puts the numbers of the messages that accounts owe after the others, from the least on, each once. On an error some of them are
 /// there.
-#[tactic(auto, using(crate::proofs::rows::NamedLemmas::named_by_message))]
+#[tactic(auto, using(crate::proofs::rows::SeenLemmas::named_by_message))]
 pub(crate) fn name_all(
     gains: &Gains,
     strikes: &[Strike],
@@ -33,27 +32,16 @@ pub(crate) fn name_all(
 }
 
 /// Whether one of the accounts owes the message.
+#[tactic(auto, using(crate::proofs::rows::SeenLemmas::named_by_message))]
 fn is_named(gains: &Gains, strikes: &[Strike], rows: &[Account], message: u64) -> bool
     requires { AreAccounts gains.now strikes.now rows.now }
     ensures { result ≡ some_owes message (accounts_debts gains.now strikes.now rows.now) }
 {
     let mut seek = Seek::new(gains, message, 0);
     for at in 0..rows.len() {
-        if names(gains, strikes, rows[at], &mut seek, message) {
+        if find(gains, strikes, rows[at], &mut seek, message, 0).is_some() {
             return true;
         }
     }
     false
-}
-
-/// Whether the account owes the message.
-#[tactic(auto, using(crate::proofs::rows::NamedLemmas::named_by_message))]
-fn names(gains: &Gains, strikes: &[Strike], account: Account, seek: &mut Seek, message: u64) -> bool
-    requires gained { AreGains gains.now }
-    requires account { IsAccount gains.now strikes.now account }
-    requires seek { IsSeek gains.now message seek.old }
-    ensures seek { IsSeek gains.now message seek.new }
-    ensures is { result ≡ owes_message message (account_debts gains.now strikes.now account) }
-{
-    find(gains, strikes, account, seek, message, 0).is_some()
 }

@@ -1,7 +1,6 @@
 //! Where a message is left, for many rows one after another.
-ghost use Rattle.std.specs.Prelude.{◌≡◌, ◌≤◌, IfSome};
-ghost use Rattle.std.specs.Bool.{OnTrue};
-ghost use Rattle.sip_ledger.specs.inner.Accounts.{AreGains, IsNext, IsSeek};
+ghost use Rattle.std.specs.Prelude.{◌≡◌, ◌≤◌};
+ghost use Rattle.sip_ledger.specs.inner.Words.{IfSome, OnTrue, AreGains, IsNext, IsSeek};
 
 use crate::accounts::gains::Gains;
 

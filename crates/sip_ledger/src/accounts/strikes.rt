@@ -1,10 +1,8 @@
 //! What is not owed of what was gained.
-ghost use Rattle.std.specs.Prelude.{◌≡◌, ◌<◌, ◌≤◌, ◌+◌, ◌++◌, ℕ, true, false, IfOk, IfSome, IfNone, OnOk, OnErr, filter, length, take, nat_lt};
-ghost use Rattle.std.specs.Bool.{OnTrue, OnFalse};
-ghost use Rattle.sip_ledger.specs.Lists.{from_to};
-ghost use Rattle.sip_ledger.specs.inner.Accounts.{AreGains, IsKept, IsNoneBetween, IsStruck, IsWritten, Lengthens, Reaches, StrikeToo, is_out, is_struck};
+ghost use Rattle.std.specs.Prelude.{◌≡◌, ◌<◌, ◌≤◌, ◌+◌, ◌++◌};
+ghost use Rattle.sip_ledger.specs.inner.Words.{ℕ, true, false, IfOk, IfSome, IfNone, OnOk, OnErr, filter, length, take, nat_lt, OnTrue, OnFalse, from_to, AreGains, IsKept, IsNoneBetween, IsStruck, IsWritten, Lengthens, Reaches, StrikeToo, is_out, is_struck};
 
-use crate::accounts::account::Account;
+use crate::accounts::account::{Account, Made};
 use crate::accounts::gains::Gains;
 use std::alloc::AllocError;
 
@@ -19,8 +17,14 @@ pub(crate) struct Strike {
     pub to: usize,
 }
 
+/// Strikes that grow.
+pub(crate) type Strikes = Vec<Strike>;
+
+/// Whether memory was there for what was written.
+pub(crate) type Written = Result<(), AllocError>;
+
 /// A place up to which the message is struck from this one on, if it is struck here.
-#[tactic(auto, using(crate::proofs::strikes::StrikeLemmas::struck_by_some))]
+#[tactic(auto, using(crate::proofs::strikes::MovedLemmas::struck_by_some))]
 pub(crate) fn struck_to(strikes: &[Strike], message: u64, place: usize) -> Option<usize>
     ensures some { IfSome result (λ to. (place < to) × ((k : ℕ) → place ≤ k → k < to → is_struck strikes.now message k ≡ true)) }
     ensures none { IfNone result (is_struck strikes.now message place ≡ false) }
@@ -56,6 +60,7 @@ pub(crate) fn are_same(one: &[Strike], other: &[Strike]) -> bool
 }
 
 /// Whether none of the strikes goes past the place.
+#[tactic(auto, using(crate::proofs::strikes::MovedLemmas::struck_by_some))]
 pub(crate) fn end_by(strikes: &[Strike], place: usize) -> bool
     ensures { OnTrue result ((m k : ℕ) → place ≤ k → is_struck strikes.now m k ≡ false) }
 {
@@ -69,12 +74,7 @@ pub(crate) fn end_by(strikes: &[Strike], place: usize) -> bool
 
 /// Writes the strikes from one up to another after all others, but for those that end at a place or before it. On an error some of them
 /// are there.
-fn copy_some(
-    strikes: &mut Vec<Strike>,
-    first: usize,
-    last: usize,
-    start: usize,
-) -> Result<(), AllocError>
+fn copy_some(strikes: &mut Strikes, first: usize, last: usize, start: usize) -> Written
     requires order { first ≤ last }
     requires within { last ≤ length strikes.old.items }
     ensures ok { OnOk result (strikes.new.items ≡ strikes.old.items ++ filter (λ strike. nat_lt start strike.to) (from_to first last strikes.old.items)) }
@@ -152,15 +152,15 @@ fn are_others(gains: &Gains, message: u64, from: usize, to: usize) -> bool
     true
 }
 
-/// The account with what was gained from one place up to another struck too: its strikes stand after all others. On an error these are as
-/// before.
+/// The account with what was gained from one place up to another struck too: its strikes that end after its start are written after all others,
+/// and strike this too. On an error the strikes that were there stay.
 pub(crate) fn put(
     gains: &Gains,
-    strikes: &mut Vec<Strike>,
+    strikes: &mut Strikes,
     account: Account,
     from: usize,
     to: usize,
-) -> Result<Account, AllocError>
+) -> Made
     requires gained { AreGains gains.now }
     requires order { from ≤ to }
     requires kept { (k : ℕ) → from ≤ k → k < to → IsKept gains.now k }
@@ -170,9 +170,9 @@ pub(crate) fn put(
     ensures struck { IfOk result (IsStruck gains.now from to strikes.old.items strikes.new.items account) }
 {
     let first = strikes.len();
-    if write(gains, strikes, account, from, to).is_err() {
-        strikes.truncate(first);
-        return Err(AllocError);
+    copy_some(strikes, account.first, account.last, account.start)?;
+    for place in from..to {
+        strike_too(gains, strikes, first, place)?;
     }
     Ok(Account {
         first,
@@ -181,39 +181,9 @@ pub(crate) fn put(
     })
 }
 
-/// Writes the account's strikes that end after its start after all others, and lets them strike what was gained from one place up to another
-/// too. On an error some of them are there.
-fn write(
-    gains: &Gains,
-    strikes: &mut Vec<Strike>,
-    account: Account,
-    from: usize,
-    to: usize,
-) -> Result<(), AllocError>
-    requires gained { AreGains gains.now }
-    requires order { from ≤ to }
-    requires kept { (k : ℕ) → from ≤ k → k < to → IsKept gains.now k }
-    requires first { account.first ≤ account.last }
-    requires last { account.last ≤ length strikes.old.items }
-    ensures ok { OnOk result (IsWritten gains.now from to strikes.old.items strikes.new.items account) }
-    ensures err { OnErr result (take (length strikes.old.items) strikes.new.items ≡ strikes.old.items) }
-{
-    let first = strikes.len();
-    copy_some(strikes, account.first, account.last, account.start)?;
-    for place in from..to {
-        strike_too(gains, strikes, first, place)?;
-    }
-    Ok(())
-}
-
-/// Lets the strikes from the first on strike what was gained at the place too: one that reaches up to it, or a new one. On an error they are
-/// as before.
-fn strike_too(
-    gains: &Gains,
-    strikes: &mut Vec<Strike>,
-    first: usize,
-    place: usize,
-) -> Result<(), AllocError>
+/// What was gained at the place is struck too, by the strikes from the index `first` on: one of them that reaches up to it is lengthened, or a
+/// new one is put after them. On an error the strikes are as before.
+fn strike_too(gains: &Gains, strikes: &mut Strikes, first: usize, place: usize) -> Written
     requires gained { AreGains gains.now }
     requires kept { IsKept gains.now place }
     requires first { first ≤ length strikes.old.items }

@@ -1,3 +1,4 @@
+-- The line of a state in a listing, as the code writes it.
 use Rattle.std.specs.Prelude.{◌++◌, ℕ, List}
 use Rattle.sip_machine.specs.Told.{told_of}
 use Rattle.sip_ledger.specs.Runs.{debts_in}

@@ -1,4 +1,5 @@
 -- What the caller of `next` knows of the whole input, call after call.
+-- In the lemmas s is the whole input, t the times that were read of it, r the result of a call, and xs and ys are bytes that are left.
 use Rattle.std.proofs.Common.{◌≡◌, ◌⊎◌, inl, inr, ◌<◌, ◌≤◌, ◌+◌, ℕ, Bool, List, [], ◌∷◌, ◌++◌, length, Option, Some, None, IfSome, IsSome, Result, Ok, Err, refl, subst, sym, ap, ◌∙◌, arith, append_assoc}
 use Rattle.std.specs.Prelude.{flat_map, ⊤}
 use Rattle.std.specs.Io.KnownBytes.{prepend_known}
@@ -59,7 +60,7 @@ texts-push (x ∷ xs) e behind =
     ∙ ap (λ (t : List ℕ). entry_says x ++ t) (texts-push xs e behind)
     ∙ sym (append_assoc (entry_says x) (flat_map entry_says (xs ++ e ∷ [])) behind)
 
--- What follows is of an input that begins with a header and these entries.
+-- What follows is of an input that begins with a header of the format, with the times p, and with these items, and has `rest` after them.
 module _ (input : List ℕ) (format : Format) (p : Times) (items : List Item) (rest : List ℕ) (is : Begins input format p items rest) where
   -- where an entry comes next in the rest, the input begins with the entries and that one
   pub Begins-push : (e : Item) (behind : List ℕ) → ComesNext format (length items) (last_of 0 items) rest (gives e behind) → Begins input format p (items ++ e ∷ []) behind
@@ -98,6 +99,7 @@ Begins-log input format p items rest is =
     let (more, end, follow) = Follow-some format (length items) (last_of 0 items) rest in
     let spelled = follow-spelled format (length items) (last_of 0 items) rest more end is.few follow in
     let long : length items + length more ≡ length (items ++ more) = sym (length-append items more) in
+    -- the input is the header, the spelling of these items and of those that follow, and what is left
     let texts : flat_map entry_says items ++ rest ≡ flat_map entry_says (items ++ more) ++ spelled.left =
     ap (λ (t : List ℕ). flat_map entry_says items ++ t) spelled.whole ∙ sym (append_assoc (flat_map entry_says items) (flat_map entry_says more) spelled.left)
     ∙ ap (λ (t : List ℕ). t ++ spelled.left) (sym (flat_map-append items more)) in (
@@ -106,6 +108,7 @@ Begins-log input format p items rest is =
       record {
         format = format;
         rest = spelled.left;
+        -- these items and those that follow are few enough and in order, and the end comes after them
         header = subst (Header format p input) texts is.header;
         few = omega (arith, spelled.few, long);
         order = InOrder-append format 0 items more is.order spelled.order;
@@ -119,12 +122,14 @@ pub Stands-log : (start : Option (List ℕ)) (items : List Item) (now : ReaderSt
     → IfSome start (λ input. IfSome now.times (λ p. (more : List Item) × (end : LogEnd) × LogSays input p (items ++ more) end))
 Stands-log start items now on stands = go now.times start (subst (λ s. StandsAt s start items now) on stands).0
   where
+    -- where the input and the times are known, the items are at the front of a log
     go : (t : Option Times) (s : Option (List ℕ)) → HasRead s now.format t items now.left → IfSome s (λ input. IfSome t (λ p. (more : List Item) × (end : LogEnd) × LogSays input p (items ++ more) end))
     go None s has = absurd has
     go (Some p) None has = tt
     go (Some p) (Some input) (rest, left, begins) = Begins-log input now.format p items rest begins
 
--- What follows is of a header that was read by itself.
+-- What follows is of a header that was read by itself: the source had the bytes `start` before it and has `left` after it.
+-- `before` and `after` tell whether a read of the source had failed before it and after it.
 
 module _ (start left : Option (List ℕ)) (before after : Bool) where
   -- where the reader stands once the header was read
@@ -144,6 +149,7 @@ module _ (start left : Option (List ℕ)) (before after : Bool) where
       record {
         on = on;
         times = times;
+        -- no entry was read yet: none was counted, and the last moment is 0
         count = ap (λ (x : ProgressState). x.count) is;
         last = ap (λ (x : ProgressState). x.last) is;
         fine = says.0;
@@ -161,6 +167,7 @@ abbrev pub GoesOn : ReaderState → Type 0
 GoesOn now = (now.stage ≡ fresh) ⊎ (now.stage ≡ entries)
 
 -- What follows is what each answer of `next` adds to what is known.
+-- The source had the bytes `start` at first, and these items were read of them; `old` is the reader before the call, `new` after it.
 
 module _ (start : Option (List ℕ)) (items : List Item) (old new : ReaderState) where
   -- the times of the header stay as they are from entry to entry
@@ -173,7 +180,19 @@ module _ (start : Option (List ℕ)) (items : List Item) (old new : ReaderState)
   same-format None has kept = absurd has
   same-format (Some p) has kept = kept.1
 
-  -- What follows is of an answer with an entry.
+  -- where an item comes after the entries that were read, it has been read after them
+  pub gave-next : (i : Item) (t : Option Times) (s : Option (List ℕ)) → old.count ≡ length items → old.last ≡ last_of 0 items → HasRead s old.format t items old.left
+      → IfSome old.left (λ xs. (ys : List ℕ) × (new.left ≡ Some ys) × ComesNext old.format old.count old.last xs (gives i ys)) → HasRead s old.format t (items ++ i ∷ []) new.left
+  gave-next i None s counts moment has says = absurd has
+  gave-next i (Some p) None counts moment has says = tt
+  gave-next i (Some p) (Some input) counts moment (rest, left, begins) says =
+      -- n.0 are the bytes that are left after the item; the item comes next after as many entries, and after the moment of the last of them, as the items
+      -- tell
+      let n = subst (λ o. IfSome o (λ xs. (ys : List ℕ) × (new.left ≡ Some ys) × ComesNext old.format old.count old.last xs (gives i ys))) left says in
+      let next = subst (λ c. ComesNext old.format c (last_of 0 items) rest (gives i n.0)) counts (subst (λ m. ComesNext old.format old.count m rest (gives i n.0)) moment n.2) in
+      (n.0, n.1, Begins-push input old.format p items rest begins i n.0 next)
+
+  -- What follows is of an answer with the entry e.
   module _ (e : Entry) where
     -- where the reader moved on over the entry, it stands after the items with that one
     closed : Moves old.count old.last new (Ok (Some e)) → HasRead start new.format new.times (items ++ item e ∷ []) new.left → old.count ≡ length items → Stands start (items ++ item e ∷ []) new
@@ -182,21 +201,12 @@ module _ (start : Option (List ℕ)) (items : List Item) (old new : ReaderState)
         (has, moves.2 ∙ moves.1.number_is ∙ ap (λ n. n + 1) counts ∙ sym (length_push items (item e)), moves.3 ∙ sym (last_of-push 0 items (item e)))
 
     -- where an entry comes first after the header, it has been read after the header
+    -- t is the times and s the input, where these are known; xs is what is left before the call, and ys what is left after it
     gave-first : (t : Option Times) (s : Option (List ℕ)) → items ≡ [] → IsSome t → IfSome s (λ xs. (ys : List ℕ) × (new.left ≡ Some ys) × ComesFirst new.format t xs (gives (item e) ys)) → HasRead s new.format t (items ++ item e ∷ []) new.left
     gave-first None s none some says = cc
     gave-first (Some p) None none some says = tt
     gave-first (Some p) (Some xs) none some (ys, left, (behind, header, next)) =
         (ys, left, subst (λ is. Begins xs new.format p (is ++ item e ∷ []) ys) (sym none) (Begins-push xs new.format p [] behind (Begins-header xs new.format p behind header) (item e) ys next))
-
-    -- where an entry comes after the entries that were read, it has been read after them
-    gave-next : (t : Option Times) (s : Option (List ℕ)) → old.count ≡ length items → old.last ≡ last_of 0 items → HasRead s old.format t items old.left
-        → IfSome old.left (λ xs. (ys : List ℕ) × (new.left ≡ Some ys) × ComesNext old.format old.count old.last xs (gives (item e) ys)) → HasRead s old.format t (items ++ item e ∷ []) new.left
-    gave-next None s counts moment has says = absurd has
-    gave-next (Some p) None counts moment has says = tt
-    gave-next (Some p) (Some input) counts moment (rest, left, begins) says =
-        let n = subst (λ o. IfSome o (λ xs. (ys : List ℕ) × (new.left ≡ Some ys) × ComesNext old.format old.count old.last xs (gives (item e) ys))) left says in
-        let next = subst (λ c. ComesNext old.format c (last_of 0 items) rest (gives (item e) n.0)) counts (subst (λ m. ComesNext old.format old.count m rest (gives (item e) n.0)) moment n.2) in
-        (n.0, n.1, Begins-push input old.format p items rest begins (item e) n.0 next)
 
     -- an answer with an entry says that it was read after the entries before it, at whatever stage
     gave-at : (s : Stage) → old.stage ≡ s → StandsAt s start items old → NextsAt s old new (Ok (Some e)) → Stands start (items ++ item e ∷ []) new
@@ -212,7 +222,7 @@ module _ (start : Option (List ℕ)) (items : List Item) (old new : ReaderState)
         let format = same-format old.times h.0 steps.kept in
         closed steps.moves
         (subst (λ f. HasRead start f new.times (items ++ item e ∷ []) new.left) (sym format)
-        (gave-next new.times start h.1 h.2 (subst (λ t. HasRead start old.format t items old.left) (sym same) h.0) says)) h.1
+        (gave-next (item e) new.times start h.1 h.2 (subst (λ t. HasRead start old.format t items old.left) (sym same) h.0) says)) h.1
     -- after the end and after a failure no entry is answered
     gave-at ended at h again = cc
     gave-at failed at h again = cc
@@ -222,6 +232,7 @@ module _ (start : Option (List ℕ)) (items : List Item) (old new : ReaderState)
     Stands-gives stands nexts = gave-at old.stage refl stands nexts
 
   -- where the end comes first after the header, the log has no entries
+  -- t is the times and s the input, where these are known; xs is what is left before the call, and ys what is left after it
   ended-first : (t : Option Times) (s : Option (List ℕ)) → items ≡ [] → IsSome t → IfSome s (λ xs. (ys : List ℕ) × (new.left ≡ Some ys) × ComesFirst new.format t xs ends) → IfSome s (λ input. IfSome t (λ p. LogSays input p items Clean))
   ended-first None s none some says = cc
   ended-first (Some p) None none some says = tt
@@ -229,6 +240,7 @@ module _ (start : Option (List ℕ)) (items : List Item) (old new : ReaderState)
       subst (λ is. LogSays xs p is Clean) (sym none) (Begins-ends xs new.format p [] behind (Begins-header xs new.format p behind header) Clean next)
 
   -- where the end comes after entries, the log has exactly them
+  -- t is the times and s the input, where these are known; xs is what is left before the call, and ys what is left after it
   ended-next : (t : Option Times) (s : Option (List ℕ)) → HasRead s old.format t items old.left → IfSome old.left (λ xs. (ys : List ℕ) × (new.left ≡ Some ys) × (xs ≡ [])) → IfSome s (λ input. IfSome t (λ p. LogSays input p items Clean))
   ended-next None s has says = absurd has
   ended-next (Some p) None has says = tt
@@ -238,13 +250,16 @@ module _ (start : Option (List ℕ)) (items : List Item) (old new : ReaderState)
 
   -- an answer that tells the end says that the log has exactly the entries that were given, at whatever stage
   ended-at : (s : Stage) → old.stage ≡ s → GoesOn old → StandsAt s start items old → NextsAt s old new (Ok None) → IfSome start (λ input. IfSome new.times (λ p. LogSays input p items Clean))
+  -- nothing was read yet: the end comes after the header
   ended-at fresh at on h steps =
       let says = subst (λ s. IfSome old.left (λ xs. (ys : List ℕ) × (new.left ≡ Some ys) × Comes s old new xs ends)) at steps.says.1 in
       ended-first new.times start h.0 steps.times (subst (λ o. IfSome o (λ xs. (ys : List ℕ) × (new.left ≡ Some ys) × ComesFirst new.format new.times xs ends)) h.1 says)
+  -- entries were read: the end comes after them
   ended-at entries at on h steps =
       let says = subst (λ s. IfSome old.left (λ xs. (ys : List ℕ) × (new.left ≡ Some ys) × Comes s old new xs ends)) at steps.says.1 in
       let same = same-times old.times h.0 steps.kept in
       ended-next new.times start (subst (λ t. HasRead start old.format t items old.left) (sym same) h.0) says
+  -- after the end, and after a failure, no more is read
   ended-at ended at on h again = absurd (elim on as (λ _. ⊥) [ inl is ↦ cc | inr is ↦ cc ])
   ended-at failed at on h again = absurd (elim on as (λ _. ⊥) [ inl is ↦ cc | inr is ↦ cc ])
 
@@ -262,6 +277,7 @@ module _ (start : Option (List ℕ)) (items : List Item) (old new : ReaderState)
   stops-first t None fault none says = tt
   stops-first None (Some xs) fault none (no_header, same) = (no_header, ap of same)
     where
+      -- the fault of what stops
       of : Next Item → LogReason
       of (stops f) = f
       of (gives e behind) = fault
@@ -283,10 +299,12 @@ module _ (start : Option (List ℕ)) (items : List Item) (old new : ReaderState)
   stops-at fresh e at on h steps =
       FailsAs-map old.has_failed new.has_failed _ _ e
       (λ fault says. stops-first new.times start fault h.0 (subst (λ o. IfSome o (λ xs. ComesFirst new.format new.times xs (stops fault))) h.1 (subst (λ s. IfSome old.left (λ xs. Comes s old new xs (stops fault))) at says))) steps.says
+  -- where an entry was to come, the fault is that of what comes next
   stops-at entries e at on h steps =
       let same = same-times old.times h.0 steps.kept in
       FailsAs-map old.has_failed new.has_failed _ _ e
       (λ fault says. stops-next new.times start fault h.1 h.2 (subst (λ t. HasRead start old.format t items old.left) (sym same) h.0) (subst (λ s. IfSome old.left (λ xs. Comes s old new xs (stops fault))) at says)) steps.says
+  -- after the end or a failure the reader does not go on
   stops-at ended e at on h again = absurd (elim on as (λ _. ⊥) [ inl is ↦ cc | inr is ↦ cc ])
   stops-at failed e at on h again = absurd (elim on as (λ _. ⊥) [ inl is ↦ cc | inr is ↦ cc ])
 

@@ -1,4 +1,6 @@
--- What comes next by the spelling comes next by the relations by which the code reads, from the latter to the former.
+-- What the code reads next, by its relations, is what comes next by the spelling.
+-- By a relation of the code something stands in the rest, or does not: `none` and `few` say that it is missing, and `same` which fault comes then.
+-- `Told P G next` says that next is a fault of P, or an entry of G and what is after it.
 use Rattle.std.proofs.Common.{◌≡◌, ◌≢◌, ◌⊎◌, inl, inr, ◌<◌, ◌≤◌, ℕ, List, [], ◌∷◌, ◌++◌, length, get_or, refl, subst, sym, ap, ◌∙◌, arith, append_assoc}
 use Rattle.std.specs.Prelude.{slice_index}
 use Rattle.std.proofs.lemmas.Bool.{cases_lt}
@@ -99,12 +101,15 @@ message-line-told format last line action moment len behind next other is (inl (
 message-line-told format last line action moment len behind next other is (inr (inside, inl (early, same))) =
     let w = message-within action moment len inside in
     inl (faults.Order, same, inr (action, moment, len, message-of format action other, is, inr ((λ none. none w), inl (not_above last moment early, refl))))
+-- within the limits and in order, the message or its fault comes after the line
 message-line-told format last line action moment len behind next other is (inr (inside, inr (order, at))) =
     go (message-told action moment len behind next other at)
   where
+    -- the head of a message is within the limits
     w : IsWithinLimits action moment len
     w = message-within action moment len inside
 
+    -- whether the body is at fault or is read, the line says the same
     go : Told (AtBody action len behind) (λ e after. (text : List ℕ) × (e ≡ record { action = action; moment = moment; text = text }) × (length text ≡ len) × (behind ≡ text ++ line_feed ∷ after)) next
         → Told (LineFault format last line behind) (Entered format last line behind) next
     go (inl (fault, same, body)) = inl (fault, same, inr (action, moment, len, message-of format action other, is, inr ((λ none. none w), inr ((λ lt. omega arith), body))))
@@ -131,6 +136,7 @@ plain-line-told format last line action moment behind next none of is (inl (outs
     inl (faults.Limit, same, inr (action, moment, 0, of, is, inl ((λ w. outside w.0), refl)))
 plain-line-told format last line action moment behind next none of is (inr (inside, inl (early, same))) =
     inl (faults.Order, same, inr (action, moment, 0, of, is, inr ((λ out. out (inside, (λ has. absurd (none has)))), inl (not_above last moment early, refl))))
+-- within the limits and in order, the entry is the line alone
 plain-line-told format last line action moment behind next none of is (inr (inside, inr (order, same))) =
     inr (
       record { action = action; moment = moment; text = [] },
@@ -163,7 +169,7 @@ front-told format last rest next (inr (line, behind, front, inl (none, same))) =
     inl (faults.EntryLine, same, inr (line, behind, front, inl ((λ action moment len of is. let h = line-read format line action moment len front.short of is in none h.0 h.1), refl)))
 front-told format last rest next (inr (line, behind, front, inr (head, is, at))) = go (line-told format last line head behind next front.short is at)
   where
-    -- what the line says is what the front of the rest says
+    -- what is told of the front line is told of the front of the rest
     go : Told (LineFault format last line behind) (Entered format last line behind) next → Told (AtFront format last rest) (λ e after. (rest ≡ entry_says e ++ after) × (last ≤ e.moment) × IsEntry format e) next
     go (inl (fault, same, at)) = inl (fault, same, inr (line, behind, front, at))
     go (inr (e, after, same, (whole, order, entry))) = inr (e, after, same, (front.whole ∙ whole, order, entry))
@@ -174,6 +180,7 @@ next-told format count last rest next (inl (none, same)) = subst (ComesNext form
 next-told format count last rest next (inr (some, inl (many, same))) = subst (ComesNext format count last rest) (sym same) (some, inl (not_below count most_entries many, refl))
 next-told format count last rest next (inr (some, inr (few, at))) = go (front-told format last rest next at)
   where
+    -- whether the front of the rest is at fault or gives an entry, this comes next
     go : Told (AtFront format last rest) (λ e after. (rest ≡ entry_says e ++ after) × (last ≤ e.moment) × IsEntry format e) next → ComesNext format count last rest next
     go (inl (fault, same, front)) = subst (ComesNext format count last rest) (sym same) (some, inr ((λ le. omega arith), front))
     go (inr (e, after, same, (whole, order, entry))) = subst (ComesNext format count last rest) (sym same) (whole, few, order, entry)

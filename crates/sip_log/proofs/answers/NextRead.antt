@@ -41,7 +41,7 @@ message-numbers last action moment len behind fault other (inr (inside, rest)) =
   | inl keeps ↦ inr (keeps, order rest)
 ]
   where
-    -- the order is at fault, or what comes after it
+    -- where the order or the message is at fault, the line is read as that fault
     order : First (moment < last) faults.Order fault (AtBody action len behind fault) → read.MomentComes last (message action moment len) behind (stops fault)
     order (inl (early, same)) = inl ((λ le. omega arith), ap stops same)
     order (inr (late, body)) = inr (not_below moment last late, message-stops action moment len behind fault body)
@@ -54,7 +54,7 @@ plain-numbers last action moment len behind fault none (inr (inside, rest)) = el
   | inl keeps ↦ inr (keeps, order rest)
 ]
   where
-    -- the order is at fault, or what comes after it
+    -- where the order or what comes after it is at fault, the line is read as that fault
     order : First (moment < last) faults.Order fault (AtBody action len behind fault) → read.MomentComes last (plain action moment) behind (stops fault)
     order (inl (early, same)) = inl ((λ le. omega arith), ap stops same)
     order (inr (late, body)) = absurd (none body.0)
@@ -63,6 +63,7 @@ plain-numbers last action moment len behind fault none (inr (inside, rest)) = el
 line-stops : (format : Format) (last : ℕ) (line behind : List ℕ) (fault : LogReason) → length line < 32 → LineFault format last line behind fault → read.FormComes format last line behind (stops fault)
 line-stops format last line behind fault short (inl (none, same)) = inl (unread, ap stops same)
   where
+    -- the line is not the first line of an entry
     unread : (h : Head) → ¬ (HeadLine format line h)
     unread (message action moment len) is = none action moment len (message-of format action is.1) (message-spelled format line action moment len short is)
     unread (plain action moment) is = none action moment 0 is.2 (plain-spelled format line action moment 0 short is)
@@ -79,6 +80,7 @@ front-stops format last rest fault (inr (line, behind, front, at)) = inr (line, 
 
 -- What follows is of entries.
 
+-- a moment in decimals has no line feed
 lacks-decimal : (n : ℕ) → n ≤ last_moment → Lacks line_feed (decimal n)
 lacks-decimal n low = IsNumber-no_line_feed (decimal n) n (number-decimal n (omega (arith, low, powers 13 64 (omega arith))))
 
@@ -99,6 +101,7 @@ line-lacks action moment len low small = elim (message-or-not action) as (λ _. 
             (subst (λ (t : List ℕ). Lacks line_feed (decimal moment ++ t)) (sym text) (Lacks-append line_feed (decimal moment) [] (lacks-decimal moment low) (Lacks-word line_feed [] refl)))),
         omega (arith, length-append (decimal moment) (length_text action len), ap length text, size),
       )
+  -- the length of a message has at most five digits
   | inl has ↦
       let far = small has in
       let digits = length-decimal-le 5 len (omega arith) (omega arith) (omega arith) in
@@ -109,6 +112,7 @@ line-lacks action moment len low small = elim (message-or-not action) as (λ _. 
       )
 ]
   where
+    -- the decimal text of a moment has at most 13 digits
     size : length (decimal moment) ≤ 13
     size = length-decimal-le 13 moment (omega arith) (omega arith) (omega arith)
 
@@ -119,6 +123,7 @@ line-fits action moment len low small = subst (λ (t : List ℕ). Lacks line_fee
 -- where an entry of the format that keeps the order is spelled at the front of the rest, it is read
 entry-read : (format : Format) (last : ℕ) (rest : List ℕ) (e : Item) (behind : List ℕ) → rest ≡ entry_says e ++ behind → last ≤ e.moment → IsEntry format e → read.LineComes format last rest (gives e behind)
 entry-read format last rest e behind whole order entry =
+    -- `line` is the line of the entry, which has no line feed and fewer than 32 bytes, and what follows it is its body and the bytes behind
     let line = line_says e.action e.moment (length e.text) in
     let fits = line-fits e.action e.moment (length e.text) entry.1.0 (λ has. (entry.1.1 has).1) in
     let split : rest ≡ line ++ line_feed ∷ (body_says e.action e.text ++ behind) = whole ∙ append_assoc line (line_feed ∷ body_says e.action e.text) behind in
@@ -126,6 +131,7 @@ entry-read format last rest e behind whole order entry =
       line,
       body_says e.action e.text ++ behind,
       record { whole = split; first = fits.0.nowhere; short = fits.1 },
+      -- without a message the line is the whole entry
       elim (message-or-not e.action) [
         | inr none ↦
             let text = entry.2 none in
@@ -134,6 +140,7 @@ entry-read format last rest e behind whole order entry =
               plain-read format line e.action e.moment (length e.text) fits.1 none entry.0 refl,
               inr (entry.1.0, inr (order, (λ i. gives (record { action = e.action; moment = e.moment; text = text i }) behind) ∙ ap (gives (record { action = e.action; moment = e.moment; text = [] })) (sym (ap (λ (t : List ℕ). t ++ behind) (body-plain e.action e.text none))))),
             )
+        -- with a message its bytes and a line feed come after the line
         | inl has ↦
             inr (
               message e.action e.moment (length e.text),

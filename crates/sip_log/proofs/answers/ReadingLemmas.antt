@@ -1,6 +1,8 @@
 -- Lemmas of what an answer says: it says the same in other words, and a call says what its parts say.
+-- In the lemmas P and Q tell what comes in an input, n is what comes next, f leads from what P tells to what Q tells, and h is the answer by P.
 use Rattle.std.proofs.Common.{◌≡◌, inl, inr, ℕ, Bool, List, Option, Some, None, IfSome, Result, Ok, Err, IsSome, OnOk, refl, subst, sym, ap, ◌∙◌}
 use Rattle.std.specs.Io.KnownBytes.{prepend_known}
+use Rattle.std.specs.Prelude.{MatchOption}
 use Rattle.sip_standard.specs.Times.{Times}
 use Rattle.sip_standard.specs.declared.format.Format.{Format}
 use Rattle.sip_log.specs.declared.entry.Entry.{Entry}
@@ -22,12 +24,19 @@ use Rattle.sip_log.proofs.logs.LogExists.{no-header}
 use Rattle.sip_log.proofs.answers.NextLemmas.{next-told}
 
 -- where the option holds something, what follows of P holds of it
+-- o is the option; P holds of what it holds, and Q follows of it
 pub IfSome-map : {A : Type 0} (o : Option A) (P Q : A → Type 0) → ((x : A) → P x → Q x) → IfSome o P → IfSome o Q
 IfSome-map None P Q f h = tt
 IfSome-map (Some x) P Q f h = f x h
 
+-- what holds where there is nothing, or of what the option holds, still holds where each of both follows
+pub MatchOption-map : {A : Type 0} (o : Option A) (N M : Type 0) (P Q : A → Type 0) → (N → M) → ((x : A) → P x → Q x) → MatchOption o N P → MatchOption o M Q
+MatchOption-map None N M P Q g f h = g h
+MatchOption-map (Some x) N M P Q g f h = f x h
+
 -- an error that is told of P is told of Q, where a fault of P is one of Q
 pub FailsAs-map : (before after : Bool) (P Q : LogReason → Type 0) (e : LogError) → ((fault : LogReason) → P fault → Q fault) → FailsAs before after P e → FailsAs before after Q e
+-- an error with a reason of the log tells its fault; one without has none to tell
 FailsAs-map before after P Q errors.Header f h = (h.0, f faults.Header h.1)
 FailsAs-map before after P Q errors.EntryLine f h = (h.0, f faults.EntryLine h.1)
 FailsAs-map before after P Q errors.Truncated f h = (h.0, f faults.Truncated h.1)
@@ -57,6 +66,7 @@ pub fault-first : (input : List ℕ) (fault : LogReason) → read.HeaderComes in
 unfolding fault_of
 fault-first input fault is = (no-header input fault is, header-is is)
   where
+    -- a fault of the header is `Header`
     header-is : read.HeaderComes input (stops fault) → fault ≡ faults.Header
     header-is (inl (format, rest, title, inl (p, behind, front, (rules, more, line, same)))) = cc
     header-is (inl (format, rest, title, inr (none, same))) = ap fault_of same
@@ -79,10 +89,14 @@ Says-headed : (old mid new : Option (List ℕ)) (before between after : Bool) (f
     → TellsWhatComes mid new between after (entry.EntryComes format 0 0) next_of r → TellsWhatComes old new before after (ComesFirst format (Some p)) next_of r
 Says-headed old mid new before between after format p (Ok a) first says = (says.0 ∙ first.0, value old first.1 says.1)
   where
+    -- the claim holds whether or not it is known what was left of the input
+    -- o is what was left of the input before the header, `mid` after it and `new` after the entry, where these are known
     value : (o : Option (List ℕ)) → IfSome o (λ xs. (ys : List ℕ) × (mid ≡ Some ys) × read.HeaderComes xs (gives (format, p) ys)) → IfSome mid (λ xs. (zs : List ℕ) × (new ≡ Some zs) × entry.EntryComes format 0 0 xs (next_of a zs))
         → IfSome o (λ xs. (zs : List ℕ) × (new ≡ Some zs) × ComesFirst format (Some p) xs (next_of a zs))
+    -- what comes by the entry after the header comes first in the input
     value None is behind = tt
     value (Some xs) is behind =
+        -- h.0 are the bytes that are left after the entry
         let h = subst (λ o. IfSome o (λ xs. (zs : List ℕ) × (new ≡ Some zs) × entry.EntryComes format 0 0 xs (next_of a zs))) is.1 behind in
         (h.0, h.1, header-gives format xs p is.0 (next_of a h.0) is.2 (next-told format 0 0 is.0 (next_of a h.0) h.2))
 Says-headed old mid new before between after format p (Err e) first says =
@@ -125,6 +139,8 @@ keeps None new format format2 same same2 = tt
 keeps (Some p) new format format2 same same2 = (same, same2)
 
 -- What follows is one call of `next`, put together from the clauses of its parts.
+-- `old` and `new` are the reader before and after the call, and the old one held what the window has.
+-- The source had `left` before the call and `left2` after it; `before` and `after` tell whether a read of it had failed.
 
 module _ (old new : ProgressState) (left left2 : Option (List ℕ)) (before after : Bool) (window : Window) (held : old.held ≡ items window) where
   -- where entries are read, an answer of the entry that comes next is an answer of `next`
@@ -135,6 +151,7 @@ module _ (old new : ProgressState) (left left2 : Option (List ℕ)) (before afte
       subst (λ s. NextsAt s (beside_source old left before) (beside_source new left2 after) r) (sym stage) (record {
         moves = moves;
         times = always r (IsSome new.times) (subst IsSome (sym same) times);
+        -- where entries are read, what comes by the reader comes next in what is unread
         kept = keeps old.times new.times old.format new.format same format;
         says = subst (λ s. TellsWhatComes (prepend_known old.held left) (prepend_known new.held left2) before after (Comes s (beside_source old left before) (beside_source new left2 after)) next_of r) (sym stage)
             (subst (λ h. TellsWhatComes (prepend_known h left) (prepend_known new.held left2) before after (ComesNext old.format old.count old.last) next_of r) (sym held)
@@ -147,11 +164,13 @@ module _ (old new : ProgressState) (left left2 : Option (List ℕ)) (before afte
       → (between ≡ before) × IfSome (unread window left) (λ xs. (ys : List ℕ) × (mid ≡ Some ys) × read.HeaderComes xs (gives (format, p) ys))
       → TellsWhatComes mid (prepend_known new.held left2) between after (entry.EntryComes format old.count old.last) next_of r
       → Nexts (beside_source old left before) (beside_source new left2 after) r
+  -- `mid` is what is left of the input after the header, if it is known, and `between` whether the source had failed then; r is the answer
   fresh-step mid between format p r stage none no_count no_last moves same times first says =
       subst (λ s. NextsAt s (beside_source old left before) (beside_source new left2 after) r) (sym stage) (record {
         moves = moves;
         times = always r (IsSome new.times) (subst IsSome (sym times) refl);
         kept = subst (λ o. IfSome o (λ p. (new.times ≡ Some p) × (new.format ≡ old.format))) (sym none) tt;
+        -- the header, and then what comes by the entry, come first in what is unread
         says = subst (λ s. TellsWhatComes (prepend_known old.held left) (prepend_known new.held left2) before after (Comes s (beside_source old left before) (beside_source new left2 after)) next_of r) (sym stage)
             (subst (λ h. TellsWhatComes (prepend_known h left) (prepend_known new.held left2) before after (ComesFirst new.format new.times) next_of r) (sym held)
             (subst (λ t. TellsWhatComes (unread window left) (prepend_known new.held left2) before after (ComesFirst new.format t) next_of r) (sym times)
@@ -170,6 +189,7 @@ module _ (old new : ProgressState) (left left2 : Option (List ℕ)) (before afte
         moves = (ended, same_count, same_last);
         times = tt;
         kept = subst (λ o. IfSome o (λ p. (new.times ≡ Some p) × (new.format ≡ old.format))) (sym none) tt;
+        -- the fault of the header comes first in what is unread
         says = subst (λ s. TellsWhatComes {A = Option Entry} (prepend_known old.held left) (prepend_known new.held left2) before after (Comes s (beside_source old left before) (beside_source new left2 after)) next_of (Err e)) (sym stage)
             (subst (λ h. TellsWhatComes {A = Option Entry} (prepend_known h left) (prepend_known new.held left2) before after (ComesFirst new.format new.times) next_of (Err e)) (sym held)
             (subst (λ t. TellsWhatComes {A = Option Entry} (unread window left) (prepend_known new.held left2) before after (ComesFirst new.format t) next_of (Err e)) (sym no_times)

@@ -12,6 +12,7 @@ use Rattle.sip_log.specs.Told.{TellsWhatComes}
 use Rattle.sip_log.proofs.answers.ToldLemmas.{told, known}
 
 -- What follows is of a reader that has read on from its source, and of what P says of the bytes that come.
+-- It held `held` before and `held2` after it, and the source had `left` and then `left2`; `before` and `mid` tell whether a read had failed.
 module _ {B : Type 0} {held held2 : List ℕ} {left left2 : Option (List ℕ)} {before mid : Bool} (reads : Reads held held2 left left2 before mid)
     (P : List ℕ → Next B → Type 0) where
   -- where P holds of the held bytes and those left, an answer with a value tells what comes in the input by P
@@ -47,6 +48,7 @@ module _ {B : Type 0} {held held2 : List ℕ} {left left2 : Option (List ℕ)} {
         let behind = known rest left2 ys (λ xs. (zs : List ℕ) × (new ≡ Some zs) × Q xs (seen a zs)) is says.1 in
         (behind.0, behind.1, step ys (seen a behind.0) is behind.2)),
   )
+  -- each fault of the log is told as it was, and so is a failed source
   Says-step rest new after Q seen (Err errors.Header) step says = Says-behind rest after Q faults.Header step says
   Says-step rest new after Q seen (Err errors.EntryLine) step says = Says-behind rest after Q faults.EntryLine step says
   Says-step rest new after Q seen (Err errors.Truncated) step says = Says-behind rest after Q faults.Truncated step says

@@ -33,7 +33,7 @@ pub record HasStreamed (start : Option (List ℕ)) (p : Times) (items : List Ite
   pub last : now.last ≡ last_of 0 items
   pub starts : StartsAt start now.format p items now.left
 
--- What follows is of an input that begins with a header and some items.
+-- What follows is of an input that begins with a header of the format, with the times p, and with these items, and has `rest` after them.
 module _ (input : List ℕ) (format : Format) (p : Times) (items : List Item) (rest : List ℕ) (is : Starts input format p items rest) where
   -- where an entry comes next in the rest, the header and the entries with that one stand at the front of the input
   starts_push : (e : Item) (behind : List ℕ) → ComesNext format 0 (last_of 0 items) rest (gives e behind) → Starts input format p (items ++ e ∷ []) behind
@@ -46,7 +46,8 @@ module _ (input : List ℕ) (format : Format) (p : Times) (items : List Item) (r
   starts_end : (end : LogEnd) → EndsWith format 0 (last_of 0 items) rest end → StreamSays input p items end
   starts_end end next = record { format = format; rest = rest; header = is.header; order = is.order; next = next }
 
--- What follows is of a reader that has read these items, and reads the next one.
+-- What follows is of a call by a reader that has read these items, and reads the next one.
+-- The source had the bytes `start` at first; `old` is the reader before the call, which counts no entries, and `new` after it.
 module _ (start : Option (List ℕ)) (p : Times) (items : List Item) (old new : ReaderState) (has : HasStreamed start p items old) (none : old.count ≡ 0) where
   -- at the stage of entries the reader reads the next one
   steps : (r : Result (Option Entry) LogError) → Nexts old new r → ReadsNext old new r
@@ -71,6 +72,7 @@ module _ (start : Option (List ℕ)) (p : Times) (items : List Item) (old new : 
       let is = steps (Ok (Some e)) nexts in
       let same = kept (Ok (Some e)) is in
       let says = subst (λ s. IfSome old.left (λ xs. (ys : List ℕ) × (new.left ≡ Some ys) × Comes s old new xs (gives (item e) ys))) has.on is.says.1 in
+      -- the reader stands after this entry, and its times are the same
       record {
         on = is.moves.0;
         times_are = same.0;
@@ -109,11 +111,13 @@ pub streamed_log : (start : Option (List ℕ)) (p : Times) (items : List Item) (
     → IfSome start (λ input. (more : List Item) × (end : LogEnd) × StreamSays input p (items ++ more) end)
 streamed_log start p items now has = go start has.starts
   where
+    -- the claim holds whether or not the input is known
     go : (s : Option (List ℕ)) → StartsAt s now.format p items now.left → IfSome s (λ input. (more : List Item) × (end : LogEnd) × StreamSays input p (items ++ more) end)
     go None at = tt
     go (Some input) (rest, left, is) =
         let (more, end, follow) = follows_some now.format (last_of 0 items) rest in
         let spelled = follows_spelled now.format (last_of 0 items) rest more end follow in
+        -- the input is the header, the spelling of these items and of those that follow, and what is left
         let texts : flat_map entry_says items ++ rest ≡ flat_map entry_says (items ++ more) ++ spelled.left =
         ap (λ (t : List ℕ). flat_map entry_says items ++ t) spelled.whole ∙ sym (append_assoc (flat_map entry_says items) (flat_map entry_says more) spelled.left)
         ∙ ap (λ (t : List ℕ). t ++ spelled.left) (sym (flat_map-append items more)) in (
@@ -122,6 +126,7 @@ streamed_log start p items now has = go start has.starts
           record {
             format = now.format;
             rest = spelled.left;
+            -- these items and those that follow are in order, and the end comes after them
             header = subst (Header now.format p input) texts is.header;
             order = InOrder-append now.format 0 items more is.order spelled.order;
             next = subst (λ m. EndsWith now.format 0 m spelled.left end) (sym (last_of-append 0 items more)) spelled.next;
@@ -134,6 +139,7 @@ stands_streamed start p items now on times stands =
     let at = subst (λ s. StandsAt s start items now) on stands in
     record { on = on; times_are = times; last = at.2; starts = go start (subst (λ t. HasRead start now.format t items now.left) times at.0) }
   where
+    -- the claim holds whether or not the input is known
     go : (s : Option (List ℕ)) → HasRead s now.format (Some p) items now.left → StartsAt s now.format p items now.left
     go None has = tt
     go (Some input) (rest, left, is) = (rest, left, record { header = is.header; order = is.order })

@@ -1,4 +1,5 @@
 -- Lemmas of the lines of a header, word by word.
+-- In the lemmas n and n2 are the numbers that stand after a word by two readings.
 use Rattle.std.proofs.Common.{◌≡◌, ◌⊎◌, inl, inr, Option, None, Some, MatchOption, ◌<◌, ◌≤◌, ◌+◌, ℕ, List, [], ◌++◌, length, get_or, take, drop, refl, subst, sym, ap, ◌∙◌, arith, append_assoc}
 use Rattle.std.specs.Prelude.{codes}
 use Rattle.std.proofs.lemmas.List.{append_cancel_left, take-append-drop, take-append-le, length-append}
@@ -22,7 +23,7 @@ use Rattle.sip_log.proofs.lines.SplitLemmas.{Lacks, Lacks-append, Lacks-word, cu
 use Rattle.sip_log.proofs.lines.FrontLemmas.{line-held, line-none}
 use Rattle.sip_log.proofs.numbers.NumberLemmas.{IsNumber-no_space, IsNumber-no_line_feed, IsNumber-one, IsNumber-short}
 
--- What follows is of a word and the number that stands after it.
+-- What follows is of a word, and of a text that is the word, a number and a rest.
 module _ (word text : List ℕ) where
   -- a text has only one number after the word, and one rest after that
   pub NumberAfter-one : (n n2 : ℕ) (behind behind2 : List ℕ) → NumberAfter word text n behind → NumberAfter word text n2 behind2
@@ -32,7 +33,7 @@ module _ (word text : List ℕ) where
       let parts = part-one space is.number behind is2.number behind2 (IsNumber-no_space _ n is.number_is) (IsNumber-no_space _ n2 is2.number_is) is.parted is2.parted rest in
       (IsNumber-one is.number is2.number n n2 parts.0 is.number_is is2.number_is, parts.1)
 
-  -- What follows is of the text after the word, cut in two before its first blank.
+  -- What follows is of a text that is the word, `front`, which has no blank, and `back`, which is empty or begins with a blank.
   module _ (front back : List ℕ) (after : text ≡ word ++ (front ++ back)) (lacks : Lacks space front) (parted : Parted back) where
     -- the number after the word is what stands before the first blank
     pub NumberAfter-part : (n : ℕ) (behind : List ℕ) → NumberAfter word text n behind → IsNumber front n
@@ -69,7 +70,7 @@ Tolerances-one Two text early late early2 late2 is is2 =
     let second = NumberAfter-one (codes " late ") is2.0 late late2 [] [] (subst (λ t. NumberAfter (codes " late ") t late []) first.1 is.2) is2.2 in
     (first.0, second.0)
 
--- an empty text lacks each byte
+-- the empty text has no line feed
 nothing-lacks : Lacks line_feed []
 nothing-lacks = Lacks-word line_feed [] refl
 
@@ -86,7 +87,7 @@ Tolerances-length One text early late low low2 is = omega (arith, NumberAfter-le
 Tolerances-length Two text early late low low2 is =
     omega (arith, NumberAfter-length (codes " early ") text early is.0 low is.1, NumberAfter-length (codes " late ") is.0 late [] low2 is.2)
 
--- What follows shows that the times that are read of line 2, word by word, are those that stand there.
+-- What follows shows that the numbers that are read of line 2, word by word, are its times p: n1 is read first, and leaves rest1.
 module _ (format : Format) (line : List ℕ) (p : Times) (is : TimesLine format line p) (n1 : ℕ) (rest1 : List ℕ) (first : NumberAfter (codes "t1 ") line n1 rest1) where
   -- the first number of the line is t1, and what follows it is what follows t1
   same1 : (p.t1 ≡ n1) × (is.rest1 ≡ rest1)
@@ -96,7 +97,7 @@ module _ (format : Format) (line : List ℕ) (p : Times) (is : TimesLine format 
   pub t2-after : NumberAfter (codes " t2 ") rest1 p.t2 is.rest2
   t2-after = subst (λ t. NumberAfter (codes " t2 ") t p.t2 is.rest2) same1.1 is.t2_is
 
-  -- What follows is of the second number of the line.
+  -- What follows is of n2, the second number that is read of the line, which leaves rest2.
   module _ (n2 : ℕ) (rest2 : List ℕ) (second : NumberAfter (codes " t2 ") rest1 n2 rest2) where
     -- the second number of the line is t2, and what follows it is what follows t2
     same2 : (p.t2 ≡ n2) × (is.rest2 ≡ rest2)
@@ -106,7 +107,7 @@ module _ (format : Format) (line : List ℕ) (p : Times) (is : TimesLine format 
     pub t4-after : NumberAfter (codes " t4 ") rest2 p.t4 is.rest3
     t4-after = subst (λ t. NumberAfter (codes " t4 ") t p.t4 is.rest3) same2.1 is.t4_is
 
-    -- What follows is of the third number of the line.
+    -- What follows is of n3, the third number that is read of the line, which leaves rest3.
     module _ (n3 : ℕ) (rest3 : List ℕ) (third : NumberAfter (codes " t4 ") rest2 n3 rest3) where
       -- the third number of the line is t4, and what follows it is what follows t4
       same3 : (p.t4 ≡ n3) × (is.rest3 ≡ rest3)
@@ -116,7 +117,7 @@ module _ (format : Format) (line : List ℕ) (p : Times) (is : TimesLine format 
       pub tolerances-after : Tolerances format rest3 p.early p.late
       tolerances-after = subst (λ t. Tolerances format t p.early p.late) same3.1 is.tolerances
 
-      -- What follows is of the tolerances at the end of the line.
+      -- What follows is of the tolerances that are read at the end of the line, `early` and `late`.
       module _ (early late : ℕ) (fourth : Tolerances format rest3 early late) where
         -- the times of the line are these numbers
         pub times-after : p ≡ record { t1 = n1; t2 = n2; t4 = n3; early = early; late = late; rules = R6026 }
@@ -137,6 +138,7 @@ cut_times p = record { t1 = cut p.t1; t2 = cut p.t2; t4 = cut p.t4; early = cut 
 -- times within their limits are kept as they are
 cut_times-within : (p : Times) → AreTimes p → cut_times p ≡ p
 cut_times-within p is =
+    -- no number is greater than its limit, so that none is cut
     let t1 : cut p.t1 ≡ p.t1 = omega (arith, is.t1_high) in
     let t2 : cut p.t2 ≡ p.t2 = omega (arith, is.t2_high) in
     let t4 : cut p.t4 ≡ p.t4 = omega (arith, is.t4_high) in
@@ -151,19 +153,22 @@ within-cut_times p is = record {
   t1_high = omega (arith, is.t1_high);
   t2_low = omega (arith, is.t2_low);
   t2_high = omega (arith, is.t2_high);
+  -- each of these numbers has a greatest value, and t4 also a least one
   t4_low = omega (arith, is.t4_low);
   t4_high = omega (arith, is.t4_high);
   early_high = omega (arith, is.early_high);
   late_high = omega (arith, is.late_high);
 }
 
--- `Params` takes the times of line 2 exactly where they are within their limits
+-- line 2 tells the times n alone, and r is what is made of n: r is then the times of the line within their limits, or None where it tells none
 pub times-read : (format : Format) (line : List ℕ) (n kept : Times) (r : Option Times) → TimesLine format line n → ((p : Times) → TimesLine format line p → p ≡ n) → kept ≡ cut_times n
     → MatchOption r (¬ (AreTimes kept)) (λ p. AreTimes p × (p ≡ kept))
     → MatchOption r ((p : Times) → TimesLine format line p → ¬ (AreTimes p)) (λ p. TimesLine format line p × AreTimes p)
+-- where nothing is made of the line, times p within their limits would be n, and kept as they are
 times-read format line n kept None is only as_kept new = λ p is2 within.
     let within2 = subst AreTimes (only p is2) within in
     new (subst AreTimes (sym (cut_times-within n within2) ∙ sym as_kept) within2)
+-- where q is made, it is what was kept of n; that is within the limits, and so is n itself
 times-read format line n kept (Some q) is only as_kept new =
     let within = within-cut_times n (subst AreTimes (new.1 ∙ as_kept) new.0) in
     let same : q ≡ n = new.1 ∙ as_kept ∙ cut_times-within n within in
@@ -190,7 +195,7 @@ TimesLine-short format line p is within =
     let end = Tolerances-length format is.rest3 p.early p.late (omega (arith, within.early_high)) (omega (arith, within.late_high)) is.tolerances in
     omega (arith, t1, t2, t4, end)
 
--- What follows is of the bytes that are held, and those left after them, once line 1 was read.
+-- What follows is of the bytes after line 1: `held` are those that the reader holds, and `ys` those that follow them in the source.
 module _ (format : Format) (held ys : List ℕ) where
   -- where no line feed is among the first bytes, as many as line 2 can have, no line 2 is there and the header is at fault
   pub ComesSecond-none : IsFirstByte (is_byte line_feed) (take longest_times held) None → (longest_times ≤ length held) ⊎ (ys ≡ [])
@@ -198,7 +203,7 @@ module _ (format : Format) (held ys : List ℕ) where
   ComesSecond-none none enough =
       inr ((λ p behind is. line-none longest_times held ys none enough is.line behind is.whole (TimesLine-short format is.line p is.times is.within)), refl)
 
-  -- What follows is of a first line that ends at the place k.
+  -- What follows is of a line that ends at the place k, where the first line feed among the held bytes is.
   module _ (k : ℕ) (found : IsFirstByte (is_byte line_feed) (take longest_times held) (Some k)) where
     -- where the first line is no line 2 with times within their limits, the header is at fault
     pub ComesSecond-other : ((p : Times) → TimesLine format (take k held) p → ¬ (AreTimes p)) → ComesSecond format (held ++ ys) (stops faults.Header)
@@ -254,7 +259,7 @@ rules-first R6026 rest = refl
 under-same : (p : Times) → p.rules ≡ R6026 → p ≡ under R6026 p
 under-same p is = λ i. record { t1 = p.t1; t2 = p.t2; t4 = p.t4; early = p.early; late = p.late; rules = is i }
 
--- What follows is of what may come after the second line of the header: a line of rules, or the entries.
+-- What follows is of what may come after line 2, which tells the times p: a line of rules, or the entries.
 module _ (format : Format) (p : Times) (is : p.rules ≡ R6026) where
   -- where no line of rules stands in the rest, the header ends before it
   pub ComesThird-none : (rest : List ℕ) → ((rules : Rules) (more : List ℕ) → ¬ (rest ≡ rules_text rules ++ more)) → ComesThird format p rest (gives (format, p) rest)

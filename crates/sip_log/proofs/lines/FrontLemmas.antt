@@ -13,7 +13,7 @@ use Rattle.sip_log.specs.Next.{Next, stops}
 use Rattle.sip_log.specs.inner.Entry.{HeadComes, LineComes, EntryComes}
 use Rattle.sip_log.proofs.lines.SplitLemmas.{Cut, first-cut, first-none, first-of-front, cut-more}
 
--- What follows is of the first line feed among the first `most` bytes that are held.
+-- What follows is of the first line feed among the first `most` of the bytes `held`, which the reader holds; `ys` follow them in the source.
 module _ (most : ℕ) (held ys : List ℕ) where
   -- where a search finds the line feed at the place k, the bytes before k are the first line of what is left
   pub line-held : (k : ℕ) → IsFirstByte (is_byte line_feed) (take most held) (Some k)
@@ -30,6 +30,7 @@ module _ (most : ℕ) (held ys : List ℕ) where
       let len : length (held ++ ys) ≡ length line + length (line_feed ∷ behind) = ap length whole ∙ length-append line (line_feed ∷ behind) in
       let inside : length line < length held = inside-held enough len short in
       let low : length line < length front = omega (arith, length-take most held) in
+      -- a line feed stands at the end of that line, within the first `most` bytes
       let here : get_or front (length line) 0 ≡ line_feed =
       get_or-take most held (length line) 0 short ∙ sym (get_or-append held ys 0 (length line) inside)
       ∙ ap (λ (t : List ℕ). get_or t (length line) 0) whole ∙ get_or-append_seam line line_feed behind 0 in
@@ -41,7 +42,7 @@ module _ (most : ℕ) (held ys : List ℕ) where
       inside-held (inl many) len short = omega arith
       inside-held (inr end) len short = omega (arith, ap length end, length-append held ys)
 
--- What follows is of the first line of what is left to read.
+-- What follows is of the first line of what is left to read: the bytes `held`, which the reader holds, and `ys`, which follow in the source.
 module _ (held ys : List ℕ) where
   -- where a search finds a line feed at the place k, the bytes before it are the front line
   pub FrontLine-held : (k : ℕ) → k < longest_line → IsFirstByte (is_byte line_feed) (take longest_line held) (Some k)
@@ -55,7 +56,7 @@ module _ (held ys : List ℕ) where
       → (line behind : List ℕ) → ¬ (FrontLine (held ++ ys) line behind)
   FrontLine-none none enough line behind is = line-none longest_line held ys none enough line behind is.whole is.short
 
--- What follows is what comes next by the front line.
+-- What follows is what comes next by the front line of `held` and `ys`, where the entry before is at the moment `last`.
 module _ (format : Format) (last : ℕ) (held ys : List ℕ) where
   -- where fewer than 32 bytes are left, without a line feed, the entry is truncated
   pub AtLine-truncated : IsFirstByte (is_byte line_feed) (take longest_line held) None → length held < longest_line → ys ≡ []
@@ -69,7 +70,7 @@ module _ (format : Format) (last : ℕ) (held ys : List ℕ) where
   AtLine-long none many =
       inl (FrontLine-none held ys none (inl many), inr (omega (arith, length-append held ys), refl))
 
-  -- What follows is of a front line that ends at the place k.
+  -- What follows is of a front line that ends at the place k, where the first line feed is.
   module _ (k : ℕ) (short : k < longest_line) (found : IsFirstByte (is_byte line_feed) (take longest_line held) (Some k)) where
     -- where the front line does not have the form of an entry's line, the line of the entry is at fault
     pub AtLine-other : ((head : Head) → ¬ (HeadLine format (take k held) head)) → LineComes format last (held ++ ys) (stops faults.EntryLine)

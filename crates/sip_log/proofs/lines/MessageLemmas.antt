@@ -8,7 +8,7 @@ use Rattle.sip_log.specs.Next.{gives, stops}
 use Rattle.sip_log.specs.inner.Entry.{CloseComes, MessageComes}
 use Rattle.sip_log.proofs.lines.SplitLemmas.{cut-at, cut-more}
 
--- What follows is of a message of `len` bytes at the front of what is left to read.
+-- What follows is of a message of `len` bytes at the front of the bytes `held`, which the reader holds, and `ys`, which follow in the source.
 module _ (action : Action) (moment len : ℕ) (held ys : List ℕ) where
   -- where the message is held whole with the byte after it, what comes by that byte comes next
   AtMessage-held : len < length held → (next : _) → CloseComes action moment (take len held) (get_or held len 0) (drop (len + 1) held ++ ys) next
@@ -16,6 +16,7 @@ module _ (action : Action) (moment len : ℕ) (held ys : List ℕ) where
   AtMessage-held inside next close = inr (
     omega (arith, length-append held ys),
     (
+      -- the message, the byte after it and what follows them are what is held and what is left
       take len held,
       get_or held len 0,
       drop (len + 1) held ++ ys,

@@ -29,6 +29,7 @@ Lacks-tail m x xs lacks = record { nowhere = λ k inside. lacks.nowhere (suc k) 
 pub Lacks-cons : (m x : ℕ) (xs : List ℕ) → x ≢ m → Lacks m xs → Lacks m (x ∷ xs)
 Lacks-cons m x xs other lacks = record { nowhere = at }
   where
+    -- neither the first element nor one after it is m
     at : (k : ℕ) → k < length (x ∷ xs) → get_or (x ∷ xs) k 0 ≢ m
     at zero inside = other
     at (suc k) inside = lacks.nowhere k (omega arith)
@@ -39,7 +40,7 @@ Lacks-append m [] ys first second = second
 Lacks-append m (x ∷ xs) ys first second =
     Lacks-cons m x (xs ++ ys) (first.nowhere 0 (omega arith)) (Lacks-append m xs ys (Lacks-tail m x xs first) second)
 
--- where a test that computes for a word finds no m, m is nowhere in it
+-- where a test that computes finds each element of a list to be other than m, m is nowhere in the list
 pub Lacks-word : (m : ℕ) (xs : List ℕ) → list_all (λ x. not (x == m)) xs ≡ true → Lacks m xs
 Lacks-word m [] pass = record { nowhere = λ k inside. absurd (omega arith) }
 Lacks-word m (x ∷ xs) pass =
@@ -49,9 +50,11 @@ Lacks-word m (x ∷ xs) pass =
 -- a list is cut at its first m in one way only
 pub cut-one : (m : ℕ) (front back front2 back2 : List ℕ) → Lacks m front → Lacks m front2
     → front ++ m ∷ back ≡ front2 ++ m ∷ back2 → (front ≡ front2) × (back ≡ back2)
+-- where the one front is empty, m comes first, and so the other is empty
 cut-one m [] back [] back2 lacks lacks2 same = (refl, cc)
 cut-one m [] back (y ∷ ys) back2 lacks lacks2 same = absurd (lacks2.nowhere 0 (omega arith) (cc))
 cut-one m (x ∷ xs) back [] back2 lacks lacks2 same = absurd (lacks.nowhere 0 (omega arith) (cc))
+-- x and y are the first bytes, which are the same
 cut-one m (x ∷ xs) back (y ∷ ys) back2 lacks lacks2 same =
     let head : x ≡ y = cc in
     let tail : xs ++ m ∷ back ≡ ys ++ m ∷ back2 = cc in
@@ -64,6 +67,7 @@ first-cut m xs k (before, here) =
     let inside : k < length xs = before.high in
     let byte : get_or xs k 0 ≡ m = eqb-true _ m here in
     let parts : drop k xs ≡ m ∷ drop (k + 1) xs = drop-cons xs k 0 inside ∙ ap (λ x. x ∷ drop (suc k) xs) byte ∙ ap (λ (n : ℕ). m ∷ drop n xs) (sym (add-one k)) in
+    -- the list is what stands before, m and the rest, and m stands nowhere before
     record {
       whole = sym (take-append-drop k xs) ∙ ap (λ (t : List ℕ). take k xs ++ t) parts;
       first = record {
@@ -103,6 +107,7 @@ pub first-of-front : (m most : ℕ) (xs : List ℕ) (k : ℕ) → IsFirstByte (i
 first-of-front m most xs k (before, here) =
     let inside : k < length (take most xs) = before.high in
     let len = length-take most xs in
+    -- each place of the front has the element of the whole list
     let at : (j : ℕ) → j < k + 1 → get_or (take most xs) j 0 ≡ get_or xs j 0 = λ j low. get_or-take most xs j 0 (omega arith) in (
       record {
         low = before.low;
@@ -117,12 +122,14 @@ pub part-one : (m : ℕ) (front back front2 back2 : List ℕ) → Lacks m front 
     → front ++ back ≡ front2 ++ back2 → (front ≡ front2) × (back ≡ back2)
 part-one m front back front2 back2 lacks lacks2 (inl none) (inl none2) same =
     (sym (append-nil front) ∙ ap (λ (t : List ℕ). front ++ t) (sym none) ∙ same ∙ ap (λ (t : List ℕ). front2 ++ t) none2 ∙ append-nil front2, none ∙ sym none2)
+-- only one of the two parts goes on to an m: this cannot be, since the other part would have that m too
 part-one m front back front2 back2 lacks lacks2 (inl none) (inr more2) same =
     absurd (Lacks-cut m front front2 more2.0 lacks
     (sym (append-nil front) ∙ ap (λ (t : List ℕ). front ++ t) (sym none) ∙ same ∙ ap (λ (t : List ℕ). front2 ++ t) more2.1))
 part-one m front back front2 back2 lacks lacks2 (inr more) (inl none2) same =
     absurd (Lacks-cut m front2 front more.0 lacks2
     (sym (append-nil front2) ∙ ap (λ (t : List ℕ). front2 ++ t) (sym none2) ∙ sym same ∙ ap (λ (t : List ℕ). front ++ t) more.1))
+-- both go on to their first m, which is the same one
 part-one m front back front2 back2 lacks lacks2 (inr more) (inr more2) same =
     let cut = cut-one m front more.0 front2 more2.0 lacks lacks2
     (ap (λ (t : List ℕ). front ++ t) (sym more.1) ∙ same ∙ ap (λ (t : List ℕ). front2 ++ t) more2.1) in

@@ -1,4 +1,5 @@
--- Something is read of every input, since each case of the reading holds or does not.
+-- Something is read of every input, since each case of the reading holds or does not hold.
+-- In the lemmas a and b are the bounds of a number n, or b is a byte; h is the head of an entry.
 use Rattle.std.proofs.Common.{◌≡◌, ◌≢◌, ◌⊎◌, inl, inr, ℕ, zero, suc, ◌+◌, ◌<◌, ◌≤◌, List, [], ◌∷◌, ◌++◌, length, take, drop, get_or, refl, subst, sym, ap, ◌∙◌, arith}
 use Rattle.std.specs.Prelude.{codes}
 use Rattle.std.specs.Char.{digit_value}
@@ -36,7 +37,7 @@ use Rattle.sip_log.proofs.headers.HeaderLemmas.{NumberAfter-one, NumberAfter-par
 abbrev pub Settled : Type 0 → Type 0
 Settled P = P ⊎ ¬ P
 
--- where each of two facts holds or not, both together hold or not
+-- where each of two facts is decided, so is that both hold
 both : (P Q : Type 0) → Settled P → Settled Q → Settled (P × Q)
 both P Q (inl p) (inl q) = inl (p, q)
 both P Q (inl p) (inr q) = inr (λ x. q x.1)
@@ -66,6 +67,7 @@ begins-or-not : (word xs : List ℕ) → ((rest : List ℕ) × (xs ≡ word ++ r
 begins-or-not [] xs = inl (xs, refl)
 begins-or-not (w ∷ word) [] = inr (λ rest same. cc)
 begins-or-not (w ∷ word) (x ∷ xs) = elim (cases_eq x w) as (λ _. ((rest : List ℕ) × (x ∷ xs ≡ w ∷ word ++ rest)) ⊎ ((rest : List ℕ) → x ∷ xs ≢ w ∷ word ++ rest)) [
+  -- where the first byte is not that of the word, the list does not begin with it; else this is asked of what follows both
   | inr other ↦ inr (λ rest same. other (ap (λ (t : List ℕ). get_or t 0 0) same))
   | inl first ↦ elim (begins-or-not word xs) as (λ _. ((rest : List ℕ) × (x ∷ xs ≡ w ∷ word ++ rest)) ⊎ ((rest : List ℕ) → x ∷ xs ≢ w ∷ word ++ rest)) [
     | inl is ↦ inl (is.0, λ i. first i ∷ is.1 i)
@@ -80,7 +82,7 @@ digits-or-not : (text : List ℕ) → Settled (AllDigits 10 text)
 digits-or-not [] = inl tt
 digits-or-not (c ∷ cs) = both (digit_value c < 10) (AllDigits 10 cs) (at_most (suc (digit_value c)) 10) (digits-or-not cs)
 
--- a text begins with 0 only where that is all of it, or not
+-- it is settled whether a text begins with 0 only where that is all of it
 plain-or-not : (text : List ℕ) → Settled (get_or text 0 0 ≡ digit_zero → length text ≡ 1)
 plain-or-not text = elim (cases_eq (length text) 1) as (λ _. Settled (get_or text 0 0 ≡ digit_zero → length text ≡ 1)) [
   | inl one ↦ inl (λ none. one)
@@ -90,7 +92,7 @@ plain-or-not text = elim (cases_eq (length text) 1) as (λ _. Settled (get_or te
   ]
 ]
 
--- a text is a number, or is none
+-- a text is a number, or it is no number
 number-or-not : (text : List ℕ) → ((n : ℕ) × IsNumber text n) ⊎ ((n : ℕ) → ¬ (IsNumber text n))
 number-or-not text = elim (both _ _ (both _ _ (at_most 1 (length text)) (digits-or-not text)) (plain-or-not text)) as (λ _. ((n : ℕ) × IsNumber text n) ⊎ ((n : ℕ) → ¬ (IsNumber text n))) [
   | inl is ↦ inl (digits_value 10 text, record { digits = is.0; plain = is.1; value = refl })
@@ -103,6 +105,7 @@ numbers-or-not text = elim (cut-or-lacks space text) [
   | inr lacks ↦ inr (λ moment len is. Lacks-cut space text is.moment_text is.len_text lacks is.whole)
   | inl at ↦ elim (number-or-not at.0) [
     | inr other ↦ inr (λ moment len is. other moment (Numbers-parts text at.0 at.1 moment len at.2 is).0)
+    -- what stands before the blank is a number, and what stands after it is one or none
     | inl first ↦ elim (number-or-not at.1) [
       | inr other ↦ inr (λ moment len is. other len (Numbers-parts text at.0 at.1 moment len at.2 is).1)
       | inl second ↦ inl (first.0, second.0, Numbers-of text at.0 at.1 first.0 second.0 at.2 first.1 second.1)
@@ -114,6 +117,7 @@ numbers-or-not text = elim (cut-or-lacks space text) [
 one-has-none : IsOf One Restart → ⊥
 one-has-none of = absurd (other (of refl))
   where
+    -- format 1 is not format 2
     other : One ≢ Two
     other same = cc
 
@@ -139,12 +143,15 @@ action-or-not format b = elim (cases_eq b (letter Sent)) [
   | inl is ↦ inl (Sent, (λ same. cc), is)
   | inr sent ↦ elim (cases_eq b (letter Received)) [
     | inl is ↦ inl (Received, (λ same. cc), is)
+    -- the letter is neither that of a sent message nor that of a received one
     | inr received ↦ elim (cases_eq b (letter Failed)) [
       | inl is ↦ inl (Failed, (λ same. cc), is)
       | inr failed ↦ elim (cases_eq b (letter Mark)) [
         | inl is ↦ inl (Mark, (λ same. cc), is)
+        -- the letter is none of these, and not that of a mark
         | inr mark ↦ elim (cases_eq b (letter Restart)) [
           | inl is ↦ restart-or-not format b sent received failed mark is
+          -- the byte is none of the five letters
           | inr restart ↦ inr (λ a. elim a as (λ a. IsOf format a → b ≢ letter a) [
             | Sent ↦ λ of. sent
             | Received ↦ λ of. received
@@ -167,27 +174,28 @@ no-head : (format : Format) (line : List ℕ) → ((b : ℕ) (text : List ℕ) �
 no-head format line other (message action moment len) is = other (letter action) is.0 is.3
 no-head format line other (plain action moment) is = other (letter action) is.0 is.4
 
--- a line with a letter of the format and a blank is an entry's line, or is none
+-- a line with a letter of the format and a blank is an entry's line, or it is not
 lettered-or-not : (format : Format) (action : Action) (text : List ℕ) → IsOf format action → HeadOrNot format (letter action ∷ space ∷ text)
 lettered-or-not format action text of = elim (message-or-not action) as (λ _. HeadOrNot format (letter action ∷ space ∷ text)) [
   | inl has ↦ elim (numbers-or-not text) as (λ _. HeadOrNot format (letter action ∷ space ∷ text)) [
     | inl is ↦ inl (message action is.0 is.1, (text, has, is.2, refl))
     | inr none ↦ inr (HeadLine-no_numbers format (letter action ∷ space ∷ text) action has refl none)
   ]
+  -- without a message a moment alone stands after the letter
   | inr lacks ↦ elim (number-or-not text) as (λ _. HeadOrNot format (letter action ∷ space ∷ text)) [
     | inl is ↦ inl (plain action is.0, (text, lacks, of, is.1, refl))
     | inr none ↦ inr (HeadLine-no_number format (letter action ∷ space ∷ text) action lacks refl none)
   ]
 ]
 
--- a line with a byte and a blank is an entry's line, or is none
+-- a line with a byte and a blank is an entry's line, or it is not
 letter-or-not : (format : Format) (b : ℕ) (text : List ℕ) → HeadOrNot format (b ∷ space ∷ text)
 letter-or-not format b text = elim (action-or-not format b) as (λ _. HeadOrNot format (b ∷ space ∷ text)) [
   | inr none ↦ inr (HeadLine-unlettered format (b ∷ space ∷ text) none)
   | inl by ↦ subst (λ c. HeadOrNot format (c ∷ space ∷ text)) (sym by.2) (lettered-or-not format by.0 text by.1)
 ]
 
--- a line is an entry's line of the format, or is none
+-- a line is an entry's line of the format, or it is not
 head-or-not : (format : Format) (line : List ℕ) → HeadOrNot format line
 head-or-not format [] = inr (no-head format [] (λ b text same. cc))
 head-or-not format (b ∷ []) = inr (no-head format (b ∷ []) (λ c text same. cc))
@@ -250,6 +258,7 @@ line-some format last rest = elim (front-or-not rest) [
   | inr none ↦
       let next = Unless-some (longest_line ≤ length rest) faults.Truncated (λ next. next ≡ stops faults.EntryLine) (at_most longest_line (length rest)) (λ long. (stops faults.EntryLine, refl)) in
       (next.0, inl (none, next.1))
+  -- the front line is no line of an entry, or it is one: then its limits, its order and its message are looked at
   | inl front ↦ elim (head-or-not format front.0) [
     | inr none ↦ (stops faults.EntryLine, inr (front.0, front.1, front.2, inl (none, refl)))
     | inl head ↦
@@ -266,7 +275,7 @@ next-some format count last (x ∷ xs) =
     let next = Unless-some (count < most_entries) faults.Limit _ (at_most (suc count) most_entries) (λ few. line-some format last (x ∷ xs)) in
     (next.0, inr ((λ same. cc), next.1))
 
--- where an entry comes by a case of a demand, the demand holds, and the entry is what follows
+-- where a case gives something, it does not stop with the reason, so what it gives is what follows
 Unless-gives : {A : Type 0} (Demand : Type 0) (reason : LogReason) (a : A) (behind : List ℕ) (Follows : Type 0) → Unless Demand reason (gives a behind) Follows → Follows
 Unless-gives Demand reason a behind Follows (inl (fails, same)) = cc
 Unless-gives Demand reason a behind Follows (inr (holds, follows)) = follows
@@ -286,6 +295,7 @@ body-shorter (plain action moment) rest e behind is =
 line-shorter : (format : Format) (last : ℕ) (rest : List ℕ) (e : Item) (behind : List ℕ) → LineComes format last rest (gives e behind) → length behind < length rest
 line-shorter format last rest e behind (inl (none, next)) = absurd (no-entry (Unless-gives _ _ e behind _ next))
   where
+    -- what gives an entry does not stop with a fault
     no-entry : gives e behind ≢ stops faults.EntryLine
     no-entry same = cc
 line-shorter format last rest e behind (inr (line, after, front, inl (other, same))) = cc
@@ -355,11 +365,14 @@ last-or-not word text = elim (number_after-or-not word text) as (λ _. LastOrNot
   | inr none ↦ inr (λ n is. none n [] is)
   | inl is ↦ ends-here is.0 is.1 is.2
 ]
+  -- the number that follows the word ends the text, or something is left after it
   where
+    -- whether the text ends after the number or goes on, it is settled whether it is the word and a number
     ends-here : (n : ℕ) (behind : List ℕ) → NumberAfter word text n behind → LastOrNot word text
     ends-here n [] is = inl (n, is)
     ends-here n (x ∷ xs) is = inr (λ n2 is2. nil-cons (NumberAfter-one word text n2 n [] (x ∷ xs) is2 is).1)
       where
+        -- the empty list is no list with a first element
         nil-cons : [] ≢ x ∷ xs
         nil-cons same = cc
 
@@ -373,6 +386,7 @@ tolerances-or-not One text = elim (last-or-not (codes " tolerance ") text) as (�
   | inl is ↦ inl (is.0, is.0, (is.1, refl))
   | inr none ↦ inr (λ early late is. none late is.0)
 ]
+-- format 2 has two tolerances, one after the other
 tolerances-or-not Two text = elim (number_after-or-not (codes " early ") text) as (λ _. TolerancesOrNot Two text) [
   | inr none ↦ inr (λ early late is. none early is.0 is.1)
   | inl early ↦ elim (last-or-not (codes " late ") early.1) as (λ _. TolerancesOrNot Two text) [
@@ -382,26 +396,29 @@ tolerances-or-not Two text = elim (number_after-or-not (codes " early ") text) a
   ]
 ]
 
--- the line is a line 2 of the format, or it is none
+-- the line is a line 2 of the format, or it is not
 abbrev TimesOrNot : Format → List ℕ → Type 0
 TimesOrNot format line = ((p : Times) × TimesLine format line p) ⊎ ((p : Times) → ¬ (TimesLine format line p))
 
--- a line is a line 2 of the format, or is none
+-- a line is a line 2 of the format, or it is not
 times-or-not : (format : Format) (line : List ℕ) → TimesOrNot format line
 times-or-not format line = elim (number_after-or-not (codes "t1 ") line) as (λ _. TimesOrNot format line) [
   | inr none ↦ inr (λ p is. none _ _ is.t1_is)
   | inl t1 ↦ elim (number_after-or-not (codes " t2 ") t1.1) as (λ _. TimesOrNot format line) [
     | inr none ↦ inr (λ p is. none _ _ (t2-after format line p is t1.0 t1.1 t1.2))
+    -- after t2 comes t4, and then the tolerances
     | inl t2 ↦ elim (number_after-or-not (codes " t4 ") t2.1) as (λ _. TimesOrNot format line) [
       | inr none ↦ inr (λ p is. none _ _ (t4-after format line p is t1.0 t1.1 t1.2 t2.0 t2.1 t2.2))
       | inl t4 ↦ elim (tolerances-or-not format t4.1) as (λ _. TimesOrNot format line) [
         | inr none ↦ inr (λ p is. none _ _ (tolerances-after format line p is t1.0 t1.1 t1.2 t2.0 t2.1 t2.2 t4.0 t4.1 t4.2))
+        -- all five numbers stand there, so the line has these times
         | inl both ↦
             let times : Times = record { t1 = t1.0; t2 = t2.0; t4 = t4.0; early = both.0; late = both.1; rules = R6026 } in
             let is : TimesLine format line times = record {
               rest1 = t1.1;
               rest2 = t2.1;
               rest3 = t4.1;
+              -- the numbers are those that were read
               t1_is = t1.2;
               t2_is = t2.2;
               t4_is = t4.2;
@@ -422,6 +439,7 @@ are-times-or-not p =
         t1_low = is.0.0.0;
         t1_high = is.0.0.1;
         t2_low = is.0.1.0;
+        -- each number has its least and its greatest value, the tolerances the greatest alone
         t2_high = is.0.1.1;
         t4_low = is.1.0.0;
         t4_high = is.1.0.1;
@@ -440,6 +458,7 @@ second-or-not : (format : Format) (rest : List ℕ) → SecondOrNot format rest
 second-or-not format rest = elim (cut-or-lacks line_feed rest) as (λ _. SecondOrNot format rest) [
   | inr lacks ↦ inr (λ p behind is. Lacks-cut line_feed rest is.line behind lacks is.whole)
   | inl at ↦ elim (times-or-not format at.0) as (λ _. SecondOrNot format rest) [
+    -- the line before the first line feed tells no times, or times out of their limits, or times within them
     | inr none ↦ inr (λ p behind is. none p (line-is at.0 at.1 at.2 p behind is))
     | inl times ↦ elim (are-times-or-not times.0) as (λ _. SecondOrNot format rest) [
       | inl limits ↦ inl (times.0, at.1, record { line = at.0; times = times.1; within = limits; whole = at.2.whole })
@@ -487,6 +506,7 @@ first-some input = elim (begins-or-not (title_text One) input) as (λ _. Comes (
 pub no-header : (input : List ℕ) (fault : LogReason) → HeaderComes input (stops fault) → LacksHeader input
 no-header input fault is format p behind header = absurd (other (ComesFirst-one input _ _ (header-read format input p behind header) is))
   where
+    -- what gives a header does not stop with a fault
     other : ◌≢◌ {A = Next (Format × Times)} (gives (format, p) behind) (stops fault)
     other same = cc
 

@@ -1,4 +1,6 @@
 -- What is read of an input is only one thing.
+-- In the lemmas n and n2 are what comes by two readings of the same bytes; what belongs to the second reading has a 2.
+-- Of an entry's line a is the action, m the moment and l the length of the message; es are entries, and e the first of them.
 use Rattle.std.proofs.Common.{◌≡◌, ◌≢◌, inl, inr, ℕ, ◌+◌, List, [], ◌∷◌, ◌++◌, length, get_or, drop, if◌then◌else◌, ◌==◌, refl, subst, sym, ap, ◌∙◌, arith}
 use Rattle.std.proofs.lemmas.List.{append_cancel_left}
 use Rattle.sip_standard.specs.Times.{Times}
@@ -72,18 +74,22 @@ ComesThird-one format p rest n n2 a b =
 
 -- only one thing comes after line 1
 ComesSecond-one : (format : Format) (rest : List ℕ) (n n2 : Next (Format × Times)) → ComesSecond format rest n → ComesSecond format rest n2 → n ≡ n2
+-- a is what comes by the first reading and b by the second: by both the times and what follows them
 ComesSecond-one format rest n n2 (inl a) (inl b) =
     let same = TimesFront-one format rest a.0 b.0 a.1 b.1 a.2 b.2 in
     ComesThird-one format b.0 b.1 n n2 (coe 0 1 (i. ComesThird format (same.0 i) (same.1 i) n) a.3) b.3
+-- by one of them only there are times, which cannot be; by none there is the fault Header
 ComesSecond-one format rest n n2 (inl a) (inr b) = absurd (b.0 a.0 a.1 a.2)
 ComesSecond-one format rest n n2 (inr a) (inl b) = absurd (a.0 b.0 b.1 b.2)
 ComesSecond-one format rest n n2 (inr a) (inr b) = a.1 ∙ sym b.1
 
 -- only one thing comes first in an input
 pub ComesFirst-one : (input : List ℕ) (n n2 : Next (Format × Times)) → HeaderComes input n → HeaderComes input n2 → n ≡ n2
+-- a is what comes by the first reading and b by the second: by both a title and what follows it
 ComesFirst-one input n n2 (inl a) (inl b) =
     let same = title-one a.0 b.0 a.1 b.1 (sym a.2 ∙ b.2) in
     ComesSecond-one b.0 b.1 n n2 (coe 0 1 (i. ComesSecond (same.0 i) (same.1 i) n) a.3) b.3
+-- by one of them only there is a title, which cannot be; by none there is the fault Header
 ComesFirst-one input n n2 (inl a) (inr b) = absurd (b.0 a.0 a.1 a.2)
 ComesFirst-one input n n2 (inr a) (inl b) = absurd (a.0 b.0 b.1 b.2)
 ComesFirst-one input n n2 (inr a) (inr b) = a.1 ∙ sym b.1
@@ -113,10 +119,12 @@ HeadLine-one format line (message a m l) (message a2 m2 l2) is is2 =
     let text : is.0 ≡ is2.0 = cc in
     let numbers = Numbers-one is2.0 m l m2 l2 (subst (λ t. Numbers t m l) text is.2) is2.2 in
     λ i. message (action i) (numbers.0 i) (numbers.1 i)
+-- a line of an entry with a message is no line of one without, since the letters differ
 HeadLine-one format line (message a m l) (plain a2 m2) is is2 =
     absurd (is2.1 (subst HasMessage (letter-one a a2 (ap (λ (t : List ℕ). get_or t 0 0) (sym is.3 ∙ is2.4))) is.1))
 HeadLine-one format line (plain a m) (message a2 m2 l2) is is2 =
     absurd (is.1 (subst HasMessage (letter-one a2 a (ap (λ (t : List ℕ). get_or t 0 0) (sym is2.3 ∙ is.4))) is2.1))
+-- both lines are of entries without a message: the letter and the moment are the same
 HeadLine-one format line (plain a m) (plain a2 m2) is is2 =
     let same = sym is.4 ∙ is2.4 in
     let action : a ≡ a2 = letter-one a a2 (ap (λ (t : List ℕ). get_or t 0 0) same) in
@@ -139,37 +147,40 @@ Unless-one Demand reason n n2 Follows Follows2 one (inl a) (inr b) = absurd (a.0
 Unless-one Demand reason n n2 Follows Follows2 one (inr a) (inl b) = absurd (b.0 a.0)
 Unless-one Demand reason n n2 Follows Follows2 one (inr a) (inr b) = one a.1 b.1
 
--- two lists are made of the same parts where the first parts have one length
+-- where a list is cut in two ways, and the first parts are equally long, the first parts are the same, and so are the second ones
 parts-one : (xs ys xs2 ys2 : List ℕ) → length xs ≡ length xs2 → xs ++ ys ≡ xs2 ++ ys2 → (xs ≡ xs2) × (ys ≡ ys2)
 parts-one [] ys [] ys2 len same = (refl, same)
 parts-one [] ys (x2 ∷ xs2) ys2 len same = absurd (omega arith)
 parts-one (x ∷ xs) ys [] ys2 len same = absurd (omega arith)
 parts-one (x ∷ xs) ys (x2 ∷ xs2) ys2 len same =
+    -- both lists have the same first element, and what follows it is the same list, cut in two ways
     let head : x ≡ x2 = cc in
     let tail : xs ++ ys ≡ xs2 ++ ys2 = cc in
     let len2 : length xs ≡ length xs2 = omega arith in
     let rest = parts-one xs ys xs2 ys2 len2 tail in
     (λ i. head i ∷ rest.0 i, rest.1)
 
--- after a message one thing comes
+-- only one thing comes by the byte after a message
+-- b is the byte, and n and n2 are what comes by it
 AtClose-one : (action : Action) (moment : ℕ) (text : List ℕ) (b : ℕ) (after : List ℕ) (n n2 : Next Item) → CloseComes action moment text b after n → CloseComes action moment text b after n2 → n ≡ n2
 AtClose-one action moment text b after n n2 = Unless-one _ _ n n2 _ _ (λ e e2. e ∙ sym e2)
 
 -- only one thing comes by a message
 AtMessage-one : (action : Action) (moment len : ℕ) (behind : List ℕ) (n n2 : Next Item) → MessageComes action moment len behind n → MessageComes action moment len behind n2 → n ≡ n2
 AtMessage-one action moment len behind n n2 = Unless-one _ _ n n2 _ _
+    -- a and b are the two readings: the message, the byte after it and what follows are the same
     (λ a b.
     let parts = parts-one a.0 (a.1 ∷ a.2) b.0 (b.1 ∷ b.2) (a.4 ∙ sym b.4) (sym a.3 ∙ b.3) in
     let byte : a.1 ≡ b.1 = ap (λ (t : List ℕ). get_or t 0 0) parts.1 in
     let after : a.2 ≡ b.2 = ap (drop 1) parts.1 in
     AtClose-one action moment b.0 b.1 b.2 n n2 (coe 0 1 (i. CloseComes action moment (parts.0 i) (byte i) (after i) n) a.5) b.5)
 
--- after a head one thing comes
+-- only one thing comes after an entry's line
 AtBody-one : (head : Head) (behind : List ℕ) (n n2 : Next Item) → BodyComes head behind n → BodyComes head behind n2 → n ≡ n2
 AtBody-one (message action moment len) behind n n2 a b = AtMessage-one action moment len behind n n2 a b
 AtBody-one (plain action moment) behind n n2 a b = a ∙ sym b
 
--- at a head one thing comes
+-- only one thing comes by the moment of an entry's line
 AtHead-one : (last : ℕ) (head : Head) (behind : List ℕ) (n n2 : Next Item) → HeadComes last head behind n → HeadComes last head behind n2 → n ≡ n2
 AtHead-one last head behind n n2 = Unless-one _ _ n n2 _ _ (Unless-one _ _ n n2 _ _ (AtBody-one head behind n n2))
 
@@ -183,9 +194,12 @@ AtFront-one format last line behind n n2 (inr a) (inr b) =
 
 -- only one thing comes by the front line of the rest
 AtLine-one : (format : Format) (last : ℕ) (rest : List ℕ) (n n2 : Next Item) → LineComes format last rest n → LineComes format last rest n2 → n ≡ n2
+-- a is what comes by the first reading and b by the second: without a line both are the fault
 AtLine-one format last rest n n2 (inl a) (inl b) = Unless-one _ _ n n2 _ _ (λ e e2. e ∙ sym e2) a.1 b.1
+-- by one of them only there is a line, which cannot be
 AtLine-one format last rest n n2 (inl a) (inr b) = absurd (a.0 b.0 b.1 b.2)
 AtLine-one format last rest n n2 (inr a) (inl b) = absurd (b.0 a.0 a.1 a.2)
+-- by both there is one, which is the same
 AtLine-one format last rest n n2 (inr a) (inr b) =
     let parts = FrontLine-one rest a.0 a.1 b.0 b.1 a.2 b.2 in
     AtFront-one format last b.0 b.1 n n2 (coe 0 1 (i. FormComes format last (parts.0 i) (parts.1 i) n) a.3) b.3
@@ -217,6 +231,7 @@ pub Follow-one : (format : Format) (count last : ℕ) (rest : List ℕ) (es es2 
 Follow-one format count last rest [] [] end end2 a b = (refl, next_at-one end end2 (ComesNext-one format count last rest _ _ a b))
 Follow-one format count last rest [] (e2 ∷ es2) end end2 a b = absurd (next_at-not_gives end e2 b.0 (ComesNext-one format count last rest _ _ a b.1))
 Follow-one format count last rest (e ∷ es) [] end end2 a b = absurd (next_at-not_gives end2 e a.0 (ComesNext-one format count last rest _ _ b a.1))
+-- both have an entry there, which is the same one, and then the rest goes on alike
 Follow-one format count last rest (e ∷ es) (e2 ∷ es2) end end2 a b =
     let same = ComesNext-one format count last rest _ _ a.1 b.1 in
     let first : e ≡ e2 = cc in

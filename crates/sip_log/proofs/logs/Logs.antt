@@ -1,4 +1,5 @@
 -- Lemmas of the log of an input: there is one, and only one.
+-- In the lemmas n and n2 are what comes next by two readings, and es and es2 entries, with the times p and p2; e is the first entry.
 use Rattle.std.proofs.Common.{◌≡◌, ◌≢◌, ◌⊎◌, inl, inr, ◌≤◌, ◌+◌, ℕ, suc, List, [], ◌∷◌, ◌++◌, length, get_or, refl, subst, sym, ap, ◌∙◌, arith, append_assoc}
 use Rattle.std.specs.Prelude.{flat_map, All, codes}
 use Rattle.std.proofs.lemmas.List.{append-nil, append_cancel_left, length-append}
@@ -33,6 +34,7 @@ pub follow-read : (format : Format) (count last : ℕ) (items : List Item) (rest
 follow-read format count last [] rest end few order next =
     let none : count + 0 ≡ count = omega arith in
     next-read format count last rest (next_at end) (end-comes format count last rest end (subst (λ n. EndsWith format n last rest end) none next))
+-- the first entry comes at the front, and the others follow in what is left
 follow-read format count last (e ∷ es) rest end few order next =
     let whole : (entry_says e ++ flat_map entry_says es) ++ rest ≡ entry_says e ++ (flat_map entry_says es ++ rest) = append_assoc (entry_says e) (flat_map entry_says es) rest in
     let sum : count + suc (length es) ≡ count + 1 + length es = omega arith in (
@@ -54,10 +56,12 @@ pub follow-spelled : (format : Format) (count last : ℕ) (rest : List ℕ) (ite
 follow-spelled format count last rest [] end few next =
     let none : count ≡ count + 0 = omega arith in
     record { left = rest; whole = refl; few = omega arith; order = tt; next = subst (λ n. EndsWith format n last rest end) none (comes-end format count last rest end (next-told format count last rest (next_at end) next)) }
+-- the first entry is spelled at the front, and the others are spelled in what is left
 follow-spelled format count last rest (e ∷ es) end few (behind, next, follow) =
     let first = next-told format count last rest (gives e behind) next in
     let more = follow-spelled format (count + 1) e.moment behind es end (omega (arith, first.1)) follow in
     let sum : count + 1 + length es ≡ count + suc (length es) = omega arith in
+    -- all are in order, and the end comes after the last one
     record {
       left = more.left;
       whole = first.0 ∙ ap (λ (t : List ℕ). entry_says e ++ t) more.whole ∙ sym (append_assoc (entry_says e) (flat_map entry_says es) more.left);
@@ -84,6 +88,7 @@ log-follows input p items end is = (
 pub log-spelled : (format : Format) (input : List ℕ) (p : Times) (behind : List ℕ) (items : List Item) (end : LogEnd) → Header format p input behind → Follow format 0 0 behind items end → LogSays input p items end
 log-spelled format input p behind items end header follow =
     let rest = follow-spelled format 0 0 behind items end (omega arith) follow in
+    -- the header stands before the spelling of the entries
     record {
       format = format;
       rest = rest.left;
@@ -121,6 +126,7 @@ log_has_header input p es end none is = none is.format p _ is.header
 entry-first : (e : Item) (rest : List ℕ) → get_or (entry_says e ++ rest) 0 0 ≢ 114
 entry-first e rest = letter-other e.action
   where
+    -- no action is spelled with the letter r
     letter-other : (a : Action) → get_or ((line_says a e.moment (length e.text) ++ (codes "\n" ++ body_says e.action e.text)) ++ rest) 0 0 ≢ 114
     letter-other Sent same = absurd (omega arith)
     letter-other Received same = absurd (omega arith)
@@ -200,6 +206,7 @@ one-order : (last : ℕ) (items : List Item) → InOrder One last items → All 
 one-order last [] order = All-nil (λ e. e.action ≢ Restart)
 one-order last (e ∷ es) order = All-cons (λ x. x.action ≢ Restart) e es (λ restart. other (order.1.0 restart)) (one-order e.moment es order.2)
   where
+    -- format 1 is not format 2
     other : One ≢ Two
     other same = cc
 
@@ -216,6 +223,7 @@ turn-front : (format : Format) (count last : ℕ) (rest : List ℕ) (items : Lis
 turn-front format count last rest items end [] left follow turn = (items, refl)
 turn-front format count last rest [] end (e ∷ es) left follow (behind, next, turn) =
     absurd (next_at-not_gives end e behind (ComesNext-one format count last rest (next_at end) (gives e behind) follow (next-read format count last rest (gives e behind) next)))
+-- the first entry of both is the same, and the rest goes on alike
 turn-front format count last rest (e2 ∷ items) end (e ∷ es) left follow (behind, next, turn) =
     let same = ComesNext-one format count last rest (gives e2 follow.0) (gives e behind) follow.1 (next-read format count last rest (gives e behind) next) in
     let first : e2 ≡ e = cc in

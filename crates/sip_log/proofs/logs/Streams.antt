@@ -1,4 +1,5 @@
 -- The log of an input in which any number of entries may come: there is one, and only one.
+-- In the lemmas es and es2 are the entries by two readings, e and e2 the first of them, and n and n2 what comes next by each.
 use Rattle.std.proofs.Common.{◌≡◌, ◌⊎◌, inl, inr, ◌<◌, ◌≤◌, ◌+◌, ℕ, zero, suc, List, [], ◌∷◌, ◌++◌, length, refl, subst, sym, ap, ◌∙◌, arith, append_assoc}
 use Rattle.std.specs.Prelude.{◌↔◌, flat_map}
 use Rattle.sip_standard.specs.Times.{Times}
@@ -48,11 +49,13 @@ follows_some format last rest = follows_within format (suc (length rest)) last r
 
 -- What follows shows that a rest has only one list of entries and one end.
 
--- what follows in bytes is one thing
+-- bytes have only one list of entries that follow in them, and only one end
 follows_one : (format : Format) (last : ℕ) (rest : List ℕ) (es es2 : List Item) (end end2 : LogEnd) → Follows format last rest es end → Follows format last rest es2 end2 → (es ≡ es2) × (end ≡ end2)
+-- where no entry follows, the ends are one, since what comes next is one thing; an entry and an end are not one
 follows_one format last rest [] [] end end2 a b = (refl, next_at-one end end2 (ComesNext-one format 0 last rest _ _ a b))
 follows_one format last rest [] (e2 ∷ es2) end end2 a b = absurd (next_at-not_gives end e2 b.0 (ComesNext-one format 0 last rest _ _ a b.1))
 follows_one format last rest (e ∷ es) [] end end2 a b = absurd (next_at-not_gives end2 e a.0 (ComesNext-one format 0 last rest _ _ b a.1))
+-- where an entry follows in both, it is the same entry with the same bytes after it, and in these all is the same
 follows_one format last rest (e ∷ es) (e2 ∷ es2) end end2 a b =
     let same = ComesNext-one format 0 last rest _ _ a.1 b.1 in
     let first : e ≡ e2 = cc in
@@ -72,6 +75,7 @@ pub record Spelled (format : Format) (last : ℕ) (rest : List ℕ) (items : Lis
 -- entries that follow in the rest are its spelling up to its end
 pub follows_spelled : (format : Format) (last : ℕ) (rest : List ℕ) (items : List Item) (end : LogEnd) → Follows format last rest items end → Spelled format last rest items end
 follows_spelled format last rest [] end next = record { left = rest; whole = refl; order = tt; next = comes-end format 0 last rest end (next-told format 0 last rest (next_at end) next) }
+-- the first entry is spelled at the front, and the others are spelled in what is left
 follows_spelled format last rest (e ∷ es) end (behind, next, follow) =
     let first = next-told format 0 last rest (gives e behind) next in
     let more = follows_spelled format e.moment behind es end follow in
@@ -93,7 +97,7 @@ spelled_follows format last (e ∷ es) rest end order next =
       spelled_follows format e.moment es rest end order.2 next,
     )
 
--- each input has one, after its header
+-- each input lacks a header, or has a stream after its header
 pub stream_is_some : (input : List ℕ) → LacksHeader input ⊎ ((p : Times) × (items : List Item) × (end : LogEnd) × StreamSays input p items end)
 stream_is_some input = elim (header-or-not input) [
   | inr none ↦ inl none
@@ -118,7 +122,7 @@ stream_has_header input p items end none is = none is.format p _ is.header
 
 -- Few entries are a log.
 
--- below the most entries it does not matter how many there were
+-- an end that the rest has after m entries it has after n entries, where m and n are both below the most
 ends_alike : (format : Format) (m n last : ℕ) (rest : List ℕ) (end : LogEnd) → m < most_entries → n < most_entries → EndsWith format m last rest end → EndsWith format n last rest end
 ends_alike format m n last rest Clean few less is = is
 ends_alike format m n last rest (Stops fault) few less (some, inl (many, same)) = absurd (omega arith)

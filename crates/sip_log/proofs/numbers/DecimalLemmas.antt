@@ -1,4 +1,5 @@
 -- A number of a log is the decimal text of std, and that text is a number of a log.
+-- In the lemmas n is a number, and ds are digits: those that come after it, or those of its text.
 use Rattle.std.proofs.Common.{◌≡◌, ◌<◌, ◌≤◌, ◌+◌, ◌*◌, ◌/◌, ◌%◌, ◌^◌, inl, inr, ℕ, zero, suc, Bool, false, if◌then◌else◌, List, [], ◌∷◌, ◌++◌, length, get_or, subst, refl, sym, ap, ◌∙◌, arith, append_assoc}
 use Rattle.std.proofs.lemmas.Bool.{cases_lt}
 use Rattle.std.proofs.lemmas.List.{append-nil, length-append}
@@ -24,12 +25,13 @@ le_value_after : (n : ℕ) (ds : List ℕ) → n ≤ digits_value_after 10 n ds
 le_value_after n [] = omega arith
 le_value_after n (c ∷ cs) = omega (arith, le_value_after (n * 10 + digit_value c) cs)
 
--- What follows is of numbers below `most`, whose decimal text is that of all digits but the last, and the last digit.
+-- What follows is of numbers below `most`: from 10 on the decimal text of each is that of all its digits but the last, and then the last digit.
 module _ (most : ℕ) (wide : (n : ℕ) → 10 ≤ n → n < most → decimal n ≡ decimal (n / 10) ++ ((48 + n % 10) ∷ [])) where
   -- the decimal text of a number with more digits after it is its decimal text and these digits
   decimal_after : (n : ℕ) (ds : List ℕ) → 0 < n → AllDigits 10 ds → digits_value_after 10 n ds < most → decimal (digits_value_after 10 n ds) ≡ decimal n ++ ds
   decimal_after n [] some d small = sym (append-nil (decimal n))
   decimal_after n (c ∷ cs) some d small =
+      -- m is n with its next digit c, of the value k; the text of m is that of n and the byte c, and the other digits cs come after m
       let m : ℕ = n * 10 + digit_value c in
       let k = digit_value_digit c (digit_from_value c d.0) in
       let front : m / 10 ≡ n = omega (arith, d.0) in
@@ -44,6 +46,7 @@ module _ (most : ℕ) (wide : (n : ℕ) → 10 ≤ n → n < most → decimal n 
   decimal_digits (c ∷ []) d some lead small =
       let k = digit_value_digit c (digit_from_value c d.0) in
       decimal_digit (0 * 10 + digit_value c) (omega (arith, d.0)) ∙ ap (λ x. x ∷ []) (omega arith)
+  -- the first of several digits is not 0, so the decimal text begins with it
   decimal_digits (c ∷ e ∷ cs) d some lead small =
       let k = digit_value_digit c (digit_from_value c d.0) in
       let no : c ≡ 48 → ⊥ = λ z. omega (arith, lead z) in
@@ -68,9 +71,11 @@ record Leads (n : ℕ) (ds : List ℕ) : Type 0 where
 leads : (n : ℕ) → n < 10 ^ 64 → Leads n (decimal n)
 leads = decimal_by_steps_wide Leads one more
   where
+    -- one digit leads its own text
     one : (n : ℕ) → n < 10 → Leads n ((48 + n) ∷ [])
     one n low = record { some = omega arith; first = λ above. omega arith }
 
+    -- a further digit at the end leaves the first one as it is
     more : (n : ℕ) (ds : List ℕ) → 10 ≤ n → Leads (n / 10) ds → Leads n (ds ++ ((48 + n % 10) ∷ []))
     more n ds high is = record {
       some = omega (arith, length-append ds ((48 + n % 10) ∷ []), is.some);
@@ -83,6 +88,7 @@ number-decimal n low =
     let is = decimal_is_IsNumeral_wide n low in
     record { digits = is.0; plain = plain; value = sym is.1 }
   where
+    -- the text of a number begins with 0 only if it has this one digit
     plain : get_or (decimal n) 0 0 ≡ digit_zero → length (decimal n) ≡ 1
     plain zero_first = elim (cases_lt 0 n) as (λ _. length (decimal n) ≡ 1) [
       | inl above ↦ absurd (omega (arith, (leads n low).first above, zero_first))
@@ -93,6 +99,7 @@ number-decimal n low =
 long : (k n : ℕ) (acc : List ℕ) → 10 ^ k ≤ n → k + length acc ≤ length (digits_onto k 10 false n acc)
 long zero n acc high = omega arith
 long (suc k) n acc high =
+    -- the digits of n but the last, n / 10, are at least 10^k too, so that they are not 0 (`some`), and add k digits; the last one adds one more (`step`)
     let up : 10 ^ k ≤ n / 10 = omega (arith, pow-succ' 10 k, high) in
     let one : 10 ^ 0 ≤ 10 ^ k = powers 0 k (omega arith) in
     let some : n / 10 ≡ 0 → ⊥ = λ none. omega (arith, pow-zero 10, one, up, none) in

@@ -1,4 +1,5 @@
 -- Lemmas of the numbers of a log: which bytes they have, and how many.
+-- In the lemmas n and n2 are numbers, k a number of digits, and c and cs, or ds, the first digit of a text and the others.
 use Rattle.std.proofs.Common.{◌≡◌, ◌<◌, ◌≤◌, ◌+◌, ◌*◌, ◌^◌, inl, inr, ℕ, List, [], ◌∷◌, length, subst, sym, ap, ◌∙◌, arith}
 use Rattle.std.proofs.lemmas.Bool.{cases_lt}
 use Rattle.std.specs.Int.{IsInRange}
@@ -43,6 +44,7 @@ IsNumber-short (c ∷ cs) n k some low is = elim (cases_lt 0 (digit_value c)) as
   | inr none ↦
       let first : c ≡ digit_zero = omega (arith, digit_value_digit c (digit_from_value c is.digits.1.0), none) in
       omega (arith, is.plain first)
+  -- the first digit is not 0: with k digits after it the number would be at least 10^k
   | inl more ↦ elim (cases_lt (length cs) k) as (λ _. length (c ∷ cs) ≤ k) [
     | inl short ↦ omega arith
     | inr long ↦

@@ -1,4 +1,5 @@
 -- A header and an entry's line are read as what they spell, by the relations by which the code reads them, and spell what is read of them.
+-- In the lemmas f is a format and q the times that were read; behind is what follows the header.
 use Rattle.std.proofs.Common.{◌≡◌, ◌⊎◌, inl, inr, ◌<◌, ℕ, List, [], ◌∷◌, ◌++◌, length, refl, sym, ap, ◌∙◌, arith, append_assoc}
 use Rattle.std.specs.Prelude.{codes, decimal}
 use Rattle.std.proofs.lemmas.List.{append-nil, length-append}
@@ -31,7 +32,7 @@ five text n low is = decimal-number text n (omega (arith, IsNumber-short text n 
 five-decimal : (n : ℕ) → n < 100000 → IsNumber (decimal n) n
 five-decimal n low = number-decimal n (omega (arith, low, powers 5 64 (omega arith)))
 
--- What follows is of a word and a number below 100,000 after it.
+-- What follows is of a text, a word, and a number n below 100,000 that stands after the word and before the rest `behind`.
 module _ (word text : List ℕ) (n : ℕ) (behind : List ℕ) (low : n < 100000) where
   -- a text that is read as the word, the number and a rest is the word, its decimal text and the rest
   after-spelled : NumberAfter word text n behind → text ≡ word ++ (decimal n ++ behind)
@@ -78,6 +79,7 @@ second_text format p = codes "t1 " ++ (decimal p.t1 ++ (codes " t2 " ++ (decimal
 second-spelled : (format : Format) (line : List ℕ) (p : Times) → AreTimes p → TimesLine format line p → line ≡ second_text format p
 unfolding second_text
 second-spelled format line p within is =
+    -- one word after another with its number is put in front of what is left of the line
     after-spelled (codes "t1 ") line p.t1 is.rest1 (omega (arith, within.t1_high)) is.t1_is
     ∙ ap (λ (t : List ℕ). codes "t1 " ++ (decimal p.t1 ++ t)) (after-spelled (codes " t2 ") is.rest1 p.t2 is.rest2 (omega (arith, within.t2_high)) is.t2_is)
     ∙ ap (λ (t : List ℕ). codes "t1 " ++ (decimal p.t1 ++ (codes " t2 " ++ (decimal p.t2 ++ t)))) (after-spelled (codes " t4 ") is.rest2 p.t4 is.rest3 (omega (arith, within.t4_high)) is.t4_is)
@@ -90,6 +92,7 @@ second-read format p within one = record {
   rest1 = codes " t2 " ++ (decimal p.t2 ++ (codes " t4 " ++ (decimal p.t4 ++ end_text format p)));
   rest2 = codes " t4 " ++ (decimal p.t4 ++ end_text format p);
   rest3 = end_text format p;
+  -- after each name its number is read
   t1_is = after-read (codes "t1 ") p.t1 _ (omega (arith, within.t1_high)) (inr (_, refl));
   t2_is = after-read (codes " t2 ") p.t2 _ (omega (arith, within.t2_high)) (inr (_, refl));
   t4_is = after-read (codes " t4 ") p.t4 _ (omega (arith, within.t4_high)) (end-parted format p);
@@ -97,12 +100,14 @@ second-read format p within one = record {
   rules = refl;
 }
 
--- the pieces of both lines of format 1, bracketed as they are read, and as the definition has them
+-- the pieces of both lines of format 1, bracketed as they are read, are one text with them bracketed as the definition has them
+-- t is line 1; w1, w2, w4 and w are the names of t1, t2, t4 and the tolerance, and d1, d2, d4 and d their numbers
 one-line : (t w1 d1 w2 d2 w4 d4 w d end rest : List ℕ)
     → t ++ ((w1 ++ (d1 ++ (w2 ++ (d2 ++ (w4 ++ (d4 ++ (w ++ (d ++ [])))))))) ++ (end ++ rest)) ≡ (t ++ (w1 ++ d1 ++ w2 ++ d2 ++ w4 ++ d4) ++ w ++ d ++ end) ++ rest
 one-line t w1 d1 w2 d2 w4 d4 w d end rest = simp (append_assoc, append-nil)
 
--- the pieces of both lines of format 2, bracketed as they are read, and as the definition has them
+-- the pieces of both lines of format 2, bracketed as they are read, are one text with them bracketed as the definition has them
+-- t is line 1; w1, w2, w4, v and w are the names of t1, t2, t4, early and late, and d1, d2, d4, e and d their numbers
 two-line : (t w1 d1 w2 d2 w4 d4 v e w d end rest : List ℕ)
     → t ++ ((w1 ++ (d1 ++ (w2 ++ (d2 ++ (w4 ++ (d4 ++ (v ++ (e ++ (w ++ (d ++ [])))))))))) ++ (end ++ rest)) ≡ (t ++ (w1 ++ d1 ++ w2 ++ d2 ++ w4 ++ d4) ++ v ++ e ++ w ++ d ++ end) ++ rest
 two-line t w1 d1 w2 d2 w4 d4 v e w d end rest = simp (append_assoc, append-nil)
@@ -122,6 +127,7 @@ within-under rules p is = record {
   t1_high = is.t1_high;
   t2_low = is.t2_low;
   t2_high = is.t2_high;
+  -- the limits are those of the same numbers
   t4_low = is.t4_low;
   t4_high = is.t4_high;
   early_high = is.early_high;
@@ -143,9 +149,11 @@ pub header-spelled : (format : Format) (input : List ℕ) (p : Times) (behind : 
 header-spelled format input p behind (inr (none, same)) = cc
 header-spelled format input p behind (inl (f, rest, title, inr (none, same))) = cc
 header-spelled format input p behind (inl (f, rest, title, inl (q, rest2, front, (rules, left, line, same)))) =
+    -- where lines 1 and 2 were read, and the rules after them, the header is these lines
     let first : ◌≡◌ {A = Format × Times} (format, p) (f, under rules q) = cc in
     let second : behind ≡ left = cc in
     let spelled = second-spelled f front.line q front.within front.times in
+    -- the times of the header are those of line 2, under the rules of line 3
     let is : Header f (under rules q) input left = record {
       times = within-under rules q front.within;
       one = one-tolerance f front.times.rest3 q.early q.late front.times.tolerances;
@@ -154,6 +162,7 @@ header-spelled format input p behind (inl (f, rest, title, inl (q, rest2, front,
           ∙ ap (λ (t : List ℕ). t ++ rest2) (sym (lines-under f rules q));
       rules = line;
     } in
+    -- the format, the times and the rest are those that were read
     coe 1 0 (i. Header ((first i).0) ((first i).1) input (second i)) is
 
 -- a header that is spelled is read
@@ -163,6 +172,7 @@ header-read format input p behind is =
       format,
       second_text format p ++ line_feed ∷ is.rest,
       is.lines ∙ sym (lines-parts format p is.rest),
+      -- line 2 gives the times of the header under the rules of RFC 6026, and line 3 the rules
       inl (
         under R6026 p,
         is.rest,
@@ -236,6 +246,7 @@ body-plain Restart text none = refl
 -- a line that is read as the line of a message, of fewer than 32 bytes, is its spelling
 pub message-spelled : (format : Format) (line : List ℕ) (action : Action) (moment len : ℕ) → length line < 32 → HeadLine format line (message action moment len) → line ≡ line_says action moment len
 message-spelled format line action moment len short is =
+    -- the line is the letter, SP, the moment, SP and the length; both numbers are short, and so spelled as std spells them
     let parts = is.2 in
     let size = simp length-append at (ap length (is.3 ∙ ap (λ (t : List ℕ). letter action ∷ space ∷ t) parts.whole)) in
     let first = decimal-number parts.moment_text moment (omega (arith, size)) parts.moment_is in
@@ -252,6 +263,7 @@ message-read format line action moment len short has is =
     let size = simp length-append at (ap length whole) in (
       decimal moment ++ space ∷ decimal len,
       has,
+      -- the moment stands before the blank, and the length after it
       record {
         moment_text = decimal moment;
         len_text = decimal len;

@@ -1,3 +1,4 @@
+-- What comes next after the entries that were read: an entry, the end, or the first of seven cases in which it cannot be read.
 use Rattle.std.specs.Prelude.{◌≡◌, ◌≢◌, ◌⊎◌, ◌<◌, ◌≤◌, ◌++◌, ℕ, List, [], ◌∷◌, length}
 use Rattle.sip_standard.specs.declared.action.Action.{Action}
 use Rattle.sip_standard.specs.declared.format.Format.{Format}
@@ -7,8 +8,6 @@ use Rattle.sip_standard.specs.LogSays.{line_feed, FrontLine, most_entries}
 use Rattle.sip_standard.specs.LogEntry.{Item}
 use Rattle.sip_log.specs.inner.Line.{longest_line, Head, message, plain, HeadLine, KeepsLimits, moment_of}
 use Rattle.sip_log.specs.inner.Unless.{Unless}
-
--- What comes next after the entries that were read: an entry, the end, or the first of seven cases in which it cannot be read.
 
 -- what comes by the byte after a message: case 7, `EntryLine`, where it is not LF, and else the entry
 abbrev pub CloseComes : Action → ℕ → List ℕ → ℕ → List ℕ → Next Item → Type 0

@@ -1,3 +1,4 @@
+-- All entries that are left of a log, and how the log ends after them.
 use Rattle.std.specs.Prelude.{◌+◌, ℕ, List, [], ◌∷◌}
 use Rattle.sip_log.specs.Next.{Next, ends, gives, stops}
 use Rattle.sip_standard.specs.LogEntry.{Item}

@@ -1,3 +1,4 @@
+-- The lines of a header, one after another.
 use Rattle.std.specs.Prelude.{◌≡◌, ◌≢◌, ◌⊎◌, ◌++◌, ℕ, List, [], ◌∷◌, codes}
 use Rattle.sip_standard.specs.Times.{Times, AreTimes}
 use Rattle.sip_times.specs.Times.{under}
@@ -11,8 +12,6 @@ use Rattle.sip_log.specs.inner.Spelling.{space}
 use Rattle.sip_standard.specs.LogHeader.{RulesLine}
 use Rattle.sip_log.specs.Next.{Next, gives, stops}
 use Rattle.sip_log.specs.inner.Number.{IsNumber}
-
--- What follows are the lines of a header, one after another.
 
 -- the text is empty, or begins with a blank
 abbrev pub Parted : List ℕ → Type 0
@@ -32,6 +31,7 @@ Tolerances Two text early late = (rest : List ℕ) × NumberAfter (codes " early
 
 -- the line is line 2: `t1 N t2 N t4 N` and the tolerances; the rules are those of RFC 6026, which a third line may change
 pub record TimesLine (format : Format) (line : List ℕ) (p : Times) : Type 0 where
+  -- rest1, rest2 and rest3 are what follows t1, t2 and t4 in the line
   pub rest1 : List ℕ
   pub rest2 : List ℕ
   pub rest3 : List ℕ

@@ -1,3 +1,4 @@
+-- The line at which an entry begins.
 use Rattle.std.specs.Prelude.{◌≡◌, ◌≤◌, ◌++◌, ℕ, List, ◌∷◌}
 use Rattle.sip_standard.specs.declared.action.Action.{Action}
 use Rattle.sip_standard.specs.Times.{last_moment}
@@ -7,8 +8,6 @@ use Rattle.sip_standard.specs.declared.format.Format.{Format}
 use Rattle.sip_log.specs.inner.Spelling.{space, letter}
 use Rattle.sip_standard.specs.LogEntry.{HasMessage, IsOf}
 use Rattle.sip_log.specs.inner.Number.{IsNumber, cut}
-
--- The line at which an entry begins.
 
 -- what an entry's line tells: for a message its action, its moment and its length, and for an entry without one its action and its moment
 pub data Head : Type 0 where

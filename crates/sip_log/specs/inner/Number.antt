@@ -1,3 +1,4 @@
+-- The numbers of a log, in decimal digits.
 use Rattle.std.specs.Prelude.{◌≡◌, ◌<◌, ℕ, List, length, min, slice_index}
 use Rattle.std.specs.Str.Parse.{IsNumeral, digits_value}
 

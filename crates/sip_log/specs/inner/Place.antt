@@ -1,3 +1,4 @@
+-- How far the code has read a log.
 use Rattle.std.specs.Prelude.{◌≡◌, ℕ, List, [], Option, None, IsSome, ⊤}
 use Rattle.sip_standard.specs.Times.{Times}
 use Rattle.sip_log.specs.declared.progress.Stage.{Stage as CodeStage}

@@ -1,3 +1,4 @@
+-- What reads of a source add to the bytes that are held.
 use Rattle.std.specs.Prelude.{◌≡◌, ◌++◌, ℕ, Bool, List, Option}
 use Rattle.std.specs.Io.KnownBytes.{Consumes}
 

@@ -1,8 +1,7 @@
+-- The line of an entry, byte by byte.
 use Rattle.std.specs.Prelude.{◌++◌, ℕ, List, [], ◌∷◌, decimal}
 use Rattle.sip_standard.specs.declared.action.Action.{Action}
 use Rattle.sip_standard.specs.declared.action.Action.TheVariants.{Sent, Received, Failed, Mark, Restart}
-
--- What follows is the line of an entry, byte by byte.
 
 -- SP in ASCII
 abbrev pub space : ℕ

@@ -1,3 +1,4 @@
+-- A reading that stops at the first demand that fails.
 use Rattle.std.specs.Prelude.{◌≡◌, ◌⊎◌}
 use Rattle.sip_standard.specs.declared.log_reason.LogReason.{LogReason}
 use Rattle.sip_log.specs.Next.{Next, stops}

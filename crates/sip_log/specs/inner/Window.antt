@@ -1,3 +1,4 @@
+-- The bytes of a source that are held while it is read.
 use Rattle.std.specs.Prelude.{ℕ, List, Option, slice_range}
 use Rattle.std.specs.Io.KnownBytes.{prepend_known}
 use Rattle.sip_log.specs.declared.window.Window.{Window}

@@ -1,17 +1,5 @@
 -- What bytes are read as: nothing where they have a fault, and of which response they are an ACK.
-use Rattle.std.specs.Prelude.{◌≡◌, ◌↔◌, ℕ, Bool, false, IsTrue, List}
-use Rattle.std.proofs.Common.{sym, ◌∙◌, true≢false}
-use Rattle.sip_standard.specs.declared.fault.Fault.{Fault}
-use Rattle.sip_standard.specs.Outcome.{stops}
-use Rattle.sip_message.specs.Reading.{Reading}
-use Rattle.sip_message.specs.Reads.{Reads}
-use Rattle.sip_standard.specs.Says.{Said, Says}
-use Rattle.sip_message.specs.SaidOf.{said_of}
-use Rattle.sip_message.proofs.lemmas.says.Reading.{says-reads, says-no_fault}
-use Rattle.sip_standard.specs.Solid.{solid}
-use Rattle.sip_standard.specs.AckOf.{AckOf, IsAckOf, SameSolid}
-use Rattle.sip_key.proofs.AckOfLemmas.{ack-of_says}
-use Rattle.sip_machine.specs.inner.Tos.{IsToOf}
+use Rattle.sip_machine.proofs.Words.{◌≡◌, ◌↔◌, ℕ, Bool, false, IsTrue, List, sym, ◌∙◌, true≢false, Fault, stops, Reading, Reads, Said, Says, said_of, says-reads, says-no_fault, solid, AckOf, IsAckOf, SameSolid, ack-of_says, IsToOf}
 
 -- bytes that have a fault are read as no message
 pub Reads-fault : (bytes : List ℕ) (f : Fault) → Says bytes (stops f) → (r : Reading) → Reads bytes r → ⊥
@@ -24,7 +12,7 @@ AckOf-read ack invite response a i reads_a reads_i of =
     let read = says-reads response of.2 of.5 in
     (read.0, read.1, (ack-of_says ack invite response (said_of a) (said_of i) (said_of read.0) reads_a.says reads_i.says read.1.says).0 of)
 
--- What follows is of an ACK and an INVITE, as they are read, and the test of whether the ACK is one for it.
+-- What follows is of an ACK and an INVITE: a and i are how they are read, and `is` says whether the ACK is one for the INVITE's `response`.
 module _ (ack invite response : List ℕ) (a i : Reading) (is : Bool) (reads_a : Reads ack a) (reads_i : Reads invite i)
     (tells : (r : Said) → SameSolid (said_of a).to r.to → IsTrue is ↔ IsAckOf (said_of a) (said_of i) r) where
   -- where an ACK is one for the INVITE whatever the response is, it belongs to each response that has the To of the ACK
@@ -34,7 +22,7 @@ module _ (ack invite response : List ℕ) (a i : Reading) (is : Bool) (reads_a :
     λ of. let (r, reads, both) = AckOf-read ack invite response a i reads_a reads_i of in record { message = r; reads = reads; is = to_is ∙ both.to },
   )
 
-  -- an ACK that is none for the INVITE is none for any response
+  -- an ACK that does not belong to the INVITE belongs to no response to it
   pub AckOf-none : is ≡ false → AckOf ack invite response → ⊥
   AckOf-none not_so of =
       let (r, reads, both) = AckOf-read ack invite response a i reads_a reads_i of in

@@ -1,26 +1,12 @@
 -- Which debt is the first one whose message has a given To, where messages stand under the hashes of their Tos.
-use Rattle.std.specs.Prelude.{◌<◌, ◌∷◌, ◌↔◌, ℕ, Option, None, Some, List, [], All, get_or, length}
-use Rattle.std.proofs.Common.{sym, subst}
-use Rattle.std.proofs.lemmas.List.Elements.{All-get_or, All-head}
-use Rattle.sip_ledger.specs.declared.debt.Debt.{Debt}
-use Rattle.sip_ledger.specs.Debts.{IsFirstPaid, PaysSome, paid_by}
-use Rattle.sip_ledger.specs.Indexes.{holds}
-use Rattle.sip_machine.specs.Owes.{owed_in, owes_names}
-use Rattle.sip_machine.specs.Texts.{Texts, Keeps, text_of}
-use Rattle.sip_machine.specs.inner.Acks.{HasTo}
-use Rattle.sip_machine.specs.inner.DebtLaws.{All-back, All-front, IsWithoutFirst-alike}
-use Rattle.sip_machine.specs.inner.OwesLaws.{All-names}
-use Rattle.sip_machine.specs.inner.Order.{full_hash}
-use Rattle.sip_machine.specs.inner.Paying.{FindsFirst}
-use Rattle.sip_machine.specs.inner.Dues.{AreBetween}
-use Rattle.sip_machine.specs.inner.Tos.{IsToOf, StandUnder}
+use Rattle.sip_machine.proofs.Words.{◌<◌, ◌∷◌, ◌↔◌, ℕ, Option, None, Some, List, [], All, get_or, length, sym, subst, All-get_or, All-head, Debt, IsFirstPaid, PaysSome, paid_by, holds, owed_in, owes_names, Texts, Keeps, text_of, HasTo, All-back, All-front, IsWithoutFirst-alike, All-names, full_hash, FindsFirst, AreBetween, IsToOf, StandUnder}
 
 -- where P and Q hold of the same debts, the first debt of which P holds is the first of which Q holds
 pub FindsFirst-same : (P Q : Debt → Type 0) (t : ℕ) (debts : List Debt) (message : Option ℕ) → All (λ d. P d ↔ Q d) debts → FindsFirst P t debts message → FindsFirst Q t debts message
 FindsFirst-same P Q t debts None same none = λ k d low holds. none k d low ((same k d low).1 holds)
 FindsFirst-same P Q t debts (Some message) same first = IsWithoutFirst-alike P Q debts (paid_by message t debts) same first
 
--- What follows is of one row, and the pairs that the index of Tos has for the kept messages with numbers from `low` up to `high`.
+-- What follows is of a row at the moment t, and of `pairs`: what the index of Tos has for the kept messages with numbers from `low` up to `high`.
 module _ (texts : Texts) (to : List ℕ) (low high t : ℕ) (rows : List (List Debt)) (row : ℕ) (inside : row < length rows)
     (spans : All (AreBetween low high) rows) (kept : All (Keeps texts) (owes_names (owed_in rows row))) (pairs : List (ℕ × ℕ)) (stand : StandUnder texts low high pairs) where
   -- what the row owes
@@ -59,6 +45,7 @@ module _ (texts : Texts) (to : List ℕ) (low high t : ℕ) (rows : List (List D
         before = one.before;
         first = one.first;
         after = one.after;
+        -- the message of the debt has the To, and none before it has, since all with the To stand under its hash
         whole = one.whole;
         holds = (subst (λ n. IsToOf (text_of texts n) to) (sym same) its, one.holds.1);
         none_before = λ k d within has. one.none_before k d within (All-front W one.before (one.first ∷ one.after) (subst (All W) one.whole under) k d within has);

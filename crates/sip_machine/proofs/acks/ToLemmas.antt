@@ -1,30 +1,10 @@
 -- The To that stands beside a kept message stays what it is, and tells which of the messages has a To.
-use Prim.Native.Nat.{suc}
-use Rattle.std.specs.Prelude.{◌≡◌, ◌≢◌, ◌<◌, ◌≤◌, ◌↔◌, ◌-◌, ◌+◌, ◌==◌, ◌&&◌, ℕ, Bool, true, false, cond, IfSome, IsTrue, Option, Some, None, bytes_eq, List, [], ◌∷◌, ◌++◌, All, AllPairs, Contains, is_some, length, map, slice_get, take}
-use Rattle.std.specs.List.{items_where_true}
-use Rattle.std.specs.Cmp.Lexicographic.{bytes_decides}
-use Rattle.std.proofs.Common.{Result, Ok, Err, OnOk, is_err, true≢false, inl, inr, refl, sym, ◌∙◌, ap, ap₂, subst, arith, get_or}
-use Rattle.std.proofs.lemmas.Bool.Decides.{nat_tests}
-use Rattle.std.proofs.Math.Bool.{and-false}
-use Rattle.std.proofs.lemmas.Bool.{cases_lt, eq-eqb, ne_eqb}
-use Rattle.std.proofs.lemmas.Grind.{get_or_picked}
-use Rattle.std.proofs.lemmas.Option.{slice_get-get_or, get_or_from_slice_get}
-use Rattle.std.proofs.lemmas.List.{get_or-map, get_or-take, get_or_default, length-map, length-take-le, take_all}
-use Rattle.std.proofs.lemmas.List.Elements.{All-contains, All-get_or, All-push, All-weaker, Contains-get_or}
-use Rattle.std.proofs.lemmas.List.Kept.{AllPairs-cons}
-use Rattle.sip_ledger.specs.Indexes.{holds}
-use Rattle.sip_message.proofs.lemmas.message.Views.{same_reading}
-use Rattle.sip_standard.specs.Solid.{solid}
-use Rattle.sip_machine.specs.Texts.{Texts, IsBook, Keeps, text_of}
-use Rattle.sip_machine.specs.Retained.{only}
-use Rattle.sip_machine.specs.declared.tos.To.{To}
-use Rattle.sip_machine.specs.inner.Order.{full_hash}
-use Rattle.sip_machine.specs.inner.Tos.{IsToOf, IsTo, AreTos, AreUnder, StandUnder, IsChanged, IsUnder, count_between}
+use Rattle.sip_machine.proofs.Words.{◌≡◌, ◌≢◌, ◌<◌, ◌≤◌, ◌↔◌, ◌-◌, ◌+◌, ◌==◌, ◌&&◌, ℕ, Bool, true, false, cond, IfSome, IsTrue, Option, Some, None, bytes_eq, List, [], ◌∷◌, ◌++◌, All, AllPairs, Contains, is_some, length, map, slice_get, take, items_where_true, bytes_decides, true≢false, inl, inr, refl, sym, ◌∙◌, ap, ap₂, subst, arith, get_or, nat_tests, and-false, cases_lt, eq-eqb, ne_eqb, get_or_picked, slice_get-get_or, get_or_from_slice_get, get_or-map, get_or-take, get_or_default, length-map, length-take-le, take_all, All-contains, All-get_or, All-push, All-weaker, Contains-get_or, AllPairs-cons, AllPairs-head, AllPairs-tail, holds, same_reading, solid, Texts, IsBook, Keeps, text_of, only, To, full_hash, IsToOf, IsTo, AreTos, AreUnder, StandUnder, IsChanged, IsUnder, count_between}
 use Rattle.sip_machine.proofs.texts.BesideLemmas.{among-all, count_between-is, many}
 use Rattle.sip_machine.proofs.texts.TextLaws.{Keeps-grow, text_of-grow}
 use Rattle.sip_machine.proofs.texts.RetainLemmas.{only-Keeps, text_of-only}
 
--- bytes are the message of one To alone
+-- another text is the To of these bytes exactly if it is equal to their To
 pub IsToOf-same : (bytes to text : List ℕ) → IsToOf bytes text → IsTrue (bytes_eq text to) ↔ IsToOf bytes to
 IsToOf-same bytes to text is = (
   λ same. subst (IsToOf bytes) ((bytes_decides text to).0 same) is,
@@ -75,27 +55,20 @@ to_of texts tos number text all has = grind (arith, nat_tests, All-contains)
 abbrev pub nobody : To
 nobody = record { number = 0; text = [] }
 
--- where the last To of the list has a number below this one, all have
-pub all_below : (tos : List To) (number : ℕ) (last : To) → AllPairs (λ a b. a.number < b.number) tos → 0 < length tos → last ≡ get_or tos (length tos - 1) last → last.number < number →
-    All (λ to. to.number < number) tos
-all_below tos number last up some at low = λ k d within.
-    let end : get_or tos (length tos - 1) d ≡ last = get_or_default tos (length tos - 1) d last (omega (arith, some)) ∙ sym at in
-    let number_is = ap (λ t. t.number) end in
-    elim (cases_lt k (length tos - 1)) [
-      | inl before ↦ (let lt = up k (length tos - 1) d before (omega (arith, some)) in omega (arith, lt, number_is, low))
-      | inr there ↦
-          let same : k ≡ length tos - 1 = omega (arith, there, within) in
-          let here : (get_or tos k d).number ≡ last.number = ap (λ i. (get_or tos i d).number) same ∙ number_is in
-          omega (arith, here, low)
-    ]
-
 -- where the last To of the list, if there is one, has a number below this one, all have
 pub below_last : (tos : List To) (number : ℕ) (last : Option To) → AllPairs (λ a b. a.number < b.number) tos → last ≡ slice_get tos (length tos - 1) →
     IfSome last (λ to. to.number < number) → All (λ to. to.number < number) tos
 below_last [] number last up is low = λ k d within. absurd (omega arith)
 below_last (t ∷ ts) number None up is low = absurd (let e = is ∙ slice_get-get_or (t ∷ ts) (length (t ∷ ts) - 1) t (omega arith) in cc)
-below_last (t ∷ ts) number (Some last) up is low =
-    all_below (t ∷ ts) number last up (omega arith) (sym (get_or_from_slice_get (t ∷ ts) (length (t ∷ ts) - 1) last last (sym is))) low
+below_last (t ∷ ts) number (Some last) up is low = λ k d within.
+    let tos = t ∷ ts in
+    let n = length tos - 1 in
+    let end : get_or tos n d ≡ last = get_or_default tos n d last (omega arith) ∙ get_or_from_slice_get tos n last last (sym is) in
+    -- a To before the last has a lesser number than it
+    elim (cases_lt k n) [
+      | inl before ↦ (let lt = up k n d before (omega arith) in omega (arith, lt, ap (λ to. to.number) end, low))
+      | inr there ↦ (let same : k ≡ n = omega (arith, there, within) in omega (arith, ap (λ i. (get_or tos i d).number) same ∙ ap (λ to. to.number) end, low))
+    ]
 
 -- the Tos before the last one have numbers below its
 pub front_below : (tos : List To) (number : ℕ) (last : To) → AllPairs (λ a b. a.number < b.number) tos → Some last ≡ slice_get tos (length tos - 1) → last.number ≡ number →
@@ -106,6 +79,7 @@ front_below (t ∷ ts) number last up is same = λ k d low.
     let n = length tos - 1 in
     let size = length-take-le n tos (omega arith) in
     let below : k < n = omega (arith, size, low) in
+    -- the last To of the list is the one with this number
     let end : get_or tos n d ≡ last = get_or_default tos n d last (omega arith) ∙ get_or_from_slice_get tos n last last (sym is) in
     let lt = up k n d below (omega arith) in
     rw (get_or-take n tos k d below) (omega (arith, lt, ap (λ to. to.number) end, same))
@@ -119,10 +93,8 @@ pub AllPairs-picked : {X : Type 0} (R : X → X → Type 0) (bs : List Bool) (xs
 AllPairs-picked R [] xs up = λ i j d lt low. absurd (omega arith)
 AllPairs-picked R (b ∷ bs) [] up = λ i j d lt low. absurd (omega arith)
 AllPairs-picked R (true ∷ bs) (x ∷ xs) up =
-    let rest = AllPairs-picked R bs xs (λ i j d lt low. up (suc i) (suc j) d (omega (arith, lt)) (omega (arith, low))) in
-    let first : All (R x) xs = λ k d low. up 0 (suc k) d (omega arith) (omega (arith, low)) in
-    AllPairs-cons R x (items_where_true bs xs) (All-picked (R x) bs xs first) rest
-AllPairs-picked R (false ∷ bs) (x ∷ xs) up = AllPairs-picked R bs xs (λ i j d lt low. up (suc i) (suc j) d (omega (arith, lt)) (omega (arith, low)))
+    AllPairs-cons R x (items_where_true bs xs) (All-picked (R x) bs xs (AllPairs-head R x xs up)) (AllPairs-picked R bs xs (AllPairs-tail R x xs up))
+AllPairs-picked R (false ∷ bs) (x ∷ xs) up = AllPairs-picked R bs xs (AllPairs-tail R x xs up)
 
 -- where the Tos that are left are picked, and have these numbers, each was in the list and has one of the numbers
 pub left_over : (bs : List Bool) (tos left : List To) (numbers : List ℕ) → left ≡ items_where_true bs tos → All (λ to. Contains numbers to.number) left →
@@ -137,11 +109,6 @@ pub AllPairs-take : {X : Type 0} (R : X → X → Type 0) (n : ℕ) (xs : List X
 AllPairs-take R n xs up = grind (arith, nat_tests, cases_lt, take_all, length-take-le, get_or-take)
 
 -- What follows is of the numbers that stand under the hash of a To.
-
--- where a result is no error, what holds of it where it is none holds
-pub on_ok : {T E : Type 0} (r : Result T E) (P : Type 0) → is_err r ≡ false → OnOk r P → P
-on_ok (Ok x) P is_not ok = ok
-on_ok (Err e) P is_not ok = absurd (true≢false is_not)
 
 -- a number that is put under a hash stands there
 pub put-here : (hash number : ℕ) (old new : Option (List (ℕ × ℕ))) → IsChanged hash number true old new → IsUnder new hash number
@@ -167,7 +134,7 @@ taken-keeps hash number None (Some new) changed h n other is = absurd changed
 taken-keeps hash number (Some old) (Some new) changed h n other is =
     changed h n ∙ ap (λ b. cond (h == hash && b) false (holds old h n)) (ne_eqb n number other) ∙ ap (λ b. cond b false (holds old h n)) (and-false (h == hash)) ∙ is
 
--- where no hashes are kept, there is nothing to say
+-- where no hashes are kept, nothing is claimed of them
 pub none-under : (hashes : Option (List (ℕ × ℕ))) (tos : List To) → is_some hashes ≡ false → AreUnder hashes tos
 none-under None tos none = λ k d low. tt
 none-under (Some pairs) tos none = absurd (true≢false none)

@@ -1,10 +1,9 @@
 -- What many states owe: what a send takes out of the debts of one state, and states that owe nothing.
 use Prim.Native.Nat.{suc, zero}
-use Rattle.std.specs.Prelude.{◌≡◌, ◌<◌, ◌≤◌, ◌-◌, ◌||◌, ℕ, Bool, true, false, IsTrue, List, [], ◌∷◌, ◌++◌, All, drop, filter, length, min, set, take}
+use Rattle.std.specs.Prelude.{◌≡◌, ◌<◌, ◌≤◌, ◌-◌, ◌||◌, ℕ, Bool, true, false, IsTrue, List, [], ◌∷◌, ◌++◌, All, filter, length, min, set, take}
 use Rattle.std.specs.List.{list_any}
 use Rattle.std.proofs.Common.{refl, sym, ◌∙◌, ap, ap₂, subst, arith, cond, true≢false}
 use Rattle.std.proofs.lemmas.List.Elements.{All-nil, All-cons, filter-append}
-use Rattle.std.proofs.lemmas.Bool.Decides.{nat_tests}
 use Rattle.std.proofs.lemmas.List.{get_or-set_same, set-get_or}
 use Rattle.sip_ledger.specs.declared.debt.Debt.{Debt}
 use Rattle.sip_ledger.specs.Debts.{counts_at, is_payable, paid_by}
@@ -26,6 +25,7 @@ unpaid-front message t debt debts unpaid = ap (λ b. cond b debts (debt ∷ paid
 -- where P does not hold of a debt, it and a list without the first debt of which P holds are the debt and the list without that one
 pub without-behind : (P : Debt → Type 0) (debt : Debt) (debts left : List Debt) → ¬ (P debt) → IsWithoutFirst P debts left → IsWithoutFirst P (debt ∷ debts) (debt ∷ left)
 without-behind P debt debts left fails a = record {
+  -- the debt stands before the first, and else all is as in the list
   before = debt ∷ a.before;
   first = a.first;
   after = a.after;
@@ -35,7 +35,7 @@ without-behind P debt debts left fails a = record {
   rest = ap (λ ds. debt ∷ ds) a.rest;
 }
 
--- What follows is of debts of which a send can pay one, or none.
+-- What follows is of a send of one message at the moment t, which can pay one of the debts, or none.
 module _ (message t : ℕ) where
   -- the debt is payable: it is of the message, and its deadline is not past
   abbrev Pays : Debt → Type 0
@@ -75,9 +75,9 @@ owed-none (suc count) zero = refl
 owed-none (suc count) (suc row) = owed-none count row
 
 -- rows that each owe nothing are the rows that there are without accounts
-pub all-blank : (rows : List (List Debt)) → ((k : ℕ) → k < length rows → owed_in rows k ≡ []) → rows ≡ blank_rows (length rows)
-all-blank [] none = refl
-all-blank (row ∷ rows) none = ap₂ (λ r rs. r ∷ rs) (none 0 (omega arith)) (all-blank rows (λ k low. none (suc k) (omega (arith, low))))
+pub all_blank : (rows : List (List Debt)) → ((k : ℕ) → k < length rows → owed_in rows k ≡ []) → rows ≡ blank_rows (length rows)
+all_blank [] none = refl
+all_blank (row ∷ rows) none = ap₂ (λ r rs. r ∷ rs) (none 0 (omega arith)) (all_blank rows (λ k low. none (suc k) (omega (arith, low))))
 
 -- where a row that owes nothing is put in the place of one, rows without accounts stay as they are
 pub set_none : (count row : ℕ) (debts : List Debt) → debts ≡ [] → blank_rows count ≡ set (blank_rows count) row debts
@@ -91,17 +91,12 @@ take_none (suc count) zero = let e : min (suc count) 0 ≡ 0 = omega arith in ap
 take_none (suc count) (suc n) =
     let e : min (suc count) (suc n) ≡ suc (min count n) = omega arith in ap blank_rows e ∙ ap (λ rows. [] ∷ rows) (take_none count n)
 
--- without accounts, the rows after the first n owe nothing
-pub drop_none : (count n : ℕ) → n ≤ count → blank_rows (count - n) ≡ drop n (blank_rows count)
-drop_none count zero le = let e : count - 0 ≡ count = omega arith in ap blank_rows e
-drop_none zero (suc n) le = absurd (omega (arith, le))
-drop_none (suc count) (suc n) le = let e : suc count - suc n ≡ count - n = omega arith in ap blank_rows e ∙ drop_none count n (omega (arith, le))
-
 -- a row that is changed and then changed again is as if it was changed once, to what the second change makes of the first
 pub set_again : (rows : List (List Debt)) (row : ℕ) (debts : List Debt) (f : List Debt → List Debt) → row < length rows →
     set (set rows row debts) row (f (owed_in (set rows row debts) row)) ≡ set rows row (f debts)
 set_again rows row debts f low = ap (λ x. set (set rows row debts) row (f x)) (get_or-set_same rows row debts [] low) ∙ set-twice rows row debts (f debts)
   where
+    -- of two changes of one row the second stays
     set-twice : (rows : List (List Debt)) (row : ℕ) (x y : List Debt) → set (set rows row x) row y ≡ set rows row y
     set-twice [] row x y = refl
     set-twice (r ∷ rows) zero x y = refl

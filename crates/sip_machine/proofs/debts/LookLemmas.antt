@@ -1,4 +1,5 @@
 -- Debts that are looked at one by one, oldest first: the first of which something holds is the one that a send pays.
+-- In the lemmas t is the moment of a send, n how many debts are looked at, and xs and ys are the first debts and the others.
 use Prim.Native.Nat.{suc, zero}
 use Rattle.std.specs.Prelude.{◌≡◌, ◌<◌, ◌≤◌, ℕ, Bool, true, false, IsTrue, Option, Some, None, List, [], ◌∷◌, ◌++◌, All, drop, get_or, is_some, length, take}
 use Rattle.std.proofs.Common.{refl, sym, ◌∙◌, ap, subst, arith, cond, true≢false}
@@ -32,6 +33,7 @@ module _ (P : Debt → Type 0) (message t : ℕ) (only : (debt : Debt) → IsTru
   pub first-at : (debts : List Debt) (at : ℕ) (d : Debt) → at < length debts → All (λ debt. ¬ (P debt)) (take at debts) →
       P (get_or debts at d) → IsTrue (is_payable message t (get_or debts at d)) → IsWithoutFirst P debts (paid_by message t debts)
   first-at [] at d low none holds pays = absurd (omega (arith, low))
+  -- the first debt is the one of which P holds
   first-at (debt ∷ debts) zero d low none holds pays = record {
     before = [];
     first = debt;
@@ -41,6 +43,7 @@ module _ (P : Debt → Type 0) (message t : ℕ) (only : (debt : Debt) → IsTru
     none_before = All-nil (λ x. ¬ (P x));
     rest = ap (λ b. cond b debts (debt ∷ paid_by message t debts)) pays;
   }
+  -- the first debt is not paid, and the one is among the others
   first-at (debt ∷ debts) (suc at) d low none holds pays =
       let fails = All-head (λ x. ¬ (P x)) debt (take at debts) none in
       subst (IsWithoutFirst P (debt ∷ debts)) (sym (unpaid-front message t debt debts (λ paid. fails (only debt paid))))
@@ -52,6 +55,7 @@ paid-front : (message t : ℕ) (xs ys : List Debt) → length (paid_by message t
 paid-front message t [] ys less = absurd (omega (arith, less))
 paid-front message t (x ∷ xs) ys less = by-test (is_payable message t x) less (paid-front message t xs ys)
   where
+    -- the first debt is paid, or one after it is
     by-test : (b : Bool) → length (cond b xs (x ∷ paid_by message t xs)) < length (x ∷ xs) →
         (length (paid_by message t xs) < length xs → paid_by message t (xs ++ ys) ≡ paid_by message t xs ++ ys) →
         cond b (xs ++ ys) (x ∷ paid_by message t (xs ++ ys)) ≡ cond b xs (x ∷ paid_by message t xs) ++ ys
@@ -66,6 +70,7 @@ front-first P message t n debts found =
     let back = drop n debts in
     let left = ap length found.rest ∙ length-append found.before found.after in
     let long = ap length found.whole ∙ length-append found.before (found.first ∷ found.after) in
+    -- what stands before the debt, and the debt, are the same in the whole list
     record {
       before = found.before;
       first = found.first;

@@ -32,7 +32,7 @@ owed-named m (debt ∷ debts) is = elim (cases_eq debt.message m) [
   | inr other ↦ Contains-append_right (debt.message ∷ []) (owes_names debts) m (owed-named m debts (sym (ap (λ b. b || owes_message m debts) (ne_eqb debt.message m other)) ∙ is))
 ]
 
--- and among those of some rows exactly if one of them owes it
+-- a message that stands among the messages of some rows is owed by one of them
 named-some : (m : ℕ) (rows : List (List Debt)) → Contains (flat_map owes_names rows) m → some_owes m rows ≡ true
 named-some m [] there = absurd (Contains-nil m there)
 named-some m (owes ∷ rows) there = elim (Contains-append_cases (owes_names owes) (flat_map owes_names rows) m there) [
@@ -65,7 +65,7 @@ pub none-appends : (count : ℕ) (old : List ℕ) → AppendsAll (flat_map owes_
 none-appends count old =
     ([], sym (append-nil old), λ m. (λ there. absurd (Contains-nil m there), λ there. absurd (Contains-nil m (subst (λ ns. Contains ns m) (none-named count) there))))
 
--- What follows is of the states of one machine, and what its phases name.
+-- What follows is of the states of one machine: `names` gives the numbers of the messages that a phase names.
 module _ {S : Type 0} (names : S → List ℕ) where
   -- what a state's phase names
   abbrev phase_names : CodeOwing S → List ℕ
@@ -82,10 +82,12 @@ module _ {S : Type 0} (names : S → List ℕ) where
       let one = owing_names names x in
       let rest = flat_map (owing_names names) xs in
       elim (Contains-append_cases (phase_names x ++ flat_map phase_names xs) (debt_names x ++ flat_map debt_names xs) n there) [
+        -- the number is named by a phase: that of the first state, or of a later one
         | inl phase ↦ elim (Contains-append_cases (phase_names x) (flat_map phase_names xs) n phase) [
           | inl here ↦ Contains-append_left one rest n (Contains-append_left (phase_names x) (debt_names x) n here)
           | inr later ↦ Contains-append_right one rest n (parts-named xs n (Contains-append_left (flat_map phase_names xs) (flat_map debt_names xs) n later))
         ]
+        -- the number is owed: by the first state, or by a later one
         | inr owed ↦ elim (Contains-append_cases (debt_names x) (flat_map debt_names xs) n owed) [
           | inl here ↦ Contains-append_left one rest n (Contains-append_right (phase_names x) (debt_names x) n here)
           | inr later ↦ Contains-append_right one rest n (parts-named xs n (Contains-append_right (flat_map phase_names xs) (flat_map debt_names xs) n later))
@@ -99,10 +101,12 @@ module _ {S : Type 0} (names : S → List ℕ) where
       let phases = phase_names x ++ flat_map phase_names xs in
       let debts = debt_names x ++ flat_map debt_names xs in
       elim (Contains-append_cases (owing_names names x) (flat_map (owing_names names) xs) n there) [
+        -- the first state names it, by its phase or by a debt
         | inl one ↦ elim (Contains-append_cases (phase_names x) (debt_names x) n one) [
           | inl phase ↦ Contains-append_left phases debts n (Contains-append_left (phase_names x) (flat_map phase_names xs) n phase)
           | inr owed ↦ Contains-append_right phases debts n (Contains-append_left (debt_names x) (flat_map debt_names xs) n owed)
         ]
+        -- a later state names it, by its phase or by a debt
         | inr later ↦ elim (Contains-append_cases (flat_map phase_names xs) (flat_map debt_names xs) n (named-parts xs n later)) [
           | inl phase ↦ Contains-append_left phases debts n (Contains-append_right (phase_names x) (flat_map phase_names xs) n phase)
           | inr owed ↦ Contains-append_right phases debts n (Contains-append_right (debt_names x) (flat_map debt_names xs) n owed)
@@ -122,6 +126,7 @@ module _ {S : Type 0} (names : S → List ℕ) where
   pool-appends phases rows old mid new even first second =
       let xs = beside phases rows in
       let debts = debts-beside phases rows even in (
+        -- the numbers that were appended are those of the phases and then those of the debts
         first.0 ++ second.0,
         second.1 ∙ ap (λ ns. ns ++ second.0) first.1 ∙ append_assoc old first.0 second.0,
         λ n. (
@@ -129,6 +134,7 @@ module _ {S : Type 0} (names : S → List ℕ) where
             | inl phase ↦ Contains-append_left (flat_map phase_names xs) (flat_map debt_names xs) n ((first.2 n).0 phase)
             | inr owed ↦ Contains-append_right (flat_map phase_names xs) (flat_map debt_names xs) n (subst (λ ns. Contains ns n) (sym debts) ((second.2 n).0 owed))
           ]),
+          -- what a phase names stands in the first part, and what is owed in the second
           λ there. elim (Contains-append_cases (flat_map phase_names xs) (flat_map debt_names xs) n (named-parts xs n there)) [
             | inl phase ↦ Contains-append_left first.0 second.0 n ((first.2 n).1 phase)
             | inr owed ↦ Contains-append_right first.0 second.0 n ((second.2 n).1 (subst (λ ns. Contains ns n) debts owed))
@@ -150,22 +156,25 @@ module _ {S : Type 0} (names : S → List ℕ) where
   named-same (x ∷ xs) phase n same some there =
       Contains-append_left (phase_names x) (flat_map phase_names xs) n (subst (λ p. Contains (names p) n) (sym (All-head (λ (y : CodeOwing S). y.phase ≡ phase) x xs same)) there)
 
-  -- a run of states in one phase more
+  -- where what a further run of states of one phase names is appended, what all states up to its end name was appended
   pub run-appends : (xs : List (CodeOwing S)) (at end : ℕ) (phase : S) (old mid new : List ℕ) → at < end → end ≤ length xs → AppendsAll (flat_map phase_names (take at xs)) old mid →
       All (λ x. x.phase ≡ phase) (from_to at end xs) → new ≡ mid ++ names phase → AppendsAll (flat_map phase_names (take end xs)) old new
   run-appends xs at end phase old mid new low within first same is =
       let ys = from_to at end xs in
+      -- the run adds the states from its begin to its end
       let long : 0 < length ys = omega (arith, low, length-drop at (take end xs), length-take-le end xs within) in
       let before : take at (take end xs) ≡ take at xs = take-take at end xs (omega (arith, low)) in
       let split : take end xs ≡ take at xs ++ ys = sym (take-append-drop at (take end xs)) ∙ ap (λ l. l ++ ys) before in
       let whole : flat_map phase_names (take end xs) ≡ flat_map phase_names (take at xs) ++ flat_map phase_names ys = ap (flat_map phase_names) split ∙ flat_map-append phase_names (take at xs) ys in (
         first.0 ++ names phase,
         is ∙ ap (λ ns. ns ++ names phase) first.1 ∙ append_assoc old first.0 (names phase),
+        -- each of its states has the one phase, which names what was appended
         λ n. (
           λ there. subst (λ ns. Contains ns n) (sym whole) (elim (Contains-append_cases first.0 (names phase) n there) [
             | inl early ↦ Contains-append_left (flat_map phase_names (take at xs)) (flat_map phase_names ys) n ((first.2 n).0 early)
             | inr here ↦ Contains-append_right (flat_map phase_names (take at xs)) (flat_map phase_names ys) n (named-same ys phase n same long here)
           ]),
+          -- what the states up to the end name was appended for the earlier ones, or for this run
           λ there. elim (Contains-append_cases (flat_map phase_names (take at xs)) (flat_map phase_names ys) n (subst (λ ns. Contains ns n) whole there)) [
             | inl early ↦ Contains-append_left first.0 (names phase) n ((first.2 n).1 early)
             | inr here ↦ Contains-append_right first.0 (names phase) n (same-named ys phase n same here)

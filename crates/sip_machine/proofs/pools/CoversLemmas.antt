@@ -13,7 +13,7 @@ use Rattle.sip_machine.specs.inner.Single.{AnswersOne}
 use Rattle.sip_machine.proofs.texts.TextLaws.{Contains-nil}
 use Rattle.sip_machine.proofs.steps.SingleLemmas.{StandFor-one}
 
--- What follows is of the states to which some states lead.
+-- What follows is of the states X to which some states S of the code lead.
 
 module _ {X S : Type 0} where
   -- what leads from one of two lists leads from both together
@@ -25,6 +25,7 @@ module _ {X S : Type 0} where
           | inl first ↦ elim first [ inl here ↦ inl here | inr rest ↦ inr (more.0 (inl rest)) ]
           | inr later ↦ inr (more.0 (inr later))
         ],
+        -- the converse: what leads from the first element or from one of the others
         λ h. elim h [
           | inl here ↦ inl (inl here)
           | inr rest ↦ elim (more.1 rest) [ inl first ↦ inl (inr first) | inr later ↦ inr later ]
@@ -40,6 +41,7 @@ module _ {X S : Type 0} where
           | inl p ↦ elim p [ inl here ↦ inl (inl here) | inr rest ↦ inr (more.0 (inl rest)) ]
           | inr q ↦ elim q [ inl here ↦ inl (inr here) | inr rest ↦ inr (more.0 (inr rest)) ]
         ],
+        -- the converse: what leads in one of the two ways from one of the elements
         λ h. elim h [
           | inl here ↦ elim here [ inl p ↦ inl (inl p) | inr q ↦ inr (inl q) ]
           | inr rest ↦ elim (more.1 rest) [ inl p ↦ inl (inr p) | inr q ↦ inr (inr q) ]
@@ -65,7 +67,7 @@ module _ {X S : Type 0} where
         | inr rest ↦ FromSome-none P xs y (All-tail (λ x. ¬ (P x y)) x xs none) rest
       ]
 
--- What follows is of states of the code and what they stand for beside one book.
+-- What follows is of states of the code: `seen` gives what one stands for beside the book, `names` what it names, and InRange bounds its numbers.
 module _ {X S : Type 0} (names : S → List ℕ) (InRange : S → Type 0) (seen : Texts → S → X) (texts : Texts) where
   -- the states stand for exactly that of which P holds
   abbrev pub Cover : (X → Type 0) → List S → Type 0
@@ -84,6 +86,7 @@ module _ {X S : Type 0} (names : S → List ℕ) (InRange : S → Type 0) (seen 
   Covers-both P Q xs ys c d = record {
     members = λ y. rw (map-append (seen texts) xs ys) (
       λ has. elim (Contains-append_cases (map (seen texts) xs) (map (seen texts) ys) y has) [ inl first ↦ inl ((c.members y).0 first) | inr later ↦ inr ((d.members y).0 later) ],
+      -- what either covers is in the list
       λ h. elim h [
         | inl p ↦ Contains-append_left (map (seen texts) xs) (map (seen texts) ys) y ((c.members y).1 p)
         | inr q ↦ Contains-append_right (map (seen texts) xs) (map (seen texts) ys) y ((d.members y).1 q)
@@ -107,7 +110,7 @@ module _ {X S : Type 0} (names : S → List ℕ) (InRange : S → Type 0) (seen 
   answers-front true s ys = refl
   answers-front false s ys = refl
 
-  -- g of a list that begins with x if b is so is g of x, if b is so, and g of the others
+  -- to map a list, before which x stands if b is true, is to map the list and put g x before it if b is true
   map-passing : (b : Bool) (g : S → S) (x : S) (xs : List S) → map g (cond b (x ∷ xs) xs) ≡ cond b (g x ∷ map g xs) (map g xs)
   map-passing true g x xs = refl
   map-passing false g x xs = refl
@@ -128,7 +131,7 @@ module _ {X S : Type 0} (names : S → List ℕ) (InRange : S → Type 0) (seen 
 abbrev pub HasFound : {X S : Type 0} → (S → List ℕ) → (S → Type 0) → (Texts → S → X) → Texts → (S → X → Type 0) → List S → List S → List S → Type 0
 HasFound {X} {S} names InRange seen texts P some old new = (added : List S) × (new ≡ old ++ added) × Covers names InRange seen texts (FromSome P some) added
 
--- What follows is of what was found of states that were asked one after another: P says what each state gives.
+-- What follows is of what was found of states that were asked one after another: P says what each gives, `seen` what it stands for, `names` what it names.
 module _ {X S : Type 0} (names : S → List ℕ) (InRange : S → Type 0) (seen : Texts → S → X) (texts : Texts) (P : S → X → Type 0) where
   -- where no states are asked, none were found
   pub found-none : (old : List S) → HasFound names InRange seen texts P [] old old
@@ -199,7 +202,7 @@ module _ {S : Type 0} where
   before-either (Ok t) old added new ok err = ap (take (length old)) ok ∙ take-append_seam old added
   before-either (Err e) old added new ok err = ap (take (length old)) err ∙ take_all (length old) old (omega arith)
 
--- What follows is of what was found of states that were asked run by run: P says what each state gives.
+-- What follows is of what was found of states that were asked run by run: P says what each gives, `seen` what it stands for, `names` what it names.
 module _ {X S : Type 0} (names : S → List ℕ) (InRange : S → Type 0) (seen : Texts → S → X) (texts : Texts) (P : S → X → Type 0) where
   -- where what leads from the states between two indexes is found after the others, what leads from all up to the later index was found
   pub found-run : (at end : ℕ) (old mid new : List S) → at < end → end ≤ length old → HasFound names InRange seen texts P (take at old) old mid →

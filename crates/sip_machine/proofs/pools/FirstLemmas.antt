@@ -2,10 +2,11 @@
 use Prim.Native.Nat.{suc, zero}
 use Rattle.std.specs.Prelude.{◌≡◌, ◌≢◌, ◌<◌, ◌≤◌, ◌+◌, ◌-◌, ℕ, List, [], ◌∷◌, ◌++◌, All, AllPairs, bit_xor, drop, get_or, length, map, take}
 use Rattle.std.specs.List.{Any}
-use Rattle.std.proofs.Common.{inl, inr, sym, ◌∙◌, ap, ap₂, subst, arith}
+use Rattle.std.proofs.Common.{inl, inr, sym, ◌∙◌, ap, ap₂, subst, arith, length-set}
+use Rattle.std.proofs.lemmas.Grind.{common_steps}
 use Rattle.std.proofs.lemmas.Bool.Decides.{nat_tests}
 use Rattle.std.proofs.lemmas.Bool.{cases_lt}
-use Rattle.std.proofs.lemmas.List.{get_or_append_left, get_or_default, get_or-drop, get_or-map, get_or-take, length-drop, length-map, length-take-le, map-append, same_lists, take_more}
+use Rattle.std.proofs.lemmas.List.{get_or_append_left, get_or_default, get_or-drop, get_or-map, get_or-set_same, get_or-set_other, get_or-take, length-drop, length-map, length-take-le, map-append, same_lists, take-set-le, take_more}
 use Rattle.std.proofs.lemmas.List.Elements.{All-push, All-weaker}
 use Rattle.std.proofs.lemmas.List.Quantifiers.{Any-push, all_pairs_push}
 use Rattle.sip_ledger.specs.declared.debt.Debt.{Debt}
@@ -16,9 +17,9 @@ use Rattle.sip_machine.specs.Prints.{ArePrints}
 use Rattle.sip_machine.specs.inner.Pools.{AreMixedWith, IsRun, beside, hash_by}
 use Rattle.sip_machine.proofs.pools.PoolLemmas.{beside-length, state-at}
 
--- What follows is of rows of a list: those of its elements that have no equal before them.
+-- What follows is of rows of the list xs: those of its elements that have no equal before them.
 module _ {X : Type 0} (xs : List X) where
-  -- one of the rows has the element that row k has
+  -- some row of the list has an element equal to that of row k
   abbrev pub IsAmong : List ℕ → ℕ → Type 0
   IsAmong rows k = (x : X) → Any (λ row. get_or xs row x ≡ get_or xs k x) rows
 
@@ -46,6 +47,7 @@ module _ {X : Type 0} (xs : List X) where
         (All-weaker (λ row. (from ≤ row) × (row < at)) (λ row. (from ≤ row) × (row < at + 1)) (λ row is. let b = is.1 in (is.0, omega (arith, b))) rows first.within)
         (low, omega arith);
     rising = all_pairs_push (λ a b. a < b) rows at first.rising (λ k d low. (first.within k d low).1);
+    -- an element before `at` has its first one among the rows, and the one at `at` is one itself
     each = λ k x low_k high_k. elim (cases_lt k at) [
       | inl before ↦ Any-more (λ row. get_or xs row x ≡ get_or xs k x) rows at (first.each k x low_k before)
       | inr behind ↦
@@ -85,12 +87,13 @@ rising-apart rows i (suc k) rising low =
     rw next (omega (arith, before, above))
 
 -- rising indices whose last is no further from the first than their number says are a run: each is one more than the one before
-pub run-of : (rows : List ℕ) → AllPairs (λ a b. a < b) rows → 0 < length rows → get_or rows (length rows - 1) 0 - get_or rows 0 0 < length rows → IsRun (get_or rows 0 0) rows
-run-of rows rising some near =
+pub run_of : (rows : List ℕ) → AllPairs (λ a b. a < b) rows → 0 < length rows → get_or rows (length rows - 1) 0 - get_or rows 0 0 < length rows → IsRun (get_or rows 0 0) rows
+run_of rows rising some near =
     record {
       some = some;
       each = λ k low.
           let rest = length rows - 1 - k in
+          -- between two rising indices there is at least their distance
           let end : k + rest ≡ length rows - 1 = omega (arith, low) in
           let up = rising-apart rows 0 k rising (omega (arith, low)) in
           let on = rising-apart rows k rest rising (omega (arith, low, end)) in
@@ -106,16 +109,21 @@ run_picked xs rows first x run within =
     let last = within (length rows - 1) 0 (omega (arith, run.some)) in
     let end = run.each (length rows - 1) (omega (arith, run.some)) in
     let behind = length-drop first xs in
+    -- the part of the list is as long as the rows
     let room : length rows ≤ length (drop first xs) = omega (arith, run.some, last, end, behind) in
     let size : length (take (length rows) (drop first xs)) ≡ length rows = length-take-le (length rows) (drop first xs) room in
     let count : length (picked xs x rows) ≡ length rows = length-map rows (λ row. get_or xs row x) in
     same_lists (take (length rows) (drop first xs)) (picked xs x rows) (size ∙ sym count)
+    -- each row is one more than the one before, so its element stands there in the part
     (λ k d low.
     let inside : k < length rows = omega (arith, low, size) in
     let is = run.each k inside in
     let row_low = within k 0 inside in
     get_or-take (length rows) (drop first xs) k d inside ∙ get_or-drop first xs k d ∙ ap (λ n. get_or xs n d) (sym is)
     ∙ get_or_default xs (get_or rows k 0) d x row_low ∙ sym (get_or-map (λ row. get_or xs row x) rows k 0 d inside))
+
+-- what stays in a pool of which some states are kept
+pub ruleset of_kept = (beside-length, run_picked)
 
 -- What follows is of elements that are brought to the front of their list.
 
@@ -125,7 +133,7 @@ pub record IsPicking {X : Type 0} (xs ys : List X) (rows : List ℕ) (to : ℕ) 
   pub front : (x : X) → take to ys ≡ picked xs x (take to rows)
   pub rest : (k : ℕ) (x : X) → to ≤ k → get_or ys k x ≡ get_or xs k x
 
--- What follows is of a list and the rows of it that are put to its front.
+-- What follows is of the list xs and `rows`, the places of those of its elements that are put to its front.
 module _ {X : Type 0} (xs : List X) (rows : List ℕ) where
   -- where the element at the next row is put after those in front, one more stands there
   pub picking-more : (ys zs : List X) (to row : ℕ) → IsPicking xs ys rows to → to < length rows → to < length xs → row ≡ get_or rows to 0 → to ≤ row →
@@ -135,10 +143,14 @@ module _ {X : Type 0} (xs : List X) (rows : List ℕ) where
     long = long ∙ picking.long;
     front = λ d.
         let room : to < length zs = omega (arith, within, long, picking) in
+        -- the front has the element of the next row too
         take_more zs to d room ∙ ap₂ (λ ws w. ws ++ w ∷ []) (front ∙ picking.front d) (here d ∙ picking.rest row d le ∙ ap (λ r. get_or xs r d) is)
         ∙ sym (map-append (λ r. get_or xs r d) (take to rows) (get_or rows to 0 ∷ [])) ∙ ap (map (λ r. get_or xs r d)) (sym (take_more rows to 0 low));
     rest = λ k d le_k. rest k d (omega (arith, le_k)) ∙ picking.rest k d (omega (arith, le_k));
   }
+
+-- how the elements at some rows come to the front
+pub ruleset of_picking = (nat_tests, common_steps, cases_lt, rising-above, picking-more, length-set, length-take-le, take-set-le, get_or-set_same, get_or_default, get_or-set_other)
 
 -- What follows is of prints.
 
@@ -148,7 +160,7 @@ pub record AreMixed {S : Type 0} (input : S → List (List ℕ)) (phases : List 
   pub mixed : (k : ℕ) (p : S) → k < at → from + k < length phases → get_or new k 0 ≡ bit_xor (get_or old k 0) (hash_by (input (get_or phases (from + k) p)))
   pub rest : (k : ℕ) → at ≤ k → get_or new k 0 ≡ get_or old k 0
 
--- What follows is of the prints of states: `old` are those of what they owe, and `input` says which bytes of a phase are mixed into them.
+-- What follows is of prints: `old` are those of what states owe; `input` gives the bytes that each of `phases`, beginning at `from`, mixes into one.
 module _ {S : Type 0} (input : S → List (List ℕ)) (phases : List S) (from : ℕ) (old : List ℕ) where
   -- where the prints of neighbours of one phase are mixed with its hash as well, those before `to` are mixed
   pub mixed-run : (new after : List ℕ) (at to hash : ℕ) (p : S) → AreMixed input phases from old new at → AreMixedWith hash at to new after → hash ≡ hash_by (input p) → at ≤ to →
@@ -165,12 +177,14 @@ module _ {S : Type 0} (input : S → List (List ℕ)) (phases : List S) (from : 
         same = λ i k x above_i low_i above_k low_k e.
             let p = x.phase in
             let alike = sym (state-at phases rows xs i p x is low_i) ∙ e ∙ state-at phases rows xs k p x is low_k in
+            -- states that are equal have one phase and owe the same
             let phase : get_or phases i p ≡ get_or phases k p = ap (λ y. y.phase) alike in
             let owes : owed_in rows i ≡ owed_in rows k = ap (λ y. y.owes) alike in
             let in_i : i < length rows = omega (arith, low_i, size, long) in
             let in_k : k < length rows = omega (arith, low_k, size, long) in
             let there_i : from + (i - from) ≡ i = omega (arith, above_i) in
             let there_k : from + (k - from) ≡ k = omega (arith, above_k) in
+            -- the same was mixed into equal prints
             mixing.mixed (i - from) p (omega (arith, above_i, low_i, size, all)) (omega (arith, above_i, low_i, size))
             ∙ ap₂ (λ n q. bit_xor n (hash_by (input q))) (prints.same i k [] above_i in_i above_k in_k owes)
             (ap (λ n. get_or phases n p) there_i ∙ phase ∙ ap (λ n. get_or phases n p) (sym there_k))

@@ -1,32 +1,15 @@
 -- The states of a pool, many of which take the same step.
-use Rattle.std.proofs.lemmas.Bool.Decides.{nat_tests}
-use Prim.Native.Nat.{suc, zero}
-use Rattle.std.specs.Prelude.{◌≡◌, ◌<◌, ◌≤◌, ◌+◌, ◌-◌, ℕ, Bool, List, [], ◌∷◌, ◌++◌, All, drop, filter, get_or, length, map, replicate, take}
-use Rattle.std.proofs.Common.{refl, sym, ◌∙◌, ap, ap₂, subst, arith, length-append}
-use Rattle.std.proofs.Math.Seq.{drop-append_seam, take-append_seam}
-use Rattle.std.proofs.lemmas.List.{get_or-drop, get_or-take, length-drop, length-take-le, take_more}
-use Rattle.std.proofs.lemmas.List.Elements.{All-head, All-push, All-tail}
-use Rattle.sip_ledger.specs.declared.debt.Debt.{Debt}
-use Rattle.sip_ledger.specs.Lists.{from_to}
-use Rattle.sip_machine.specs.Owing.{CodeOwing}
-use Rattle.sip_machine.specs.inner.DebtLaws.{filter-map}
-use Rattle.sip_machine.specs.Owes.{owed_in}
-use Rattle.sip_machine.specs.Pools.{picked}
-use Rattle.sip_machine.specs.inner.Pools.{beside}
-use Rattle.sip_machine.proofs.pools.PoolLemmas.{beside-at}
+use Rattle.sip_machine.proofs.Words.{nat_tests, ◌≡◌, ◌<◌, ◌≤◌, ◌+◌, ◌-◌, ℕ, Bool, List, [], ◌∷◌, ◌++◌, All, drop, filter, get_or, length, map, replicate, take, refl, sym, ◌∙◌, ap, ap₂, subst, arith, length-append, drop-append_seam, take-append_seam, drop-append-le, drop-map, length-drop, length-map, length-take-le, take-map, take_more, All-filter, All-head, All-push, All-tail, Debt, from_to, CodeOwing, filter-map, owed_in, picked, beside}
+use Rattle.sip_machine.proofs.pools.PoolLemmas.{beside-append, beside-at}
+use Rattle.sip_machine.proofs.pools.CoversLemmas.{slice-get}
 
 -- What follows is of parts of a list, from one index up to another.
 module _ {X : Type 0} where
-  -- the elements from `from` up to the next index are those up to k and the element at k
-  from_to-next : (from k : ℕ) (xs : List X) (d : X) → from ≤ k → k < length xs → from_to from (suc k) xs ≡ from_to from k xs ++ get_or xs k d ∷ []
-  from_to-next zero k xs d le low = let next : suc k ≡ k + 1 = omega arith in ap (λ n. take n xs) next ∙ take_more xs k d low
-  from_to-next (suc from) zero xs d le low = absurd (omega (arith, le))
-  from_to-next (suc from) (suc k) [] d le low = absurd (omega (arith, low))
-  from_to-next (suc from) (suc k) (x ∷ xs) d le low = from_to-next from k xs d (omega (arith, le)) (omega (arith, low))
-
   -- the elements up to one place further have the element there at their end
   pub from_to-more : (from k : ℕ) (xs : List X) (d : X) → from ≤ k → k < length xs → from_to from (k + 1) xs ≡ from_to from k xs ++ get_or xs k d ∷ []
-  from_to-more from k xs d le low = let next : k + 1 ≡ suc k = omega arith in ap (λ n. from_to from n xs) next ∙ from_to-next from k xs d le low
+  from_to-more from k xs d le low =
+      let size = length-take-le k xs (omega (arith, low)) in
+      ap (drop from) (take_more xs k d low) ∙ drop-append-le from (take k xs) (get_or xs k d ∷ []) (omega (arith, le, size))
 
   -- what holds up to a place, and of the element there, holds up to one place further
   pub some-more : (P : X → Type 0) (at k : ℕ) (xs : List X) (d : X) → at ≤ k → k < length xs → All P (from_to at k xs) → P (get_or xs k d) → All P (from_to at (k + 1) xs)
@@ -35,44 +18,21 @@ module _ {X : Type 0} where
   -- what holds of all elements from one index up to another holds of the element at an index between
   pub some-at : (P : X → Type 0) (from to k : ℕ) (xs : List X) (d : X) → to ≤ length xs → from ≤ k → k < to → All P (from_to from to xs) → P (get_or xs k d)
   some-at P from to k xs d within low high all =
-      let size : length (from_to from to xs) ≡ to - from = length-drop from (take to xs) ∙ ap (λ n. n - from) (length-take-le to xs within) in
-      let there : from + (k - from) ≡ k = omega (arith, low) in
-      subst P (get_or-drop from (take to xs) (k - from) d ∙ ap (λ n. get_or (take to xs) n d) there ∙ get_or-take to xs k d high)
-      (all (k - from) d (omega (arith, size, low, high)))
+      let size = length-drop from (take to xs) ∙ ap (λ n. n - from) (length-take-le to xs within) in
+      subst P (slice-get from to k xs d low high) (all (k - from) d (omega (arith, size, low, high)))
 
 -- what f gives of the elements from one index up to another is what it gives of all, from the one up to the other
 from_to-map : {X Y : Type 0} (f : X → Y) (from to : ℕ) (xs : List X) → from_to from to (map f xs) ≡ map f (from_to from to xs)
-from_to-map f zero zero xs = refl
-from_to-map f zero (suc to) [] = refl
-from_to-map f zero (suc to) (x ∷ xs) = ap (λ ys. f x ∷ ys) (from_to-map f zero to xs)
-from_to-map f (suc from) zero xs = refl
-from_to-map f (suc from) (suc to) [] = refl
-from_to-map f (suc from) (suc to) (x ∷ xs) = from_to-map f from to xs
-
--- to map twice is to map by both functions at once
-map-again : {X Y Z : Type 0} (f : X → Y) (g : Y → Z) (xs : List X) → map g (map f xs) ≡ map (λ x. g (f x)) xs
-map-again f g [] = refl
-map-again f g (x ∷ xs) = ap (λ ys. g (f x) ∷ ys) (map-again f g xs)
-
--- where f and g give the same of each element, they give the same list
-pub map-same : {X Y : Type 0} (f g : X → Y) (xs : List X) → All (λ x. f x ≡ g x) xs → map f xs ≡ map g xs
-map-same f g [] same = refl
-map-same f g (x ∷ xs) same = ap₂ (λ y ys. y ∷ ys) (All-head (λ x. f x ≡ g x) x xs same) (map-same f g xs (All-tail (λ x. f x ≡ g x) x xs same))
+from_to-map f from to xs = ap (drop from) (take-map f to xs) ∙ drop-map f from (take to xs)
 
 -- What follows is of phases beside the rows of what is owed, as the states of a pool.
 module _ {S : Type 0} where
-  -- phases and further ones beside their rows are the states of the phases and then those of the further ones
-  beside-append : (phases more : List S) (rows again : List (List Debt)) → length rows ≡ length phases →
-      beside (phases ++ more) (rows ++ again) ≡ beside phases rows ++ beside more again
-  beside-append [] more [] again long = refl
-  beside-append [] more (row ∷ rows) again long = absurd (omega (arith, long))
-  beside-append (phase ∷ phases) more [] again long = absurd (omega (arith, long))
-  beside-append (phase ∷ phases) more (row ∷ rows) again long = grind (arith, nat_tests, beside-append phases more rows again)
-
-  -- one phase for each row, beside the rows, is the states of that phase that owe what the rows have
-  beside-each : (phase : S) (rows : List (List Debt)) → beside (replicate (length rows) phase) rows ≡ map (λ (owes : List Debt). record { phase = phase; owes = owes }) rows
-  beside-each phase [] = refl
-  beside-each phase (row ∷ rows) = ap (λ xs. record { phase = phase; owes = row } ∷ xs) (beside-each phase rows)
+  -- where h gives each state the phase q and the debts that g gives, one phase for each beside these debts is the states that h gives
+  beside-each : (q : S) (g : List Debt → List Debt) (h : CodeOwing S → CodeOwing S) (xs : List (CodeOwing S)) → All (λ x. record { phase = q; owes = g x.owes } ≡ h x) xs →
+      beside (replicate (length xs) q) (map g (map (λ x. x.owes) xs)) ≡ map h xs
+  beside-each q g h [] same = refl
+  beside-each q g h (x ∷ xs) same =
+      ap₂ (λ y ys. y ∷ ys) (All-head (λ x. record { phase = q; owes = g x.owes } ≡ h x) x xs same) (beside-each q g h xs (All-tail (λ x. record { phase = q; owes = g x.owes } ≡ h x) x xs same))
 
   -- what the states of phases beside rows owe is the rows
   owes-beside : (phases : List S) (rows : List (List Debt)) → length rows ≡ length phases → rows ≡ map (λ (x : CodeOwing S). x.owes) (beside phases rows)
@@ -81,22 +41,22 @@ module _ {S : Type 0} where
   owes-beside (phase ∷ phases) [] long = absurd (omega (arith, long))
   owes-beside (phase ∷ phases) (row ∷ rows) long = ap (λ rs. row ∷ rs) (owes-beside phases rows (omega (arith, long)))
 
-  -- where copies of some rows come after the others, each changed by g, and one phase for each, the states are the old ones and those of that phase
-  pub pushed-is : (q : S) (g : List Debt → List Debt) (p : List Debt → Bool) (phases : List S) (rows : List (List Debt)) (from to n : ℕ) →
-      length rows ≡ length phases → n ≡ length (map g (filter p (from_to from to rows))) →
-      beside (phases ++ replicate n q) (rows ++ map g (filter p (from_to from to rows)))
-      ≡ beside phases rows ++ map (λ (x : CodeOwing S). record { phase = q; owes = g x.owes }) (filter (λ x. p x.owes) (from_to from to (beside phases rows)))
-  pushed-is q g p phases rows from to n long size =
-      let xs = from_to from to (beside phases rows) in
+  -- where copies of some rows come after the others, each changed by g, and the phase q for each, the states are the old ones and those that h gives
+  pub pushed-is : (q : S) (g : List Debt → List Debt) (h : CodeOwing S → CodeOwing S) (p : List Debt → Bool) (phases : List S) (rows : List (List Debt)) (xs : List (CodeOwing S)) (from to n : ℕ) →
+      beside phases rows ≡ xs → length rows ≡ length phases → n ≡ length (map g (filter p (from_to from to rows))) →
+      All (λ x. record { phase = q; owes = g x.owes } ≡ h x) (from_to from to xs) →
+      beside (phases ++ replicate n q) (rows ++ map g (filter p (from_to from to rows))) ≡ xs ++ map h (filter (λ x. p x.owes) (from_to from to xs))
+  pushed-is q g h p phases rows xs from to n is long size same =
       let owes : CodeOwing S → List Debt = λ x. x.owes in
-      let same : map g (filter p (from_to from to rows)) ≡ map (λ (x : CodeOwing S). g x.owes) (filter (λ x. p x.owes) xs)
-      = ap (λ rs. map g (filter p (from_to from to rs))) (owes-beside phases rows long) ∙ ap (λ ys. map g (filter p ys)) (from_to-map owes from to (beside phases rows))
-      ∙ ap (map g) (filter-map owes p xs) ∙ map-again owes g (filter (λ x. p x.owes) xs) in
+      let some = filter (λ x. p x.owes) (from_to from to xs) in
+      -- the rows of the states that pass are the rows that pass
+      let rows_are : filter p (from_to from to rows) ≡ map owes some
+      = ap (λ rs. filter p (from_to from to rs)) (owes-beside phases rows long ∙ ap (map owes) is) ∙ ap (filter p) (from_to-map owes from to xs) ∙ filter-map owes p (from_to from to xs) in
+      let count : n ≡ length some = size ∙ length-map (filter p (from_to from to rows)) g ∙ ap length rows_are ∙ length-map some owes in
+      -- the new rows stand beside the one phase
       beside-append phases (replicate n q) rows (map g (filter p (from_to from to rows))) long
-      ∙ ap (λ ys. beside phases rows ++ ys)
-      (ap (λ k. beside (replicate k q) (map g (filter p (from_to from to rows)))) size ∙ beside-each q (map g (filter p (from_to from to rows)))
-      ∙ ap (map (λ (owes : List Debt). record { phase = q; owes = owes })) same
-      ∙ map-again (λ (x : CodeOwing S). g x.owes) (λ (owes : List Debt). record { phase = q; owes = owes }) (filter (λ x. p x.owes) xs))
+      ∙ ap₂ (λ ys zs. ys ++ zs) is (ap₂ (λ k rs. beside (replicate k q) (map g rs)) count rows_are
+      ∙ beside-each q g h some (All-filter (λ x. p x.owes) (λ x. record { phase = q; owes = g x.owes } ≡ h x) (from_to from to xs) same))
 
   -- the phases at some indices beside the rows there are the states there
   pub beside-picked : (phases : List S) (rows : List (List Debt)) (kept : List ℕ) (x : CodeOwing S) → All (λ row. row < length phases) kept →

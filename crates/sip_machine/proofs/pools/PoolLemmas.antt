@@ -1,17 +1,6 @@
 -- The states of a pool: a list of phases and a list of what is owed, read as one list.
 use Prim.Native.Nat.{suc, zero}
-use Rattle.std.specs.Prelude.{◌≡◌, ◌==◌, ◌↔◌, ◌<◌, ◌+◌, ℕ, IsTrue, true, List, [], ◌∷◌, ◌++◌, drop, get_or, length, set, take}
-use Rattle.std.specs.List.{HoldsAt}
-use Rattle.std.proofs.Common.{Result, Ok, Err, OnErr, is_err, true≢false, refl, sym, ◌∙◌, ap, ap₂, subst, arith, length-append}
-use Rattle.std.proofs.lemmas.Bool.Decides.{nat_tests}
-use Rattle.std.proofs.Math.Seq.{get_or-append_seam, take-append_seam}
-use Rattle.sip_ledger.specs.declared.debt.Debt.{Debt}
-use Rattle.sip_machine.specs.Owes.{owed_in}
-use Rattle.sip_machine.specs.Owing.{CodeOwing, at_rest, state_in}
-use Rattle.sip_machine.specs.declared.effects.Rest.{Rest}
-use Rattle.sip_machine.specs.declared.effects.Rest.TheVariants.{Stays, Pays}
-use Rattle.sip_machine.specs.inner.Effects.{rested_debts, rests_at}
-use Rattle.sip_machine.specs.inner.Pools.{beside}
+use Rattle.sip_machine.proofs.Words.{◌≡◌, ◌==◌, ◌↔◌, ◌<◌, ◌≤◌, ℕ, IsTrue, List, [], ◌∷◌, ◌++◌, drop, get_or, length, set, take, HoldsAt, refl, sym, ◌∙◌, ap, ap₂, subst, arith, nat_tests, get_or-append_seam, take-append_seam, length-drop, set-get_or, length-take, length_push, take-take, take_all, dropped-first, Debt, CodeOwing, at_rest, state_in, Rest, Stays, Pays, owed_in, rested_debts, rests_at, beside}
 
 -- What follows is of phases beside the rows of what is owed, as the states of a pool.
 module _ {S : Type 0} where
@@ -29,13 +18,18 @@ module _ {S : Type 0} where
   beside-at (phase ∷ phases) (row ∷ rows) zero p x low = refl
   beside-at (phase ∷ phases) (row ∷ rows) (suc k) p x low = beside-at phases rows k p x (omega (arith, low))
 
+  -- phases and further ones beside their rows are the states of the phases and then those of the further ones
+  pub beside-append : (phases more : List S) (rows again : List (List Debt)) → length rows ≡ length phases →
+      beside (phases ++ more) (rows ++ again) ≡ beside phases rows ++ beside more again
+  beside-append [] more [] again long = refl
+  beside-append [] more (row ∷ rows) again long = absurd (omega (arith, long))
+  beside-append (phase ∷ phases) more [] again long = absurd (omega (arith, long))
+  beside-append (phase ∷ phases) more (row ∷ rows) again long = grind (arith, nat_tests, beside-append phases more rows again)
+
   -- where a phase and a row are put after the others, the state of these comes after the others
   pub beside_push : (phases : List S) (rows : List (List Debt)) (phase : S) (row : List Debt) → length rows ≡ length phases →
       beside (phases ++ phase ∷ []) (rows ++ row ∷ []) ≡ beside phases rows ++ record { phase = phase; owes = row } ∷ []
-  beside_push [] [] phase row long = refl
-  beside_push [] (r ∷ rows) phase row long = absurd (omega (arith, long))
-  beside_push (p ∷ phases) [] phase row long = absurd (omega (arith, long))
-  beside_push (p ∷ phases) (r ∷ rows) phase row long = ap (λ xs. record { phase = p; owes = r } ∷ xs) (beside_push phases rows phase row (omega (arith, long)))
+  beside_push phases rows phase row long = beside-append phases (phase ∷ []) rows (row ∷ []) long
 
   -- the first n phases beside the first n rows are the first n states
   pub beside-take : (phases : List S) (rows : List (List Debt)) (n : ℕ) → length rows ≡ length phases → beside (take n phases) (take n rows) ≡ take n (beside phases rows)
@@ -63,13 +57,19 @@ module _ {S : Type 0} where
   beside-set (p ∷ phases) (r ∷ rows) zero phase row long = refl
   beside-set (p ∷ phases) (r ∷ rows) (suc k) phase row long = ap (λ xs. record { phase = p; owes = r } ∷ xs) (beside-set phases rows k phase row (omega (arith, long)))
 
-  -- where the row at k is changed, the state at k keeps its phase and owes the row
-  pub beside-owes : (phases : List S) (rows : List (List Debt)) (k : ℕ) (p : S) (row : List Debt) → length rows ≡ length phases → k < length phases →
-      beside phases (set rows k row) ≡ set (beside phases rows) k (record { phase = get_or phases k p; owes = row })
-  beside-owes [] rows k p row long low = absurd (omega (arith, low))
-  beside-owes (phase ∷ phases) [] k p row long low = absurd (omega (arith, long))
-  beside-owes (phase ∷ phases) (r ∷ rows) zero p row long low = refl
-  beside-owes (phase ∷ phases) (r ∷ rows) (suc k) p row long low = grind (arith, nat_tests, beside-owes phases rows k p row)
+  -- a state that rests keeps its phase, and owes what is left of its debts where it rests
+  rests-owes : (t : ℕ) (rest : Rest) (x : CodeOwing S) → rests_at t rest x ≡ record { phase = x.phase; owes = rested_debts t rest x.owes }
+  rests-owes t Stays x = refl
+  rests-owes t (Pays message) x = refl
+
+  -- where the state at k comes to rest, its row is changed alone
+  pub rested-set : (phases : List S) (rows : List (List Debt)) (k t : ℕ) (rest : Rest) (x : CodeOwing S) → length rows ≡ length phases → k < length phases →
+      set (beside phases rows) k (rests_at t rest (get_or (beside phases rows) k x)) ≡ beside phases (set rows k (rested_debts t rest (owed_in rows k)))
+  rested-set phases rows k t rest x long low =
+      let p = get_or phases k x.phase in
+      let row = rested_debts t rest (owed_in rows k) in
+      ap (set (beside phases rows) k) (ap (rests_at t rest) (beside-at phases rows k x.phase x low) ∙ rests-owes t rest (state_in p rows k))
+      ∙ sym (beside-set phases rows k p row long) ∙ ap (λ ps. beside ps (set rows k row)) (set-get_or phases k x.phase)
 
   -- an index of a state is one of a phase, and of a row
   pub in-phases : (phases : List S) (rows : List (List Debt)) (xs : List (CodeOwing S)) (k : ℕ) → beside phases rows ≡ xs → k < length xs → k < length phases
@@ -98,16 +98,6 @@ module _ {S : Type 0} where
   pub same-state : (x y : CodeOwing S) → x.phase ≡ y.phase → x.owes ≡ y.owes → x ≡ y
   same-state x y phase owes = let e : record { phase = x.phase; owes = x.owes } ≡ y = rw (phase, owes) in e
 
--- the phase of a state with what is owed where the phase stays is the state where the phase stays
-pub rests-owes : {S : Type 0} (t : ℕ) (rest : Rest) (x : CodeOwing S) → record { phase = x.phase; owes = rested_debts t rest x.owes } ≡ rests_at t rest x
-rests-owes t Stays x = refl
-rests-owes t (Pays message) x = refl
-
--- what holds on an error holds where the result is one
-pub on_err : {T E : Type 0} (r : Result T E) (P : Type 0) → is_err r ≡ true → OnErr r P → P
-on_err (Ok x) P is err = absurd (true≢false (sym is))
-on_err (Err e) P is err = err
-
 -- a list has no elements exactly if their number is 0
 pub empty-length : {X : Type 0} (xs : List X) (n : ℕ) → n ≡ length xs → IsTrue (n == 0) ↔ (xs ≡ [])
 empty-length [] n is = (λ _. refl, λ _. grind (arith, nat_tests))
@@ -122,13 +112,13 @@ module _ {X : Type 0} where
   some-at (x ∷ xs) zero low = x
   some-at (x ∷ xs) (suc k) low = some-at xs k (omega (arith, low))
 
-  -- a place of a list is a place of the list with more after it
-  pub in-longer : (old added new : List X) (k : ℕ) → new ≡ old ++ added → k < length old → k < length new
-  in-longer old added new k is low = grind (arith, nat_tests, length-append)
+  -- a list that begins with the old elements is at least as long
+  pub not-shorter : (old new : List X) → take (length old) new ≡ old → length old ≤ length new
+  not-shorter old new front = omega (arith, ap length front, length-take (length old) new)
 
-  -- the place of the element that was put last is in the list
-  pub last-in : (old new : List X) (x : X) (last : ℕ) → new ≡ old ++ x ∷ [] → last ≡ length old → last < length new
-  last-in old new x last is at = let long : length new ≡ length old + 1 = ap length is ∙ length-append old (x ∷ []) in omega (arith, long, at)
+  -- a list that begins with one that begins with the old elements begins with the old ones
+  pub front-again : (old mid new : List X) → take (length old) mid ≡ old → take (length mid) new ≡ mid → take (length old) new ≡ old
+  front-again old mid new first second = sym (take-take (length old) (length mid) new (not-shorter old mid first)) ∙ ap (take (length old)) second ∙ first
 
   -- a list of one element that is set to x is the list of x
   pub alone-set : (xs : List X) (x : X) → length xs ≡ 1 → set xs 0 x ≡ x ∷ []
@@ -149,5 +139,8 @@ module _ {X : Type 0} where
   pub take-old : (old added new : List X) (n : ℕ) → new ≡ old ++ added → n ≡ length old → take n new ≡ old
   take-old old added new n is at = ap₂ take at is ∙ take-append_seam old added
 
--- what stands beside what in a pool
-pub ruleset of_pool = (beside-length, beside_push, beside-set, beside-take, empty-length, in-phases, in-rows, state-at, same-state)
+-- the rules by which phases and rows of a pool stand beside each other
+pub ruleset of_pool = (beside-length, beside_push, beside-set, beside-take, empty-length, in-phases, in-rows, rested-set, state-at, same-state, take-append_seam, take_all, length_push, not-shorter, front-again)
+
+-- what is left in a pool after the first states
+pub ruleset of_drop = (beside-length, beside-drop, dropped-first, length-drop)

@@ -41,6 +41,7 @@ newest-other slots prints slot newest print other is =
     record {
       within = omega (arith, long, within);
       of_slot = old.of_slot;
+      -- a later print of this slot would be the new one, which is of another slot
       last = λ k high low here. elim (cases_lt k (length prints)) [
         | inl below ↦ old.last k high below here
         | inr at ↦ other (sym here ∙ ap (slot_of slots) (get_or_push prints print 0 k (omega (arith, at, low, long))))

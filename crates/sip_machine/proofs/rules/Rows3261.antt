@@ -32,11 +32,13 @@ use Rattle.sip_machine.specs.inner.InviteClient3261.Laws.{IsEndedBy}
 use Rattle.sip_machine.specs.inner.InviteServer3261.Laws.{turn_within}
 
 -- any other message has the rows of RFC 6026 in a client of RFC 3261
+-- x is the phase, k the kind of the message e, and y where the row leads
 pub other_row : (p : Times) (x : InviteClientPhase) (k : Kind) (e : MachineEvent) (y : After InviteClientPhase) → ¬ (IsEndedBy x k) → client.Receives p x k e y ↔ client_3261.Receives p x k e y
 other_row p (Calling w) (Response code) e y other = (
   λ h. elim h [ inl row ↦ inl row | inr final ↦ elim final [ inl success ↦ absurd (other success.0) | inr row ↦ inr (inr row) ] ],
   λ h. elim h [ inl row ↦ inl row | inr final ↦ elim final [ inl success ↦ absurd (other success.0) | inr row ↦ inr (inr row) ] ],
 )
+-- in proceeding too only a 2xx has another row, and other messages have the same
 other_row p (Proceeding reliable request cancel) (Response code) e y other = (
   λ h. elim h [ inl success ↦ absurd (other success.0) | inr row ↦ inr row ],
   λ h. elim h [ inl success ↦ absurd (other success.0) | inr row ↦ inr row ],
@@ -58,6 +60,7 @@ pub within-one : (texts : Texts) (Row : After InviteServerPhase → Type 0) (aga
 within-one texts Row again None none = λ y h. none h.0 h.1
 within-one texts Row again (Some turn) one =
     record {
+      -- the phase to which the row leads is the same, with the flag beside it
       only = λ y. (
         λ h. h.2 ∙ ap (λ (after : After InviteServerPhase). (In after.0 again, after.1)) ((one.only h.0).0 h.1),
         λ same. (turn_seen invite_server_seen texts turn, (one.only (turn_seen invite_server_seen texts turn)).1 refl, same),
@@ -69,6 +72,7 @@ within-one texts Row again (Some turn) one =
 -- a response that is no 2xx has the rows of RFC 6026
 pub response_row : (p : Times) (x : InviteServerPhase) (again : Bool) (code : ℕ) (e : MachineEvent) (y : After InviteServer3261Phase) → ¬ (IsSuccess code) →
     Within (server.Sends p x (Response code) e) again y ↔ server_3261.Sends p (In x again) (Response code) e y
+-- in idle and in confirmed nothing is sent, and in accepted only a 2xx
 response_row p server.Idle again code e y other = (λ h. absurd h.1, λ h. absurd h)
 response_row p (server.Proceeding reliable set last) again code e y other = (λ h. inr (other, h), λ h. elim h [ inl success ↦ absurd (other success.0) | inr row ↦ row.1 ])
 response_row p (server.Accepted set) again code e y other = (λ h. absurd (other h.1.0), λ h. absurd h)

@@ -25,6 +25,7 @@ pub StandFor-book : {X S : Type 0} (names : S → List ℕ) (InRange : S → Typ
     (a b : Texts) (P : X → Type 0) (xs : List S) → All (AgreeOn names a b) xs →
     StandFor names InRange seen a P xs → StandFor names InRange seen b P xs
 StandFor-book names InRange seen by_names a b P xs agree stand =
+    -- the states stand for the same beside both books
     let same : map (seen b) xs ≡ map (seen a) xs = sym (map-seen names seen by_names a b xs agree) in
     record {
       members = rw same stand.members;

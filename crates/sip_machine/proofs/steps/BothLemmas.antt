@@ -11,7 +11,8 @@ use Rattle.sip_machine.specs.inner.Both.{AnswersBoth}
 use Rattle.sip_machine.proofs.texts.TextLaws.{Contains-nil}
 use Rattle.sip_machine.proofs.steps.SingleLemmas.{StandFor-none, StandFor-one}
 
--- What follows is of states of the code and what they stand for beside one book.
+-- What follows is of states of the code: `names` gives the numbers that one names, InRange says that they are in range,
+-- and `seen` gives what it stands for beside the book `texts`.
 module _ {X S : Type 0} (names : S → List ℕ) (InRange : S → Type 0) (seen : Texts → S → X) (texts : Texts) where
   -- where P and Q hold of the same, states that stand for P stand for Q
   pub StandFor-same : (P Q : X → Type 0) → ((x : X) → P x ↔ Q x) → (xs : List S) → StandFor names InRange seen texts P xs →
@@ -24,9 +25,10 @@ module _ {X S : Type 0} (names : S → List ℕ) (InRange : S → Type 0) (seen 
   AnswersBoth-one P (Some s) one = StandFor-one names InRange seen texts P s one
 
   -- where P and Q exclude each other, an answer for P and one for Q stand for P or Q
+  -- a is the answer for P and b the one for Q
   pub AnswersBoth-two : (P Q : X → Type 0) → ((x : X) → P x → Q x → ⊥) → (a b : Option S) → AnswersOne names InRange seen texts P a →
       AnswersOne names InRange seen texts Q b → AnswersBoth names InRange seen texts (λ x. P x ⊎ Q x) (a, b)
-  -- neither has a state
+  -- neither P nor Q has a state
   AnswersBoth-two P Q apart None None none none' =
       StandFor-none names InRange seen texts (λ x. P x ⊎ Q x) (λ x h. elim h [ inl p ↦ none x p | inr q ↦ none' x q ])
   -- only Q has a state
@@ -45,10 +47,11 @@ module _ {X S : Type 0} (names : S → List ℕ) (InRange : S → Type 0) (seen 
         known = one.known;
         in_range = one.in_range;
       })
-  -- both have a state, and the two states are not the same
+  -- both P and Q have a state, and the two states are not the same
   AnswersBoth-two P Q apart (Some s) (Some t) one other =
       record {
         members = λ x. (
+          -- what is in the list is the first state or the second
           λ has. elim (Contains-push_cases (seen texts s ∷ []) (seen texts t) x has) [
             | inl first ↦
                 elim (Contains-push_cases [] (seen texts s) x first) [
@@ -57,11 +60,13 @@ module _ {X S : Type 0} (names : S → List ℕ) (InRange : S → Type 0) (seen 
                 ]
             | inr e ↦ inr ((other.only x).1 (sym e))
           ],
+          -- what is in the list is one of the two states
           λ h. elim h [
             | inl p ↦ rw ((one.only x).0 p) (0, omega arith, refl)
             | inr q ↦ rw ((other.only x).0 q) (Contains-push (seen texts s ∷ []) (seen texts t))
           ],
         );
+        -- the two are not the same, since no state is of both
         distinct =
             let differ : seen texts s ≢ seen texts t = λ e. apart (seen texts s) ((one.only (seen texts s)).1 refl) ((other.only (seen texts s)).1 e) in
             AllPairs-cons (λ x y. x ≢ y) (seen texts s) (seen texts t ∷ [])
@@ -71,6 +76,7 @@ module _ {X S : Type 0} (names : S → List ℕ) (InRange : S → Type 0) (seen 
       }
 
 -- where P holds of z alone, a received message that leads where P says leads to z alone
+-- x is the state before the message, and y any state to which it leads
 pub OrStays-one : {X : Type 0} (P : X → Type 0) (x z : X) → ((y : X) → P y ↔ (y ≡ z)) → (y : X) → OrStays P x y ↔ (y ≡ z)
 OrStays-one P x z only y = (
   λ h. elim h [ inl p ↦ (only y).0 p | inr stays ↦ absurd (stays.0 z ((only z).1 refl)) ],

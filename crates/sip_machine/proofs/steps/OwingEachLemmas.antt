@@ -1,4 +1,5 @@
 -- The step of the machine of a figure from many states of the code at once.
+-- In the lemmas x is a state before the step, and y one after it.
 use Prim.Native.Nat.{suc, zero}
 use Rattle.std.specs.Prelude.{◌≡◌, ◌≤◌, ◌<◌, ◌^◌, ◌↔◌, ◌⊎◌, ◌&&◌, ◌++◌, ℕ, IsTrue, Bool, true, false, Option, Some, None, List, [], ◌∷◌, All, filter, get_or, length, map, take, unwrap_or}
 use Rattle.std.specs.Option.{option_map}
@@ -47,7 +48,9 @@ within-told : (t : ℕ) (last : Option ℕ) → is_within t last ≡ false → �
 within-told t None is = λ _. true≢false is
 within-told t (Some last) is = λ within. grind (arith, nat_tests)
 
--- What follows is of the states of one phase, which are asked together: the figure f with the times p.
+-- What follows is of states of one phase, which are asked together, by the figure f with the times p: `seen` gives what a phase stands for beside the book
+-- `texts`,
+-- `names` gives the numbers that it names, and InRange says that they are in range.
 module _ {S X : Type 0} (f : Figure X) (p : Times) (seen : Texts → S → X) (names : S → List ℕ) (InRange : S → Type 0) (texts : Texts) where
   -- a state lasts until t where its timers and the deadlines of what it must send do
   timely-lasts : (t : ℕ) (x : CodeOwing S) → IsWithin t (earliest (closes_at f p (seen texts x.phase))) → is_timely t x.owes ≡ true →
@@ -110,7 +113,7 @@ module _ {S X : Type 0} (f : Figure X) (p : Times) (seen : Texts → S → X) (n
   timely-answers t x P answer true is timers answers = lasting-answers t x P answer (timely-lasts t x timers is) answers
   timely-answers t x P answer false is timers answers = λ y h. late-ends t x is h.0
 
-  -- What follows is of states of one phase, and of one event.
+  -- What follows is of xs, states of one phase, and of one event e: the book knows the messages of the states, and their numbers are in range.
   module _ (e : MachineEvent) (phase : S) (xs : List (CodeOwing S)) (same : All (λ x. x.phase ≡ phase) xs) (known : All (Knows (owing_names names) texts) xs)
       (fits : All (OwingInRange InRange) xs) where
     -- the state of this phase that owes these debts
@@ -145,6 +148,7 @@ module _ {S X : Type 0} (f : Figure X) (p : Times) (seen : Texts → S → X) (n
         Covers (owing_names names) (OwingInRange InRange) (owing_seen seen) texts (FromSome (LeadsFrom f p seen texts e) xs)
         (map (led_by p e.moment turn) (filter (λ x. is_timely e.moment x.owes) xs))
     leads-some turn timers one =
+        -- each of the states xs has this phase: a timely one gives the state that the turn leads to, and another gives none
         answers-cover (owing_names names) (OwingInRange InRange) (owing_seen seen) texts (LeadsFrom f p seen texts e) (λ x. is_timely e.moment x.owes) (led_by p e.moment turn) xs
         (each-state (λ x. Owings (LeadsFrom f p seen texts e x) (cond (is_timely e.moment x.owes) (Some (led_by p e.moment turn x)) None))
         (λ owes knows fit. timely-answers e.moment (InPhase owes) (Leads f p e.action e (owing_seen seen texts (unexpired_at e.moment (InPhase owes))))
@@ -155,10 +159,12 @@ module _ {S X : Type 0} (f : Figure X) (p : Times) (seen : Texts → S → X) (n
         All (λ debt. IsTrue (is_payable message e.moment debt) ↔ PaysFor (f.Satisfies (seen texts phase) e.kind e) texts e.moment debt) owes →
         Knows (owing_names names) texts (InPhase owes) → OwingInRange InRange (InPhase owes) → (b : Bool) → list_any (is_payable message e.moment) owes ≡ b →
         Owings (Rests f e (owing_seen seen texts (unexpired_at e.moment (InPhase owes)))) (cond b (Some (repaid_at e.moment message (InPhase owes))) None)
+    -- b says whether some debt can be paid: where one can, the state that paid it is the answer, and where none can, there is none
     paid-answers message owes moves tells knows fit true is =
         rested-pays f p seen names InRange texts e (InPhase owes) moves (Some message)
         (FindsFirst-same (λ debt. IsTrue (is_payable message e.moment debt)) (PaysFor (f.Satisfies (seen texts phase) e.kind e) texts e.moment) e.moment owes (Some message) tells
         (pays-some message e.moment owes is)) knows fit
+    -- no debt can be paid, so the state gives nothing
     paid-answers message owes moves tells knows fit false is =
         rested-pays f p seen names InRange texts e (InPhase owes) moves None
         (FindsFirst-same (λ debt. IsTrue (is_payable message e.moment debt)) (PaysFor (f.Satisfies (seen texts phase) e.kind e) texts e.moment) e.moment owes None tells
@@ -178,12 +184,14 @@ module _ {S X : Type 0} (f : Figure X) (p : Times) (seen : Texts → S → X) (n
         Covers (owing_names names) (OwingInRange InRange) (owing_seen seen) texts (FromSome (RestsFrom f p seen texts e) xs)
         (map (repaid_at e.moment message) (filter (λ x. list_any (is_payable message e.moment) x.owes && is_timely e.moment x.owes) xs))
     rests-paid message timers moves tells =
+        -- each of the states xs has this phase: one that can pay and is timely gives itself without what is paid, and another gives none
         answers-cover (owing_names names) (OwingInRange InRange) (owing_seen seen) texts (RestsFrom f p seen texts e)
         (λ x. list_any (is_payable message e.moment) x.owes && is_timely e.moment x.owes) (repaid_at e.moment message) xs
         (each-state (λ x. Owings (RestsFrom f p seen texts e x)
         (cond (list_any (is_payable message e.moment) x.owes && is_timely e.moment x.owes) (Some (repaid_at e.moment message x)) None))
-        -- one state: whether it can pay, and then whether it is timely
+        -- one state is asked whether it can pay, and then whether it is timely
         (λ owes knows fit.
+        -- x is the state, P what rests of it after the event, and `can` whether it can pay; `one` is its answer before the test of time
         let x = InPhase owes in
         let P = Rests f e (owing_seen seen texts (unexpired_at e.moment x)) in
         let can = list_any (is_payable message e.moment) owes in
@@ -194,15 +202,18 @@ module _ {S X : Type 0} (f : Figure X) (p : Times) (seen : Texts → S → X) (n
         subst (Owings (Lasting e.moment x P)) (timely-paid can (is_timely e.moment owes) (repaid_at e.moment message x))
         (timely-answers e.moment x P (cond can (Some (repaid_at e.moment message x)) None) (is_timely e.moment owes) refl timers one)))
 
--- What follows is of one state of the code, without what has expired at the event: the figure f with the times p.
+-- What follows is of one state without what has expired at an event: the figure is f with the times p, and `seen` gives what a phase stands for beside the
+-- book.
 module _ {S X : Type 0} (f : Figure X) (p : Times) (seen : Texts → S → X) (texts : Texts) where
   -- the step of a state of the code that has lasted until the event, without what has expired, is the take of its state of the rules
   steps-same : (a : Action) (e : MachineEvent) (x : CodeOwing S) (y : Owing X) → e.action ≡ a →
       (IsWithin e.moment (until_of f p (owing_seen seen texts x)) × Steps f p a e (owing_seen seen texts (unexpired_at e.moment x)) y) ↔ TakeOf f p (owing_seen seen texts x) e y
   steps-same a e x y is =
+      -- `at` is the state of the rules without the debts that have expired, and the code's state without these is seen as it
       let at : Owing X = record { phase = seen texts x.phase; owes = unexpired e.moment (owes_seen texts x.owes) } in
       let here : owing_seen seen texts (unexpired_at e.moment x) ≡ at
       = ap (λ (owes : List Owed). record { phase = seen texts x.phase; owes = owes }) (sym (unexpired-seen e.moment texts x.owes)) in (
+        -- both ways: the action of the event is a
         λ h. (h.0, subst (λ b. Steps f p b e at y) (sym is) (subst (λ z. Steps f p a e z y) here h.1)),
         λ h. (h.0, subst (λ z. Steps f p a e z y) (sym here) (subst (λ b. Steps f p b e at y) is h.1)),
       )
@@ -251,6 +262,7 @@ in-run names InRange texts phases rows xs from to phase is here order le known f
     let d = at_rest phase in
     let first = get_or xs from d in
     let at : first.phase ≡ phase = ap (λ z. z.phase) (state-at phases rows xs from phase d is (omega (arith, order, le))) ∙ sym here in
+    -- what holds of each state of the run holds of its phase, and all have that phase
     record {
       known = subst (Knows names texts) at (All-front (Keeps texts) (names first.phase) (owes_names first.owes) (slice-first (Knows (owing_names names) texts) from to xs d order le known));
       in_range = subst InRange at (slice-first (OwingInRange InRange) from to xs d order le fits).0;

@@ -1,4 +1,5 @@
 -- The steps of the machine of a figure, from the states of the code.
+-- In the lemmas x is a state before a step, y one after it, t a moment, and c a change of the debts.
 use Rattle.std.specs.Prelude.{◌≡◌, ◌⊎◌, ◌≤◌, ◌<◌, ◌^◌, ℕ, IsTrue, Bool, true, false, Option, Some, None, List, [], ◌∷◌, ◌++◌, All, filter, length, option_to_list, unwrap_or}
 use Rattle.std.specs.Option.{option_map}
 use Rattle.std.proofs.Common.{inl, inr, refl, sym, ◌∙◌, ap, ap₂, subst, arith, cond, length-append}
@@ -73,6 +74,7 @@ changed-length : (p : Times) (t : ℕ) (c : Change) (owes : List Owed) → (c �
 changed-length p t keeps owes = inr (omega arith)
 changed-length p t softens owes = inr (softened-length owes)
   where
+    -- softened debts are as many as before
     softened-length : (owes : List Owed) → length owes ≤ length (softened owes)
     softened-length [] = omega arith
     softened-length (o ∷ os) = let more = softened-length os in omega (arith, more)
@@ -88,6 +90,7 @@ without-length P xs ys a = grind (arith, nat_tests, length-append)
 Follows-Repays : {X : Type 0} (f : Figure X) (is : IsFigure f) (p : Times) (e : MachineEvent) (x y : Owing X) → Follows (f.Sends p x.phase e.kind e) p e x y → Repays f e x y → ⊥
 Follows-Repays f is p e x y row pays = by_length (changed-length p e.moment (row.0).1 x.owes)
   where
+    -- a row that drops the debts leads to another phase, and any other row leaves more debts than a payment does
     by_length : ((row.0).1 ≡ drops) ⊎ (length x.owes ≤ length (changed p e.moment (row.0).1 x.owes)) → ⊥
     by_length (inl drop) = is.sent_leaves p x.phase e.kind e row.0 row.1 (inl drop) (ap (λ z. z.phase) (sym row.2 ∙ pays.2))
     by_length (inr more) =
@@ -97,6 +100,7 @@ Follows-Repays f is p e x y row pays = by_length (changed-length p e.moment (row
         absurd (omega (arith, more, fewer, size))
 
 -- a sent message that has a row and one that changes nothing lead to different states
+-- x is the state before the event e, and y the one after it
 Follows-Stays : {X : Type 0} (f : Figure X) (is : IsFigure f) (p : Times) (e : MachineEvent) (x y : Owing X) → Follows (f.Sends p x.phase e.kind e) p e x y →
     f.Stays x.phase e.kind × (y ≡ x) → ⊥
 Follows-Stays f is p e x y row stays = is.sent_leaves p x.phase e.kind e row.0 row.1 (inr stays.0) (ap (λ z. z.phase) (sym row.2 ∙ stays.1))
@@ -124,6 +128,7 @@ counts-may t d low = grind (arith, nat_tests)
 IsWithoutFirst-filter : {X : Type 0} (p : X → Bool) (P : X → Type 0) (xs ys : List X) → ((x : X) → P x → p x ≡ true) → IsWithoutFirst P xs ys →
     IsWithoutFirst P (filter p xs) (filter p ys)
 IsWithoutFirst-filter p P xs ys passes a =
+    -- what stands before the first, the first itself, and what follows it are filtered each
     record {
       before = filter p a.before;
       first = a.first;
@@ -135,7 +140,8 @@ IsWithoutFirst-filter p P xs ys passes a =
       rest = ap (filter p) a.rest ∙ filter-append p a.before a.after;
     }
 
--- What follows is of one state of the code: the figure f with the times p.
+-- What follows is of one state of the code by the figure f with the times p: `seen` gives what a phase stands for beside the book `texts`,
+-- `names` gives the numbers that it names, and InRange says that they are in range.
 module _ {S X : Type 0} (f : Figure X) (p : Times) (seen : Texts → S → X) (names : S → List ℕ) (InRange : S → Type 0) (texts : Texts) where
   -- where a row of the code leads to a turn alone, the state that the turn gives is the only one to which the row leads
   led-one : (Row : After X → Type 0) (e : MachineEvent) (x : CodeOwing S) (turn : Turn S) →
@@ -145,11 +151,13 @@ module _ {S X : Type 0} (f : Figure X) (p : Times) (seen : Texts → S → X) (n
       (record x { phase = turn.phase; owes = changed_debts p e.moment turn.change x.owes })
   led-one Row e x turn one known fits small =
       let after = turn_seen seen texts turn in
+      -- the code's state stands for the state to which the turn leads
       let there : led_to p e.moment (owes_seen texts x.owes) after
       ≡ owing_seen seen texts (record x { phase = turn.phase; owes = changed_debts p e.moment turn.change x.owes })
       = ap (λ (owes : List Owed). record { phase = seen texts turn.phase; owes = owes }) (changed-seen p texts e.moment turn.change x.owes) in
       let owes_known = All-back (Keeps texts) (names x.phase) (owes_names x.owes) known in
       let here = All-back (Keeps texts) (names turn.phase) (change_names turn.change) one.known in
+      -- the state is the only one, the book has what it names, and it is in range
       record {
         only = λ y. (
           λ h. h.2 ∙ ap (led_to p e.moment (owes_seen texts x.owes)) ((one.only h.0).0 h.1) ∙ there,
@@ -174,6 +182,7 @@ module _ {S X : Type 0} (f : Figure X) (p : Times) (seen : Texts → S → X) (n
   repaid-one e x left known fits paid =
       let Q = PaysFor (f.Satisfies (seen texts x.phase) e.kind e) texts e.moment in
       let P = λ (owed : Owed). f.Satisfies (seen texts x.phase) e.kind e owed.message × (e.moment ≤ owed.deadline) in
+      -- the debts that are left are the only ones without the first that is paid
       let pays = IsWithoutFirst-map (owed_seen texts) Q P x.owes left (λ k d low. (λ h. h, λ h. h)) paid in
       let owes_known = All-names (Keeps texts) x.owes (All-back (Keeps texts) (names x.phase) (owes_names x.owes) known) in
       record {
@@ -182,6 +191,7 @@ module _ {S X : Type 0} (f : Figure X) (p : Times) (seen : Texts → S → X) (n
               (IsWithoutFirst-same P (owes_seen texts x.owes) h.0 (owes_seen texts left) h.1 pays),
           λ same. (owes_seen texts left, pays, same),
         );
+        -- the book has what the state names, and it is in range
         known = All-append (Keeps texts) (names x.phase) (owes_names left) (All-front (Keeps texts) (names x.phase) (owes_names x.owes) known)
             (names-kept texts left (All-without Q (λ d. Keeps texts d.message) x.owes left paid owes_known));
         in_range = (fits.0, All-without Q (λ d. d.deadline < 2 ^ 50) x.owes left paid fits.1);
@@ -203,6 +213,7 @@ module _ {S X : Type 0} (f : Figure X) (p : Times) (seen : Texts → S → X) (n
   emitted-both is e x sent rested one other =
       let here = owing_seen seen texts x in
       let Row = f.Sends p (seen texts x.phase) e.kind e in
+      -- no state is both led and at rest
       AnswersBoth-two (owing_names names) (OwingInRange InRange) (owing_seen seen) texts (Follows Row p e here) (Rests f e here)
       (λ y row rest. elim rest [ inl pays ↦ Follows-Repays f is p e here y row pays | inr stays ↦ Follows-Stays f is p e here y row stays ])
       sent rested one other
@@ -218,6 +229,7 @@ module _ {S X : Type 0} (f : Figure X) (p : Times) (seen : Texts → S → X) (n
       AnswersOne (owing_names names) (OwingInRange InRange) (owing_seen seen) texts (Repays f e (owing_seen seen texts x)) repaid →
       AnswersOne (owing_names names) (OwingInRange InRange) (owing_seen seen) texts (Rests f e (owing_seen seen texts x)) repaid
   rests-repaid e x moves None none = λ y h. elim h [ inl pays ↦ none y pays | inr stays ↦ moves stays.0 ]
+  -- the state can rest only by a payment
   rests-repaid e x moves (Some s) one = record {
     only = λ y. (
       λ h. elim h [ inl pays ↦ (one.only y).0 pays | inr stays ↦ absurd (moves stays.0) ],
@@ -245,6 +257,7 @@ module _ {S X : Type 0} (f : Figure X) (p : Times) (seen : Texts → S → X) (n
       AnswersOne (owing_names names) (OwingInRange InRange) (owing_seen seen) texts
       (Follows (f.Sends p (seen texts x.phase) e.kind e) p e (owing_seen seen texts (unexpired_at e.moment x)))
       (option_map (λ turn. led_by p e.moment turn x) turn)
+  -- without a turn there is no row; with one, the state that it leads to is that of the row, from the state without what has expired
   led-at e x None none known fits small = λ y row. none row.0 row.1
   led-at e x (Some turn) one known fits small =
       led-one (f.Sends p (seen texts x.phase) e.kind e) e (unexpired_at e.moment x) turn one (known-at e.moment x known) (in_range-at e.moment x fits) small
@@ -256,8 +269,10 @@ module _ {S X : Type 0} (f : Figure X) (p : Times) (seen : Texts → S → X) (n
       AnswersOne (owing_names names) (OwingInRange InRange) (owing_seen seen) texts
       (Repays f e (owing_seen seen texts (unexpired_at e.moment x))) (option_map (λ message. repaid_at e.moment message x) paid)
   repaid-at e x None none known fits =
+      -- P holds of a debt that the message pays; it holds of none that has not expired
       let P = PaysFor (f.Satisfies (seen texts x.phase) e.kind e) texts e.moment in
       repaid-none e (unexpired_at e.moment x) (All-filter (counts_at e.moment) (λ debt. ¬ (P debt)) x.owes none)
+  -- the first debt that is paid is also the first among those that have not expired
   repaid-at e x (Some message) finds known fits =
       let P = PaysFor (f.Satisfies (seen texts x.phase) e.kind e) texts e.moment in
       repaid-one e (unexpired_at e.moment x) (filter (counts_at e.moment) (paid_by message e.moment x.owes)) (known-at e.moment x known) (in_range-at e.moment x fits)
@@ -276,6 +291,7 @@ module _ {S X : Type 0} (f : Figure X) (p : Times) (seen : Texts → S → X) (n
       Knows (owing_names names) texts x → OwingInRange InRange x →
       AnswersOne (owing_names names) (OwingInRange InRange) (owing_seen seen) texts (Rests f e (owing_seen seen texts (unexpired_at e.moment x)))
       (option_map (λ rest. rests_at e.moment rest x) (option_map resting.Pays paid))
+  -- where no debt is found nothing is paid, and where the message of one is found, its state has paid it
   rested-pays e x moves None finds known fits = rests-repaid e (unexpired_at e.moment x) moves None (repaid-at e x None finds known fits)
   rested-pays e x moves (Some message) finds known fits =
       rests-repaid e (unexpired_at e.moment x) moves (Some (repaid_at e.moment message x)) (repaid-at e x (Some message) finds known fits)
@@ -290,10 +306,13 @@ module _ {S X : Type 0} (f : Figure X) (p : Times) (seen : Texts → S → X) (n
       Knows (owing_names names) texts x → OwingInRange InRange x → close_at p e.moment 0 < 2 ^ 50 →
       IsTheOne (owing_names names) (OwingInRange InRange) (owing_seen seen) texts (Hears f p e (owing_seen seen texts (unexpired_at e.moment x)))
       (led_by p e.moment (unwrap_or turn (record { phase = x.phase; change = code.Keeps })) x)
+  -- without a row the state stays as it is, but for what has expired; with one, the row leads on
   heard-one e x None none known fits small =
       let now = unexpired_at e.moment x in
       stays-one (f.Receives p (seen texts x.phase) e.kind e) e now none (known-at e.moment x known) (in_range-at e.moment x fits)
+  -- where the message has a row, the state follows it and does not stay
   heard-one e x (Some turn) one known fits small =
+      -- `now` is the state without what has expired, and `there` where the row leads it
       let now = unexpired_at e.moment x in
       let there = led_by p e.moment turn x in
       let Row = f.Receives p (seen texts x.phase) e.kind e in
@@ -311,6 +330,7 @@ module _ {S X : Type 0} (f : Figure X) (p : Times) (seen : Texts → S → X) (n
       Gives (Hears f p e (owing_seen seen texts (unexpired_at e.moment x))) e.moment x
       (record { turn = Some (unwrap_or turn (record { phase = x.phase; change = code.Keeps })); rest = None })
   heard e x turn one known fits small =
+      -- by its row, or as it is where there is none
       AnswersBoth-one (owing_names names) (OwingInRange InRange) (owing_seen seen) texts (Hears f p e (owing_seen seen texts (unexpired_at e.moment x)))
       (Some (led_by p e.moment (unwrap_or turn (record { phase = x.phase; change = code.Keeps })) x)) (heard-one e x turn one known fits small)
 
@@ -322,6 +342,7 @@ module _ {S X : Type 0} (f : Figure X) (p : Times) (seen : Texts → S → X) (n
       Knows (owing_names names) texts x → OwingInRange InRange x → close_at p e.moment 0 < 2 ^ 50 →
       Gives (Emits f p e (owing_seen seen texts (unexpired_at e.moment x))) e.moment x (record { turn = turn; rest = rest })
   emitted is e x turn rest one other known fits small =
+      -- the row's state and the one that rests are those from the state without what has expired
       emitted-both is e (unexpired_at e.moment x) (option_map (λ turn. led_by p e.moment turn x) turn) (option_map (λ rest. rests_at e.moment rest x) rest)
       (led-at e x turn one known fits small) other
 
@@ -342,6 +363,7 @@ module _ {S X : Type 0} (f : Figure X) (p : Times) (seen : Texts → S → X) (n
       (effect.turn ≡ None) × (effect.rest ≡ None) → Gives (Emits f p e (owing_seen seen texts (unexpired_at e.moment x))) e.moment x effect →
       Gives (Fails (f.ends_refused (seen texts x.phase) e.kind) f p e (owing_seen seen texts (unexpired_at e.moment x))) e.moment x effect
   refused-none e x effect is nothing gives =
+      -- `here` is the state without what has expired, and the effect is none; so the refusal, which ends the transaction, has no step either
       let here = owing_seen seen texts (unexpired_at e.moment x) in
       let none : effect ≡ record { turn = None; rest = None }
       = ap₂ (λ (turn : Option (Turn S)) (rest : Option Rest). record { turn = turn; rest = rest }) nothing.0 nothing.1 in
@@ -368,12 +390,14 @@ module _ {S X : Type 0} (f : Figure X) (p : Times) (seen : Texts → S → X) (n
       IsWithin e.moment (until_of f p (owing_seen seen texts x)) → Gives (Steps f p a e (owing_seen seen texts (unexpired_at e.moment x))) e.moment x effect →
       Gives (TakeOf f p (owing_seen seen texts x) e) e.moment x effect
   taken a e x effect is within gives =
+      -- `at` is the state for which the code's stands, without what has expired
       let at : Owing X = record { phase = seen texts x.phase; owes = unexpired e.moment (owes_seen texts x.owes) } in
       let here : owing_seen seen texts (unexpired_at e.moment x) ≡ at
       = ap (λ (owes : List Owed). record { phase = seen texts x.phase; owes = owes }) (sym (unexpired-seen e.moment texts x.owes)) in
       let next = given_by p e.moment x effect in
       StandFor-same (owing_names names) (OwingInRange InRange) (owing_seen seen) texts (Steps f p a e (owing_seen seen texts (unexpired_at e.moment x)))
       (TakeOf f p (owing_seen seen texts x) e)
+      -- what it takes are its steps, since it lasts until the event
       (λ y. (
         λ h. (within, subst (λ b. Steps f p b e at y) (sym is) (subst (λ z. Steps f p a e z y) here h)),
         λ h. subst (λ z. Steps f p a e z y) (sym here) (subst (λ b. Steps f p b e at y) is h.1),

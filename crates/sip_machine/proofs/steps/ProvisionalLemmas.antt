@@ -33,7 +33,7 @@ Is100-read bytes r reads = (
   λ is. (is.reason, ap (λ s. s.start) (sym (said-is bytes r is.said reads is.says)) ∙ is.start),
 )
 
--- three digits that are the code 100 are "100"
+-- where a text is the code 100 in three digits, it is "100"
 digits-100 : (text : List ℕ) → CodeText text 100 → text ≡ codes "100"
 unfolding digits
 digits-100 text is = sym (code-decimal text 100 is)
@@ -45,6 +45,7 @@ code-100 bytes m reason text start =
     let crlf = codes "\r\n" in
     let parts = status_parts first 100 reason (subst (StartText first) start text.is_start) in
     let more = crlf ++ (flat_map with_end text.others ++ (crlf ++ text.rest)) in
+    -- the bytes are the first line and what follows it
     let behind_first : bytes ≡ first ++ more =
     text.is_head.whole
     ∙ sym (append_assoc text.is_head.front crlf (crlf ++ text.rest))
@@ -52,9 +53,11 @@ code-100 bytes m reason text start =
     ∙ append_assoc (first ++ crlf) (flat_map with_end text.others) (crlf ++ text.rest)
     ∙ append_assoc first crlf (flat_map with_end text.others ++ (crlf ++ text.rest)) in
     let code = parts.digits ++ 0x20 ∷ reason in
+    -- the line is the version, a blank and the code
     let behind_version : bytes ≡ parts.version ++ (0x20 ∷ (code ++ more)) =
     behind_first ∙ ap (λ line. line ++ more) parts.whole ∙ append_assoc parts.version (0x20 ∷ code) more in
     let eight : 8 ≡ length parts.version + 1 = omega (arith, length-version parts.version parts.is_version) in
+    -- the code stands from the eighth byte on
     let dropped : drop 8 bytes ≡ code ++ more =
     ap (drop 8) behind_version ∙ ap (λ n. drop n (parts.version ++ (0x20 ∷ (code ++ more)))) eight
     ∙ drop-append-add parts.version (0x20 ∷ (code ++ more)) 1 in

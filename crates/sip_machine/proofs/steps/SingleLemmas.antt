@@ -20,9 +20,11 @@ pub StandFor-one : {X S : Type 0} (names : S → List ℕ) (InRange : S → Type
 StandFor-one {X} {S} names InRange seen texts P s one =
     record {
       members = λ x. (
+        -- the list has just what s stands for, and P holds just of that
         λ h. elim (Contains-push_cases [] (seen texts s) x h) [ inl none ↦ absurd (Contains-nil x none) | inr e ↦ rw (← e) ((one.only (seen texts s)).1 refl) ],
         λ h. let e : x ≡ seen texts s = (one.only x).0 h in rw e (Contains-push [] (seen texts s)),
       );
+      -- there is one state, the book has what it names, and it is in range
       distinct = λ i j d low high. absurd (omega arith);
       known = All-cons (Knows names texts) s [] one.known (All-nil (Knows names texts));
       in_range = All-cons InRange s [] one.in_range (All-nil InRange);

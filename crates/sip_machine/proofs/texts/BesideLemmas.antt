@@ -1,4 +1,5 @@
 -- Rising numbers and a part of them: where both have as many between two bounds, they are the same there.
+-- In the lemmas n is the first of some rising numbers and ns are the others, and m is a number that is looked for.
 use Prim.Native.Nat.{zero, suc}
 use Rattle.std.specs.Prelude.{◌≡◌, ◌≢◌, ◌<◌, ◌≤◌, ◌+◌, ◌-◌, ◌&&◌, ℕ, Bool, true, false, List, [], ◌∷◌, AllPairs, Contains, length, map, nat_le, nat_lt}
 use Rattle.std.specs.List.{count_by}
@@ -32,25 +33,26 @@ map-map f g (x ∷ xs) = ap (λ ns. g (f x) ∷ ns) (map-map f g xs)
 count-cons : {X : Type 0} (p : X → Bool) (x : X) (xs : List X) → count_by p (x ∷ xs) ≡ cond (p x) 1 0 + count_by p xs
 count-cons p x xs = sum_by-cons (λ x. cond (p x) 1 0) x xs
 
--- as many elements pass as stand before the point at which they stop to pass
+-- where the elements that pass stand first in a list, as many pass as stand before the first that does not
 pub count-parted : {X : Type 0} (p : X → Bool) (xs : List X) (i : ℕ) → i ≤ length xs → IsPartitionPoint (λ x. p x ≡ true) (λ x. p x ≡ false) xs i → count_by p xs ≡ i
 count-parted p [] i low parts = omega (arith, low)
 count-parted p (x ∷ xs) zero low parts =
     let here : p x ≡ false = parts.1 0 x (omega arith) (omega arith) in
     let rest = count-parted p xs zero (omega arith) (λ k d le lt. absurd (omega (arith, lt)), λ k d le lt. parts.1 (suc k) d (omega arith) (omega (arith, lt))) in
     count-cons p x xs ∙ ap₂ (λ b n. cond b 1 0 + n) here rest
+-- the first element passes, and so do i of the others
 count-parted p (x ∷ xs) (suc i) low parts =
     let here : p x ≡ true = parts.0 0 x (omega arith) (omega arith) in
     let rest = count-parted p xs i (omega (arith, low)) (λ k d le lt. parts.0 (suc k) d (omega arith) (omega (arith, lt)), λ k d le lt. parts.1 (suc k) d (omega (arith, le)) (omega (arith, lt))) in
     let next : 1 + i ≡ suc i = omega arith in
     count-cons p x xs ∙ ap₂ (λ b n. cond b 1 0 + n) here rest ∙ next
 
--- as many elements pass by their numbers as numbers pass
+-- as many elements have a number that passes as there are numbers that pass
 count-map : {X : Type 0} (f : X → ℕ) (p : ℕ → Bool) (xs : List X) → count_by p (map f xs) ≡ count_by (λ x. p (f x)) xs
 count-map f p [] = refl
 count-map f p (x ∷ xs) = count-cons p (f x) (map f xs) ∙ ap (λ n. cond (p (f x)) 1 0 + n) (count-map f p xs) ∙ sym (count-cons (λ x. p (f x)) x xs)
 
--- as many elements as stand between the point of low and that of high have numbers between the two
+-- from the place where numbers reach `low` to the place where they pass `high` there are as many elements as have numbers between the two
 pub count_between-parted : {X : Type 0} (f : X → ℕ) (xs : List X) (low high from to : ℕ) → from ≤ length xs → to ≤ length xs →
     IsPartitionPoint (λ x. nat_lt (f x) low ≡ true) (λ x. nat_lt (f x) low ≡ false) xs from → IsPartitionPoint (λ x. nat_le (f x) high ≡ true) (λ x. nat_le (f x) high ≡ false) xs to →
     to - from ≡ count_between low high (map f xs)
@@ -79,6 +81,7 @@ one-is low high n le = grind (arith, nat_tests)
 many-is : (low high : ℕ) (ns : List ℕ) → low ≤ high → many low high ns + count_by (λ n. nat_lt n low) ns ≡ count_by (λ n. nat_le n high) ns
 many-is low high [] le = refl
 many-is low high (n ∷ ns) le =
+    -- the first number is counted alike on both sides, the others are by the lemma itself, and each of the three counts is that of n and of the others
     let one = one-is low high n le in
     let rest = many-is low high ns le in
     let a = count-cons (between low high) n ns in
@@ -109,6 +112,7 @@ rest_rises : (n : ℕ) (ns : List ℕ) → AllPairs (λ a b. a < b) (n ∷ ns) �
 rest_rises n ns up = λ i j d lt low. up (suc i) (suc j) d (omega (arith, lt)) (omega (arith, low))
 
 -- where each number of ms is n or one of ns, and none is n, each is one of ns
+-- m is any number of ms
 among_rest : (n : ℕ) (ns ms : List ℕ) → ((m : ℕ) → Contains ms m → Contains (n ∷ ns) m) → ((m : ℕ) → Contains ms m → n ≢ m) → (m : ℕ) → Contains ms m → Contains ns m
 among_rest n ns ms all other m has =
     elim (Contains-cons_cases n ns m (all m has)) [
@@ -117,6 +121,7 @@ among_rest n ns ms all other m has =
     ]
 
 -- what is in the rest of a list is in the list
+-- m is the first element, ms are the rest, and x is in it
 tail_in : (m : ℕ) (ms : List ℕ) (x : ℕ) → Contains ms x → Contains (m ∷ ms) x
 tail_in m ms x has = Contains-append_right (m ∷ []) ms x has
 
@@ -128,6 +133,7 @@ head_in m ms = (0, omega arith, refl)
 all_behind : (n m : ℕ) (ns ms : List ℕ) → AllPairs (λ a b. a < b) (n ∷ ns) → AllPairs (λ a b. a < b) (m ∷ ms) → ((x : ℕ) → Contains (m ∷ ms) x → Contains (n ∷ ns) x) → n ≢ m →
     (x : ℕ) → Contains (m ∷ ms) x → Contains ns x
 all_behind n m ns ms up up' all other =
+    -- the first of ms is one of ns, so it is above n; all others are above it, so none of them is n either
     let first : Contains ns m = elim (Contains-cons_cases n ns m (all m (head_in m ms))) [ inl same ↦ absurd (other same) | inr rest ↦ rest ] in
     let low : n < m = above n ns m up first in
     among_rest n ns (m ∷ ms) all (λ x has same. elim (Contains-cons_cases m ms x has) [
@@ -143,12 +149,14 @@ many-among low high (n ∷ ns) [] up up' all = omega arith
 many-among low high (n ∷ ns) (m ∷ ms) up up' all =
     let a = count-cons (between low high) n ns in
     let b = count-cons (between low high) m ms in
+    -- the first number of both is the same, or that of ns is not among ms
     elim (eqb_tells n m) [
       | inl same ↦
           let rest = many-among low high ns ms (rest_rises n ns up) (rest_rises m ms up')
           (among_rest n ns ms (λ x has. all x (tail_in m ms x has)) (λ x has is. (let lt = above m ms x up' has in omega (arith, lt, is, same.1)))) in
           let one : one_of (between low high n) ≡ one_of (between low high m) = ap (λ x. one_of (between low high x)) same.1 in
           omega (arith, a, b, rest, one)
+      -- the number that only ns has counts for ns alone
       | inr other ↦
           let rest = many-among low high ns (m ∷ ms) (rest_rises n ns up) up' (all_behind n m ns ms up up' all other.1) in
           omega (arith, a, rest)
@@ -162,8 +170,10 @@ among-all low high (n ∷ ns) [] up up' all few x has le le' = absurd (let some 
 among-all low high (n ∷ ns) (m ∷ ms) up up' all few x has le le' =
     let a = count-cons (between low high) n ns in
     let b = count-cons (between low high) m ms in
+    -- the first number of both is the same: it is x, or x is among the others
     elim (eqb_tells n m) [
       | inl same ↦
+          -- same: n and m are one number, and x is it or one of the others
           let one : one_of (between low high n) ≡ one_of (between low high m) = ap (λ x. one_of (between low high x)) same.1 in
           elim (Contains-cons_cases n ns x has) [
             | inl is ↦ subst (Contains (m ∷ ms)) (sym same.1 ∙ is) (head_in m ms)
@@ -172,10 +182,12 @@ among-all low high (n ∷ ns) (m ∷ ms) up up' all few x has le le' =
                 (among_rest n ns ms (λ x has. all x (tail_in m ms x has)) (λ x has is. (let lt = above m ms x up' has in omega (arith, lt, is, same.1))))
                 (omega (arith, a, b, few, one)) x rest le le')
           ]
+      -- the first number of ns is not in ms: it lies outside, since else ns would have more
       | inr other ↦
           let behind = all_behind n m ns ms up up' all other.1 in
           let most = many-among low high ns (m ∷ ms) (rest_rises n ns up) up' behind in
           elim (Contains-cons_cases n ns x has) [
+            -- x is the first number of ns, or among the others
             | inl is ↦
                 let here : between low high n ≡ true = rw is (grind (arith, nat_tests)) in
                 let one : one_of (between low high n) ≡ 1 = ap one_of here in

@@ -1,4 +1,5 @@
 -- The newest message of a book, which has no place in the order until the next one comes, or is forgotten before that.
+-- In the lemmas number and bytes are those of the newest message, and n and ns are numbers of messages.
 use Rattle.std.specs.Prelude.{◌≡◌, ◌≢◌, ◌<◌, ◌+◌, ◌-◌, ◌⊎◌, ℕ, Bool, true, false, Option, Some, None, is_some, List, [], ◌∷◌, ◌++◌, All, AllPairs, map, length, take}
 use Rattle.std.specs.List.{insert, filter_map}
 use Rattle.std.proofs.Common.{inl, inr, refl, sym, ◌∙◌, ap, subst, arith, get_or}
@@ -22,7 +23,7 @@ use Rattle.sip_machine.proofs.texts.TextLaws.{Contains-nil, Keeps-grow, Keeps-gr
 use Rattle.sip_machine.proofs.texts.OrderLaws.{none_in_gap, IsOrder-grow}
 use Rattle.sip_machine.proofs.texts.RetainLemmas.{kept_place, IsOrder-only}
 
--- What follows is of a book with one message more, which is its newest.
+-- What follows is of a book, `texts` and one message more, which is its newest, by its number and its bytes.
 module _ (texts : Texts) (number : ℕ) (bytes : List ℕ) (book : IsBook (texts ++ (number, bytes) ∷ [])) where
   -- the texts with one message more
   abbrev grown : Texts
@@ -60,11 +61,13 @@ module _ (texts : Texts) (number : ℕ) (bytes : List ℕ) (book : IsBook (texts
   pub IsBook-front : IsBook texts
   IsBook-front = record {
     rising = λ i j d lt low.
+        -- two of the messages have rising numbers, as in the whole book
         let first : ℕ × List ℕ → ℕ = λ t. t.0 in
         let one = ap first (get_or_append_left texts ((number, bytes) ∷ []) d i (omega (arith, lt, low))) in
         let other = ap first (get_or_append_left texts ((number, bytes) ∷ []) d j low) in
         let less = book.rising i j d lt (omega (arith, low, long)) in
         omega (arith, one, other, less);
+    -- two of the other messages with the same bytes are the same, as in the whole book
     apart = λ a b keeps_a keeps_b same.
         book.apart a b (Keeps-grow texts number bytes a keeps_a) (Keeps-grow texts number bytes b keeps_b)
         (text_of-grow texts number bytes a keeps_a ∙ same ∙ sym (text_of-grow texts number bytes b keeps_b));
@@ -86,14 +89,14 @@ module _ (texts : Texts) (number : ℕ) (bytes : List ℕ) (book : IsBook (texts
         go to under is (Keeps-grow_cases texts number bytes to.number is.kept);
   }
     where
-      -- the To is of an earlier message, since its number is below the newest
+      -- the To is one of the texts without the newest message, since its number is below the newest
       go : (to : To) → to.number < number → IsTo grown to → Keeps texts to.number ⊎ (number ≡ to.number) → IsTo texts to
       go to under is (inl keeps) = record { kept = keeps; text = subst (λ b. IsToOf b to.text) (text_of-grow texts number bytes to.number keeps) is.text }
       go to under is (inr same) = absurd (omega (arith, under, same))
 
 -- What follows is of the place of the newest message among those of the others.
 
--- of a list and one element after it, the placed ones are the list
+-- of messages of which the last alone has no place yet, those with a place are all before it
 pub placed_front : (front : Texts) (x : ℕ × List ℕ) → placed true (front ++ x ∷ []) ≡ front
 placed_front front x =
     let size : length (front ++ x ∷ []) - 1 ≡ length front = (let long = length-append front (x ∷ []) in omega (arith, long)) in
@@ -103,7 +106,7 @@ placed_front front x =
 pub texts_split : (kept others : List KeptMessage) (newest : KeptMessage) → kept ≡ others ++ newest ∷ [] → texts_of kept ≡ texts_of others ++ (newest.number, newest.bytes.items) ∷ []
 texts_split kept others newest is = ap texts_of is ∙ map-append (λ k. (k.number, k.bytes.items)) others (newest ∷ [])
 
--- What follows is of a book that is its other messages and its newest one.
+-- What follows is of the messages `kept` of a book: `newest` is the last of them, and `others` are those before it.
 module _ (kept others : List KeptMessage) (newest : KeptMessage) (is : kept ≡ others ++ newest ∷ []) where
   -- no message that has a place has the bytes of the newest
   pub never_found : IsBook (texts_of kept) → (position : ℕ) → position < length others → bytes_at (texts_of others) position ≡ newest.bytes.items → ⊥
@@ -124,14 +127,17 @@ newest_placed texts runs now newest position is at put =
     let places = places_of runs in
     let i = index_of runs newest.gap in
     let place : ℕ → ℕ → Place = λ h p. record { hash = h; position = p } in
+    -- the newest message stands after all others, at this position
     let size : length texts ≡ length front + 1 = ap length is.last ∙ length-append front ((is.number, bytes) ∷ []) in
     let here : length front ≡ position = omega (arith, size, at) in
+    -- the place of the newest message is put into the gap of its hash and bytes
     let grown = IsOrder-grow front places is.number bytes i is.order.order (subst (λ h. IsGap front (h, bytes) places i) is.hash is.gap) in
     subst (λ ts. IsOrder ts (places_of now)) (sym is.last)
     (subst (IsOrder (front ++ (is.number, bytes) ∷ [])) (ap (λ h. insert places i (place h (length front))) (sym is.hash) ∙ ap (λ p. insert places i (place newest.hash p)) here ∙ sym put) grown)
 
 -- What follows is of what a book keeps, and of the order in which it stands.
 
+-- these messages are a book, they stand in the runs, and each To is that of one of them
 abbrev pub IsKept : Texts → List PlaceRun → Option Loose → List To → Type 0
 IsKept texts runs loose tos = IsBook texts × StandInRuns texts runs loose × AreTos texts tos
 
@@ -157,7 +163,8 @@ kept_front old new runs tos number bytes (Some newest) some kept below is =
     let same : stands.others ≡ new = sym (placed_front stands.others (stands.number, stands.bytes)) ∙ ap (placed true) (sym stands.last ∙ is) ∙ placed_front new (number, bytes) in
     (IsBook-front new number bytes book, subst (λ ts. IsInRuns ts runs) same stands.order, AreTos-front new number bytes book tos below (subst (λ ts. AreTos ts tos) is beside))
 
--- What follows is of what is left in order where the newest of the messages that stay has no place yet.
+-- What follows is of `numbers`, those of the messages that stay in a book, in ascending order, where the newest message, (number, bytes), has no place in it
+-- yet.
 
 module _ (texts : Texts) (number : ℕ) (bytes : List ℕ) (book : IsBook (texts ++ (number, bytes) ∷ [])) (numbers : List ℕ) (up : AllPairs (λ a b. a < b) numbers)
     (kept : All (Keeps (texts ++ (number, bytes) ∷ [])) numbers) where
@@ -175,6 +182,7 @@ module _ (texts : Texts) (number : ℕ) (bytes : List ℕ) (book : IsBook (texts
       let (under, is) = at_earlier k d low in
       subst (Keeps texts) (sym is) (go (Keeps-grow_cases texts number bytes (get_or numbers k d) (kept k d (omega (arith, under)))) (Keeps-grow_cases texts number bytes (get_or numbers (k + 1) d) (kept (k + 1) d under)) (up k (k + 1) d (omega arith) under))
     where
+      -- the book without the newest message has a number that is below the next one, since that number is not the newest
       go : Keeps texts (get_or numbers k d) ⊎ (number ≡ get_or numbers k d) → Keeps texts (get_or numbers (k + 1) d) ⊎ (number ≡ get_or numbers (k + 1) d) → get_or numbers k d < get_or numbers (k + 1) d → Keeps texts (get_or numbers k d)
       go (inl keeps) next less = keeps
       go (inr same) (inl keeps) less = absurd (let above = newest_above texts number bytes book (get_or numbers (k + 1) d) keeps in omega (arith, above, same, less))
@@ -223,6 +231,7 @@ retained_order true [] [] book up kept places order = IsOrder-only [] [] book up
 retained_order true [] (n ∷ ns) book up kept places order = absurd (Contains-nil n (All-head (Keeps []) n ns kept))
 retained_order true (x ∷ xs) numbers book up kept places order =
     let texts : Texts = x ∷ xs in
+    -- without a place the newest message stays out, and the others keep theirs
     let front : Texts = placed true texts in
     let y : ℕ × List ℕ = get_or texts (length xs) (0, []) in
     let is : texts ≡ front ++ y ∷ [] = split_last texts (length xs) (omega arith) in

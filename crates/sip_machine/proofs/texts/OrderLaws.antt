@@ -33,14 +33,17 @@ AllPairs-insert R xs i y within pairs before after a b d lt end =
     let new = insert xs i y in
     let size = length-insert xs i y within in
     let low : b ≤ length xs = omega (arith, size) in
+    -- before i the list has the old elements, at i it has y, and after i the old ones, one further on
     let below : (k : ℕ) → k < i → get_or new k d ≡ get_or xs k d = λ k under. get_or-insert_below xs i y d k under within in
     let here : get_or new i d ≡ y = get_or-insert_at xs i y d within in
     let above : (k : ℕ) → i < k → get_or new k d ≡ get_or xs (k - 1) d = λ k over. subst (λ q. get_or new q d ≡ get_or xs (k - 1) d) {x = k - 1 + 1} (omega arith) (get_or-insert_above xs i y d (k - 1) (omega arith) within) in
     elim (cases_lt b i) [
+      -- b stands before i, at i, or after it
       | inl b_below ↦ rw (below b b_below, below a (omega arith)) (pairs a b d lt (omega arith))
       | inr b_from ↦ elim (eqb_tells b i) [
         | inl b_here ↦ rw (b_here.1, here, below a (omega arith)) (before a d (omega arith) (omega arith))
         | inr b_past ↦
+            -- b stands after i, and a before i, at i, or after it
             let b_above : i < b = omega (arith, b_past.1) in
             elim (cases_lt a i) [
               | inl a_below ↦ rw (above b b_above, below a a_below) (pairs a (b - 1) d (omega arith) (omega arith))
@@ -106,12 +109,14 @@ pub none_in_gap : (texts : Texts) (places : List Place) (bytes : List ℕ) (i : 
 none_in_gap texts places bytes i order gap =
     All-from_get_or (λ kept. kept.1 ≢ bytes) texts (0, []) (λ k low same.
     let none : Place = record { hash = 0; position = 0 } in
+    -- a message with the bytes would have a place j
     let at = order.whole k low in
     let j = at.0 in
     let within : j < length places = rw length-map at (at.1) in
     let place = get_or places j none in
     let position : place.position ≡ k = sym (get_or-map (λ p. p.position) places j none k within) ∙ at.2 in
     let kept : bytes_at texts place.position ≡ bytes = ap (bytes_at texts) position ∙ same in
+    -- the place ties with the bytes, and so it stands neither before the gap nor after it
     let hash : place.hash ≡ hash_of (bytes_at texts place.position) =
     (All-get_or (IsPlace texts) places j none within order.hashed).1 in
     let tie : compare (key_of texts place) (hash_of bytes, bytes) ≡ Equal =
@@ -122,6 +127,7 @@ none_in_gap texts places bytes i order gap =
     ]))
 
 -- an element of a list is in the list with another one inserted
+-- x is the element, and y the one that is inserted at the place i
 Contains-insert : {X : Type 0} (xs : List X) (i : ℕ) (y x : X) → Contains xs x → Contains (insert xs i y) x
 Contains-insert xs i y x has =
     elim (Contains-append_cases (take i xs) (drop i xs) x (rw take-append-drop has)) [
@@ -145,6 +151,7 @@ IsOrder-grow texts places number bytes i order gap =
     let grown : Texts = texts ++ (number, bytes) ∷ [] in
     let added : Place = record { hash = hash_of bytes; position = length texts } in
     let size : length grown ≡ length texts + 1 = length-append texts ((number, bytes) ∷ []) in
+    -- the old places tell the same keys in the book that has grown
     let old : (k : ℕ) (d : Place) → k < length places → key_of grown (get_or places k d) ≡ key_of texts (get_or places k d) = λ k d low.
     let place = get_or places k d in
     let here = (All-get_or (IsPlace texts) places k d low order.hashed).0 in
@@ -154,7 +161,9 @@ IsOrder-grow texts places number bytes i order gap =
     (omega (arith, size, is.0), is.1 ∙ ap hash_of (sym (bytes_at-grow texts (number, bytes) p.position is.0))) in
     let hashed : All (IsPlace grown) places =
     All-weaker (IsPlace texts) (IsPlace grown) kept places order.hashed in
+    -- each place has the hash of its message
     record {
+      -- the keys of the old places are as they were and rise, those in front are less than the new one, and those behind it are greater
       rising = AllPairs-insert (λ a b. compare (key_of grown a) (key_of grown b) ≡ Less) places i added gap.within
           (λ a b d lt end. ap₂ compare (old a d (omega arith)) (old b d end) ∙ order.rising a b d lt end)
           (λ k d low high. ap₂ compare (old k d (omega (arith, gap.within))) new ∙ gap.before k d low high)
@@ -162,6 +171,7 @@ IsOrder-grow texts places number bytes i order gap =
           ∙ compare-total.antisymm (hash_of bytes, bytes) (key_of texts (get_or places k d)) ∙ ap ordering_reverse (gap.after k d low high));
       hashed = All-append (IsPlace grown) (take i places) (added ∷ drop i places) (All-take (IsPlace grown) i places hashed)
           (All-cons (IsPlace grown) added (drop i places) (omega (arith, size), ap hash_of (sym (bytes_at-added texts number bytes))) (All-drop (IsPlace grown) i places hashed));
+      -- each message has its place, the new one that of the gap
       whole = λ k low. elim (eqb_tells k (length texts)) [
         | inl same ↦ rw (map-insert, same.1) (Contains-inserted (map (λ p. p.position) places) i (length texts))
         | inr other ↦ rw map-insert (Contains-insert (map (λ p. p.position) places) i (length texts) k (order.whole k (omega (arith, size, other.1))))
@@ -174,6 +184,7 @@ pub numbers_searchable : (kept : List KeptMessage) (number : ℕ) → AllPairs (
 numbers_searchable kept number rising =
     searchable_from_sorted nat_cmp_total (λ k. k.number) kept number
     (λ k d low high.
+    -- k and k + 1 are neighbouring places of the list, whose numbers rise
     let text : KeptMessage → ℕ × List ℕ = λ k. (k.number, k.bytes.items) in
     let first = get_or-map text kept k d (text d) (omega arith) in
     let second = get_or-map text kept (k + 1) d (text d) high in
@@ -191,7 +202,8 @@ pub bytes_at-kept : (kept : List KeptMessage) (position : ℕ) (k : KeptMessage)
 bytes_at-kept kept position k low is =
     ap (λ (t : ℕ × List ℕ). t.1) (get_or-map (λ k. (k.number, k.bytes.items)) kept position k (0, []) low) ∙ sym (ap (λ k. k.bytes.items) is)
 
--- what follows of a result's value and follows of its error follows
+-- what follows where the result is a value, and also where it is an error, follows
+-- r is a result with a value of T or an error of E, of which P or Q holds, and G is what follows
 pub by_result : {T E G : Type 0} (r : Result T E) {P Q : Type 0} → OnOk r P → OnErr r Q → (P → G) → (Q → G) → G
 by_result (Ok x) ok err from_ok from_err = from_ok ok
 by_result (Err e) ok err from_ok from_err = from_err err

@@ -1,4 +1,5 @@
 -- What a book holds once the messages of some numbers alone are kept.
+-- In the lemmas t is the first message of a book with its number, and ts are the others; n is a number, and ns are numbers.
 use Rattle.std.specs.Prelude.{◌≡◌, ◌≢◌, ◌<◌, ◌≤◌, ◌+◌, ◌⊎◌, ℕ, zero, suc, Bool, true, nat_eq, Option, Some, None, List, [], ◌∷◌, ◌++◌, All, AllPairs, Contains, map, length, take, drop}
 use Rattle.std.specs.List.{filter, filter_map, cons_option, SwappedAt}
 use Rattle.std.specs.Option.{option_map}
@@ -59,18 +60,25 @@ merged_is [] [] up rising kept = refl
 merged_is (n ∷ ns) [] up rising kept = absurd (Contains-nil n (All-head (Keeps []) n ns kept))
 merged_is [] (t ∷ ts) up rising kept = refl
 merged_is (n ∷ ns) (t ∷ ts) up rising kept =
+    -- the first message has the first number, so it is kept, and the numbers go on
     elim (eqb_tells t.0 n) [
       | inl same ↦
+          -- the other numbers are greater than n, so that they are those of later messages, of which all goes on
           let apart : All (λ m. t.0 ≢ m) ns = All-weaker (λ m. n < m) (λ m. t.0 ≢ m) (λ m low e. absurd (omega (arith, low, e, same.1))) ns (AllPairs-head (λ a b. a < b) n ns up) in
           let later : All (Keeps ts) ns = λ k d low. keeps_rest t ts (get_or ns k d) (apart k d low) (All-tail (Keeps (t ∷ ts)) n ns kept k d low) in
           let rest = merged_is ns ts (AllPairs-tail (λ a b. a < b) n ns up) (AllPairs-tail (λ a b. a.0 < b.0) t ts rising) later ∙ sym (only_rest t ts ns apart) in
           let first : t ≡ (n, text_of (t ∷ ts) n) = (λ i. (same.1 i, sym (text_of-same t.0 t.1 ts n same.1) i)) in
+          -- the first message is that of n
           cond-true (nat_eq t.0 n) (t ∷ merged ns ts) (merged (n ∷ ns) ts) same.0 ∙ (λ i. first i ∷ rest i)
+      -- the first message has another number, so it goes, and the numbers stay
       | inr other ↦
+          -- the first number n stands later in the list, whose numbers rise, so that the first message's number is below each of the numbers and is none of
+          -- them
           let here : Keeps ts n = keeps_rest t ts n other.1 (All-head (Keeps (t ∷ ts)) n ns kept) in
           let under : t.0 < n = below_rest t ts rising n here in
           let apart : All (λ m. t.0 ≢ m) (n ∷ ns) =
           All-cons (λ m. t.0 ≢ m) n ns other.1 (All-weaker (λ m. n < m) (λ m. t.0 ≢ m) (λ m low e. absurd (omega (arith, low, e, under))) ns (AllPairs-head (λ a b. a < b) n ns up)) in
+          -- all numbers are kept among the other messages, and so what stays is the same with the first message as without it
           let later : All (Keeps ts) (n ∷ ns) = λ k d low. keeps_rest t ts (get_or (n ∷ ns) k d) (apart k d low) (kept k d low) in
           cond-false (nat_eq t.0 n) (t ∷ merged ns ts) (merged (n ∷ ns) ts) other.0
           ∙ merged_is (n ∷ ns) ts up (AllPairs-tail (λ a b. a.0 < b.0) t ts rising) later ∙ sym (only_rest t ts (n ∷ ns) apart)
@@ -81,9 +89,11 @@ merged_is (n ∷ ns) (t ∷ ts) up rising kept =
 -- the number at place i of numbers that rise is found at place i
 pub place_at : (numbers : List ℕ) (i d : ℕ) → AllPairs (λ a b. a < b) numbers → i < length numbers → place_among numbers (get_or numbers i d) ≡ Some i
 place_at [] i d up low = absurd (omega arith)
+-- the first number is found at 0; any other place is after it, since the numbers rise
 place_at (m ∷ ms) zero d up low = cond-true (nat_eq m m) (Some 0) (option_map suc (place_among ms m)) (grind (arith, nat_tests))
 place_at (m ∷ ms) (suc i) d up low =
     let within : i < length ms = omega arith in
+    -- n is the number that is looked for, which is above the first one, m
     let n = get_or ms i d in
     let under : m < n = AllPairs-head (λ a b. a < b) m ms up i d within in
     cond-false (nat_eq m n) (Some 0) (option_map suc (place_among ms n)) (grind (arith, nat_tests))
@@ -99,49 +109,56 @@ place_none (m ∷ ms) n none =
     ]
 
 -- where a number is found among the numbers after the first, it stands at the place after
+-- m is the first number and ms are the others; n is the number that is looked for, o its place among the others, and i its place among all; d stands for no
+-- number
 found_later : (m : ℕ) (ms : List ℕ) (n i d : ℕ) (o : Option ℕ) → ((j : ℕ) → place_among ms n ≡ Some j → (j < length ms) × (get_or ms j d ≡ n))
     → place_among ms n ≡ o → option_map suc (place_among ms n) ≡ Some i → (i < suc (length ms)) × (get_or (m ∷ ms) i d ≡ n)
 found_later m ms n i d None found is next = absurd (let none : None ≡ Some i = sym (ap (option_map suc) is) ∙ next in cc)
 found_later m ms n i d (Some j) found is next =
+    -- the place among all is one more than the place among the others
     let there = found j is in
     let both : Some (suc j) ≡ Some i = sym (ap (option_map suc) is) ∙ next in
     let up : suc j ≡ i = cc in
     subst (λ k. (k < suc (length ms)) × (get_or (m ∷ ms) k d ≡ n)) up (omega (arith, there.0), there.1)
 
 -- the number stands at the place where it is found
+-- i is the place of the number n; d stands for no number
 pub place_found : (numbers : List ℕ) (n i d : ℕ) → place_among numbers n ≡ Some i → (i < length numbers) × (get_or numbers i d ≡ n)
 place_found [] n i d at = absurd cc
 place_found (m ∷ ms) n i d at =
     elim (eqb_tells m n) [
       | inl same ↦
+          -- the first number is n, so its place is 0
           let first : Some 0 ≡ Some i = sym (cond-true (nat_eq m n) (Some 0) (option_map suc (place_among ms n)) same.0) ∙ at in
           let zero_is : 0 ≡ i = cc in
           subst (λ k. (k < suc (length ms)) × (get_or (m ∷ ms) k d ≡ n)) zero_is (omega arith, same.1)
+      -- the first number is another one, so n stands among the others
       | inr other ↦ found_later m ms n i d (place_among ms n) (λ j is. place_found ms n j d is) refl (sym (cond-false (nat_eq m n) (Some 0) (option_map suc (place_among ms n)) other.0) ∙ at)
     ]
 
 -- What follows is of what f gives of the elements of a list, where it gives something.
 
 module _ {X Y : Type 0} (f : X → Option Y) where
-  -- where f gives y of x, and what holds of x gives what holds of y, this holds of all that f gives of a list
+  -- one step of the next lemma: where P holds of x, Q holds of what f gives of x, if anything, and of all that f gives of the rest
   all_step : (P : X → Type 0) (Q : Y → Type 0) → ((x : X) (y : Y) → f x ≡ Some y → P x → Q y) → (x : X) (xs : List X) → P x → All Q (filter_map f xs)
       → (o : Option Y) → f x ≡ o → All Q (cons_option o (filter_map f xs))
   all_step P Q so x xs p rest None is = rest
   all_step P Q so x xs p rest (Some y) is = All-cons Q y (filter_map f xs) (so x y is p) rest
 
-  -- what the function makes of each element of which P holds has Q, so all that it makes of a list has Q
+  -- where Q holds of what f gives of each element of which P holds, and P holds of a whole list, Q holds of all that f gives of the list
   pub All-filter_map : (P : X → Type 0) (Q : Y → Type 0) → ((x : X) (y : Y) → f x ≡ Some y → P x → Q y) → (xs : List X) → All P xs → All Q (filter_map f xs)
   All-filter_map P Q so [] all = All-nil Q
   All-filter_map P Q so (x ∷ xs) all = all_step P Q so x xs (All-head P x xs all) (All-filter_map P Q so xs (All-tail P x xs all)) (f x) refl
 
-  -- where what R relates of two elements gives what S relates of what f gives of them, S relates the first to all that f gives of the rest
+  -- one step of the next lemma, at the first element x of the list
+  -- f maps x to y and u to v; P holds of elements, R of two of them and S of what f maps these to
   pairs_step : (P : X → Type 0) (R : X → X → Type 0) (S : Y → Y → Type 0) → ((x u : X) (y v : Y) → f x ≡ Some y → f u ≡ Some v → P x → P u → R x u → S y v)
       → (x : X) (xs : List X) → P x → All (λ u. P u × R x u) xs → AllPairs S (filter_map f xs) → (o : Option Y) → f x ≡ o → AllPairs S (cons_option o (filter_map f xs))
   pairs_step P R S so x xs p both rest None is = rest
   pairs_step P R S so x xs p both rest (Some y) is =
       AllPairs-cons S y (filter_map f xs) (All-filter_map (λ u. P u × R x u) (S y) (λ u v gives h. so x u y v is gives p h.0 h.1) xs both) rest
 
-  -- where what R relates of two elements gives what S relates of what f gives of them, S relates each pair that f gives of a list
+  -- where S relates what f gives of two elements that R relates, and R relates each pair of a list, S relates each pair of what f gives of it
   pub AllPairs-filter_map : (P : X → Type 0) (R : X → X → Type 0) (S : Y → Y → Type 0)
       → ((x u : X) (y v : Y) → f x ≡ Some y → f u ≡ Some v → P x → P u → R x u → S y v) → (xs : List X) → All P xs → AllPairs R xs → AllPairs S (filter_map f xs)
   AllPairs-filter_map P R S so [] all pairs = λ i j d lt low. absurd (omega arith)
@@ -152,8 +169,10 @@ module _ {X Y : Type 0} (f : X → Option Y) where
   -- where f gives y of x, and x is in a list, y is in what f gives of the list
   contains_step : (u x : X) (xs : List X) (y : Y) → f x ≡ Some y → (Contains xs x → Contains (filter_map f xs) y) → (o : Option Y) → f u ≡ o → (u ≡ x) ⊎ Contains xs x
       → Contains (cons_option o (filter_map f xs)) y
+  -- u is the first element, and f gives nothing of it: so it is not x
   contains_step u x xs y gives rest None is (inl same) = absurd (let never : None ≡ Some y = sym is ∙ ap f same ∙ gives in cc)
   contains_step u x xs y gives rest None is (inr has) = rest has
+  -- f gives v of u: where u is x, v is y, which comes first
   contains_step u x xs y gives rest (Some v) is (inl same) =
       let both : Some v ≡ Some y = sym is ∙ ap f same ∙ gives in
       let one : v ≡ y = cc in
@@ -185,7 +204,8 @@ still old now i d rest =
 still_rest : {X : Type 0} (old now : List X) (i : ℕ) → drop i now ≡ drop i old → drop (i + 1) now ≡ drop (i + 1) old
 still_rest old now i rest = sym (drop-drop 1 i now) ∙ ap (drop 1) rest ∙ drop-drop 1 i old
 
--- What follows is of one step of `retain`: the element x at i is read, and f says what becomes of it.
+-- What follows is of one step of `retain`: `old` was the list, `now` is it, and the first `left` elements stay. The element x at i is read: f says what
+-- becomes of it.
 module _ {X : Type 0} (f : X → Option X) (old now : List X) (left i : ℕ) (moves : MovesInPlace f old now left i) (x : X) (low : i < length now) (read : x ≡ get_or now i x) where
   -- the element at i is still the one that stood there in the old list
   here : get_or old i x ≡ x
@@ -227,7 +247,8 @@ pub keeps_end : {K : Type 0} (text : K → ℕ × List ℕ) (numbers : List ℕ)
     → KeepsInPlace text numbers old now left (i + 1)
 keeps_end text numbers old now left i keeps low end = grind (arith, nat_tests, drop_all, merged_none, still_rest)
 
--- What follows is of one step of `keep_only`: the message x at i is read, and goes or is kept.
+-- What follows is of one step of `keep_only`: `old` was the list, `now` is it, and `left` messages at its front stay. The message x at i is read, and goes
+-- or is kept.
 module _ {K : Type 0} (text : K → ℕ × List ℕ) (numbers : List ℕ) (old now : List K) (left i : ℕ) (keeps : KeepsInPlace text numbers old now left i) (x : K) (low : i < length now) (read : x ≡ get_or now i x) where
   -- the message at i is still the one that stood there in the old list
   there : get_or old i x ≡ x
@@ -268,7 +289,8 @@ module _ {K : Type 0} (text : K → ℕ × List ℕ) (numbers : List ℕ) (old n
 abbrev items : PlaceRun → List Place
 items run = run.places.items
 
--- the places of the first i runs are what f gives of theirs, and the other runs were not changed yet
+-- the places of the first i runs are what f gives of theirs, and the other runs were not changed yet; `short` says that no run has more than `most`
+-- places, `within` that there were i runs or more, and `long` that there are as many runs as before
 pub record MovesRuns (f : Place → Option Place) (most : ℕ) (old now : List PlaceRun) (i : ℕ) : Type 0 where
   pub places : places_of (take i now) ≡ filter_map f (places_of (take i old))
   pub rest : drop i now ≡ drop i old
@@ -288,10 +310,13 @@ pub moves_run : (f : Place → Option Place) (most : ℕ) (old now : List PlaceR
 moves_run f most old now i d run moves low read is fewer led =
     let inside : i < length old = (let long = moves.long in omega arith) in
     let was : d ≡ get_or old i d = read ∙ still old now i d moves.rest in
+    -- the places of the runs so far are the moved ones
     record {
       places = ap places_of (take_more_set now i run low) ∙ flat_map-append items (take i now) (run ∷ []) ∙ ap (λ ps. places_of (take i now) ++ ps) (append-nil (items run) ∙ is)
           ∙ ap (λ ps. ps ++ filter_map f (items d)) moves.places ∙ sym (filter_map-append f (places_of (take i old)) (items d))
           ∙ ap (filter_map f) (ap (λ r. places_of (take i old) ++ items r) was ∙ sym (places_more old i d inside));
+      -- the runs after it are as they were, and those so far tell their first place; no run has more than `most` places (`short`), the runs that are done
+      -- are no more than there were (`within`), and there are as many runs as before (`long`)
       rest = drop-set-lt (i + 1) now i run (omega arith) ∙ still_rest old now i moves.rest;
       led = All-same (λ run. 0 < length run.places.items → IsLed run) (take (i + 1) (set now i run)) (take i now ++ run ∷ []) (take_more_set now i run low)
           (All-push (λ run. 0 < length run.places.items → IsLed run) (take i now) run moves.led led);
@@ -322,6 +347,7 @@ pub moves_runs : (f : Place → Option Place) (most : ℕ) (old now new : List P
 moves_runs f most old now new i moves end is =
     let all_now : take i now ≡ now = take_all i now (let long = moves.long in omega arith) in
     let led : All (λ run. 0 < length run.places.items → IsLed run) now = subst (All (λ run. 0 < length run.places.items → IsLed run)) all_now moves.led in
+    -- the runs that are left have a place each, and tell the first one
     let filled : All (λ run. has_places run ≡ true) (filter has_places now) = filter_passes has_places now in
     let ready = All-filter has_places (λ run. 0 < length run.places.items → IsLed run) now led in (
       ap places_of is ∙ places_filled now ∙ ap places_of (sym all_now) ∙ moves.places ∙ ap (λ runs. filter_map f (places_of runs)) (take_all i old end),
@@ -336,6 +362,7 @@ pub length-only : (numbers : List ℕ) (texts : Texts) → length (only numbers 
 length-only numbers texts = length-map numbers (λ n. (n, text_of texts n))
 
 -- an element of the list that f maps another to is f of the element there at the same place
+-- y is the element that is mapped to, and k its place; d stands for no element
 pub mapped_place : {X Y : Type 0} (f : X → Y) (xs : List X) (d : X) (y : Y) → Contains (map f xs) y → (k : ℕ) × (k < length xs) × (f (get_or xs k d) ≡ y)
 mapped_place f xs d y (k, low, is) =
     let within : k < length xs = rw length-map at low in
@@ -348,7 +375,7 @@ kept_place texts n (k, low, is) =
     let first : ℕ × List ℕ → ℕ = λ t. t.0 in
     (k, within, sym (get_or-map first texts k (0, []) n within) ∙ is)
 
--- What follows is of a book of which the messages with these numbers alone are kept.
+-- What follows is of the book `texts`, of which the messages with these numbers alone are kept.
 module _ (texts : Texts) (numbers : List ℕ) (book : IsBook texts) (up : AllPairs (λ a b. a < b) numbers) (kept : All (Keeps texts) numbers) where
   -- the message at place i of those that are kept has the number at place i of the numbers, and its bytes
   at_number : (i d : ℕ) → i < length numbers → get_or (only numbers texts) i (0, []) ≡ (get_or numbers i d, text_of texts (get_or numbers i d))
@@ -358,9 +385,11 @@ module _ (texts : Texts) (numbers : List ℕ) (book : IsBook texts) (up : AllPai
   moved_is : (p q : Place) → moved texts numbers p ≡ Some q → (q.hash ≡ p.hash) × (q.position < length numbers) × (get_or numbers q.position 0 ≡ number_at texts p.position)
   moved_is p q gives = go (place_among numbers (number_at texts p.position)) refl gives
     where
+      -- where the place is moved to q, q keeps its hash and has the position of the number of its message
       go : (o : Option ℕ) → place_among numbers (number_at texts p.position) ≡ o → option_map (λ i. record { hash = p.hash; position = i }) (place_among numbers (number_at texts p.position)) ≡ Some q
           → (q.hash ≡ p.hash) × (q.position < length numbers) × (get_or numbers q.position 0 ≡ number_at texts p.position)
       go None is out = absurd (let never : None ≡ Some q = sym (ap (option_map (λ i. record { hash = p.hash; position = i })) is) ∙ out in cc)
+      -- the place is among the numbers at i, so it is moved there
       go (Some i) is out =
           let put : Place = record { hash = p.hash; position = i } in
           let both : Some put ≡ Some q = sym (ap (option_map (λ i. record { hash = p.hash; position = i })) is) ∙ out in
@@ -391,10 +420,12 @@ module _ (texts : Texts) (numbers : List ℕ) (book : IsBook texts) (up : AllPai
       let within : i < length numbers = (let long = length-only numbers texts in omega arith) in
       let n = get_or numbers i 0 in
       let keeps : Keeps texts n = kept i 0 within in
+      -- the message that stays at i has a place j in the old order
       let (k, k_low, k_is) = kept_place texts n keeps in
       let none : Place = record { hash = 0; position = 0 } in
       let (j, j_low, p_is) = mapped_place (λ p. p.position) places none k (order.whole k k_low) in
       let p = get_or places j none in
+      -- this place is moved to the position i
       let q : Place = record { hash = p.hash; position = i } in
       let gives : moved texts numbers p ≡ Some q = ap (λ m. option_map (λ i. record { hash = p.hash; position = i }) (place_among numbers m)) (ap (number_at texts) p_is ∙ k_is)
       ∙ ap (option_map (λ i. record { hash = p.hash; position = i })) (place_at numbers i 0 up within) in

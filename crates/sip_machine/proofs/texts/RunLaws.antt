@@ -1,4 +1,5 @@
 -- Laws of the runs in which a book holds its places.
+-- Where a place is read from a list (`get_or xs i first`), `first` stands for what is past the end: any place will do.
 use Rattle.std.specs.Prelude.{◌≡◌, ◌<◌, ◌≤◌, ◌+◌, ◌-◌, ◌⊎◌, ℕ, true, false, List, [], ◌∷◌, ◌++◌, length, take, All}
 use Rattle.std.specs.List.{insert}
 use Rattle.std.specs.List.Sorted.{IsNonDecreasingBy, IsPartitionedBy, IsPartitionPoint}
@@ -26,6 +27,7 @@ abbrev items : PlaceRun → List Place
 items run = run.places.items
 
 -- an insert at place i of the second of three lists is an insert into all three, i places after the first
+-- a, b and c are the lists, and y is what is inserted
 insert-within : {X : Type 0} (a b c : List X) (i : ℕ) (y : X) → i ≤ length b →
     insert (a ++ (b ++ c)) (length a + i) y ≡ a ++ (insert b i y ++ c)
 insert-within a b c i y low = grind (arith, take-append-add, drop-append-add, take-append-le, drop-append-le, append_assoc)
@@ -60,6 +62,7 @@ places-inserted runs gap place d run low within is =
     ∙ ap (λ all. insert all (index_of runs gap) place) (sym (places-around runs gap.run d low))
 
 -- where a run is replaced by its two halves, all places stay
+-- r is the number of the run, n how many places its first half has, and d stands for no run
 pub places-halved : (runs : List PlaceRun) (r n : ℕ) (d first second : PlaceRun) → r < length runs →
     items first ≡ take n (items (get_or runs r d)) → items second ≡ drop n (items (get_or runs r d)) →
     places_of (insert (set runs r first) (r + 1) second) ≡ places_of runs
@@ -67,6 +70,7 @@ places-halved runs r n d first second low head tail =
     let before = places_of (take r runs) in
     let after = places_of (drop (r + 1) runs) in
     let run = items (get_or runs r d) in
+    -- the runs are those before, the two halves, and those after
     let split : insert (set runs r first) (r + 1) second ≡ (take r runs ++ first ∷ []) ++ second ∷ drop (r + 1) runs =
     rw (take_more_set runs r first low, drop-set-lt (r + 1) runs r first (omega arith)) refl in
     ap places_of split ∙ flat_map-append items (take r runs ++ first ∷ []) (second ∷ drop (r + 1) runs)
@@ -91,7 +95,7 @@ run_size runs r d low =
     ∙ ap length (flat_map-append items (take r runs) (get_or runs r d ∷ []) ∙ ap (λ run. places_of (take r runs) ++ run) (append-nil (items (get_or runs r d))))
     ∙ length-append (places_of (take r runs)) (items (get_or runs r d))
 
--- any place, for indexes past the end of a list
+-- the place that is read past the end of a list, where any one will do
 abbrev first : Place
 first = record { hash = 0; position = 0 }
 
@@ -135,12 +139,14 @@ begins : (texts : Texts) (key : ℕ × List ℕ) (run : PlaceRun) → IsLed run 
 begins texts key run led = ap (λ place. is_le (compare (key_of texts place) key)) (led.first ∙ get_or_default (items run) 0 run.first first led.filled)
 
 -- where a run is replaced by its two halves, each with its first place told, all runs tell their first place
+-- r is the number of the run, n how many places its first half has, and d stands for no run
 pub led_halved : (runs : List PlaceRun) (r n : ℕ) (d head tail : PlaceRun) → r < length runs → All IsLed runs → 0 < n → n < length (items (get_or runs r d)) →
     head.first ≡ (get_or runs r d).first → items head ≡ take n (items (get_or runs r d)) → items tail ≡ drop n (items (get_or runs r d)) →
     tail.first ≡ get_or (items tail) 0 tail.first → All IsLed (insert (set runs r head) (r + 1) tail)
 led_halved runs r n d head tail low led some more begins front behind begins' =
     let run = get_or runs r d in
     let old : IsLed run = All-get_or IsLed runs r d low led in
+    -- the halves are not empty
     let size : length (items head) ≡ n = ap length front ∙ length-take-le n (items run) (omega arith) in
     let rest : length (items tail) ≡ length (items run) - n = ap length behind ∙ length-drop n (items run) in
     let led_head : IsLed head = record {
@@ -148,6 +154,7 @@ led_halved runs r n d head tail low led some more begins front behind begins' =
       first = begins ∙ old.first ∙ get_or_default (items run) 0 run.first head.first old.filled
           ∙ sym (ap (λ places. get_or places 0 head.first) front ∙ get_or-take n (items run) 0 head.first some);
     } in
+    -- the second half tells its first place, and the first half that of the run
     let led_tail : IsLed tail = record { filled = omega (arith, rest); first = begins' } in
     let all = All-set IsLed runs r head led_head led in
     All-append IsLed (take (r + 1) (set runs r head)) (tail ∷ drop (r + 1) (set runs r head)) (All-take IsLed (r + 1) (set runs r head) all)
@@ -158,7 +165,7 @@ place_at : (runs : List PlaceRun) (r j : ℕ) (d : PlaceRun) (e : Place) → r <
     get_or (places_of runs) (length (places_of (take r runs)) + j) e ≡ get_or (items (get_or runs r d)) j e
 place_at runs r j d e low within = get_or-flat_map items runs r j d e low within
 
--- What follows is of a book whose places stand in runs, and the hash and bytes that are searched in it.
+-- What follows is of a book whose places stand in runs, and of `key`, the hash and the bytes that are searched in it.
 module _ (texts : Texts) (runs : List PlaceRun) (key : ℕ × List ℕ) (held : IsInRuns texts runs) where
   -- each run tells its first place
   led_at : (r : ℕ) (d : PlaceRun) → r < length runs → IsLed (get_or runs r d)
@@ -172,11 +179,16 @@ module _ (texts : Texts) (runs : List PlaceRun) (key : ℕ × List ℕ) (held : 
             let low : i < length runs = omega arith in
             let off_i = length (places_of (take i runs)) in
             let off_j = length (places_of (take j runs)) in
+            -- both runs tell their first place, and the places of the first come before those of the second
             let led_i = led_at i d low in
+            -- `first` stands for no place; the places of run i end before those of run j begin, and the first place of run j stands among all places
             let led_j = led_at j d high in
             let ends = run_ends runs i j d less (omega arith) in
             let room = length-flat_map-take items runs j d high in
+            -- the first place of run j is before the key or is the key, since the run begins by it
             let later = rank_of_begun (compare (key_of texts (get_or (items (get_or runs j d)) 0 first)) key) (sym (begins texts key (get_or runs j d) led_j) ∙ begun) in
+            -- a run before one that begins by the key begins by it too
+            -- the first place of run i stands before it, so it ranks no higher against the key
             let up = rw (place_at runs i 0 d first low led_i.filled, place_at runs j 0 d first high led_j.filled) at
             (searchable texts (places_of runs) key held.order.rising (off_i + 0) (off_j + 0) first (omega arith) (omega arith)) in
             begins texts key (get_or runs i d) led_i ∙ begun_of_rank (compare (key_of texts (get_or (items (get_or runs i d)) 0 first)) key) (omega (arith, up, later))
@@ -192,11 +204,13 @@ module _ (texts : Texts) (runs : List PlaceRun) (key : ℕ × List ℕ) (held : 
       (searchable texts (places_of runs) key held.order.rising (off + i) (off + j) e (omega arith) (omega arith))
 
   -- a place of a run that compares as equal to a key is that of a message with the key's bytes
+  -- r is the number of the run, and `at` the place within it; d stands for no run, and e for no place
   pub found_in_run : (r at : ℕ) (d : PlaceRun) (e : Place) → r < length runs → at < length (items (get_or runs r d)) →
       compare (key_of texts (get_or (items (get_or runs r d)) at e)) key ≡ Equal →
       ((get_or (items (get_or runs r d)) at e).position < length texts)
       × (bytes_at texts (get_or (items (get_or runs r d)) at e).position ≡ key.1)
   found_in_run r at d e low within equal =
+      -- the places before the run are `off`, so that its place `at` is the place off + at of all
       let off = length (places_of (take r runs)) in
       let room = length-flat_map-take items runs r d low in
       let here = place_at runs r at d e low within in
@@ -209,24 +223,28 @@ module _ (texts : Texts) (runs : List PlaceRun) (key : ℕ × List ℕ) (held : 
       IsPartitionPoint (λ p. compare (key_of texts p) key ≡ Less) (λ p. compare (key_of texts p) key ≡ Greater) (items (get_or runs r d)) place →
       IsGap texts key (places_of runs) (length (places_of (take r runs)) + place)
   gap_in_runs begun r place d low chosen next parts within parted =
+      -- `off` is how many places stand before this run
       let off = length (places_of (take r runs)) in
       let run = get_or runs r d in
       let all = places_of runs in
       let led = led_at r d low in
       let room = length-flat_map-take items runs r d low in
+      -- the places of all runs rise, and those of this run lie together
       let up = searchable texts all key held.order.rising in
       let begin = place_at runs r 0 d first low led.filled in
       let front = compare (key_of texts (get_or (items run) 0 first)) key in
+      -- the gap lies within this run
       record {
         within = omega arith;
         -- a place before the gap is less than the key
         before = λ k e zero under. elim (cases_lt k off) [
-          -- it stands in an earlier run, and is not after the first place of this one
+          -- the place stands in an earlier run, and is not after the first place of this one
           | inl earlier ↦ elim chosen [
             | inl none ↦ let empty : off ≡ 0 = rw none refl in absurd (omega arith)
             | inr past ↦
                 let top : ordering_index front ≤ 1 = rank_of_begun front (sym (begins texts key run led) ∙ parts.0 r d (omega arith) past) in
                 let lowest : ordering_index front ≤ 0 = elim (eqb_tells place 0) [
+                  -- the first place of this run is not greater than the key, and it is less, since the gap comes after it
                   | inl start ↦ absurd (omega (arith, top, ap ordering_index (parted.1 0 first (omega (arith, start.1)) led.filled)))
                   | inr some ↦ omega (arith, ap ordering_index (parted.0 0 first (omega arith) (omega (arith, some.1))))
                 ] in
@@ -234,7 +252,7 @@ module _ (texts : Texts) (runs : List PlaceRun) (key : ℕ × List ℕ) (held : 
                 let less = less_of_rank (compare (key_of texts (get_or all k first)) key) (omega (arith, step, lowest)) in
                 subst (λ p. compare (key_of texts p) key ≡ Less) (get_or_default all k first e (omega arith)) less
           ]
-          -- it stands in this run
+          -- the place stands in this run
           | inr from ↦
               let j = k - off in
               let is : off + j ≡ k = omega arith in
@@ -243,16 +261,17 @@ module _ (texts : Texts) (runs : List PlaceRun) (key : ℕ × List ℕ) (held : 
         ];
         -- a place from the gap on is greater than the key
         after = λ k e over end. elim (cases_lt k (off + length (items run))) [
-          -- it stands in this run
+          -- the place stands in this run
           | inl inside ↦
               let j = k - off in
               let is : off + j ≡ k = omega arith in
               subst (λ n. compare (key_of texts (get_or all n e)) key ≡ Greater) is
               (ap (λ p. compare (key_of texts p) key) (place_at runs r j d e low (omega arith)) ∙ parted.1 j e (omega arith) (omega arith))
-          -- it stands in a later run, and is not before the first place of the next one
+          -- the place stands in a later run, and is not before the first place of the next one
           | inr later ↦
               let size = run_size runs r d low in
               elim (cases_lt (r + 1) (length runs)) [
+                -- the first place of the next run is greater than the key, and so is each place after it
                 | inl more ↦
                     let led' = led_at (r + 1) d more in
                     let begin' = place_at runs (r + 1) 0 d first more led'.filled in
@@ -269,7 +288,7 @@ module _ (texts : Texts) (runs : List PlaceRun) (key : ℕ × List ℕ) (held : 
         ];
       }
 
--- what holds always holds where a result is an error
+-- a fact that holds anyway holds where a result is an error
 pub always_err : {A E : Type 0} (r : Result A E) (P : Type 0) → P → OnErr r P
 always_err (Ok x) P p = tt
 always_err (Err e) P p = p

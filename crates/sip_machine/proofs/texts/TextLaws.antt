@@ -31,7 +31,9 @@ text_of-other number bytes texts n e = rw (ne_eqb number n e)
 pub text_of-at : (texts : Texts) (i : ℕ) (x : ℕ × List ℕ) → AllPairs (λ a b. a.0 < b.0) texts → i < length texts →
     x ≡ get_or texts i x → text_of texts x.0 ≡ x.1
 text_of-at [] i x rising low e = absurd (omega arith)
+-- the message is the first one
 text_of-at (kept ∷ texts) zero x rising low e = text_of-same kept.0 kept.1 texts x.0 (ap (λ k. k.0) (sym e)) ∙ ap (λ k. k.1) (sym e)
+-- the message comes later, and so under a greater number than the first
 text_of-at (kept ∷ texts) (suc i) x rising low e =
     let within : i < length texts = omega arith in
     let lower : kept.0 < x.0 = rw e (rising 0 (suc i) x (omega arith) low) in
@@ -47,6 +49,7 @@ pub text_of-none : (texts : Texts) (bytes : List ℕ) → All (λ kept. kept.1 �
 text_of-none [] bytes none n keeps e = Contains-nil n keeps
 text_of-none (kept ∷ texts) bytes none n keeps e =
     elim (eqb_tells kept.0 n) [
+      -- the number is that of the first message, or of a later one
       | inl same ↦ All-head (λ k. k.1 ≢ bytes) kept texts none (sym (text_of-same kept.0 kept.1 texts n same.1) ∙ e)
       | inr other ↦
           elim (Contains-cons_cases kept.0 (map (λ k. k.0) texts) n keeps) [
@@ -80,6 +83,7 @@ pub text_of-grow : (texts : Texts) (number : ℕ) (bytes : List ℕ) (n : ℕ) �
 text_of-grow [] number bytes n keeps = absurd (Contains-nil n keeps)
 text_of-grow (kept ∷ texts) number bytes n keeps =
     elim (eqb_tells kept.0 n) [
+      -- the number is that of the first message, or of a later one
       | inl same ↦ text_of-same kept.0 kept.1 (texts ++ (number, bytes) ∷ []) n same.1 ∙ sym (text_of-same kept.0 kept.1 texts n same.1)
       | inr other ↦
           elim (Contains-cons_cases kept.0 (map (λ k. k.0) texts) n keeps) [
@@ -105,16 +109,19 @@ pub IsBook-grow : (texts : Texts) (number : ℕ) (bytes : List ℕ) → IsBook t
     ((n : ℕ) → Keeps texts n → n < number) → ((n : ℕ) → Keeps texts n → text_of texts n ≢ bytes) →
     IsBook (texts ++ (number, bytes) ∷ [])
 IsBook-grow texts number bytes book above other =
+    -- the old messages keep their bytes, and the new one has its own
     let kept_is : (n : ℕ) → Keeps texts n → text_of (texts ++ (number, bytes) ∷ []) n ≡ text_of texts n = text_of-grow texts number bytes in
     let added_is : text_of (texts ++ (number, bytes) ∷ []) number ≡ bytes = text_of-added texts number bytes above in
     record {
       rising = all_pairs_push (λ a b. a.0 < b.0) texts (number, bytes) book.rising
           (λ k d low. let at = Contains-get_or texts k d low in above (get_or texts k d).0 (Keeps-at texts at.0 (get_or texts k d) at.1 (sym at.2)));
+      -- two old numbers, an old one and the new one, or the new one twice
       apart = λ a b keeps_a keeps_b e. elim (Keeps-grow_cases texts number bytes a keeps_a) [
         | inl old_a ↦ elim (Keeps-grow_cases texts number bytes b keeps_b) [
           | inl old_b ↦ book.apart a b old_a old_b (sym (kept_is a old_a) ∙ e ∙ kept_is b old_b)
           | inr new_b ↦ absurd (other a old_a (sym (kept_is a old_a) ∙ e ∙ ap (text_of (texts ++ (number, bytes) ∷ [])) (sym new_b) ∙ added_is))
         ]
+        -- the first number is the new one
         | inr new_a ↦ elim (Keeps-grow_cases texts number bytes b keeps_b) [
           | inl old_b ↦ absurd (other b old_b (sym (kept_is b old_b) ∙ sym e ∙ ap (text_of (texts ++ (number, bytes) ∷ [])) (sym new_a) ∙ added_is))
           | inr new_b ↦ sym new_a ∙ new_b
@@ -123,6 +130,7 @@ IsBook-grow texts number bytes book above other =
     }
 
 -- the number of the code's message at an index is kept, and has its bytes
+-- `text` gives the number and the bytes of a message of the code, and k is the message at the index i
 pub text_of-kept : {K : Type 0} (text : K → ℕ × List ℕ) (kept : List K) (i : ℕ) (k : K) →
     AllPairs (λ a b. a.0 < b.0) (map text kept) → i < length kept → k ≡ get_or kept i k →
     Keeps (map text kept) (text k).0 × (text_of (map text kept) (text k).0 ≡ (text k).1)

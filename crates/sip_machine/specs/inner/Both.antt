@@ -1,3 +1,4 @@
+-- Up to two answers that stand for all states of which something holds.
 use Rattle.std.specs.Prelude.{ℕ, Option, List, ◌++◌, option_to_list}
 use Rattle.sip_machine.specs.Texts.{Texts}
 use Rattle.sip_machine.specs.Rules.{StandFor}

@@ -1,3 +1,4 @@
+-- How the code has the phases of a machine.
 use Rattle.std.specs.Prelude.{◌≡◌, ◌≢◌, ◌⊎◌, ◌≤◌, ℕ, List, [], All, Contains, map}
 use Rattle.sip_standard.specs.declared.kind.Kind.{Kind}
 use Rattle.sip_standard.specs.Times.{Times}
@@ -9,8 +10,6 @@ use Rattle.sip_standard.specs.Told.{Told}
 use Rattle.sip_standard.specs.Figure.{Figure, drops}
 use Rattle.sip_machine.specs.FigureRules.{IsFigure, After, closes_at}
 use Rattle.sip_machine.specs.Owing.{CodeOwing}
-
--- How the code has the phases of a machine.
 
 -- the phases of the code, whose messages are numbers of a book: what a phase stands for, what it names, which are
 -- in range, the one before anything was sent or received, and the one after an end
@@ -42,7 +41,7 @@ LeadOn {X} f Rows =
 abbrev pub LeadAway : {X : Type 0} → Figure X → Type 0
 LeadAway {X} f = (p : Times) (x : X) (k : Kind) (e : MachineEvent) (y : After X) → f.Sends p x k e y → (y.1 ≡ drops) ⊎ f.Stays x k → y.0 ≢ x
 
--- What follows is of the phases of the code, what each stands for beside a book, and the numbers that it names.
+-- What follows is of the phases of the code: `seen` gives what each stands for beside a book, and `names` the numbers that it names.
 module _ {X S : Type 0} (seen : Texts → S → X) (names : S → List ℕ) where
   -- phases of the code that stand for the same beside one book are the same one
   abbrev pub AreApart : Type 0
@@ -56,7 +55,7 @@ module _ {X S : Type 0} (seen : Texts → S → X) (names : S → List ℕ) wher
   abbrev pub TellNames : (X → Told (List ℕ)) → Type 0
   TellNames told = (texts : Texts) (x : S) → messages_told (told (seen texts x)) ≡ map (text_of texts) (names x)
 
--- What follows is of the phases of the code and the figure of whose phases they are.
+-- What follows is of the phases of the code: `seen` gives which phase of the figure f each stands for beside a book.
 module _ {X S : Type 0} (f : Figure X) (seen : Texts → S → X) where
   -- the timers of a phase of the code are the same beside each book
   abbrev pub SameWindow : Type 0
@@ -75,6 +74,7 @@ pub record IsCoded {X : Type 0} (f : Figure X) (told : X → Told (List ℕ)) (c
   pub window_same : SameWindow f c.seen
   pub closes_same : SameCloses f c.seen
   pub named : TellNames c.seen c.names told
+  -- the phases that stand for idle and ended
   pub idle_is : (texts : Texts) → c.seen texts c.idle ≡ f.idle
   pub ended_is : (texts : Texts) → c.seen texts c.ended ≡ f.ended
   pub ended_decided : (f.ended ≡ f.idle) ⊎ (f.ended ≢ f.idle)
@@ -85,17 +85,21 @@ pub record IsCoded {X : Type 0} (f : Figure X) (told : X → Told (List ℕ)) (c
 
 -- what `IsCoded` says of a figure and its phases, in the words of a machine M of the code
 pub record HasPhases {X S M : Type 0} (f : Figure X) (seen : Texts → S → X) (names : S → List ℕ) (InRange : S → Type 0) (idle ended : M → S) : Type 0 where
+  -- the figure keeps what a figure has to, and phases are told apart by what they stand for, beside books that agree on the messages they name
   pub is_figure : IsFigure f
   pub apart : AreApart seen names
   pub by_names : StandByNames seen names
+  -- windows and ends are those of the figure
   pub window_same : SameWindow f seen
   pub closes_same : SameCloses f seen
+  -- the idle and the ended phase of M stand for those of the figure, and name no message
   pub idle_is : (m : M) (texts : Texts) → seen texts (idle m) ≡ f.idle
   pub ended_is : (m : M) (texts : Texts) → seen texts (ended m) ≡ f.ended
   pub idle_fits : (m : M) → (names (idle m) ≡ []) × InRange (idle m)
   pub ended_fits : (m : M) → (names (ended m) ≡ []) × InRange (ended m)
 
 -- phases that a figure has in the code are the phases of a machine whose idle and ended phase are theirs
+-- c is how the code has the phases of the figure f
 pub has_phases : {X M : Type 0} {f : Figure X} {told : X → Told (List ℕ)} {c : Coded X} → IsCoded f told c → HasPhases f c.seen c.names c.InRange (λ (m : M). c.idle) (λ (m : M). c.ended)
 has_phases is =
     record {
@@ -104,6 +108,7 @@ has_phases is =
       by_names = is.by_names;
       window_same = is.window_same;
       closes_same = is.closes_same;
+      -- idle and ended are the same for each machine
       idle_is = λ m. is.idle_is;
       ended_is = λ m. is.ended_is;
       idle_fits = λ m. is.idle_fits;

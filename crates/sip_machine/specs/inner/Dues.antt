@@ -5,7 +5,7 @@ use Rattle.sip_machine.specs.declared.dues.Rows.TheVariants.{Blank, WithAccounts
 
 -- What many states owe, with accounts or without.
 
--- so many rows that owe nothing
+-- so many rows, none of which owes anything
 abbrev pub blank_rows : ℕ → List (List Debt)
 blank_rows count = replicate count []
 

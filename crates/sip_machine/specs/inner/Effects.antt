@@ -1,3 +1,4 @@
+-- What an event does to a state of the code.
 use Rattle.std.specs.Prelude.{◌≡◌, ◌⊎◌, ℕ, Option, Some, None, List, filter}
 use Rattle.std.specs.Option.{option_map}
 use Rattle.sip_machine.specs.declared.phases.Change.TheVariants as code
@@ -17,8 +18,6 @@ use Rattle.sip_standard.specs.Figure.{Figure, Owing, Follows, Repays}
 use Rattle.sip_machine.specs.FigureRules.{until_of}
 use Rattle.sip_machine.specs.Owing.{CodeOwing, changed_debts, owing_seen}
 use Rattle.sip_ledger.specs.Debts.{counts_at, paid_by}
-
--- What an event does to a state of the code.
 
 -- a received message leads from the state x: where its row does, or it leaves x as it is where it has none
 abbrev pub Hears : {X : Type 0} → Figure X → Times → MachineEvent → Owing X → Owing X → Type 0
@@ -58,7 +57,8 @@ quiets phase = record { turn = Some (record { phase = phase; change = code.Drops
 abbrev pub given_by : {S : Type 0} → Times → ℕ → CodeOwing S → Effect S → Option (CodeOwing S) × Option (CodeOwing S)
 given_by p t x effect = (option_map (λ turn. led_by p t turn x) effect.turn, option_map (λ rest. rests_at t rest x) effect.rest)
 
--- the states to which the row of an event leads from x, by what was done with its message; a received message without a row leads to x itself
+-- the states to which the row of an event leads from x, by what was done with its message; a received message
+-- without a row leads to x itself, and what is neither received nor sent has no row
 abbrev pub Leads : {X : Type 0} → Figure X → Times → Action → MachineEvent → Owing X → Owing X → Type 0
 Leads f p Received e x y = Hears f p e x y
 Leads f p Sent e x y = Follows (f.Sends p x.phase e.kind e) p e x y

@@ -1,3 +1,4 @@
+-- How the code has the phases of the INVITE client, whose messages are numbers of a book.
 use Rattle.std.specs.Prelude.{◌≤◌, ℕ, Some, List, [], ◌∷◌, ⊤}
 use Rattle.sip_machine.specs.declared.invite_client.InviteClientPhase.{InviteClientPhase as CodePhase}
 use Rattle.sip_machine.specs.declared.invite_client.InviteClientPhase.TheVariants as code
@@ -7,8 +8,6 @@ use Rattle.sip_machine.specs.inner.Waiting.{waiting_seen, WaitingInRange}
 use Rattle.sip_machine.specs.inner.Coded.{Coded}
 use Rattle.sip_standard.specs.InviteClient.{InviteClientPhase, Idle, Ended, Calling, Proceeding, Accepted, Completed}
 pub mod Laws
-
--- The phases of the code, whose messages are numbers of a book.
 
 -- the phase of the figure that a phase of the code stands for beside a book
 abbrev pub invite_client_seen : Texts → CodePhase → InviteClientPhase

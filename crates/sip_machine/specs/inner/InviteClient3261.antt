@@ -1,3 +1,4 @@
+-- How the code has the phases of the INVITE client of RFC 3261.
 use Rattle.sip_standard.specs.InviteClient.{InviteClientPhase}
 use Rattle.sip_machine.specs.inner.InviteClient.{invite_client_coded}
 use Rattle.sip_machine.specs.inner.Coded.{Coded}

@@ -1,3 +1,4 @@
+-- How the code has the phases of the INVITE server, whose messages are numbers of a book.
 use Rattle.std.specs.Prelude.{◌≤◌, ◌<◌, ◌^◌, ℕ, Some, List, [], ◌∷◌, ⊤}
 use Rattle.std.specs.Option.{option_map}
 use Rattle.sip_machine.specs.declared.invite_server.InviteServerPhase.{InviteServerPhase as CodePhase}
@@ -7,8 +8,6 @@ use Rattle.sip_machine.specs.Texts.{Texts, text_of}
 use Rattle.sip_machine.specs.inner.Coded.{Coded}
 use Rattle.sip_standard.specs.InviteServer.{InviteServerPhase, Idle, Proceeding, Accepted, Completed, Confirmed}
 pub mod Laws
-
--- The phases of the code, whose messages are numbers of a book.
 
 -- the phase of the figure that a phase of the code stands for beside a book
 abbrev pub invite_server_seen : Texts → CodePhase → InviteServerPhase

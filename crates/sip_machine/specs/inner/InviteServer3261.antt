@@ -1,3 +1,4 @@
+-- How the code has the phases of the INVITE server of RFC 3261, whose messages are numbers of a book.
 use Rattle.std.specs.Prelude.{ℕ, false, List, [], ⊤}
 use Rattle.sip_machine.specs.declared.invite_server_3261.InviteServer3261Phase.{InviteServer3261Phase as CodePhase}
 use Rattle.sip_machine.specs.declared.invite_server_3261.InviteServer3261Phase.TheVariants as code
@@ -7,8 +8,6 @@ use Rattle.sip_machine.specs.inner.InviteServer.{invite_server_seen, invite_serv
 use Rattle.sip_machine.specs.inner.Coded.{Coded}
 use Rattle.sip_standard.specs.InviteServer3261.{In, InviteServer3261Phase, Passed}
 pub mod Laws
-
--- The phases of the code, whose messages are numbers of a book.
 
 -- the phase of the figure that a phase of the code stands for beside a book
 abbrev pub invite_server_3261_seen : Texts → CodePhase → InviteServer3261Phase

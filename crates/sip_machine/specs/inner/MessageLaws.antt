@@ -1,11 +1,10 @@
+-- Laws of the data that phases have: messages, and optional numbers.
 use Rattle.std.specs.Prelude.{◌≡◌, ℕ, true, Option, None, Some, [], ◌∷◌, All, nat_eq}
 use Rattle.std.specs.Option.{option_eq}
 use Rattle.std.proofs.Common.{refl, ap, arith}
 use Rattle.std.proofs.lemmas.Bool.Decides.{nat_tests}
 use Rattle.std.proofs.lemmas.List.Elements.{All-head}
 use Rattle.sip_machine.specs.Texts.{Texts, IsBook, Keeps, text_of}
-
--- Laws of the data that phases have: messages, and optional numbers.
 
 -- optional numbers that the test finds equal are the same
 pub option_exact : (a b : Option ℕ) → option_eq nat_eq a b ≡ true → a ≡ b

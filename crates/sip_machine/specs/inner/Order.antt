@@ -1,3 +1,4 @@
+-- How a book finds equal bytes: the places of its messages in the order of hash and bytes, in runs.
 use Rattle.std.specs.Prelude.{◌≡◌, ◌<◌, ◌≤◌, ◌+◌, ◌-◌, ◌++◌, ◌∷◌, ℕ, Bool, true, false, Option, Some, None, List, [], All, AllPairs, Contains, map, length, take, slice_index_or}
 use Rattle.std.specs.declared.cmp.Ordering.{Ordering}
 use Rattle.std.specs.declared.cmp.Ordering.TheVariants.{Less, Greater}
@@ -11,8 +12,6 @@ use Rattle.sip_machine.specs.declared.book.Place.{Place}
 use Rattle.sip_machine.specs.declared.book.PlaceRun.{PlaceRun}
 use Rattle.sip_machine.specs.declared.book.Gap.{Gap}
 use Rattle.sip_machine.specs.declared.book.Loose.{Loose}
-
--- How a book finds equal bytes: the places of its messages in the order of hash and bytes, in runs.
 
 -- the texts of a book that the code keeps as these messages
 abbrev pub texts_of : List KeptMessage → Texts

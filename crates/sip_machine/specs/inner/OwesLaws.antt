@@ -1,3 +1,6 @@
+-- Laws of debts of the code, of what they stand for, and of moments up to their deadlines.
+-- In the lemmas c and d are debts and ds others; a, b and c, as Bools, are what is asked of them, and as texts a and b are two books.
+-- o and os are the first debt of the definitions and the others, and m is a deadline.
 use Rattle.std.specs.Prelude.{◌≡◌, ◌≤◌, ◌↔◌, ◌&&◌, ◌||◌, ℕ, Bool, true, false, is_some, IsTrue, List, [], ◌∷◌, ◌++◌, All, Contains, filter, map, nat_le}
 use Rattle.std.specs.List.{list_any}
 use Rattle.std.proofs.Common.{refl, sym, ap, ap₂, arith, cond, true≢false}
@@ -11,8 +14,6 @@ use Rattle.sip_machine.specs.Deadlines.{unexpired, Pays, must_deadlines, earlies
 use Rattle.sip_machine.specs.Owes.{owed_seen, owes_seen, owes_names}
 use Rattle.sip_ledger.specs.Debts.{counts_at, softened_debt, is_payable, debt_deadlines}
 use Rattle.sip_machine.specs.inner.DebtLaws.{filter-map, All-front, All-back, All-without, IsWithin-earliest}
-
--- Laws of debts of the code, of what they stand for, and of moments up to their deadlines.
 
 -- where two tests pass together, each does
 pub both_true : (a b : Bool) → (a && b) ≡ true → (a ≡ true) × (b ≡ true)
@@ -30,11 +31,13 @@ pub owes_apart : (texts : Texts) (xs ys : List Debt) → IsBook texts → All (K
 owes_apart texts [] [] book x_known y_known e = refl
 owes_apart texts [] (y ∷ ys) book x_known y_known e = cc
 owes_apart texts (x ∷ xs) [] book x_known y_known e = cc
+-- the first debts stand for the same, and so do the others
 owes_apart texts (x ∷ xs) (y ∷ ys) book x_known y_known e =
     let here : owed_seen texts x ≡ owed_seen texts y = cc in
     let rest : owes_seen texts xs ≡ owes_seen texts ys = cc in
     let x_kept = All-head (Keeps texts) x.message (owes_names xs) x_known in
     let y_kept = All-head (Keeps texts) y.message (owes_names ys) y_known in
+    -- the book tells the messages of x and y apart, so they are one message, and the two debts are the same
     let same = debt_same x y (book.apart x.message y.message x_kept y_kept (ap (λ o. o.message) here)) (ap (λ o. o.deadline) here) (ap (λ o. o.must) here) in
     ap₂ (λ z zs. z ∷ zs) same (owes_apart texts xs ys book (All-tail (Keeps texts) x.message (owes_names xs) x_known)
     (All-tail (Keeps texts) y.message (owes_names ys) y_known) rest)
@@ -49,6 +52,7 @@ owes_seen_by_names a b (x ∷ xs) agree =
     (owes_seen_by_names a b xs (λ n has. agree n (Contains-append_right (x.message ∷ []) (owes_names xs) n has)))
 
 -- where a list of messages owed and a list of debts have the same deadlines, they do so with one more of the same deadline before both
+-- o is the message owed before os, and d the debt before ds; b says whether they are there
 cond-deadlines : (b : Bool) (o : Owed) (d : Debt) (os : List Owed) (ds : List Debt) → o.deadline ≡ d.deadline →
     map (λ o. o.deadline) os ≡ map (λ d. d.deadline) ds →
     map (λ o. o.deadline) (cond b (o ∷ os) os) ≡ map (λ d. d.deadline) (cond b (d ∷ ds) ds)
@@ -87,6 +91,7 @@ abbrev pub AreDue : ℕ → List Owed → Type 0
 AreDue t owes = All (λ owed. owed.must ≡ true → t ≤ owed.deadline) owes
 
 -- where t is not after the deadlines of what is owed, it is not after that of the first, if that must be sent, nor after those of the others
+-- o is what is owed first, os are the others, and b says whether o is there
 due-front : (t : ℕ) (b : Bool) (o : Owed) (os : List Owed) → All (λ m. t ≤ m) (map (λ o. o.deadline) (cond b (o ∷ os) os)) →
     (b ≡ true → t ≤ o.deadline) × All (λ m. t ≤ m) (map (λ o. o.deadline) os)
 due-front t true o os all =
@@ -94,6 +99,7 @@ due-front t true o os all =
 due-front t false o os all = (λ e. absurd (true≢false (sym e)), all)
 
 -- where t is not after the deadline of what is owed first, if that must be sent, nor after those of the others, it is not after those of all
+-- o is what is owed first, os are the others, and b says whether o is there
 due-more : (t : ℕ) (b : Bool) (o : Owed) (os : List Owed) → (b ≡ true → t ≤ o.deadline) → All (λ m. t ≤ m) (map (λ o. o.deadline) os) →
     All (λ m. t ≤ m) (map (λ o. o.deadline) (cond b (o ∷ os) os))
 due-more t true o os here more = All-cons (λ m. t ≤ m) o.deadline (map (λ o. o.deadline) os) (here refl) more
@@ -107,6 +113,7 @@ AreDue-deadlines t (o ∷ os) =
       λ all.
           let front = due-front t o.must o (filter (λ o. o.must) os) all in
           All-cons (λ owed. owed.must ≡ true → t ≤ owed.deadline) o os front.0 (more.0 front.1),
+      -- the converse: the first debt is due, and so are the others
       λ due.
           due-more t o.must o (filter (λ o. o.must) os) (All-head (λ owed. owed.must ≡ true → t ≤ owed.deadline) o os due)
           (more.1 (All-tail (λ owed. owed.must ≡ true → t ≤ owed.deadline) o os due)),
@@ -146,6 +153,7 @@ payable-seen texts n t book kept d d_kept = (
       let message : d.message ≡ n = grind (arith, nat_tests) in
       let in_time : t ≤ d.deadline = grind (arith, nat_tests) in
       (ap (text_of texts) message, in_time),
+  -- the converse: equal bytes have one number
   λ pays.
       let message : d.message ≡ n = book.apart d.message n d_kept kept pays.0 in
       let in_time = pays.1 in

@@ -1,10 +1,9 @@
+-- Which debt a send pays.
 use Rattle.std.specs.Prelude.{◌≤◌, ℕ, Option, None, Some, List, All}
 use Rattle.sip_ledger.specs.declared.debt.Debt.{Debt}
 use Rattle.sip_ledger.specs.Debts.{paid_by}
 use Rattle.sip_machine.specs.Texts.{Texts, text_of}
 use Rattle.sip_standard.specs.Debts.{IsWithoutFirst}
-
--- Which debt a send pays.
 
 -- a send that satisfies these messages pays the debt at t: it satisfies the message of the debt, whose deadline is not before t
 abbrev pub PaysFor : (List ℕ → Type 0) → Texts → ℕ → Debt → Type 0

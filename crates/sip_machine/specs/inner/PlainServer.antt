@@ -1,3 +1,4 @@
+-- How the code has the phases of the non-INVITE server, whose messages are numbers of a book.
 use Rattle.std.specs.Prelude.{◌≤◌, ℕ, List, [], ◌∷◌, ⊤}
 use Rattle.sip_machine.specs.declared.plain_server.PlainServerPhase.{PlainServerPhase as CodePhase}
 use Rattle.sip_machine.specs.declared.plain_server.PlainServerPhase.TheVariants as code
@@ -6,8 +7,6 @@ use Rattle.sip_machine.specs.Texts.{Texts, text_of}
 use Rattle.sip_machine.specs.inner.Coded.{Coded}
 use Rattle.sip_standard.specs.PlainServer.{PlainServerPhase, Idle, Trying, Proceeding, Completed}
 pub mod Laws
-
--- The phases of the code, whose messages are numbers of a book.
 
 -- the phase of the figure that a phase of the code stands for beside a book
 abbrev pub plain_server_seen : Texts → CodePhase → PlainServerPhase

@@ -1,3 +1,4 @@
+-- What bytes are read as, and nothing where they have a fault.
 use Rattle.std.specs.Prelude.{ℕ, Option, None, Some, List}
 use Rattle.sip_standard.specs.declared.fault.Fault.{Fault}
 use Rattle.sip_message.specs.Reading.{Reading}

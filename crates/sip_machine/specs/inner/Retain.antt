@@ -1,9 +1,8 @@
+-- How a book keeps the messages of some numbers, and forgets the others.
 use Rattle.std.specs.Prelude.{ℕ, suc, Option, Some, None, List, [], ◌∷◌, cond, nat_eq, slice_index_or}
 use Rattle.std.specs.Option.{option_map}
 use Rattle.sip_machine.specs.Texts.{Texts}
 use Rattle.sip_machine.specs.declared.book.Place.{Place}
-
--- How a book keeps the messages of some numbers, and forgets the others.
 
 -- the number of the message at a position, and 0 past the last one
 abbrev pub number_at : Texts → ℕ → ℕ

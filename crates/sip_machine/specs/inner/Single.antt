@@ -1,3 +1,4 @@
+-- The one answer that stands for the only state of which something holds.
 use Rattle.std.specs.Prelude.{◌≡◌, ◌↔◌, ℕ, Option, Some, None, List}
 use Rattle.sip_machine.specs.Texts.{Texts}
 use Rattle.sip_machine.specs.Rules.{Knows}

@@ -1,7 +1,6 @@
+-- Numbers, found again by a look at those alone that fall into the same slot.
 use Rattle.std.specs.Prelude.{◌≡◌, ◌≢◌, ◌<◌, ◌≤◌, ◌-◌, ◌*◌, ◌/◌, ◌^◌, ℕ, Option, None, Some, List, get_or, length, map}
 use Rattle.sip_machine.specs.declared.slots.SlotPrint.{SlotPrint}
-
--- Numbers, found again by a look at those alone that fall into the same slot.
 
 -- prints by slots: for each slot the place of its newest print, all prints, and for each print the place of the one before it in its slot; places count from 1
 pub record Slotted : Type 0 where
@@ -13,7 +12,7 @@ pub record Slotted : Type 0 where
 abbrev pub slotted : List ℕ → List SlotPrint → Slotted
 slotted newest kept = record { newest = newest; prints = map (λ x. x.print) kept; olders = map (λ x. x.older) kept }
 
--- the slot of a print, where there are so many slots
+-- the slot of a print, where there are this many slots
 abbrev pub slot_of : ℕ → ℕ → ℕ
 slot_of slots print = print * slots / 2 ^ 64
 

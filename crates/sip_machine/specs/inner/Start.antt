@@ -1,3 +1,4 @@
+-- Which start line is that of a 100.
 use Rattle.std.specs.Prelude.{◌≡◌, ℕ, List}
 use Rattle.sip_standard.specs.StartLine.{StartLine, status}
 

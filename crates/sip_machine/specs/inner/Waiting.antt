@@ -1,3 +1,4 @@
+-- How the code has a request that waits for its response.
 use Rattle.std.specs.Prelude.{◌≤◌, ◌<◌, ◌^◌, ℕ, List, [], ◌∷◌, if◌then◌else◌}
 use Rattle.sip_machine.specs.declared.waiting.Waiting.{Waiting as CodeWaiting}
 use Rattle.sip_standard.specs.Times.{Times, last_moment}

@@ -1,3 +1,4 @@
+-- Laws of requests that wait, and of timers as they start.
 use Rattle.std.specs.Prelude.{◌≡◌, ◌≤◌, ℕ, Bool, true, false, List, [], ◌∷◌, All, Contains, if◌then◌else◌}
 use Rattle.std.proofs.Common.{refl, ap, arith}
 use Rattle.std.proofs.lemmas.Bool.Decides.{nat_tests}
@@ -10,8 +11,6 @@ use Rattle.sip_machine.specs.Texts.{Texts, IsBook, Keeps, text_of}
 use Rattle.sip_standard.specs.Waiting.{Waiting}
 use Rattle.sip_machine.specs.inner.Waiting.{waiting_closes, waiting_seen}
 use Rattle.sip_machine.specs.inner.MessageLaws.{message_apart}
-
--- Laws of requests that wait, and of timers as they start.
 
 -- waiting requests of the code with the same data are the same one
 waiting_same : (v w : CodeWaiting) → v.reliable ≡ w.reliable → v.request ≡ w.request → v.start ≡ w.start →
@@ -32,6 +31,7 @@ waiting_apart texts v w book v_known w_known e =
     waiting_same v w (ap (λ x. x.reliable) e) request (ap (λ x. x.start) e) (ap (λ x. x.set) e) (ap (λ x. x.interval) e)
 
 -- a waiting request stands for the same beside books that agree on its message
+-- a and b are the books, and w is the request that waits
 pub waiting_by_names : (a b : Texts) (w : CodeWaiting) → ((n : ℕ) → Contains (w.request ∷ []) n → text_of a n ≡ text_of b n) →
     waiting_seen a w ≡ waiting_seen b w
 waiting_by_names a b w agree =

@@ -50,7 +50,7 @@ pub(crate) fn first_acked(
 
 /// The message of the first debt of the row whose message has this To, from which the blanks were taken, and whose deadline has
 /// not passed. First the 8 oldest debts are looked at. Where none of their messages has the To, it is looked for among the messages that the
-/// book keeps under the hash of the To, in half as many steps; where that is not enough, eight times as many debts are looked at.
+/// book keeps under the hash of the To, in eight times as many steps; where that is not enough, so many debts are looked at.
 fn first_with_to(
     alloc: Global,
     book: &Book,
@@ -73,15 +73,15 @@ fn first_with_to(
         if debts.len() < most {
             return Ok(None);
         }
-        if let Some(found) = first_under(alloc, book, to, moment, dues, row, most / 2)? {
+        most = most.saturating_mul(8);
+        if let Some(found) = first_under(alloc, book, to, moment, dues, row, most)? {
             return Ok(found);
         }
-        most = most.saturating_mul(8);
     }
 }
 
 /// What `first_with_to` finds, where the hash of the To tells it in `most` steps: where all messages that are owed stand under the hashes of
-/// their Tos, and the first of them that stands under this hash has this To.
+/// their Tos, and the first of them that stands under this hash has this To. Steps that do not tell it are counted.
 fn first_under(
     alloc: Global,
     book: &Book,
@@ -100,6 +100,7 @@ fn first_under(
         return Ok(None);
     };
     let Some(first) = dues.first_payable(row, hashes, to.hash(), moment, most) else {
+        book.count_steps(most);
         return Ok(None);
     };
     let Some(message) = first else {

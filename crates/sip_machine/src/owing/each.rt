@@ -1,4 +1,5 @@
 //! The step of the machine of a transaction from many states. States of one phase that stand side by side take it together.
+//! In the clauses `added` are the states that stand after the old ones in the pool.
 ghost use Rattle.std.specs.Prelude.{◌≡◌, ◌≢◌, ◌<◌, ◌≤◌, ◌^◌, ◌++◌, ℕ, List, All, IfOk, OnOk, length, take};
 ghost use Rattle.std.specs.Option.{option_map};
 ghost use Rattle.std.specs.List.{HoldsAt};
@@ -64,6 +65,7 @@ pub(crate) fn sends_each<M: Phases>(
     ensures before { take (length pool.old) pool.new ≡ pool.old }
 {
     let mut at = 0;
+    // The states from `at` up to `end` are of one phase, so the machine is asked once for them.
     while at < count {
         let end = pool.run_end(at, count);
         sends_run(machine, book, pool, at, end, event)?;
@@ -166,6 +168,7 @@ fn leads_run<M: Phases>(
         (FromSome (LeadsFrom M.figure (M.times machine.now) M.seen book.now (event_in book.now event.now)) (from_to from to pool.old)) added) }
     ensures before { take (length pool.old) pool.new ≡ pool.old }
 {
+    // `turn` is where the send leads from the phase, whichever debts the state has.
     let alloc = *pool.phases.allocator();
     let phase = pool.phases[from];
     if is_past(event.moment(), machine.closes(&phase)) {
@@ -202,6 +205,7 @@ fn turn_of<M: Phases>(
                 phase: *phase,
                 change: Change::Keeps,
             };
+            // `turn` is where the row of the message leads, if it has one.
             let turn = machine.receives(alloc, book, phase, event)?;
             Ok(Some(turn.unwrap_or(stays)))
         }
@@ -234,6 +238,7 @@ fn rests_run<M: Phases>(
     if is_past(event.moment(), machine.closes(&phase)) {
         return Ok(());
     }
+    // Where the phase stays by itself, or names no one message that is paid, each state is asked alone. Else all states pay the same message.
     if machine.stays(&phase, event.kind()) {
         return rests_rows(machine, book, pool, from, to, event);
     }

@@ -1,14 +1,13 @@
 -- The canonical form of a message that is kept, and what is appended to bytes.
-use Rattle.std.specs.Prelude.{ℕ, List, ◌∷◌, ◌++◌, map, ◌≡◌, ◌≤◌, ◌<◌, Result, Ok, Err, ⊤}
+use Rattle.std.specs.Prelude.{ℕ, Bool, List, [], ◌∷◌, ◌++◌, map, ◌≡◌, ◌≤◌, ◌<◌, Result, Ok, Err, ⊤, if◌then◌else◌}
 use Rattle.std.specs.List.{flat_map}
 use Rattle.sip_text.specs.Bytes.{crlf, colon, space}
 use Rattle.sip_message.specs.inner.Lines.{with_end}
 use Rattle.sip_message.specs.Name.{FieldName, known, other, long_name}
-use Rattle.sip_standard.specs.Canonical.{start_text}
+use Rattle.sip_standard.specs.Canonical.{start_text, unfolded}
 use Rattle.sip_message.specs.Field.{Field}
 use Rattle.sip_message.specs.Message.{Message}
 use Rattle.sip_standard.specs.StartLine.{StartLine, request, status}
-use Rattle.sip_message.specs.inner.MessageText.{unfolded_field}
 
 -- the name as the canonical form writes it
 abbrev pub name_text : FieldName → List ℕ
@@ -18,6 +17,14 @@ name_text (other text) = text
 -- a field: its name, ": ", and its value
 abbrev pub field_text : Field → List ℕ
 field_text f = name_text f.name ++ colon ∷ space ∷ f.value
+
+-- a text after the end of the line before it
+abbrev pub after_end : List ℕ → List ℕ
+after_end text = crlf ++ text
+
+-- what stands before the value of a field of this name: the end of the line before it, the name and ": "
+abbrev pub front_text : FieldName → List ℕ
+front_text name = after_end (name_text name ++ colon ∷ space ∷ [])
 
 -- the canonical form of a message: each line with its end, an empty line, and the body
 abbrev pub canon : Message → List ℕ
@@ -33,6 +40,14 @@ abbrev pub HasCode : StartLine → Type 0
 HasCode (request method uri) = ⊤
 HasCode (status code reason) = (100 ≤ code) × (code < 700)
 
--- the text of fields in the canonical form, each with its line's end
-abbrev pub fields_text : List Field → List ℕ
-fields_text fields = flat_map with_end (map field_text (map unfolded_field fields))
+-- a value as it is written: unfolded where it may be folded
+abbrev pub written_value : Bool → List ℕ → List ℕ
+written_value may_fold value = if may_fold then unfolded value else value
+
+-- a field with its value as it is written
+abbrev pub written_field : Bool → Field → Field
+written_field may_fold f = record { name = f.name; value = written_value may_fold f.value }
+
+-- the text of fields as they are written, each after the end of the line before it
+abbrev pub fields_text : Bool → List Field → List ℕ
+fields_text may_fold fields = flat_map after_end (map field_text (map (written_field may_fold) fields))

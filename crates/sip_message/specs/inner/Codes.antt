@@ -39,6 +39,7 @@ text_code = coded_list coded_ℕ
 abbrev pub element_code : Coded Element
 element_code = coded× text_code via_code
   where
+    -- the parts of an element of Via as lists and numbers
     via_code : Coded ViaParts
     via_code = code_by (List ℕ × (List ℕ × (List ℕ × (HostParts × (Option (List ℕ) × (List ℕ × Option (List ℕ)))))))
         (coded× text_code (coded× text_code (coded× text_code (coded× host_code (coded× (coded_option text_code) (coded× text_code (coded_option text_code)))))))

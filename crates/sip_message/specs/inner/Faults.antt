@@ -47,7 +47,8 @@ NamesOf fields =
     Then (OneOf (found known_name.CSeq fields)) (λ cseq.
     Then (NoSecond (found known_name.ContentLength fields)) (λ _. Gives (via, cseq)))))))
 
--- faults 8 to 11: the demands on the method and the body; it gives the body
+-- faults 8 to 11: the CSeq names the method of the request, a stream's message says how long its body is, the bytes after the
+-- head are as many as that, and in a stream they are no more; it gives the body
 abbrev pub BodyOf : StartLine → ℕ × List ℕ → List ℕ → Option ℕ → List ℕ → Outcome (List ℕ) → Type 0
 BodyOf start cseq via len rest =
     Then (Holds (MethodFits start (cseq.1)) (fault_in_line (cseq.0) reason.MethodMismatch)) (λ _.

@@ -15,6 +15,6 @@ IsFound name n fields None = found_from (n + 1) name (drop n fields) ≡ []
 IsFound name n fields (Some one) =
     found_from (n + 1) name (drop n fields) ≡ one ∷ found_from (one.0 + 1) name (drop (one.0) fields)
 
--- nothing means nothing: the view of a search that returns no value
+-- the answer of a search, of which nothing is told but whether there is one
 abbrev pub nothing_parts : ⊤ → ⊤
 nothing_parts nothing = nothing

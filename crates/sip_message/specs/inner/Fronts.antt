@@ -71,6 +71,7 @@ pair_parts (a, b) = (a.now, b.now)
 
 -- the protocol, the version, the transport and the rest that the code's borrows mean
 abbrev pub protocol_parts : Bor (List ℕ) × Bor (List ℕ) × Bor (List ℕ) × Bor (List ℕ) → ProtocolParts
+-- a, b, c and d are the four in this order
 protocol_parts (a, b, c, d) = record { protocol = a.now; version = b.now; transport = c.now; rest = d.now }
 
 -- a logical line with its end at the front of the text, and what is left, which begins with no blank

@@ -1,5 +1,6 @@
 -- The bytes of a message, as its readers read them (RFC 3261, section 7), and the message with its values unfolded.
 use Rattle.std.specs.Prelude.{◌≡◌, ◌||◌, ℕ, ◌+◌, ◌≤◌, Bool, true, IsTrue, List, [], ◌∷◌, length, map, codes, bytes_eq, Option, is_some, IfSome, if◌then◌else◌, ⊤}
+use Rattle.std.specs.List.{AllByRecursion}
 use Rattle.sip_standard.specs.Case.{folded}
 use Rattle.sip_message.specs.declared.name.Known.{Known}
 use Rattle.sip_message.specs.declared.name.Known.TheVariants as known_name
@@ -80,11 +81,13 @@ pub record MessageFits (start : StartLine) (fields : List Field) (rest : List �
   pub from : HasField known_name.From fields
   pub to_once : IsNotTwice known_name.To fields
   pub to : HasField known_name.To fields
+  -- Call-ID, CSeq and Content-Length stand once at most, and the first two stand there
   pub call_id_once : IsNotTwice known_name.CallId fields
   pub call_id : HasField known_name.CallId fields
   pub cseq_once : IsNotTwice known_name.CSeq fields
   pub cseq : HasField known_name.CSeq fields
   pub length_once : IsNotTwice known_name.ContentLength fields
+  -- the method and the body fit the start line, the Via and the length
   pub method : MethodFits start (cseq.0.1)
   pub has_length : HasLength (via.0.1) (content_length fields)
   pub enough : IsEnough (content_length fields) rest
@@ -99,6 +102,7 @@ pub record MessageText (bytes : List ℕ) (m : Message) : Type 0 where
   pub is_head : CutSays bytes (head, rest)
   pub no_bare : HasNoBareEnd head
   pub are_lines : LinesSay head first others
+  -- the start line and the fields are what the lines say, and the body has its length
   pub is_start : StartText first m.start
   pub are_fields : FieldsText others m.fields
   pub fits : MessageFits m.start m.fields rest
@@ -107,6 +111,10 @@ pub record MessageText (bytes : List ℕ) (m : Message) : Type 0 where
 -- the field with its value unfolded
 abbrev pub unfolded_field : Field → Field
 unfolded_field f = record { name = f.name; value = unfolded f.value }
+
+-- no value of the fields is folded: each is as it is when it is unfolded
+abbrev pub AreUnfolded : List Field → Type 0
+AreUnfolded = AllByRecursion (λ f. unfolded f.value ≡ f.value)
 
 -- the message with its values unfolded
 abbrev pub message_of : Message → Message

@@ -1,8 +1,8 @@
 -- Plain parts of values, each between two places of a text.
-use Rattle.std.specs.Prelude.{◌≡◌, ℕ, ◌-◌, ◌≤◌, List, Option, IfSome, take, drop}
+use Rattle.std.specs.Prelude.{◌≡◌, ℕ, ◌-◌, ◌<◌, ◌≤◌, List, Option, IfSome, get_or, length, take, drop}
 use Rattle.sip_standard.specs.Text.{One, ◌then◌, OneOrMore}
 use Rattle.sip_standard.specs.Profile.{Port}
-use Rattle.sip_text.specs.Bytes.{semicolon, Byte}
+use Rattle.sip_text.specs.Bytes.{carriage_return, semicolon, Byte}
 use Rattle.sip_text.specs.Host.{HostParts, HostText, host_text}
 use Rattle.sip_text.specs.Uri.{UriParts, UriText, hostport_text}
 use Rattle.sip_masks.specs.Marks.{is_plain}
@@ -12,6 +12,10 @@ use Rattle.sip_message.specs.Address.{AddressParts, AddressText, DisplayName, Be
 -- the bytes of the text from place `at` up to place `to`
 abbrev pub segment : ℕ → ℕ → List ℕ → List ℕ
 segment at to text = take (to - at) (drop at text)
+
+-- a CR stands in the text at place `end`, as at the end of a line
+abbrev pub EndsAt : List ℕ → ℕ → Type 0
+EndsAt text end = (end < length text) × (get_or text end 0 ≡ carriage_return)
 
 -- a text of P lies in the text from place `at` up to place `to`, which is not after `end`
 abbrev pub LiesWithin : (List ℕ → Type 0) → List ℕ → ℕ → ℕ → ℕ → Type 0

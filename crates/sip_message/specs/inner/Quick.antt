@@ -8,6 +8,7 @@ use Rattle.sip_standard.specs.StartLine.{StartLine}
 use Rattle.sip_message.specs.inner.StartLine.{StartText}
 use Rattle.sip_message.specs.Field.{Field}
 use Rattle.sip_message.specs.inner.FieldText.{FieldText, FieldsText}
+use Rattle.sip_message.specs.inner.MessageText.{AreUnfolded}
 use Rattle.sip_message.specs.declared.asked.Asked.{Asked}
 use Rattle.sip_message.specs.inner.Asked.{AsksMore}
 
@@ -38,6 +39,7 @@ pub record IsOrdinary (bytes : List ℕ) (start : StartLine) (fields : List Fiel
   pub are_lines : LinesSay head first others
   pub is_start : StartText first start
   pub are_fields : FieldsText others fields
+  pub no_folds : AreUnfolded fields
 
 -- the line is a field, which is put after the old ones, and what it says is kept if it is asked for
 pub record PushesField (line : List ℕ) (old new : List Field) (before after : Asked) : Type 0 where

@@ -8,12 +8,12 @@ use Rattle.sip_message.specs.declared.field.Field.{Field as Code}
 use Rattle.sip_message.specs.Name.{FieldName, known, other}
 use Rattle.sip_message.specs.Field.{Field}
 
--- the name that the code's one means
+-- the name that a name of the code means
 abbrev pub name_parts : Name → FieldName
 name_parts (variant.Known name) = known name
 name_parts (variant.Other text) = other text.now
 
--- the field that the code's one means
+-- the field that a field of the code means
 abbrev pub field_parts : Code → Field
 field_parts f = record { name = name_parts f.name; value = f.value.now }
 

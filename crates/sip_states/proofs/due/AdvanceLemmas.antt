@@ -1,4 +1,5 @@
 -- Sets that wait, one after another, and what the marked sets name.
+-- In the lemmas i and n are indices of sets or places of a list, d is what stands beyond its end, and r the result of a call, whose errors are of the type E.
 use Rattle.std.proofs.Common.{cond, zero, suc, Bool, true, false, true≢false, Result, Ok, Err, OnOk, OnErr, AllPairs, Contains, ◌↔◌, ◌++◌, [], ◌∷◌, ◌≡◌, ◌≢◌, ◌≤◌, ◌<◌, ◌⊎◌, inl, inr, ℕ, Option, Some, None, List, ◌+◌, map, take, option_copied, All, length, get_or, slice_get, slice_set, refl, sym, ap, ◌∙◌, subst, arith}
 use Rattle.std.specs.List.{flat_map}
 use Rattle.std.specs.Result.{is_ok}
@@ -31,6 +32,7 @@ pub advances_more : (moment : ℕ) (indices : List ℕ) (old now : List AnySet) 
     → slice_get now index ≡ Some set → SetWaits moment set after → AdvancesAt moment (indices ++ index ∷ []) old (slice_set now index after)
 advances_more moment indices old now index set after up fresh at waits = record {
   long = length-set now index after ∙ up.long;
+  -- the set at the new index has waited now, and it had not before
   each = λ n a b was is. elim (set_place now index n after b is) [
     | inl here ↦ elim (up.each n a set was (ap (slice_get now) here.0 ∙ at)) [
       | inl early ↦ absurd (fresh (subst (Contains indices) here.0 early.0))
@@ -39,6 +41,7 @@ advances_more moment indices old now index set after up fresh at waits = record 
         subst (λ x. SetWaits moment a x) here.1 (subst (λ x. SetWaits moment x after) same.1 waits),
       )
     ]
+    -- any other set has waited before, or is as it was
     | inr other ↦ elim (up.each n a b was other.1) [
       | inl early ↦ inl (Contains-append_left indices (index ∷ []) n early.0, early.1)
       | inr same ↦ inr (λ has. elim (Contains-push_cases indices index n has) [ inl before ↦ same.0 before | inr e ↦ other.0 (sym e) ], same.1)
@@ -82,6 +85,7 @@ take_among (suc i) (x ∷ xs) n has =
     ]
 
 -- an element that is lent from a list is in the list
+-- r is the element at the place i, if there is one, o is its copy, and x its value
 pub item_among : (xs : List ℕ) (i : ℕ) (r : Option (Bor ℕ)) (o : Option ℕ) (x : ℕ) → IsItemAt xs i r → o ≡ option_copied r → o ≡ Some x → Contains xs x
 item_among xs i None o x item copied is = (let no : Some x ≡ None = sym is ∙ copied in absurd cc)
 item_among xs i (Some b) o x item copied is =
@@ -118,6 +122,7 @@ pub all_advance : (moment : ℕ) (marked : List ℕ) (marks : List Bool) (old ne
     → ((n : ℕ) → Contains marked n ↔ IsMarked marks n) → AdvancesAt moment marked old new
     → (n : ℕ) (a b : AnySet) → slice_get old n ≡ Some a → slice_get new n ≡ Some b → SetWaits moment a b
 all_advance moment marked marks old new long all members up n a b was is =
+    -- n is a place of the marks, and all of them are marked, so the set at n has waited
     let low = slice_get_within old n a was in
     let inside : n < length marks = omega (arith, low, long) in
     elim (up.each n a b was is) [
@@ -136,6 +141,7 @@ pub marked_still : (P : AnySet → Type 0) (moment : ℕ) (indices : List ℕ) (
 marked_still P moment indices marks old new are some up n set at mark =
     let low = slice_get_within new n set at in
     let long = up.long in
+    -- the old set at n is not marked, so it did not wait, and the new one is the same
     let was : slice_get old n ≡ Some (get_or old n set) = slice_get-get_or old n set (omega arith) in
     elim (up.each n (get_or old n set) set was at) [
       | inl waited ↦ absurd (true≢false (same_Some true false (sym (some n waited.0) ∙ mark)))
@@ -181,7 +187,7 @@ not_unmarked marks index n mark = elim (set_place marks index n false true mark)
 abbrev pub AreAmong : List Bool → List Bool → Type 0
 AreAmong marks moved = (index : ℕ) → IsMarked marks index → IsMarked moved index
 
--- one list of marks stays within another when each gets one more mark, `false`
+-- the indices marked in `marks` stay among those in `moved` where both lists get one more mark, `false`
 pub within_push : (marks moved : List Bool) → length marks ≡ length moved → AreAmong marks moved → AreAmong (marks ++ false ∷ []) (moved ++ false ∷ [])
 within_push marks moved long within index mark =
     elim (push_place marks false index true mark) [
@@ -195,7 +201,7 @@ within_push marks moved long within index mark =
     slice_get-push (u ∷ xs) a zero x at = at
     slice_get-push (u ∷ xs) a (suc n) x at = slice_get-push xs a n x at
 
--- one list of marks stays within another when the same mark is written at one place of both
+-- the indices marked in `marks` stay among those in `moved` where the same mark is written at one place of both
 pub within_set : (marks moved : List Bool) (at : ℕ) (b : Bool) → length marks ≡ length moved → AreAmong marks moved → AreAmong (slice_set marks at b) (slice_set moved at b)
 within_set marks moved at b long within index mark =
     elim (set_place marks at index b true mark) [
@@ -263,11 +269,13 @@ pub marked_names : (marked : List ℕ) (marks : List Bool) (sets : List AnySet) 
 marked_names marked marks sets long are members n = (
   λ has. (let found = Contains-from_flat_map (numbers_at sets) marked n has in at_among sets found.0 n found.2),
   λ has.
+      -- a number that some set names is named by a marked one, since the others name none
       let found = Contains-from_flat_map numbers_of sets n has in
       let index = found.1.0 in
       let at : slice_get sets index ≡ Some found.0 = slice_get-get_or sets index found.0 found.1.1 ∙ ap Some found.1.2 in
       let low = found.1.1 in
       let here : Contains (numbers_at sets index) n = subst (λ ns. Contains ns n) (sym (numbers_at-is sets index found.0 at)) found.2 in
+      -- the set is marked, or it names nothing
       elim (mark_cases marks index (omega arith)) [
         | inl mark ↦ Contains-flat_map (numbers_at sets) marked index n ((members index).1 mark) here
         | inr none ↦ absurd (Contains-nil n (subst (λ ns. Contains ns n) (are index found.0 at none) found.2))
@@ -292,6 +300,7 @@ always_err (Ok x) P p = tt
 always_err (Err e) P p = p
 
 -- the numbers of the sets were appended, ascending and each once, unless the call was refused
+-- r is the call's result, t the tables whose sets name the numbers, and `added` what was appended to `old`
 pub named_if : {T E : Type 0} (r : Result T E) (t : Tabled) (old new added : List ℕ) → new ≡ cond (is_ok r) (old ++ added) old → AllPairs (λ a b. a < b) added
     → ((n : ℕ) → Contains added n ↔ Contains (flat_map numbers_of t.sets) n) → OnOk r (AppendsNamed t old new)
 named_if (Ok x) t old new added is rising same = (added, is, rising, same)

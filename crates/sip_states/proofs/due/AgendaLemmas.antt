@@ -32,6 +32,7 @@ own_line index last limit has line = (
 pub not_above : (a b : ℕ × ℕ) → is_gt (line_cmp a b) ≡ false → a.0 ≤ b.0
 not_above a b = by (nat_cmp a.0 b.0) (ranks a.0 b.0)
   where
+    -- a line that does not compare as greater has no later moment: a compares by its moment as less, equal or greater
     by : (r : Ordering) → MatchOrdering r (a.0 < b.0) (a.0 ≡ b.0) (b.0 < a.0) → is_gt (ordering_then r (nat_cmp a.1 b.1)) ≡ false → a.0 ≤ b.0
     by Less h e = omega arith
     by Equal h e = omega (arith, h)
@@ -66,6 +67,7 @@ pub nothing_due : (records : Records) (order : BTreeSet (ℕ × ℕ)) (moment : 
     → ((line : ℕ × ℕ) → HasLine order line → moment ≤ line.0) → position (is_overdue moment) records ≡ None
 nothing_due records order moment ordered late = by (position (is_overdue moment) records) refl
   where
+    -- no record is overdue, whatever it is
     overdue : (i : ℕ) (r : Option (Option ℕ)) → slice_get records i ≡ Some r → is_overdue moment r ≡ true → ⊥
     overdue i None at e = true≢false (sym e)
     overdue i (Some None) at e = true≢false (sym e)
@@ -82,6 +84,7 @@ nothing_due records order moment ordered late = by (position (is_overdue moment)
 pub no_line : (order : BTreeSet (ℕ × ℕ)) (line : ℕ × ℕ) → (0 < length order.keys → ⊥) → HasLine order line → ⊥
 no_line order line none has = by order.keys none has
   where
+    -- no key of the list is this line
     by : (ks : List (ℕ × ℕ)) → (0 < length ks → ⊥) → list_any (λ k. is_eq (line_cmp line k)) ks ≡ true → ⊥
     by [] h e = true≢false (sym e)
     by (k ∷ ks) h e = h (omega arith)

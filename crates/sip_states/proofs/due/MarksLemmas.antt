@@ -1,4 +1,5 @@
 -- Lemmas of the order of indices: the marked ones stand first, and to mark one or to take a mark off exchanges two places.
+-- In the lemmas of two writes a is written at the place i and then b at the place j of the list xs; k is a further place, and d stands for no element.
 use Rattle.std.specs.Prelude.{◌≡◌, ◌≢◌, ◌<◌, ◌≤◌, ◌+◌, ◌-◌, ◌↔◌, ℕ, Bool, true, false, Some, List, AllPairs, Contains, length, nat_lt, get_or, set, slice_get, take}
 use Rattle.std.proofs.Common.{inl, inr, sym, ◌∙◌, ap, subst, arith, true≢false}
 use Rattle.std.proofs.lemmas.Bool.{cases_lt, lt-ltb, le-ltb, ltb-true}
@@ -92,12 +93,15 @@ module _ (order places : List ℕ) (count : ℕ) (is : IsPlaced order places cou
     few = (let same = size in omega arith);
     placed = λ i low. (
         let within : i < length order = (let same = size in omega arith) in
+        -- the first of the two indices has the place of the second
         elim (eqb_tells i a) [
           | inl is_a ↦ subst (λ j. (get_or new_places j 0 < length new_order) × (get_or new_order (get_or new_places j 0) 0 ≡ j)) (sym is_a.1)
               ((let at = place_of_a in let same = size in omega arith), ap (λ k. get_or new_order k 0) place_of_a ∙ at_q)
+          -- the second has the place of the first
           | inr not_a ↦ elim (eqb_tells i b) [
             | inl is_b ↦ subst (λ j. (get_or new_places j 0 < length new_order) × (get_or new_order (get_or new_places j 0) 0 ≡ j)) (sym is_b.1)
                 ((let at = place_of_b in let same = size in omega arith), ap (λ k. get_or new_order k 0) place_of_b ∙ at_p)
+            -- any other index keeps its place
             | inr not_b ↦
                 let k = get_or places i 0 in
                 let was = is.placed i within in
@@ -108,7 +112,9 @@ module _ (order places : List ℕ) (count : ℕ) (is : IsPlaced order places cou
           ]
         ]
         );
+    -- each place has the index whose place it is: the two places first
     ordered = λ k low. (
+        -- the index at p is now the one that stood at q, and the other way round; any other place has the index that it had
         let within : k < length order = (let same = size in omega arith) in
         elim (eqb_tells k p) [
           | inl is_p ↦ subst (λ n. (get_or new_order n 0 < length new_order) × (get_or new_places (get_or new_order n 0) 0 ≡ n)) (sym is_p.1)
@@ -116,10 +122,12 @@ module _ (order places : List ℕ) (count : ℕ) (is : IsPlaced order places cou
           | inr not_p ↦ elim (eqb_tells k q) [
             | inl is_q ↦ subst (λ n. (get_or new_order n 0 < length new_order) × (get_or new_places (get_or new_order n 0) 0 ≡ n)) (sym is_q.1)
                 ((let at = at_q in let low_a = (is.ordered p p_low).0 in let same = size in omega arith), ap (λ i. get_or new_places i 0) at_q ∙ place_of_a)
+            -- any other place keeps its index
             | inr not_q ↦
                 let i = get_or order k 0 in
                 let was = is.ordered k within in
                 let same_index = at_other order p q k b a 0 not_p.1 not_q.1 in
+                -- the index at this place is neither of the two
                 let not_a : i ≢ a = λ e. not_p.1 (same_place k p within p_low e) in
                 let not_b : i ≢ b = λ e. not_q.1 (same_place k q within q_low e) in
                 ((let low_i = was.0 in let same = size in omega arith), ap (λ j. get_or new_places j 0) same_index ∙ place_of_other i not_a not_b ∙ was.1)
@@ -141,6 +149,7 @@ same_marks : (xs : List Bool) (places : List ℕ) (count index : ℕ) (b : Bool)
 same_marks xs places count index b long low says =
     let size : length (marks places count) ≡ length places = length-map places (λ place. nat_lt place count) in
     same_lists xs (set (marks places count) index b) (long ∙ sym (length-set (marks places count) index b ∙ size)) (λ k d low_k.
+    -- at the index the mark is the one written, and at any other index it is as it was
     let within : k < length places = omega (arith, long) in
     elim (eqb_tells k index) [
       | inl same ↦ (says k d within).0 same.1 ∙ sym (ap (λ n. get_or (set (marks places count) index b) n d) same.1 ∙ get_or-set_same (marks places count) index b d (omega (arith, size)))
@@ -161,20 +170,24 @@ marked_more order places count is index p low at high =
     let within : index < length order = omega arith in
     let there = is.placed index within in
     let p_low : p < length order = omega (arith, at, there.0) in
+    -- the index stands at p, and the first one that is not marked at `count`
     let q_low : count < length order = omega arith in
     let mine : get_or order p 0 ≡ index = ap (λ n. get_or order n 0) at ∙ there.1 in
     let b = get_or order count 0 in
     let b_at : get_or places b 0 ≡ count = (is.ordered count q_low).1 in
     let new = exchanged_places order places p count in
     let new_long = new_long order places count is p count p_low q_low in
+    -- each mark of the new order is compared with the old one
     same_marks (marks new (count + 1)) places count index true (length-map new (λ place. nat_lt place (count + 1)) ∙ new_long) low (λ k d low_k.
     let here : get_or (marks new (count + 1)) k d ≡ nat_lt (get_or new k 0) (count + 1) = mark_at new (count + 1) k d (omega (arith, new_long)) in (
       λ same. here ∙ ap (λ n. nat_lt (get_or new n 0) (count + 1)) (same ∙ sym mine) ∙ ap (λ n. nat_lt n (count + 1)) (place_of_a order places count is p count p_low q_low) ∙ lt-ltb count (count + 1) (omega arith),
       λ differ. elim (eqb_tells k b) [
+        -- the index with which it changes places was not marked, and is not
         | inl is_b ↦
             let not_same : p ≢ count = λ e. differ (is_b.1 ∙ ap (λ n. get_or order n 0) (sym e) ∙ mine) in
             here ∙ ap (λ n. nat_lt (get_or new n 0) (count + 1)) is_b.1 ∙ ap (λ n. nat_lt n (count + 1)) (place_of_b order places count is p count p_low q_low) ∙ le-ltb p (count + 1) (omega (arith, high, not_same))
             ∙ sym (ap (λ n. nat_lt (get_or places n 0) count) is_b.1 ∙ ap (λ n. nat_lt n count) b_at ∙ le-ltb count count (omega arith))
+        -- any other index keeps its place, and so its mark
         | inr not_b ↦
             let other = place_of_other order places count is p count p_low q_low k (λ e. differ (e ∙ mine)) not_b.1 in
             let k_at = is.placed k (omega arith) in
@@ -197,20 +210,24 @@ marked_less order places count is index p low at under =
     let there = is.placed index within in
     let p_low : p < length order = omega (arith, at, there.0) in
     let q = count - 1 in
+    -- the index stands at p, and the last one that is marked at q
     let q_low : q < length order = omega arith in
     let mine : get_or order p 0 ≡ index = ap (λ n. get_or order n 0) at ∙ there.1 in
     let b = get_or order q 0 in
     let b_at : get_or places b 0 ≡ q = (is.ordered q q_low).1 in
     let new = exchanged_places order places p q in
     let new_long = new_long order places count is p q p_low q_low in
+    -- each mark of the new order is compared with the old one
     same_marks (marks new q) places count index false (length-map new (λ place. nat_lt place q) ∙ new_long) low (λ k d low_k.
     let here : get_or (marks new q) k d ≡ nat_lt (get_or new k 0) q = mark_at new q k d (omega (arith, new_long)) in (
       λ same. here ∙ ap (λ n. nat_lt (get_or new n 0) q) (same ∙ sym mine) ∙ ap (λ n. nat_lt n q) (place_of_a order places count is p q p_low q_low) ∙ le-ltb q q (omega arith),
       λ differ. elim (eqb_tells k b) [
+        -- the index with which it changes places was marked, and still is
         | inl is_b ↦
             let not_same : p ≢ q = λ e. differ (is_b.1 ∙ ap (λ n. get_or order n 0) (sym e) ∙ mine) in
             here ∙ ap (λ n. nat_lt (get_or new n 0) q) is_b.1 ∙ ap (λ n. nat_lt n q) (place_of_b order places count is p q p_low q_low) ∙ lt-ltb p q (omega (arith, under, not_same))
             ∙ sym (ap (λ n. nat_lt (get_or places n 0) count) is_b.1 ∙ ap (λ n. nat_lt n count) b_at ∙ lt-ltb q count (omega arith))
+        -- any other index keeps its place, and so its mark
         | inr not_b ↦
             let other = place_of_other order places count is p q p_low q_low k (λ e. differ (e ∙ mine)) not_b.1 in
             let k_at = is.placed k (omega arith) in
@@ -235,6 +252,7 @@ place_low order places count is index p low at = (let long = is.long in let ther
 pub marked_beside : (order places : List ℕ) (count c p q : ℕ) → IsPlaced order places count → p < length order → q < length order → nat_lt p c ≡ nat_lt q c
     → marks (exchanged_places order places p q) c ≡ marks places c
 marked_beside order places count c p q is p_low q_low side =
+    -- p and q are the two places, both below c or both not; `new` are the places after the exchange, of which each index k has the same mark
     let new = exchanged_places order places p q in
     let long = new_long order places count is p q p_low q_low in
     let size = length-map new (λ place. nat_lt place c) in
@@ -249,6 +267,7 @@ marked_beside order places count c p q is p_low q_low side =
           | inl is_a ↦
               ap (λ i. nat_lt (get_or new i 0) c) is_a.1 ∙ ap (λ n. nat_lt n c) (place_of_a order places count is p q p_low q_low) ∙ sym side
               ∙ sym (ap (λ i. nat_lt (get_or places i 0) c) is_a.1 ∙ ap (λ n. nat_lt n c) (is.ordered p p_low).1)
+          -- the other index of the two is at its new place too, and all others keep their places
           | inr not_a ↦ elim (eqb_tells k (get_or order q 0)) [
             | inl is_b ↦
                 ap (λ i. nat_lt (get_or new i 0) c) is_b.1 ∙ ap (λ n. nat_lt n c) (place_of_b order places count is p q p_low q_low) ∙ side
@@ -266,7 +285,7 @@ marked_under places count index is_marked =
     let test : nat_lt (get_or places index 0) count ≡ true = sym (mark_at places count index true low) ∙ get_or_from_slice_get (marks places count) index true true is_marked in
     (low, ltb-true (get_or places index 0) count test)
 
--- an index that is not marked has its place from the number of marked ones on
+-- the place of an index that is not marked is the number of marked ones, or comes after it
 pub unmarked_from : (places : List ℕ) (count index : ℕ) → slice_get (marks places count) index ≡ Some false → (index < length places) × (count ≤ get_or places index 0)
 unmarked_from places count index is_not =
     let size = length-map places (λ place. nat_lt place count) in
@@ -274,6 +293,7 @@ unmarked_from places count index is_not =
     let low : index < length places = omega (arith, inside, size) in
     let test : nat_lt (get_or places index 0) count ≡ false = sym (mark_at places count index false low) ∙ get_or_from_slice_get (marks places count) index false false is_not in (
       low,
+      -- the place of an index without a mark is not below the number of marked ones, since else it would be marked
       elim (cases_lt (get_or places index 0) count) [
         | inl less ↦ absurd (true≢false (sym (lt-ltb (get_or places index 0) count less) ∙ test))
         | inr from ↦ from
@@ -288,6 +308,7 @@ front_marked order places count is index =
     let long = is.long in
     let few = is.few in
     let short : length (take count order) ≡ count = length-take-le count order few in (
+      -- an index among the first ones has its place there, and so its mark
       λ has.
           let low : has.0 < count = omega (arith, has.1) in
           let at : get_or order has.0 0 ≡ index = get_or_default order has.0 0 index (omega arith) ∙ sym (get_or-take count order has.0 index low) ∙ has.2 in
@@ -296,6 +317,7 @@ front_marked order places count is index =
           let place : get_or places index 0 ≡ has.0 = ap (λ i. get_or places i 0) (sym at) ∙ was.1 in
           slice_get-get_or (marks places count) index true (omega (arith, length-map places (λ place. nat_lt place count)))
           ∙ ap Some (mark_at places count index true within ∙ ap (λ n. nat_lt n count) place ∙ lt-ltb has.0 count low),
+      -- an index that is marked has its place among the first ones
       λ is_marked.
           let there = marked_under places count index is_marked in
           let within = there.0 in
@@ -309,6 +331,7 @@ pub front_once : (order places : List ℕ) (count : ℕ) → IsPlaced order plac
 front_once order places count is i j d less low =
     let few = is.few in
     let short : length (take count order) ≡ count = length-take-le count order few in
+    -- i and j are two places among the first `count`: the same index at both would have one place in the order
     let j_low : j < count = omega arith in
     let i_low : i < count = omega arith in
     λ same.

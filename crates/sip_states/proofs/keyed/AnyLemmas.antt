@@ -27,7 +27,7 @@ has_started p key set of_key at_start =
     ∙ ap (start_of_machine p) (sym (is ∙ by_machine_is (λ kind held. kind) machine s)))
     set of_key at_start
 
--- What follows is of a set of one machine, before a call and after it.
+-- What follows is of a set of one machine: `old` is what it holds before a call, and `new` after it.
 module _ {T E : Type 0} (machine : MachineKind) (old new : Held Times (StateOf machine)) where
   -- the clauses of `StateSet::advance`, taken together, say that the set has waited
   pub has_waited : (moment : ℕ) (r : Result T E)

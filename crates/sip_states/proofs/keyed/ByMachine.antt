@@ -99,7 +99,7 @@ quiet_silent set quiet =
       | inr last ↦ ap (flat_map (owing_names (coded_of machine).names)) last ∙ ap (λ names. (names ++ []) ++ []) (coded_holds machine).ended_fits.0
     ]
 
--- What follows is of a property P of sets, whichever machine they have.
+-- What follows is of a property P of what sets hold, whichever machine they have.
 module _ (P : (X M S : Type 0) → Meaning X M S → Held M S → Type 0) where
   -- what holds of a set of any machine holds of what the set of this machine holds
   pub of_set : (machine : MachineKind) (s : Held Times (StateOf machine)) → OfSet P (set_of machine s) → P (PhaseOf machine) Times (StateOf machine) (meaning_of machine) s

@@ -1,4 +1,5 @@
 -- Lemmas of numbers that are appended, one state after another, and of what states name.
+-- In the lemmas n and number are numbers of messages, ns numbers, d what stands for no state, and `names` gives the numbers that a state or a phase names.
 use Rattle.std.specs.Prelude.{◌≡◌, ◌≢◌, ◌↔◌, ◌+◌, ◌<◌, ℕ, Option, Some, None, List, [], ◌∷◌, ◌++◌, Any, Contains, flat_map, take, length, option_to_list}
 use Rattle.std.proofs.Common.{inl, inr, sym, ◌∙◌, ap, subst, append_assoc, get_or, refl, arith}
 use Rattle.std.proofs.lemmas.List.{append-nil, take_more}
@@ -11,6 +12,7 @@ use Rattle.sip_states.specs.Naming.{MayName}
 use Rattle.sip_machine.proofs.texts.TextLaws.{Contains-nil, Contains-cons_cases}
 
 -- lists with the same members, joined to lists with the same members, have the same members
+-- a and c have the same members, and so have b and d; n is a member
 pub append_members : (a b c d : List ℕ) → ((n : ℕ) → Contains a n ↔ Contains c n) → ((n : ℕ) → Contains b n ↔ Contains d n) → (n : ℕ) → Contains (a ++ b) n ↔ Contains (c ++ d) n
 append_members a b c d first second n = (
   λ h. elim (Contains-append_cases a b n h) [ inl x ↦ Contains-append_left c d n ((first n).0 x) | inr y ↦ Contains-append_right c d n ((second n).0 y) ],
@@ -21,6 +23,7 @@ append_members a b c d first second n = (
 pub appends_more : {S : Type 0} (names : S → List ℕ) (items : List S) (i : ℕ) (d : S) (old mid new : List ℕ) → i < length items → AppendsAll (flat_map names (take i items)) old mid
     → AppendsAll (names (get_or items i d)) mid new → AppendsAll (flat_map names (take (i + 1) items)) old new
 appends_more names items i d old mid new low first second = (
+  -- what was appended are both, one after the other; a number is in them if it is named by the first states or by the next one
   first.0 ++ second.0,
   second.1 ∙ ap (λ xs. xs ++ second.0) first.1 ∙ append_assoc old first.0 second.0,
   λ n. subst (λ ns. Contains (first.0 ++ second.0) n ↔ Contains ns n) (sym (ap (flat_map names) (take_more items i d low) ∙ flat_map-append names (take i items) (get_or items i d ∷ [])
@@ -71,6 +74,7 @@ names_nothing (n ∷ ns) old new none still appends =
 -- What follows is of elements of lists that are joined.
 
 -- what is in the list of an element is in the joined lists
+-- x is the element, and y is in its list
 pub Contains-flat_map : {X Y : Type 0} (f : X → List Y) (xs : List X) (x : X) (y : Y) → Contains xs x → Contains (f x) y → Contains (flat_map f xs) y
 Contains-flat_map f [] x y among has = absurd (Contains-nil x among)
 Contains-flat_map f (u ∷ xs) x y among has =
@@ -80,6 +84,7 @@ Contains-flat_map f (u ∷ xs) x y among has =
     ]
 
 -- what is in the joined lists is in the list of some element
+-- x is the element, and y is in its list
 pub Contains-from_flat_map : {X Y : Type 0} (f : X → List Y) (xs : List X) (y : Y) → Contains (flat_map f xs) y → (x : X) × Contains xs x × Contains (f x) y
 Contains-from_flat_map f [] y has = absurd (Contains-nil y has)
 Contains-from_flat_map f (u ∷ xs) y has =

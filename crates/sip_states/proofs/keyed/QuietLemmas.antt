@@ -18,6 +18,7 @@ use Rattle.sip_states.proofs.keyed.ByMachine.{first_of, last_of, first_is_of, la
 use Rattle.sip_states.proofs.lists.Listed.{Contains-single}
 
 -- a state that a restart led to is left as it is by a second restart
+-- the first restart leads from x to y, and the second one from y to z
 pub restarts_once : {X : Type 0} (f : Figure X) (x y z : Owing X) → Restarts f x y → Restarts f y z → z ≡ y
 restarts_once f x y z (inl (idle, y_is)) (inl (same, z_is)) = z_is ∙ sym y_is
 restarts_once f x y z (inl (idle, y_is)) (inr (other, z_is)) = absurd (other (ap (λ s. s.phase) y_is))
@@ -27,12 +28,14 @@ restarts_once f x y z (inr (busy, y_is)) (inr (other, z_is)) = z_is ∙ sym y_is
 -- What follows is of a state q without an end and without a last moment, by the rules r of a machine.
 module _ {X : Type 0} (r : MachineRules X) (lawful : IsLawful r) (q : X) (endless : r.window q ≡ None) (stays : r.until q ≡ None) where
   -- where one stands in a state without an end and without a last moment alone, one stands in it alone at any later moment
+  -- C holds of the states at the moment h, of which q is the only one, and y is a state at the later moment n
   pub wait_still : (C : X → Type 0) → ((x : X) → C x ↔ (x ≡ q)) → (h n : ℕ) → h ≤ n → (y : X) → Wait r C h n y ↔ (y ≡ q)
   wait_still C only h n low y = (
     λ w. go ((Wait-cases r lawful C h n y).0 w),
     λ same. Wait-stay r C h n y (record { among = (only y).1 same; reached = low; waits = IsWithin-none n (r.until y) (ap r.until same ∙ stays) }),
   )
     where
+      -- the wait leads to q, whether the state stays or ends: q has no end
       go : StaysFrom r C h n y ⊎ EndsFrom r C h n y → y ≡ q
       go (inl stay) = (only y).0 stay.among
       go (inr end) = absurd (IsOpenAt-none end.at (r.window end.start) (ap r.window ((only end.start).0 end.among) ∙ endless) end.hides.opened)
@@ -48,7 +51,7 @@ ended_restarts f decided y = (
   λ is. elim decided [ inl same ↦ inl (same, is ∙ ap quiet same) | inr other ↦ inr (other, is) ],
 )
 
--- What follows is of an event that restarts the element.
+-- What follows is of e, an event that restarts the element, and a machine with the times p.
 module _ (p : Times) (machine : MachineKind) (e : MachineEvent) (is : e.action ≡ Restart) where
   -- the figure of the machine
   abbrev f : Figure (transaction_of machine).Phase
@@ -91,6 +94,7 @@ first_still p machine texts =
     let q = first_is_of machine texts p in
     let r = (meaning_of machine).rules p in
     let lawful = lawful_of machine p in
+    -- the first state has no end and can stay for ever, and a restart leaves it as it is
     record {
       endless = ap r.window q ∙ lawful.first_has_no_end;
       stays = ap r.until q ∙ lawful.first_stays;
@@ -105,6 +109,7 @@ last_still p machine texts =
     let q = last_is_of machine texts p in
     let r = (meaning_of machine).rules p in
     let lawful = lawful_of machine p in
+    -- the ended state has no end and can stay for ever, and a restart leaves it as it is
     record {
       endless = ap r.window q ∙ lawful.ended_has_no_end;
       stays = ap r.until q ∙ lawful.ended_stays;
@@ -118,7 +123,7 @@ pub quiet_still : (p : Times) (machine : MachineKind) (texts : Texts) (s : Held 
 quiet_still p machine texts s (inl is) = (first_of machine, is, first_still p machine texts)
 quiet_still p machine texts s (inr is) = (last_of machine, is, last_still p machine texts)
 
--- What follows is of a state of a machine in which it can rest for ever.
+-- What follows is of x, a state of a machine with the times p, in which it can rest for ever.
 module _ (p : Times) (machine : MachineKind) (texts : Texts) (x : StateOf machine) (still : IsStill p machine texts x) where
   -- the rules of the machine, for states as texts have them
   abbrev r : MachineRules (PhaseOf machine)
@@ -128,11 +133,12 @@ module _ (p : Times) (machine : MachineKind) (texts : Texts) (x : StateOf machin
   abbrev q : PhaseOf machine
   q = (meaning_of machine).seen texts x
 
-  -- y is the one state
+  -- y is what the one state x stands for
   abbrev Alone : PhaseOf machine → Type 0
   Alone y = Contains (map ((meaning_of machine).seen texts) (x ∷ [])) y
 
   -- where one stands in a still state alone, one stands in it alone at any later moment
+  -- h and n are the moments, and y is a state at the later one
   pub waits_still : (h n : ℕ) → h ≤ n → (y : PhaseOf machine) → Wait r Alone h n y ↔ (y ≡ q)
   waits_still h n low y = wait_still r (lawful_of machine p) q still.endless still.stays Alone (λ z. Contains-single q z) h n low y
 
@@ -144,6 +150,7 @@ module _ (p : Times) (machine : MachineKind) (texts : Texts) (x : StateOf machin
       λ has.
           let same = (Contains-single q y).0 has in
           record { before = q; among = (waits_still h e.moment low q).1 refl; takes = (still.takes e is y).1 same },
+      -- the state is the only one, the book has what it names, and it is in range
       λ given. (Contains-single q y).1 ((still.takes e is y).0 (subst (λ z. r.Take z e y) ((waits_still h e.moment low given.before).0 given.among) given.takes)),
     );
     distinct = λ i j d lt within. absurd (omega (arith, lt, within));

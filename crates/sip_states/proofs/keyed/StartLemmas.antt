@@ -14,7 +14,7 @@ use Rattle.sip_states.proofs.lists.Places.{set_place}
 use Rattle.sip_states.proofs.keyed.ByMachine.{to_set}
 use Rattle.sip_states.proofs.keyed.QuietLemmas.{quiet_still, waits_still}
 
--- What follows is of the set that a new key has.
+-- What follows is of the set that a new key has, by its machine and the times p.
 module _ (p : Times) (machine : MachineKind) where
   -- one can wait in the set of a new key for ever
   waits_on : (texts : Texts) → IsAgenda ((meaning_of machine).rules p) (Contains (map ((meaning_of machine).seen texts) (held_at_start p machine).states)) 0 None

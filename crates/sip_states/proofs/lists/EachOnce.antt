@@ -6,7 +6,7 @@ use Rattle.std.proofs.lemmas.List.Elements.{All-contains}
 use Rattle.sip_machine.specs.Pools.{AreFirstOnes, picked}
 use Rattle.sip_states.proofs.lists.Listed.{Contains-map, Contains-from_map}
 
--- What follows is of the rows of a list's elements that have no equal before them.
+-- What follows is of `rows`, the places of those elements of ys from `first` on that have no equal before them; x is any element.
 module _ {S : Type 0} (ys : List S) (first : ℕ) (rows : List ℕ) (x : S) (ones : AreFirstOnes ys first (length ys) rows) where
   -- the element at this place
   abbrev at : ℕ → S

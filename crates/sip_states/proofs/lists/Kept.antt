@@ -1,4 +1,6 @@
 -- What is left of a list of which flagged elements are kept: how a loop moves each of them to the front, and where each stands then.
+-- In the lemmas x is the element at the place i and b its flag; ys is what the loop has made of the list xs so far, of which k elements are kept.
+-- es are pairs of a key and a value.
 use Rattle.std.proofs.Common.{◌≡◌, ◌≢◌, ◌≤◌, ◌<◌, ◌+◌, ℕ, zero, suc, Bool, true, false, Some, List, [], ◌∷◌, ◌++◌, All, length, take, drop, get_or, refl, sym, ap, ap₂, ◌∙◌, ◌-◌, arith, append_assoc, append-nil}
 use Rattle.std.specs.Prelude.{min, swap, slice_get, slice_set}
 use Rattle.std.proofs.Math.Decide.{dec_le}
@@ -25,6 +27,7 @@ module _ {X : Type 0} where
   pub kept_end : (flags : List Bool) (xs : List X) (i : ℕ) → min (length flags) (length xs) ≤ i → kept_of (drop i flags) (drop i xs) ≡ []
   kept_end flags xs i past = by (dec_le (length flags) i)
     where
+      -- nothing is kept from place i on, since the flags or the elements end before it
       by : Dec (length flags ≤ i) → kept_of (drop i flags) (drop i xs) ≡ []
       by (yes end) = ap (λ fs. kept_of fs (drop i xs)) (drop_all i flags end)
       by (no on) = ap (kept_of (drop i flags)) (drop_all i xs (omega (arith, past, on))) ∙ kept_none (drop i flags)
@@ -48,10 +51,12 @@ module _ {X : Type 0} where
     pub long : length ys ≡ length xs
 
   -- at the end of the flags or of the list, what was moved to the front is what is kept
+  -- xs is the list at first and ys as the loop leaves it, after i elements, of which k were kept
   pub keeps_done : (flags : List Bool) (xs ys : List X) (k i : ℕ) → KeepsInPlace flags xs ys k i → min (length flags) (length xs) ≤ i → take k ys ≡ kept_of flags xs
   keeps_done flags xs ys k i h past = sym (append-nil (take k ys)) ∙ ap (λ l. take k ys ++ l) (sym (kept_end flags xs i past)) ∙ h.whole
 
-  -- What follows is of one step at i, after which those elements up to it whose flag is set stand at the front: xs was the list, and ys is it now.
+  -- What follows is of one step at i: xs was the list, and ys is it now. Of its elements before i the k with a set flag stand at the front; x is the one at
+  -- i.
   module _ (flags : List Bool) (xs ys : List X) (k i : ℕ) (h : KeepsInPlace flags xs ys k i) (low : i < length flags) (within : i < length ys) (x : X) (is : x ≡ get_or ys i x) where
     -- the place i is one of the old list
     within_xs : i < length xs
@@ -83,6 +88,7 @@ module _ {X : Type 0} where
     k_low = let b = h.behind in omega (arith, within, b)
 
     -- the swap puts the element at i to k, and leaves those at other places
+    -- d stands for no element, and n is another place
     moved : ((d : X) → get_or (swap ys i k) k d ≡ get_or ys i d) × ((n : ℕ) (d : X) → n ≢ i → n ≢ k → get_or (swap ys i k) n d ≡ get_or ys n d)
     moved = (λ d. (swapped_from_swap ys (swap ys i k) i k d within k_low refl).1, λ n d apart other. (swapped_from_swap ys (swap ys i k) i k d within k_low refl).2 n apart other)
 
@@ -93,6 +99,7 @@ module _ {X : Type 0} where
     -- the first k elements stay as they are when the elements at i and k are swapped
     same_front : take k (swap ys i k) ≡ take k ys
     same_front =
+        -- both fronts have k elements, and at each place n below k stands what stood there, since i is not below k
         let long = length-take-le k (swap ys i k) (let l = swap_long in let w = k_low in omega (arith, l, w)) in
         let short = length-take-le k ys (let w = k_low in omega (arith, w)) in
         same_lists (take k (swap ys i k)) (take k ys) (long ∙ sym short)
@@ -112,6 +119,7 @@ module _ {X : Type 0} where
     -- where the flag at the place i is `true`, swapping the elements at i and k keeps x, the one at i: what holds in the loop holds at the next place
     pub keeps_swap : true ≡ get_or flags i true → KeepsInPlace flags xs (swap ys i k) (k + 1) (i + 1)
     keeps_swap flag =
+        -- x now stands at the place k, after the k elements that were kept
         let front : take (k + 1) (swap ys i k) ≡ take k ys ++ x ∷ [] =
         take_more (swap ys i k) k x (let l = swap_long in let w = k_low in omega (arith, l, w)) ∙ ap₂ (λ l y. l ++ y ∷ []) same_front (moved.0 x ∙ sym is) in
         record {
@@ -122,6 +130,7 @@ module _ {X : Type 0} where
         }
 
   -- an element stands at each place within a list
+  -- n is the place, and x the element there
   pub some_at : (ys : List X) (n : ℕ) → n < length ys → (x : X) × (x ≡ get_or ys n x)
   some_at [] n low = absurd (omega arith)
   some_at (y ∷ ys) zero low = (y, refl)

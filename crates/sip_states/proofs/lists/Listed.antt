@@ -1,4 +1,5 @@
 -- Lemmas of what is in a list, in its image under a function, and in what a filter keeps of it.
+-- In the lemmas x and y are elements of a list, or y is what f gives of x.
 use Rattle.std.proofs.Common.{◌≡◌, ◌↔◌, ◌∙◌, ◌⊎◌, inl, inr, zero, suc, List, [], ◌∷◌, Contains, ◌≤◌, length, filter, Bool, true, false, cond, not, map, refl, sym, ap, arith}
 use Rattle.std.proofs.lemmas.List.{get_or-map, length-map}
 use Rattle.std.proofs.lemmas.List.Filters.{length-filter_both}
@@ -36,19 +37,22 @@ module _ {X Y : Type 0} (f : X → Y) where
   Contains-from_map [] y h = absurd (Contains-none y h)
   Contains-from_map (x ∷ xs) y h = go (Contains-cons (f x) (map f xs) y h) (Contains-from_map xs y)
     where
+      -- y is f of an element of the list: of the first, or of one after it
       go : (f x ≡ y) ⊎ Contains (map f xs) y → (Contains (map f xs) y → (z : X) × Contains xs z × (f z ≡ y)) → (z : X) × Contains (x ∷ xs) z × (f z ≡ y)
       go (inl e) rest = (x, Contains-here x xs, e)
       go (inr h') rest = let (z, there, e) = rest h' in (z, Contains-there x xs z there, e)
 
--- What follows is of one element x, and a filter of lists.
+-- What follows is of one element x, and of the lists of those elements that pass a test.
 module _ {X : Type 0} (test : X → Bool) (x : X) where
   -- what a filter keeps is in the list and passes the test
   kept : (xs : List X) → Contains (filter test xs) x → Contains xs x × (test x ≡ true)
   kept [] h = absurd (Contains-none x h)
   kept (y ∷ ys) h = step (test y) refl (kept ys) h
     where
+      -- x is in the list and passes the test, whether or not y passes it
       step : (b : Bool) → test y ≡ b → (Contains (filter test ys) x → Contains ys x × (test x ≡ true)) → Contains (cond b (y ∷ filter test ys) (filter test ys)) x →
           Contains (y ∷ ys) x × (test x ≡ true)
+      -- the first element passes and is kept, or it is left out
       step true e rest h' =
           elim (Contains-cons y (filter test ys) x h') [
             | inl same ↦ (rw (← same) (Contains-here y ys), ap test (sym same) ∙ e)
@@ -61,6 +65,7 @@ module _ {X : Type 0} (test : X → Bool) (x : X) where
   keeps [] h passes = absurd (Contains-none x h)
   keeps (y ∷ ys) h passes = step (test y) refl (Contains-cons y ys x h) (λ later. keeps ys later passes)
     where
+      -- x is among the elements that pass, whether or not y passes the test
       step : (b : Bool) → test y ≡ b → (y ≡ x) ⊎ Contains ys x → (Contains ys x → Contains (filter test ys) x) → Contains (cond b (y ∷ filter test ys) (filter test ys)) x
       step true e (inl same) rest = rw (← same) (Contains-here y (filter test ys))
       step true e (inr later) rest = Contains-there y (filter test ys) x (rest later)

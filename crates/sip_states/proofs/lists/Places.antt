@@ -2,7 +2,9 @@
 use Rattle.std.proofs.Common.{◌≡◌, ◌≢◌, ◌<◌, ◌⊎◌, inl, inr, ℕ, zero, suc, Some, List, [], ◌∷◌, ◌++◌, length, slice_get, slice_set, refl, sym, ap, arith}
 
 -- an element found after a write is the one that was written, at that place, or it stood at another place before
+-- a is written at the place i, and x is found at the place n
 pub set_place : {A : Type 0} (xs : List A) (i n : ℕ) (a x : A) → slice_get (slice_set xs i a) n ≡ Some x → ((n ≡ i) × (a ≡ x)) ⊎ ((n ≢ i) × (slice_get xs n ≡ Some x))
+-- a write at the first place leaves the others, and one at a later place is a write behind the first
 set_place [] i n a x at = absurd cc
 set_place (u ∷ xs) zero zero a x at = inl (refl, cc)
 set_place (u ∷ xs) zero (suc n) a x at = inr (λ same. omega (arith, same), at)
@@ -24,6 +26,7 @@ set_here (x ∷ xs) zero a low = refl
 set_here (x ∷ xs) (suc i) a low = set_here xs i a (omega arith)
 
 -- what stood at another place is still there
+-- a is written at the place i, and x stands at the place n
 pub set_other : {A : Type 0} (xs : List A) (i n : ℕ) (a x : A) → n ≢ i → slice_get xs n ≡ Some x → slice_get (slice_set xs i a) n ≡ Some x
 set_other [] i n a x differ at = absurd cc
 set_other (u ∷ xs) zero zero a x differ at = absurd (differ refl)

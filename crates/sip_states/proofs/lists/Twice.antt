@@ -5,7 +5,7 @@ use Rattle.sip_machine.specs.Rules.{MachineRules, IsLawful, Waits}
 use Rattle.sip_states.specs.Runs.{Wait}
 use Rattle.sip_states.proofs.sets.Waiting.{StaysFrom, EndsFrom, IsWithin-earlier, IsWithin-none, Wait-stay, Wait-end, Wait-cases, ends_once}
 
--- What follows is of two waits, one until m and one from there until n, by the rules r of a machine.
+-- What follows is of two waits, one from h until m and one from there until n, by the rules r of a machine: P says in which states the first may begin.
 module _ {X : Type 0} (r : MachineRules X) (lawful : IsLawful r) (P : X → Type 0) (h m n : ℕ) (low : h ≤ m) (high : m ≤ n) where
   -- a wait until m and then staying until n is one wait until n
   stay_after : (y : X) → Wait r P h m y → Waits r y n → Wait r P h n y
@@ -48,6 +48,7 @@ module _ {X : Type 0} (r : MachineRules X) (lawful : IsLawful r) (P : X → Type
       let past : m ≤ e.at = omega arith in
       Wait-end r lawful (Wait r P h m) m n y
       (record {
+        -- the state waited until m before it ended
         start = e.start;
         among = Wait-stay r P h m e.start (record { among = e.among; reached = low; waits = IsWithin-earlier m e.at (r.until e.start) past e.hides.waited });
         at = e.at;

@@ -1,4 +1,5 @@
 -- What runs of the clients send.
+-- In the lemmas x is the phase or the state before the event e, k the kind of its message, and y where the row or the step leads.
 use Rattle.std.proofs.Common.{◌≡◌, ◌≤◌, ◌⊎◌, inl, inr, ℕ, Bool, true, false, Some, None, List, [], ◌∷◌, ◌++◌, ◌∙◌, refl, sym, subst, arith}
 use Rattle.std.specs.Prelude.{⊤}
 use Rattle.std.proofs.Math.Decide.{dec_le}
@@ -31,10 +32,11 @@ use Rattle.sip_states.proofs.runs.FewerLemmas.{Goes-through}
 -- P is kept by the rows of a figure: it holds of the phase after a row where it held before it, and of the ended phase
 record IsKept {X : Type 0} (f : Figure X) (p : Times) (P : X → Type 0) : Type 0 where
   pub ended : P f.ended
+  -- the row y of a message e of the kind k keeps what P says of the phase x
   pub received : (x : X) (k : Kind) (e : MachineEvent) (y : Row X) → f.Receives p x k e y → P x → P y.0
   pub sent : (x : X) (k : Kind) (e : MachineEvent) (y : Row X) → f.Sends p x k e y → P x → P y.0
 
--- What follows is of a property P that each row keeps: the figure f with the times p.
+-- What follows is of a property P of phases that each row of the figure f with the times p keeps.
 module _ {X : Type 0} (f : Figure X) (p : Times) (P : X → Type 0) (kept : IsKept f p P) where
   -- an event that is sent keeps P of the phase
   emits_keeps : (e : MachineEvent) (x y : Owing X) → Emits f p e x y → P x.phase → P y.phase
@@ -49,15 +51,18 @@ module _ {X : Type 0} (f : Figure X) (p : Times) (P : X → Type 0) (kept : IsKe
 
   -- a step of any action keeps P of the phase
   steps_keep : (a : Action) (e : MachineEvent) (x y : Owing X) → Steps f p a e x y → P x.phase → P y.phase
+  -- a received message leads along a row, or leaves the phase as it is; what is sent or refused keeps P too
   steps_keep Received e x y (inl (row, is_row, is)) holds = rw is (kept.received x.phase e.kind e row is_row holds)
   steps_keep Received e x y (inr (none, same)) holds = rw same holds
   steps_keep Sent e x y h holds = emits_keeps e x y h holds
   steps_keep Failed e x y h holds = fails_keeps (f.ends_refused x.phase e.kind) e x y h holds
+  -- a mark is no step; a restart leaves idle as it is, and ends what is not idle
   steps_keep Mark e x y h holds = absurd h
   steps_keep Restart e x y (inl (idle, is)) holds = rw is (subst P idle holds)
   steps_keep Restart e x y (inr (other, is)) holds = rw is kept.ended
 
   -- all the steps of a run keep P of the phase
+  -- the steps lead from x at the moment h to y at the moment m, over a state z
   goes_keep : (x : Owing X) (h : ℕ) (steps : List Step) (y : Owing X) (m : ℕ) → Goes (rules_of_figure f p) x h steps y m → P x.phase → P y.phase
   goes_keep x h [] y m goes holds = rw goes.0 holds
   goes_keep x h (Hides t ∷ steps) y m (z, low, hides, goes) holds = goes_keep z t steps y m goes (rw hides.gives kept.ended)
@@ -70,6 +75,7 @@ module _ {X : Type 0} (f : Figure X) (p : Times) where
   when e x = record { phase = x.phase; owes = unexpired e.moment x.owes }
 
   -- an event with this action leads by the step of that action, from the state without the debts that are past
+  -- the event e leads from x to y, and a is its action
   step_of : (a : Action) (e : MachineEvent) (x y : Owing X) → e.action ≡ a → Does (rules_of_figure f p) x (Takes e) y → Steps f p a e (when e x) y
   step_of a e x y is does = subst (λ b. Steps f p b e (when e x) y) is does.1.1
 
@@ -78,10 +84,11 @@ module _ {X : Type 0} (f : Figure X) (p : Times) where
 -- no row of the figure leads to a lower rank
 record IsRanked {X : Type 0} (f : Figure X) (p : Times) (rank : X → ℕ) : Type 0 where
   pub ended : rank f.ended ≡ 2
+  -- the row y of a message e of the kind k leads from x to a phase of no lower rank
   pub received : (x : X) (k : Kind) (e : MachineEvent) (y : Row X) → f.Receives p x k e y → rank x ≤ rank y.0
   pub sent : (x : X) (k : Kind) (e : MachineEvent) (y : Row X) → f.Sends p x k e y → rank x ≤ rank y.0
 
--- What follows is of a rank of phases from which no row leads back: the figure f with the times p.
+-- What follows is of `rank`, a rank of phases from which no row of the figure f with the times p leads back.
 module _ {X : Type 0} (f : Figure X) (p : Times) (rank : X → ℕ) (ranked : IsRanked f p rank) where
   -- a rank, once reached, is kept
   rank_kept : (n : ℕ) → n ≤ 2 → IsKept f p (λ x. n ≤ rank x)
@@ -91,7 +98,7 @@ module _ {X : Type 0} (f : Figure X) (p : Times) (rank : X → ℕ) (ranked : Is
     sent = λ x k e y row from. let rises = ranked.sent x k e y row in omega arith;
   }
 
-  -- a request leads to rank 1, a final response from there to rank 2, and what is sent from rank 2 is one of the kinds of IsSent
+  -- a request of a kind of IsFirst leads to rank 1, a final response from there to rank 2, and what is sent from rank 2 is one of the kinds of IsSent
   module _ (IsFirst IsSent : Kind → Type 0)
       (opens : (e : MachineEvent) (x y : Owing X) → Emits f p e x y → IsFirst e.kind → 1 ≤ rank y.phase)
       (finishes : (code : ℕ) (e : MachineEvent) (x y : Owing X) → Steps f p Received e x y → e.kind ≡ Response code → IsFinal code → 1 ≤ rank x.phase → 2 ≤ rank y.phase)
@@ -103,15 +110,17 @@ module _ {X : Type 0} (f : Figure X) (p : Times) (rank : X → ℕ) (ranked : Is
     after_final before between later request final e code y request_sent first final_received is_response is_final e_sent after =
         let r = rules_of_figure f p in
         let last = Goes-last r r.first 0 after.steps (Takes e) y after.goes in
+        -- the run is cut at the request and at the final response
         let one = Goes-through r r.first 0 after.steps last.before last.at before request (between ++ final ∷ later) last.goes after.takes in
         let two = Goes-through r one.reached request.moment one.steps last.before last.at between final later one.goes one.takes in
+        -- after the request the rank is 1 or more, and after the final response 2 or more
         let opened = opens request (when f p request one.before) one.reached (step_of f p Sent request one.before one.reached request_sent one.does) first in
         let risen = goes_keep f p (λ x. 1 ≤ rank x) (rank_kept 1 (omega arith)) one.reached request.moment two.front two.before two.at two.to opened in
         let finished = finishes code final (when f p final two.before) two.reached (step_of f p Received final two.before two.reached final_received two.does) is_response is_final risen in
         let still = goes_keep f p (λ x. 2 ≤ rank x) (rank_kept 2 (omega arith)) two.reached final.moment two.steps last.before last.at two.goes finished in
         sends e (when f p e last.before) y (step_of f p Sent e last.before y e_sent last.does) still
 
--- What follows is of one event e that leads from the state x to the state y.
+-- What follows is of one event e that leads by a row from the state x to the state y: the figure is f with the times p, and `rank` ranks its phases.
 module _ {X : Type 0} (f : Figure X) (p : Times) (rank : X → ℕ) (x y : Owing X) (e : MachineEvent) (row : Row X) where
   -- a received message for which there is a row leads to rank 2 where each row for it does
   leads_on : (k : Kind) → e.kind ≡ k → f.Receives p x.phase k e row → ((other : Row X) → f.Receives p x.phase k e other → 2 ≤ rank other.0) → Steps f p Received e x y → 2 ≤ rank y.phase
@@ -130,7 +139,9 @@ invite_rank (invite.Completed reliable request set) = 2
 invite_rank invite.Ended = 2
 
 -- no row of a message that the INVITE client receives leads to a lower rank
+-- x is the phase, k the kind of the message e, and y where its row leads
 invite_received : (p : Times) (x : invite.InviteClientPhase) (k : Kind) (e : MachineEvent) (y : Row invite.InviteClientPhase) → invite.Receives p x k e y → invite_rank x ≤ invite_rank y.0
+-- in calling a response leads to proceeding, to accepted or to completed, and in proceeding to one of the last two
 invite_received p (invite.Calling w) (Response code) e y (inl h) = rw h.1 (omega arith)
 invite_received p (invite.Calling w) (Response code) e y (inr (inl h)) = rw h.1 (omega arith)
 invite_received p (invite.Calling w) (Response code) e y (inr (inr h)) = rw h.1 (omega arith)
@@ -140,14 +151,18 @@ invite_received p (invite.Completed reliable request set) (Response code) e y h 
 invite_received p x k e y h = absurd h
 
 -- no row of a message that the INVITE client sends leads to a lower rank
+-- x is the phase, k the kind of the message e, and y where its row leads
 invite_sent : (p : Times) (x : invite.InviteClientPhase) (k : Kind) (e : MachineEvent) (y : Row invite.InviteClientPhase) → invite.Sends p x k e y → invite_rank x ≤ invite_rank y.0
+-- idle has the lowest rank
 invite_sent p invite.Idle k e y h = omega arith
+-- a repeat of the INVITE, and a CANCEL, leave the rank as it is
 invite_sent p (invite.Calling w) (Request Invite) e y h = rw h.1 (omega arith)
 invite_sent p (invite.Proceeding reliable request None) (Request Cancel) e y h = rw h (omega arith)
 invite_sent p (invite.Proceeding reliable request (Some first)) (Request Cancel) e y h = rw h (omega arith)
 invite_sent p (invite.Accepted set) (Request Cancel) e y h = rw h (omega arith)
 invite_sent p (invite.Completed reliable request set) (Request Cancel) e y h = rw h (omega arith)
 invite_sent p invite.Ended (Request Cancel) e y h = rw h (omega arith)
+-- no other phase sends anything
 invite_sent p x k e y h = absurd h
 
 -- no row of the INVITE client leads to a lower rank
@@ -177,7 +192,7 @@ invite_opens p e x y (inl (row, is_row, to)) is = rw to (invite_opens_row p x.ph
 invite_opens p e x y (inr (inl (left, pays, to))) is = absurd (no_invite (sym is ∙ pays_ack x.phase e.kind e pays.first.message pays.holds.0))
 invite_opens p e x y (inr (inr (stays, same))) is = absurd stays
 
--- What follows is of a final response that an INVITE client receives.
+-- What follows is of an event e with which an INVITE client with the times p receives a final response with this code, and of y, the state after it.
 module _ (p : Times) (code : ℕ) (e : MachineEvent) (y : Owing invite.InviteClientPhase) (is : e.kind ≡ Response code) (final : IsFinal code) where
   -- a final response leaves rank 2 as it is
   still_over : (phase : invite.InviteClientPhase) (owes : List Owed) → 2 ≤ invite_rank phase → Steps invite.invite_client p Received e (record { phase = phase; owes = owes }) y → 2 ≤ invite_rank y.phase
@@ -188,6 +203,7 @@ module _ (p : Times) (code : ℕ) (e : MachineEvent) (y : Owing invite.InviteCli
   invite_finishes invite.Idle owes low h = absurd (omega arith)
   invite_finishes (invite.Calling w) owes low h = by_code (dec_le code 299)
     where
+      -- each row of a final response in calling leads to a phase of rank 2 or more
       all : (other : Row invite.InviteClientPhase) → invite.Receives p (invite.Calling w) (Response code) e other → 2 ≤ invite_rank other.0
       all other (inl h) = absurd (omega (arith, h.0.1, final.0))
       all other (inr (inl h)) = rw h.1 (omega arith)
@@ -213,7 +229,9 @@ module _ (p : Times) (code : ℕ) (e : MachineEvent) (y : Owing invite.InviteCli
   invite_finishes invite.Ended owes low h = still_over invite.Ended owes (omega arith) h
 
 -- what a row sends from rank 2 is an ACK or a CANCEL
+-- x is the phase, k the kind of the message e, and y where its row leads
 invite_sends_row : (p : Times) (x : invite.InviteClientPhase) (k : Kind) (e : MachineEvent) (y : Row invite.InviteClientPhase) → 2 ≤ invite_rank x → invite.Sends p x k e y → (k ≡ Request Ack) ⊎ (k ≡ Request Cancel)
+-- idle, calling and proceeding have a lower rank than 2; later phases send a CANCEL alone
 invite_sends_row p invite.Idle k e y low h = absurd (omega arith)
 invite_sends_row p (invite.Calling w) k e y low h = absurd (omega arith)
 invite_sends_row p (invite.Proceeding reliable request cancel) k e y low h = absurd (omega arith)
@@ -238,7 +256,7 @@ invite_after_final p =
 
 -- What follows is of an INVITE that is sent again.
 
--- `one` is the INVITE that was sent first.
+-- What follows is of an INVITE client with the times p: `one` is the event with which its INVITE was sent first.
 module _ (p : Times) (one : MachineEvent) where
   -- the client has left idle; in calling it holds the INVITE `one`, which it sent last at the moment of `one` or later, and its interval is T1 or longer
   abbrev Awaits : invite.InviteClientPhase → Type 0
@@ -250,7 +268,9 @@ module _ (p : Times) (one : MachineEvent) where
   Awaits invite.Ended = ⊤
 
   -- no message that the client receives makes Awaits false
+  -- x is the phase, k the kind of the message e, and y where its row leads
   awaits_received : (x : invite.InviteClientPhase) (k : Kind) (e : MachineEvent) (y : Row invite.InviteClientPhase) → invite.Receives p x k e y → Awaits x → Awaits y.0
+  -- in calling, in proceeding and in completed a response leads on; no other phase receives
   awaits_received (invite.Calling w) (Response code) e y (inl h) holds = rw h.1 tt
   awaits_received (invite.Calling w) (Response code) e y (inr (inl h)) holds = rw h.1 tt
   awaits_received (invite.Calling w) (Response code) e y (inr (inr h)) holds = rw h.1 tt
@@ -260,9 +280,12 @@ module _ (p : Times) (one : MachineEvent) where
   awaits_received x k e y h holds = absurd h
 
   -- no message that the client sends makes Awaits false
+  -- x is the phase, k the kind of the message e, and y where its row leads
   awaits_sent : (x : invite.InviteClientPhase) (k : Kind) (e : MachineEvent) (y : Row invite.InviteClientPhase) → invite.Sends p x k e y → Awaits x → Awaits y.0
+  -- in idle Awaits does not hold; in calling the INVITE is sent again, and its interval grows
   awaits_sent invite.Idle k e y h holds = absurd holds
   awaits_sent (invite.Calling w) (Request Invite) e y h holds = rw h.1 (holds.0, holds.1, omega (arith, h.0.fires, holds.2), omega (arith, holds.3))
+  -- a CANCEL leaves the phase, but for when it was sent, and nothing else is sent
   awaits_sent (invite.Proceeding reliable request None) (Request Cancel) e y h holds = rw h tt
   awaits_sent (invite.Proceeding reliable request (Some first)) (Request Cancel) e y h holds = rw h tt
   awaits_sent (invite.Accepted set) (Request Cancel) e y h holds = rw h tt
@@ -296,10 +319,13 @@ module _ (p : Times) (one : MachineEvent) where
   again_emits e x y (inr (inl (left, pays, to))) is holds = absurd (no_invite (sym is ∙ pays_ack x.phase e.kind e pays.first.message pays.holds.0))
 
   -- Awaits holds after the steps of a run that begins with `one`
+  -- the steps begin at the moment h, and lead to y at the moment m
   from_first : (h : ℕ) (steps : List Step) (y : Owing invite.InviteClientPhase) (m : ℕ) (between : List MachineEvent) → one.action ≡ Sent → one.kind ≡ Request Invite →
       Goes (key_rules p OfInviteClient) (record { phase = invite.Idle; owes = [] }) h steps y m → taken steps ≡ one ∷ between → Awaits y.phase
+  -- some step takes the first event, and nothing can end from idle before it
   from_first h [] y m between sent is goes takes = absurd (cc)
   from_first h (Hides t ∷ steps) y m between sent is (z, low, hides, goes) takes = absurd hides.opened
+  -- the step that takes it sends the INVITE, which makes Awaits true; the later steps keep it
   from_first h (Takes e ∷ steps) y m between sent is (z, low, does, goes) takes =
       let same : e ≡ one = cc in
       let emits = subst (λ a. Steps invite.invite_client p a one (record { phase = invite.Idle; owes = [] }) z) sent
@@ -326,6 +352,7 @@ plain_rank (plain.Completed reliable set) = 2
 plain_rank plain.Ended = 2
 
 -- no row of a message that the non-INVITE client receives leads to a lower rank
+-- x is the phase, k the kind of the message e, and y where its row leads
 plain_received : (p : Times) (x : plain.PlainClientPhase) (k : Kind) (e : MachineEvent) (y : Row plain.PlainClientPhase) → plain.Receives p x k e y → plain_rank x ≤ plain_rank y.0
 plain_received p (plain.Trying w) (Response code) e y (inl h) = rw h.1 (omega arith)
 plain_received p (plain.Trying w) (Response code) e y (inr h) = rw h.1 (omega arith)
@@ -333,6 +360,7 @@ plain_received p (plain.Proceeding w) (Response code) e y h = rw h.1 (omega arit
 plain_received p x k e y h = absurd h
 
 -- no row of a message that the non-INVITE client sends leads to a lower rank
+-- x is the phase, k the kind of the message e, and y where its row leads
 plain_sent : (p : Times) (x : plain.PlainClientPhase) (k : Kind) (e : MachineEvent) (y : Row plain.PlainClientPhase) → plain.Sends p x k e y → plain_rank x ≤ plain_rank y.0
 plain_sent p plain.Idle k e y h = omega arith
 plain_sent p (plain.Trying w) (Request method) e y h = rw h.1 (omega arith)
@@ -360,7 +388,7 @@ plain_opens p e x y (inl (row, is_row, to)) is = rw to (plain_opens_row p x.phas
 plain_opens p e x y (inr (inr (stays, same))) is = absurd stays
 plain_opens p e x y (inr (inl (left, pays, to))) is = absurd pays.holds.0
 
--- What follows is of a final response that a non-INVITE client receives.
+-- What follows is of an event e with which a non-INVITE client with the times p receives a final response with this code, and of y, the state after it.
 module _ (p : Times) (code : ℕ) (e : MachineEvent) (y : Owing plain.PlainClientPhase) (is : e.kind ≡ Response code) (final : IsFinal code) where
   -- a final response leaves rank 2 of the non-INVITE client as it is
   plain_still_over : (phase : plain.PlainClientPhase) (owes : List Owed) → 2 ≤ plain_rank phase → Steps plain.plain_client p Received e (record { phase = phase; owes = owes }) y → 2 ≤ plain_rank y.phase
@@ -371,6 +399,7 @@ module _ (p : Times) (code : ℕ) (e : MachineEvent) (y : Owing plain.PlainClien
   plain_finishes plain.Idle owes low h = absurd (omega arith)
   plain_finishes (plain.Trying w) owes low h = leads_on plain.plain_client p plain_rank _ y e _ (Response code) is (inr (final, refl)) all h
     where
+      -- each row of a final response in trying leads to a phase of rank 2 or more
       all : (other : Row plain.PlainClientPhase) → plain.Receives p (plain.Trying w) (Response code) e other → 2 ≤ plain_rank other.0
       all other (inl h) = absurd (omega (arith, h.0.1, final.0))
       all other (inr h) = rw h.1 (omega arith)
@@ -379,6 +408,7 @@ module _ (p : Times) (code : ℕ) (e : MachineEvent) (y : Owing plain.PlainClien
   plain_finishes plain.Ended owes low h = plain_still_over plain.Ended owes (omega arith) h
 
 -- no row sends a message from rank 2
+-- x is the phase, k the kind of the message e, and y where its row leads
 plain_sends_row : (p : Times) (x : plain.PlainClientPhase) (k : Kind) (e : MachineEvent) (y : Row plain.PlainClientPhase) → 2 ≤ plain_rank x → plain.Sends p x k e y → ⊥
 plain_sends_row p plain.Idle k e y low h = omega arith
 plain_sends_row p (plain.Trying w) k e y low h = omega arith

@@ -1,4 +1,6 @@
 -- A run over some events contains a run over the first of them, and goes through each of them.
+-- In the lemmas steps lead from the state x at the moment h to the state y at the moment m; z is the state after the first of them, and t the moment of a
+-- hidden end.
 use Rattle.std.proofs.Common.{◌≡◌, ◌≤◌, ◌<◌, ℕ, List, [], ◌∷◌, ◌++◌, All, refl, ap, subst, arith}
 use Rattle.std.proofs.Math.Decide.{dec_le}
 use Rattle.std.proofs.lemmas.List.Elements.{All-nil, All-cons, All-head, All-tail, All-weaker}
@@ -56,8 +58,10 @@ module _ {X : Type 0} (r : MachineRules X) where
   }
 
   -- steps that take events and more events contain steps over the former, which stand at any moment m between the two
+  -- the first events are not after m, and the run waits in y until n
   Goes-fewer : (x : X) (h : ℕ) (steps : List Step) (y : X) (last : ℕ) (events more : List MachineEvent) (m n : ℕ) → Goes r x h steps y last → Waits r y n → taken steps ≡ events ++ more →
       All (NotAfter m) events → All (NotBefore m) more → h ≤ m → m ≤ n → Stands x h events m
+  -- no step is left, so no event is; a hidden step at t is before or at m, or the run waits in x until m
   Goes-fewer x h [] y last [] more m n goes waits is low high from to = stays x h m from (IsWithin-earlier m n (r.until x) to (subst (λ z. Waits r z n) goes.0 waits))
   Goes-fewer x h [] y last (e ∷ events) more m n goes waits is low high from to = absurd (cc)
   Goes-fewer x h (Hides t ∷ steps) y last events more m n (z, after, does, goes) waits is low high from to =
@@ -76,10 +80,12 @@ module _ {X : Type 0} (r : MachineRules X) where
       by_end (yes early) later = hides x h t z events m after does (later early)
       by_end (no late) later = of_events (omega (arith, late)) events is low
   Goes-fewer x h (Takes f ∷ steps) y last [] [] m n (z, after, does, goes) waits is low high from to = absurd (cc)
+  -- the event comes after m, so the state stays until m
   Goes-fewer x h (Takes f ∷ steps) y last [] (e ∷ more) m n (z, after, does, goes) waits is low high from to =
       let later : m ≤ e.moment = All-head (NotBefore m) e more high in
       let same : f ≡ e = cc in
       stays x h m from (IsWithin-earlier m f.moment (r.until x) (rw same later) does.0)
+  -- the event comes by m, so the run takes it and goes on with fewer
   Goes-fewer x h (Takes f ∷ steps) y last (e ∷ events) more m n (z, after, does, goes) waits is low high from to =
       let same : f ≡ e = cc in
       let early : f.moment ≤ m = rw same (All-head (NotAfter m) e events low) in
@@ -95,12 +101,14 @@ module _ {X : Type 0} (r : MachineRules X) where
 
   -- steps that take an event among others: steps to the state before it, its step, and steps from the state after it
   pub record Through (x : X) (h : ℕ) (e : MachineEvent) (rest : List MachineEvent) (y : X) (m : ℕ) : Type 0 where
+    -- `front` leads to the state `before` at the moment `at`, from which e leads to `reached`
     pub front : List Step
     pub before : X
     pub at : ℕ
     pub to : Goes r x h front before at
     pub reached : X
     pub does : Does r before (Takes e) reached
+    -- the other steps lead from there to y and take the rest
     pub steps : List Step
     pub goes : Goes r reached e.moment steps y m
     pub takes : taken steps ≡ rest
@@ -112,10 +120,14 @@ module _ {X : Type 0} (r : MachineRules X) where
 
   -- steps that take an event among others go through it
   pub Goes-through : (x : X) (h : ℕ) (steps : List Step) (y : X) (m : ℕ) (front : List MachineEvent) (e : MachineEvent) (rest : List MachineEvent) → Goes r x h steps y m → taken steps ≡ front ++ e ∷ rest → Through x h e rest y m
+  -- without steps no event is taken
   Goes-through x h [] y m [] e rest goes is = absurd (cc)
   Goes-through x h [] y m (f ∷ front) e rest goes is = absurd (cc)
+  -- a step that hides takes no event, and comes before the steps that go through e
   Goes-through x h (Hides t ∷ steps) y m front e rest (z, low, does, goes) is = step_before x h (Hides t) z e rest y m low does (Goes-through z t steps y m front e rest goes is)
   Goes-through x h (Takes f ∷ steps) y m [] e rest (z, low, does, goes) is =
+      -- the first event that is taken is e itself
       let same : f ≡ e = cc in
       subst (λ g. Through x h g rest y m) same (record { front = []; before = x; at = h; to = (refl, refl); reached = z; does = does; steps = steps; goes = goes; takes = cc })
+  -- another event g of the front is taken first, and the steps after it go through e
   Goes-through x h (Takes f ∷ steps) y m (g ∷ front) e rest (z, low, does, goes) is = step_before x h (Takes f) z e rest y m low does (Goes-through z f.moment steps y m front e rest goes (cc))

@@ -20,13 +20,15 @@ any_push P xs x = (
     | inl (j, within, at) ↦ inl (j, y, within, at, p)
     | inr e ↦ inr (rw e p)
   ],
+  -- the converse: the element is one of the list, or the one after it
   λ some. elim some [
+    -- y is the element at the place k, of which p holds, and j its place in the list with one more
     | inl (k, y, low, is, p) ↦ let (j, within, at) = Contains-append_left xs (x ∷ []) y (k, low, is) in (j, y, within, at, p)
     | inr p ↦ let (j, within, at) = Contains-push xs x in (j, x, within, at, p)
   ],
 )
 
--- What follows is of states of the code at the moment h, with the window in which each may end and the moment up to which it can stay.
+-- What follows is of states at the moment h: `window` gives when one may end, and `until` the last moment to which it can stay.
 module _ {S : Type 0} (window : S → Option (ℕ × Option ℕ)) (until : S → Option ℕ) (h : ℕ) where
   -- one can wait until `last` from some state before the index, and no longer; h counts as a moment until which one can
   abbrev pub IsLastSoFar : List S → ℕ → Type 0
@@ -37,6 +39,7 @@ module _ {S : Type 0} (window : S → Option (ℕ × Option ℕ)) (until : S →
       IsLastOf (CanReach (window x) (until x) h) h (Some r) → new ≡ max last r → IsLastSoFar (xs ++ x ∷ []) new
   last_push xs x last r new so_far reach is m low = (
     λ some. elim some [
+      -- the new moment is by the last moment so far, or by that of the new state
       | inl first ↦ let old = (so_far m low).0 (inl first) in omega arith
       | inr any ↦ elim ((any_push (λ y. CanReach (window y) (until y) h m) xs x).0 any) [
         | inl earlier ↦ let old = (so_far m low).0 (inr earlier) in omega arith
@@ -46,12 +49,12 @@ module _ {S : Type 0} (window : S → Option (ℕ × Option ℕ)) (until : S →
     λ high. go high (dec_le m last),
   )
     where
-      -- m is by the last moment so far, or only by that of the new state
+      -- some state can reach m: one of those so far, or the new one
       go : m ≤ new → Dec (m ≤ last) → (m ≤ h) ⊎ SomeCanReach window until h m (xs ++ x ∷ [])
       go high (yes old) = elim ((so_far m low).1 old) [ inl first ↦ inl first | inr some ↦ inr ((any_push (λ y. CanReach (window y) (until y) h m) xs x).1 (inl some)) ]
       go high (no past) = inr ((any_push (λ y. CanReach (window y) (until y) h m) xs x).1 (inr ((reach m low).1 (omega arith))))
 
-  -- the last moment of all the states is that of some state alone where each can wait at h, and there is one
+  -- where each state can wait at h, and there is one, the last moment so far of all of them is the last one until which some state can wait
   pub last_all : (xs : List S) (last : ℕ) → xs ≢ [] → All (λ x. IsWithin h (until x)) xs → IsLastSoFar xs last →
       IsLastOf (λ m. SomeCanReach window until h m xs) h (Some last)
   last_all [] last some waiting so_far = absurd (some refl)

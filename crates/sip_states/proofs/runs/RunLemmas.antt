@@ -1,4 +1,5 @@
 -- Lemmas of runs, one step at a time: a run is a run to its last event and a wait from there.
+-- In the lemmas y is the state in which a run stands at the moment m.
 use Rattle.std.proofs.Common.{◌≡◌, ◌≤◌, ◌↔◌, ℕ, List, [], ◌∷◌, ◌++◌, map, refl, ap, subst, ◌∙◌}
 use Rattle.sip_standard.specs.MachineEvent.{MachineEvent}
 use Rattle.sip_machine.specs.Rules.{MachineRules}
@@ -34,11 +35,13 @@ here : (steps : List Step) (g f : MachineEvent) → g ≡ f → (ends : List ℕ
 here steps g f first ends is = record { front = []; ends = ends; is = rw (first, is); takes = refl }
 
 -- steps that are split at the one of the last event stay so with a step more before them, which takes another event
+-- g is the event that the step more takes, k the same event in the list, and fs and f are those after it
 later : (steps : List Step) (g k : MachineEvent) (fs : List MachineEvent) (f : MachineEvent) → g ≡ k → SplitAt steps fs f → SplitAt (Takes g ∷ steps) (k ∷ fs) f
 later steps g k fs f first s = record { front = Takes g ∷ s.front; ends = s.ends; is = ap (λ more. Takes g ∷ more) s.is; takes = rw (first, s.takes) }
 
 -- steps that take the events fs and then f are split at the one that takes f
 pub split_last : (steps : List Step) (fs : List MachineEvent) (f : MachineEvent) → taken steps ≡ fs ++ f ∷ [] → SplitAt steps fs f
+-- no events are as long as one or more; a hidden step changes no event; where f alone is left, the first step that takes an event takes f
 split_last [] [] f e = absurd (cc)
 split_last [] (g ∷ fs) f e = absurd (cc)
 split_last (Hides t ∷ steps) fs f e =
@@ -55,12 +58,14 @@ module _ {X : Type 0} (r : MachineRules X) where
     pub then : Goes r middle (moment_of_step step) rest y m
 
   -- steps pass through the state before each step
+  -- the steps lead from x at the moment h to y at the moment m
   pub Goes-split : (x : X) (h : ℕ) (front : List Step) (step : Step) (rest : List Step) (y : X) (m : ℕ) → Goes r x h (front ++ step ∷ rest) y m → Passes x h front step rest y m
   Goes-split x h [] step rest y m (z, low, does, goes) = record { middle = z; goes = (z, low, does, (refl, refl)); then = goes }
   Goes-split x h (s ∷ front) step rest y m (z, low, does, goes) =
       let p = Goes-split z (moment_of_step s) front step rest y m goes in record { middle = p.middle; goes = (z, low, does, p.goes); then = p.then }
 
   -- steps to a state and steps from there, joined, are steps
+  -- the steps lead from x at the moment h to y at the moment m; z is the state after the first
   pub Goes-join : (x : X) (h : ℕ) (front : List Step) (step : Step) (rest : List Step) (y : X) (m : ℕ) → Passes x h front step rest y m → Goes r x h (front ++ step ∷ rest) y m
   Goes-join x h [] step rest y m p =
       let (z, low, does, last) = p.goes in (z, low, does, subst (λ v. Goes r v (moment_of_step step) rest y m) last.0 p.then)
@@ -77,12 +82,14 @@ module _ {X : Type 0} (r : MachineRules X) where
     pub does : Does r before step y
 
   -- steps to the moment of the last one are those before it and that one
+  -- the steps lead from x at the moment h to y at the moment of the last one; z is the state after the first
   pub Goes-last : (x : X) (h : ℕ) (front : List Step) (step : Step) (y : X) → Goes r x h (front ++ step ∷ []) y (moment_of_step step) → Lasts x h front step y
   Goes-last x h [] step y (z, low, does, last) = record { before = x; at = h; goes = (refl, refl); low = low; does = rw last.0 does }
   Goes-last x h (s ∷ front) step y (z, low, does, goes) =
       let l = Goes-last z (moment_of_step s) front step y goes in record { before = l.before; at = l.at; goes = (z, low, does, l.goes); low = l.low; does = l.does }
 
   -- steps to a state and one more step from there are steps
+  -- the steps lead from x at the moment h to y at the moment of the last one; z is the state after the first
   pub Goes-push : (x : X) (h : ℕ) (front : List Step) (step : Step) (y : X) → Lasts x h front step y → Goes r x h (front ++ step ∷ []) y (moment_of_step step)
   Goes-push x h [] step y l =
       (y, subst (λ n. n ≤ moment_of_step step) l.goes.1 l.low, subst (λ v. Does r v step y) l.goes.0 l.does, (refl, refl))
@@ -106,6 +113,7 @@ module _ {X : Type 0} (r : MachineRules X) where
   run_of_wait fs f m y w =
       record {
         steps = w.begins.steps ++ Takes f ∷ map Hides w.ends;
+        -- the steps to f, f itself and the hidden ends after it are one run
         stands = record {
           last = w.stands.last;
           goes = Goes-join r.first 0 w.begins.steps (Takes f) (map Hides w.ends) y w.stands.last (record { middle = w.start; goes = w.begins.goes; then = w.stands.goes });
@@ -136,6 +144,7 @@ module _ {X : Type 0} (r : MachineRules X) where
           among = record { steps = after.steps; stands = record { last = l.at; goes = l.goes; reached = l.low; waits = l.does.0 }; takes = after.takes };
           takes = l.does.1;
         },
+    -- the steps before the event and the event are a run
     λ g. record {
       steps = g.among.steps;
       goes = let stands = g.among.stands in

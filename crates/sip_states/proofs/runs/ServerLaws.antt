@@ -41,6 +41,7 @@ module _ {X : Type 0} (f : Figure X) (p : Times) (asleep : IsAsleep f p) where
   emits_nothing e y (inr (inr (stays, same))) = asleep.unmoved e.kind stays
   emits_nothing e y (inr (inl (left, pays, to))) = none_owed pays.before pays.whole
     where
+      -- the empty list has no first debt that could be paid
       none_owed : (before : List Owed) → [] ≡ before ++ pays.first ∷ pays.after → ⊥
       none_owed [] is = cc
       none_owed (owed ∷ before) is = cc
@@ -52,8 +53,10 @@ module _ {X : Type 0} (f : Figure X) (p : Times) (asleep : IsAsleep f p) where
 
   -- a step from the idle state stays in it, or takes a request that was received
   stays_or_asked : (e : MachineEvent) (y : Owing X) (a : Action) → e.action ≡ a → Steps f p a e (quiet f.idle) y → (y ≡ quiet f.idle) ⊎ IsAsked e
+  -- a received message with a row is a request, and one without a row leaves idle as it is
   stays_or_asked e y Received is (inl (row, is_row, to)) = inr (is, asleep.woken e.kind e row is_row)
   stays_or_asked e y Received is (inr (none, same)) = inl same
+  -- nothing is sent or refused from idle; a mark is no step, and a restart leaves idle as it is
   stays_or_asked e y Sent is h = absurd (emits_nothing e y h)
   stays_or_asked e y Failed is h = absurd (fails_nothing (f.ends_refused f.idle e.kind) e y h)
   stays_or_asked e y Mark is h = absurd h
@@ -61,12 +64,14 @@ module _ {X : Type 0} (f : Figure X) (p : Times) (asleep : IsAsleep f p) where
   stays_or_asked e y Restart is (inr (other, ends)) = absurd (other refl)
 
   -- steps from the idle state end in it, or one of them takes a request that was received
+  -- the steps begin at the moment h, and lead to y at the moment m; z is the state after the first
   goes_stay_or_asked : (h : ℕ) (steps : List Step) (y : Owing X) (m : ℕ) → Goes (rules_of_figure f p) (quiet f.idle) h steps y m → (y ≡ quiet f.idle) ⊎ Any IsAsked (taken steps)
   goes_stay_or_asked h [] y m goes = inl goes.0
   goes_stay_or_asked h (Hides t ∷ steps) y m (z, low, hides, goes) = absurd (IsOpenAt-none t _ asleep.no_end hides.opened)
   goes_stay_or_asked h (Takes e ∷ steps) y m (z, low, does, goes) =
       by_step (stays_or_asked e z e.action refl does.1.1) (λ same. goes_stay_or_asked e.moment steps y m (subst (λ x. Goes (rules_of_figure f p) x e.moment steps y m) same goes))
     where
+      -- what holds of the later steps holds with one step more
       later : (y ≡ quiet f.idle) ⊎ Any IsAsked (taken steps) → (y ≡ quiet f.idle) ⊎ Any IsAsked (e ∷ taken steps)
       later (inl same) = inl same
       later (inr (k, asked, within, is, holds)) = inr (suc k, asked, omega (arith, within), is, holds)
@@ -83,6 +88,7 @@ module _ {X : Type 0} (f : Figure X) (p : Times) (asleep : IsAsleep f p) where
       let last = Goes-last r r.first 0 after.steps (Takes e) y after.goes in
       by_state last.before last.does.1.1 (goes_stay_or_asked 0 after.steps last.before last.at last.goes)
     where
+      -- the first step leaves the server in idle, or it takes an event that asks
       by_state : (x : Owing X) → Steps f p e.action e (record { phase = x.phase; owes = unexpired e.moment x.owes }) y → (x ≡ quiet f.idle) ⊎ Any IsAsked (taken after.steps) → Any IsAsked events
       by_state x step (inl same) =
           absurd (emits_nothing e y (subst (λ a. Steps f p a e (quiet f.idle) y) sent (subst (λ z. Steps f p e.action e (record { phase = z.phase; owes = unexpired e.moment z.owes }) y) same step)))
@@ -95,6 +101,7 @@ server rules invite = (transaction_of (machine_of rules Server invite)).figure
 -- a message for which the idle phase of a server has a row is a request
 woken : (rules : Rules) (invite : Bool) (p : Times) (k : Kind) (e : MachineEvent) (y : Row (transaction_of (machine_of rules Server invite)).Phase) →
     (server rules invite).Receives p (server rules invite).idle k e y → (method : Method) × (k ≡ Request method)
+-- a request is one; no server has a row in idle for a response
 woken rules invite p (Request method) e y h = (method, refl)
 woken R6026 true p (Response code) e y h = absurd h
 woken R6026 false p (Response code) e y h = absurd h
@@ -107,6 +114,7 @@ asleep R6026 true p = record { no_end = refl; silent = λ k e y h. h; woken = wo
 asleep R6026 false p = record { no_end = refl; silent = λ k e y h. h; woken = woken R6026 false p; unmoved = λ k stays. stays }
 asleep R3261 true p = record { no_end = refl; silent = λ k e y h. h; woken = woken R3261 true p; unmoved = unmoved }
   where
+    -- in idle the server by RFC 3261 sends nothing without a row
     unmoved : (k : Kind) → (server R3261 true).Stays (server R3261 true).idle k → ⊥
     unmoved (Request method) stays = absurd stays
     unmoved (Response code) (again, held, success) = cc

@@ -1,4 +1,5 @@
 -- A run told in the words of the standard is a run by the rules of its figure.
+-- In the lemmas y is the state in which one stands at the moment m.
 use Rattle.std.proofs.Common.{◌≡◌, ◌≤◌, ◌↔◌, ℕ, Option, Some, None, IfSome, IsSomeAnd, Bool, true, false, List, [], ◌∷◌, ◌++◌, All, if◌then◌else◌, refl, sym, ◌∙◌, subst, arith}
 use Rattle.std.specs.List.{list_any}
 use Rattle.std.proofs.lemmas.List.{append_assoc, append-nil}
@@ -50,6 +51,7 @@ module _ {X : Type 0} (f : Figure X) (is : IsFigure f) (p : Times) where
   lasts-waits x h =
       let owed = IsWithin-owed h (closes_at f p x.phase) x.owes in
       let closes = closes-within h (f.window p x.phase) in (
+        -- what the standard bounds are the close of the phase and the deadlines that must be kept
         λ lasts. owed.1 (All-append (λ m. h ≤ m) (closes_of (f.window p x.phase)) (f.sends_by p x.phase) (closes.1 lasts.0) lasts.1, lasts.2),
         λ within.
             let halves = owed.0 within in (
@@ -69,18 +71,23 @@ module _ {X : Type 0} (f : Figure X) (is : IsFigure f) (p : Times) where
       }
 
   -- a state that ends by the rules may end by the figure
+  -- x ends at the moment h, and y is the ended state
   hide-may : (x : Owing X) (h : ℕ) (y : Owing X) → Hide (rules_of f p) x h y → MayEnd f p x h
   hide-may x h y hide =
       let opened = open-owed h (list_any (λ owed. owed.must) x.owes) (f.window p x.phase) hide.opened in (within-open h (f.window p x.phase) opened.1, opened.0)
 
   -- where a run stands in a state, steps by the rules from there lead to where a longer run stands
+  -- the run stands in x at the moment h, and the steps lead to y at the moment m; z is the state after the first step
   goes-stand : (events : List MachineEvent) (h : ℕ) (x : Owing X) → Stands f p events h x → (steps : List Step) (y : Owing X) (m : ℕ) →
       Goes (rules_of f p) x h steps y m → Stands f p (events ++ taken steps) m y
+  -- without steps the run stands where it stood
   goes-stand events h x stands [] y m goes = rw (goes.0, goes.1, append-nil events) stands
   goes-stand events h x stands (Hides t ∷ steps) y m (z, low, does, goes) =
+      -- a step that hides ends the run's transaction at t, and z is idle again
       let ended = ends events t x (waits events h t x stands low ((lasts-waits x t).1 does.waited)) (hide-may x t z does) in
       goes-stand events t z (subst (Stands f p events t) (sym does.gives) ended) steps y m goes
   goes-stand events h x stands (Takes e ∷ steps) y m (z, low, does, goes) =
+      -- a step that takes e comes after the run has waited until its moment
       let led = takes events e x z (waits events h e.moment x stands low ((lasts-waits x e.moment).1 does.0)) (does.1).1 in
       subst (λ es. Stands f p es m y) (append_assoc events (e ∷ []) (taken steps)) (goes-stand (events ++ e ∷ []) e.moment z led steps y m goes)
 
@@ -116,6 +123,7 @@ module _ {X : Type 0} (f : Figure X) (is : IsFigure f) (p : Times) where
         steps = run.steps ++ Hides h ∷ [];
         stands = record {
           last = h;
+          -- the run goes on by the hidden step to ended, in which it waits
           goes = Goes-push (rules_of f p) (quiet f.idle) 0 run.steps (Hides h) (quiet f.ended)
               (record { before = x; at = run.stands.last; goes = run.stands.goes; low = run.stands.reached; does = may-hide x h may run.stands.waits });
           reached = omega arith;
@@ -125,6 +133,7 @@ module _ {X : Type 0} (f : Figure X) (is : IsFigure f) (p : Times) where
       }
   -- the run takes an event: one step more that is seen
   stands-run _ _ _ (takes events e x y stands led) =
+      -- `run` is the run to the state x before the event, and `taking` the step by which x takes e
       let run = stands-run events e.moment x stands in
       let r = rules_of f p in
       let taking : r.Take x e y = (run.stands.waits, led) in
@@ -143,10 +152,12 @@ module _ {X : Type 0} (f : Figure X) (is : IsFigure f) (p : Times) where
   -- an event leads to the same states in the words of the standard as by the rules
   pub stands-after : (events : List MachineEvent) (e : MachineEvent) (y : Owing X) → StandsAfter f p events e y ↔ AfterRun (rules_of f p) events e y
   stands-after events e y = (
+    -- x is the state in which one stands before the event, and `run` the run of the events before it, which waits until the event
     λ after.
         let (x, stands, led) = after in
         let run = stands-run events e.moment x stands in
         (After-run (rules_of f p) events e y).1 (record { before = x; among = run; takes = (run.stands.waits, led) }),
+    -- the converse: the run of the events before it stands at the moment of the event in the state that takes it
     λ after.
         let gives = (After-run (rules_of f p) events e y).0 after in
         (gives.before, run-stands events e.moment gives.before gives.among, gives.takes.1),
@@ -163,6 +174,7 @@ module _ {X : Type 0} (f : Figure X) (is : IsFigure f) (p : Times) where
   pub stands-wait : (events : List MachineEvent) (e : MachineEvent) (m : ℕ) (y : Owing X) → Stands f p (events ++ e ∷ []) m y ↔ Wait (rules_of f p) (StandsAfter f p events e) e.moment m y
   stands-wait events e m y =
       let r = rules_of f p in
+      -- `runs` tells the run by the rules, `waiting` cuts it at e, and `same` says that the event leads to the same states in both words
       let runs = stands-runs (events ++ e ∷ []) m y in
       let waiting = Run-wait r events e m y in
       let same = Wait-iff r (StandsAfter f p events e) (AfterRun r events e) (stands-after events e) e.moment m y in
@@ -178,6 +190,7 @@ module _ {X : Type 0} (f : Figure X) (is : IsFigure f) (p : Times) where
       (λ s. same.1 (gives.0 (after.0 s)), λ g. after.1 (gives.1 (same.0 g)))
 
   -- a run over events and more events contains a run over the former, which stands at any moment between the two
+  -- the longer run stands in y at the moment n, and the shorter one in x at the moment m
   pub stands-fewer : (events more : List MachineEvent) (m n : ℕ) (y : Owing X) → All (λ e. e.moment ≤ m) events → All (λ e. m ≤ e.moment) more → m ≤ n → Stands f p (events ++ more) n y → (x : Owing X) × Stands f p events m x
   stands-fewer events more m n y low high to stands =
       let fewer = Run-fewer (rules_of f p) events more m n y low high to (stands-run (events ++ more) n y stands) in

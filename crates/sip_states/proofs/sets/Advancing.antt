@@ -14,7 +14,8 @@ pub within_test : (m : ℕ) (limit : Option ℕ) → (is_within m limit ≡ true
 within_test m None = (λ e. tt, λ h. refl)
 within_test m (Some last) = (leb-true m last, le-leb m last)
 
--- What follows is of the states xs of a set, which wait from the moment h until m and become ys.
+-- What follows is of the states xs of a set, which wait from the moment h until m and become ys. `window` gives when a state may end, `until` how long it
+-- can stay.
 module _ {S : Type 0} (InRange : S → Type 0) (window : S → Option (ℕ × Option ℕ)) (until : S → Option ℕ) (ended : S) (ended_stays : until ended ≡ None) (h m : ℕ)
     (xs ys : List S) (apart : AllPairs (λ x y. x ≢ y) xs) (in_range : All InRange xs) where
   -- the ended state passes the test, at every moment
@@ -29,6 +30,7 @@ module _ {S : Type 0} (InRange : S → Type 0) (window : S → Option (ℕ × Op
           λ c. let k = (Contains-filter (λ s. is_within m (until s)) x xs).0 (rw is at c) in ((within_test m (until x)).0 k.1, inl k.0),
           λ (waits, among). rw is ((Contains-filter (λ s. is_within m (until s)) x xs).1 (elim among [ inl c ↦ c | inr e ↦ rw e.0 (there e.1) ], (within_test m (until x)).1 waits)),
         );
+        -- each of them is there once and in range, and there are no more than before
         distinct = rw is (AllPairs-filter (λ a b. a ≢ b) (λ s. is_within m (until s)) xs apart);
         in_range = rw is (All-filter (λ s. is_within m (until s)) InRange xs in_range);
         grows = inl (rw is (filter_shorter (λ s. is_within m (until s)) xs));
@@ -42,9 +44,11 @@ module _ {S : Type 0} (InRange : S → Type 0) (window : S → Option (ℕ × Op
         members = λ x. (
           λ c. let k = (Contains-filter (λ s. is_within m (until s)) x (xs ++ ended ∷ [])).0 (rw is at c) in
               ((within_test m (until x)).0 k.1, elim (Contains-push_cases xs ended x k.0) [ inl old ↦ inl old | inr e ↦ inr (sym e, some) ]),
+          -- a state that waits was there, or is the ended one that was added
           λ (waits, among). rw is ((Contains-filter (λ s. is_within m (until s)) x (xs ++ ended ∷ [])).1
               (elim among [ inl c ↦ Contains-append_left xs (ended ∷ []) x c | inr e ↦ rw e.0 (Contains-push xs ended) ], (within_test m (until x)).1 waits)),
         );
+        -- each is there once and in range, and the ended one is among them
         distinct = rw is (AllPairs-filter (λ a b. a ≢ b) (λ s. is_within m (until s)) (xs ++ ended ∷ [])
             (all_pairs_push (λ a b. a ≢ b) xs ended apart (λ k d low e. absent (rw e at (Contains-get_or xs k d low)))));
         in_range = rw is (All-filter (λ s. is_within m (until s)) InRange (xs ++ ended ∷ []) (All-push InRange xs ended in_range ended_in_range));

@@ -1,4 +1,5 @@
 -- Lemmas of sets of states of the code beside the rules that they follow.
+-- In the lemmas x is a state of the code and y the one for which it stands; xs are the states before a wait and ys those after it; h and m are moments.
 use Rattle.std.proofs.Common.{◌≡◌, ◌≢◌, ◌↔◌, ◌≤◌, ◌<◌, inl, inr, ◌∙◌, ℕ, Option, None, ap, List, [], ◌∷◌, All, AllPairs, Contains, map, length, get_or, refl, sym, subst, arith}
 use Rattle.std.proofs.lemmas.List.{get_or-map, length-map}
 use Rattle.std.proofs.lemmas.List.Elements.{All-nil, All-contains, Contains-get_or}
@@ -20,14 +21,17 @@ pub record Follows {X S : Type 0} (names : S → List ℕ) (seen : Texts → S �
   pub until_is : (texts : Texts) (x : S) → r.until (seen texts x) ≡ until x
   pub apart : (texts : Texts) (x y : S) → IsBook texts → Knows names texts x → Knows names texts y → seen texts x ≡ seen texts y → x ≡ y
 
--- What follows is of a machine of the code and the rules r that it follows.
+-- What follows is of a machine of the code and the rules r that it follows: `seen` gives what a state stands for, `names` the messages that it names,
+-- `window` when it may end, `until` how long it can stay, and `ended` is the state after its end.
 module _ {X S : Type 0} (names : S → List ℕ) (InRange : S → Type 0) (seen : Texts → S → X) (r : MachineRules X) (ended : S) (window : S → Option (ℕ × Option ℕ)) (until : S → Option ℕ)
     (follows : Follows names seen r ended window until) where
   -- the ended state of the code has no last moment
   pub ended_stays : until ended ≡ None
   ended_stays = sym (follows.until_is [] ended) ∙ ap r.until (follows.ended_is []) ∙ follows.lawful.ended_stays
 
--- What follows is of a machine of the code and the rules r that it follows, beside one book.
+-- What follows is of a machine of the code and the rules r that it follows, beside the book `texts`: `seen` gives what a state stands for, `names` the
+-- messages
+-- that it names, `window` when it may end, `until` how long it can stay, and `ended` is the state after its end.
 module _ {X S : Type 0} (names : S → List ℕ) (InRange : S → Type 0) (seen : Texts → S → X) (r : MachineRules X) (ended : S) (window : S → Option (ℕ × Option ℕ)) (until : S → Option ℕ)
     (follows : Follows names seen r ended window until) (texts : Texts) where
   -- a state of the code can wait until the same moments as the state for which it stands
@@ -47,6 +51,7 @@ module _ {X S : Type 0} (names : S → List ℕ) (InRange : S → Type 0) (seen 
       }
 
   -- where a state for which the states of the code stand can end, one of those can end
+  -- the states xs stand at the moment h, and y is the ended state, in which a run stands at the moment m
   pub ends_seen : (xs : List S) (h m : ℕ) (y : X) → EndsFrom r (Contains (map (seen texts) xs)) h m y → SomeCanEnd window until h m xs
   ends_seen xs h m y e =
       let (x, (k, low, is), same) = Contains-from_map (seen texts) xs e.start e.among in (
@@ -54,6 +59,7 @@ module _ {X S : Type 0} (names : S → List ℕ) (InRange : S → Type 0) (seen 
         x,
         low,
         is,
+        -- the end lies within the window of the state of the code too
         record {
           at = e.at;
           is = record {
@@ -73,6 +79,7 @@ module _ {X S : Type 0} (names : S → List ℕ) (InRange : S → Type 0) (seen 
   pub distinct_seen : IsBook texts → (xs : List S) → All (Knows names texts) xs → AllPairs (λ x y. x ≢ y) xs → AllPairs (λ x y. x ≢ y) (map (seen texts) xs)
   distinct_seen book [] known apart = λ i j d low high _. omega arith
   distinct_seen book (x ∷ xs) known apart = λ i j d low high same.
+      -- i and j are two places of the list, whose states would be the same
       let last : j < length (x ∷ xs) = rw length-map at high in
       let first : i < length (x ∷ xs) = omega arith in
       apart i j x low last
@@ -85,6 +92,7 @@ module _ {X S : Type 0} (names : S → List ℕ) (InRange : S → Type 0) (seen 
     pub reach_seen : SomeCanReach window until h m xs ↔ ((y : X) × Wait r (Contains (map (seen texts) xs)) h m y)
     reach_seen = (
       λ (k, x, within, is, can). elim can [
+        -- a state of the code stays, or it ends
         | inl stays ↦ (
           seen texts x,
           Wait-stay r (Contains (map (seen texts) xs)) h m (seen texts x)
@@ -92,6 +100,7 @@ module _ {X S : Type 0} (names : S → List ℕ) (InRange : S → Type 0) (seen 
         )
         | inr ends ↦ (r.ended, Wait-end r follows.lawful (Contains (map (seen texts) xs)) h m r.ended (seen_ends xs h m (k, x, within, is, ends)))
       ],
+      -- a state that stands for one of the code stays, or ends
       λ (y, wait). elim ((Wait-cases r follows.lawful (Contains (map (seen texts) xs)) h m y).0 wait) [
         | inl s ↦
             let (x, (k, within, is), same) = Contains-from_map (seen texts) xs y s.among in
@@ -103,6 +112,7 @@ module _ {X S : Type 0} (names : S → List ℕ) (InRange : S → Type 0) (seen 
     -- each state to which the code's states wait stands for one in which one can stand after waiting
     seen_waited : (ys : List S) → Advances InRange window until ended h m xs ys → (x : S) → Contains ys x → Wait r (Contains (map (seen texts) xs)) h m (seen texts x)
     seen_waited ys a x member =
+        -- y is the state x of the code: one of the old states that stays in its window, or the ended one, to which some old state waits
         let (within, ways) = (a.members x).0 member in
         elim ways [
           | inl stays ↦
@@ -119,6 +129,7 @@ module _ {X S : Type 0} (names : S → List ℕ) (InRange : S → Type 0) (seen 
           | inl s ↦
               let (x, member, same) = Contains-from_map (seen texts) xs y s.among in
               rw (← same) (Contains-map (seen texts) ys x ((a.members x).1 ((seen_waits m x).0 (rw same s.waits), inl member)))
+          -- the ended state is the one to which the code's states end
           | inr e ↦
               rw (e.hides.gives, ← follows.ended_is texts)
               (Contains-map (seen texts) ys ended

@@ -1,4 +1,5 @@
 -- Lemmas of how the code takes an event in a list of states.
+-- In the lemmas xs, ys and zs are states of the code, y is a state for which one of them stands, and P and Q tell of such states.
 use Rattle.std.proofs.Common.{◌≡◌, ◌≢◌, ◌↔◌, ◌≤◌, ◌⊎◌, inl, inr, ℕ, Option, List, [], ◌∷◌, ◌++◌, All, AllPairs, Contains, ap, ap₂, arith, drop, refl, length, length-append, map, get_or, subst, ◌∙◌, ◌+◌}
 use Rattle.std.proofs.Math.Seq.{drop-append_seam, get_or-append_seam}
 use Rattle.std.proofs.lemmas.List.{get_or_append_left, map-append}
@@ -11,7 +12,8 @@ use Rattle.sip_states.proofs.lists.Listed.{Contains-none, Contains-here, Contain
 use Rattle.sip_states.proofs.sets.Waiting.{Wait-stay, Wait-end, Wait-cases}
 use Rattle.sip_states.proofs.sets.Following.{Follows, seen_ends, ends_seen, distinct_seen}
 
--- What follows is of states of the code and what they stand for beside one book.
+-- What follows is of states of the code: `names` gives the messages that one names, InRange says that its numbers are in range,
+-- and `seen` gives what it stands for beside the book `texts`.
 module _ {X S : Type 0} (names : S → List ℕ) (InRange : S → Type 0) (seen : Texts → S → X) (texts : Texts) where
   -- states that cover a set cover a set with the same members
   pub Covers-iff : (P Q : X → Type 0) → ((x : X) → P x ↔ Q x) → (xs : List S) → Covers names InRange seen texts P xs → Covers names InRange seen texts Q xs
@@ -25,6 +27,7 @@ module _ {X S : Type 0} (names : S → List ℕ) (InRange : S → Type 0) (seen 
       record {
         members = λ x. rw (is, map-append (seen texts) xs ys) (
           λ h. elim (Contains-append_cases (map (seen texts) xs) (map (seen texts) ys) x h) [ inl first ↦ inl ((c.members x).0 first) | inr later ↦ inr ((s.members x).0 later) ],
+          -- what either list has is in both together, and nothing else is
           λ h. elim h [
             | inl p ↦ Contains-append_left (map (seen texts) xs) (map (seen texts) ys) x ((c.members x).1 p)
             | inr q ↦ Contains-append_right (map (seen texts) xs) (map (seen texts) ys) x ((s.members x).1 q)
@@ -40,17 +43,21 @@ pub gives_some : {X S : Type 0} (seen : Texts → S → X) (texts : Texts) (r : 
 gives_some seen texts r e lawful [] y = (λ none. absurd none, λ g. absurd (Contains-none g.before g.among.0))
 gives_some seen texts r e lawful (s ∷ xs) y =
     let more = gives_some seen texts r e lawful xs y in (
+      -- the event leads from the first state, or from a later one
       λ h. elim h [
         | inl takes ↦ record { before = seen texts s; among = (Contains-here (seen texts s) (map (seen texts) xs), lawful.timely (seen texts s) e y takes); takes = takes }
         | inr rest ↦ let g = more.0 rest in record { before = g.before; among = (Contains-there (seen texts s) (map (seen texts) xs) g.before g.among.0, g.among.1); takes = g.takes }
       ],
+      -- what it gives comes from the first state, or from a later one
       λ g. elim (Contains-cons (seen texts s) (map (seen texts) xs) g.before g.among.0) [
         | inl same ↦ inl (rw same g.takes)
         | inr rest ↦ inr (more.1 (record { before = g.before; among = (rest, g.among.1); takes = g.takes }))
       ],
     )
 
--- What follows is of the states xs of a set at the moment h, and an event e that comes then or later.
+-- What follows is of the states xs of a set at the moment h, and an event e that comes then or later. The machine of the code follows the rules r:
+-- `seen` gives what a state stands for, `names` the messages that it names, `window` when it may end, `until` how long it can stay, `ended` the state after
+-- its end.
 module _ {X S : Type 0} (names : S → List ℕ) (InRange : S → Type 0) (seen : Texts → S → X) (r : MachineRules X) (ended : S) (window : S → Option (ℕ × Option ℕ)) (until : S → Option ℕ)
     (follows : Follows names seen r ended window until) (texts : Texts) (xs : List S) (h : ℕ) (e : MachineEvent) (low : h ≤ e.moment) where
   -- what the event gives from the states that can wait is part of what it gives after waiting
@@ -84,6 +91,7 @@ module _ {X S : Type 0} (names : S → List ℕ) (InRange : S → Type 0) (seen 
       Covers-iff names InRange seen texts (λ y. GivesFrom seen texts r xs e y ⊎ r.Take (seen texts ended) e y) (GivesAfter seen texts r xs h e)
       (λ y. (
         λ ways. elim ways [
+          -- what is given comes from a state that stays, or from the ended state
           | inl from ↦ stayed_gives y from
           | inr takes ↦ record {
             before = seen texts ended;
@@ -91,6 +99,7 @@ module _ {X S : Type 0} (names : S → List ℕ) (InRange : S → Type 0) (seen 
             takes = takes;
           }
         ],
+        -- after the wait there is one of the states that stayed, or the ended one
         λ g. elim (after_gives y g) [ inl from ↦ inl from | inr ends ↦ inr ends.1 ],
       )) new
       (Covers-append names InRange seen texts (GivesFrom seen texts r xs e) (r.Take (seen texts ended) e) found added new c stands is)
@@ -103,6 +112,7 @@ module _ {X S : Type 0} (names : S → List ℕ) (InRange : S → Type 0) (seen 
       let same : (y : X) → r.Take (seen texts s) e y ↔ GivesAfter seen texts r xs h e y =
       λ y. (
         λ takes. stayed_gives y (record { before = seen texts s; among = (rw here (Contains-here (seen texts s) []), follows.lawful.timely (seen texts s) e y takes); takes = takes }),
+        -- after the wait there is the one state alone
         λ g. elim (after_gives y g) [
           | inl from ↦
               let only = (Contains-single (seen texts s) from.before).0 (rw here at from.among.0) in
@@ -110,6 +120,7 @@ module _ {X S : Type 0} (names : S → List ℕ) (InRange : S → Type 0) (seen 
           | inr ends ↦ absurd (none ends.0)
         ],
       ) in
+      -- what the step leads to stands for what the event gives
       record {
         members = λ y. (λ has. (same y).0 ((stands.members y).0 has), λ gives. (stands.members y).1 ((same y).1 gives));
         distinct = stands.distinct;
@@ -123,6 +134,7 @@ module _ {X S : Type 0} (names : S → List ℕ) (InRange : S → Type 0) (seen 
   covers_stand book P found new c same apart =
       let known : All (Knows names texts) new =
       λ k d low. All-contains (Knows names texts) found (get_or new k d) c.known ((same (get_or new k d)).0 (Contains-get_or new k d low)) in
+      -- each state that is covered is in the list, and stands for one alone
       record {
         members = λ x. (
           λ k. let (s, member, is) = Contains-from_map (seen texts) new x k in (c.members x).0 (rw (← is) (Contains-map (seen texts) found s ((same s).0 member))),
@@ -147,6 +159,7 @@ module _ {S : Type 0} where
   found-behind old found new n is at = ap₂ drop at is ∙ drop-append_seam old found
 
   -- the first of the new list after the old states is the one that was found first
+  -- x is the state that was found first, and n its place in the new list; d stands for no state
   pub next-there : (old mid new found : List S) (x d : S) (n : ℕ) → mid ≡ old ++ x ∷ [] → new ≡ mid ++ found → n ≡ length old → get_or new n d ≡ x
   next-there old mid new found x d n mid_is new_is at =
       let size : length mid ≡ length old + 1 = ap length mid_is ∙ length-append old (x ∷ []) in

@@ -1,4 +1,6 @@
 -- Lemmas of what a set of states keeps when it takes an event.
+-- In the lemmas P and Q are properties of states: that an event leads there, as a rule. w says that P holds of too many states, `stands` and s that the states
+-- `new` stand for those with P, and a what a set was like that has waited; h and m are moments, xs and ys the states before and after the wait.
 use Rattle.std.proofs.Common.{◌≢◌, ◌≤◌, ◌<◌, inl, inr, ℕ, Option, List, [], ◌∷◌, All, AllPairs, Contains, map, length, get_or, arith}
 use Rattle.std.proofs.lemmas.List.{length-map}
 use Rattle.std.proofs.lemmas.List.Elements.{All-contains_itself, All-head, All-weaker, Contains-get_or}
@@ -33,6 +35,7 @@ wide_among P Q among w = record { many = w.many; distinct = w.distinct; wide = w
 pub wide_some : {X : Type 0} (P : X → Type 0) → IsWide P → (x : X) × P x
 wide_some {X} P w = go w.many w.wide w.each
   where
+    -- a list that is longer than the widest set has a first element
     go : (many : List X) → widest < length many → All P many → (x : X) × P x
     go [] wide each = absurd (omega arith)
     go (x ∷ many) wide each = (x, All-head P x many each)
@@ -45,7 +48,9 @@ few_narrow names InRange seen texts P new stands few w =
     let wide = w.wide in
     omega (arith, fits, length-map new (seen texts))
 
--- What follows is of the states of a set, which follow the rules r of a machine.
+-- What follows is of the states of a set by the rules r of a machine: `names` gives the messages that a state names, InRange says that its numbers are in
+-- range,
+-- and `seen` gives what it stands for beside the book `texts`.
 module _ {X S : Type 0} (names : S → List ℕ) (InRange : S → Type 0) (seen : Texts → S → X) (texts : Texts) (r : MachineRules X) where
   -- each state that an event gave can wait at the moment of the event
   pub took_waits : IsLawful r → (P : X → Type 0) (e : MachineEvent) (new : List S) → StandFor names InRange seen texts (RunGives r P e) new → All (λ s. Waits r (seen texts s) e.moment) new
@@ -62,6 +67,7 @@ took_kept names InRange seen r ended window until machine follows texts P e new 
     record {
       in_range = s.in_range;
       distinct = apart;
+      -- each new state can wait until the moment of the event, since it was led there at that moment
       waiting = All-weaker (λ x. Waits (r machine) (seen texts x) e.moment) (λ x. IsWithin e.moment (until machine x))
           (λ x. (seen_waits names InRange seen (r machine) (ended machine) (window machine) (until machine) follows texts e.moment x).0) new
           (took_waits names InRange seen texts (r machine) follows.lawful P e new s);
@@ -79,10 +85,12 @@ advanced_kept names InRange seen r ended window until machine follows h m xs ys 
       in_range = a.in_range;
       distinct = a.distinct;
       waiting = λ k d low. ((a.members (get_or ys k d)).0 (Contains-get_or ys k d low)).0;
+      -- there is at most one state more, and then ended is new
       few = elim a.grows [
         | inl fewer ↦ elim kept.few [
           | inl few ↦ inl (omega arith)
           | inr (most, there) ↦ inr (omega arith, (a.members (ended machine)).1 (IsWithin-none m (until machine (ended machine)) stays, inl there))
+          -- ended was added, so it was not there before
         ]
         | inr (more, absent, there) ↦ elim kept.few [
           | inl few ↦ inr (omega arith, there)

@@ -1,10 +1,9 @@
+-- The last moments on record with their indices, as the lines of an ordered set.
 use Rattle.std.specs.Prelude.{◌≡◌, ◌↔◌, ◌⊎◌, ◌==◌, ◌-◌, if◌then◌else◌, ℕ, true, Option, None, Some, slice_get}
 use Rattle.std.specs.Ordering.{nat_cmp, ordering_then}
 use Rattle.std.specs.declared.cmp.Ordering.{Ordering}
 use Rattle.std.specs.BTreeSet.{BTreeSet, contains}
 use Rattle.sip_states.specs.Agenda.{Records}
-
--- The last moments on record with their indices, as the lines of an ordered set.
 
 -- what is on record where this number stands for it: 0 for an index that is not settled, 1 for no last moment, and another one for the last moment that is 2 below it
 abbrev pub recorded : ℕ → Option (Option ℕ)

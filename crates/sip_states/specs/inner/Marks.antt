@@ -1,9 +1,8 @@
+-- Which indices are marked: they stand first in a list of all of them, and each has its place there.
 use Rattle.std.specs.Prelude.{◌≡◌, ◌<◌, ◌≤◌, ℕ, Bool, true, false, Some, List, [], map, length, nat_lt, get_or, set, slice_get}
 use Rattle.sip_states.specs.declared.any_set.AnySet.{AnySet}
 use Rattle.sip_states.specs.AnySet.{IsQuietSet}
 use Rattle.sip_states.specs.Sweep.{numbers_of}
-
--- Which indices are marked: they stand first in a list of all of them, and each has its place there.
 
 -- whether each index is marked
 abbrev pub marks : List ℕ → ℕ → List Bool

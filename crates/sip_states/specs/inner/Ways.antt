@@ -1,3 +1,4 @@
+-- The ways from one set of states to the next, as the code takes them.
 use Rattle.std.specs.Prelude.{◌≡◌, ◌≢◌, ◌≤◌, ◌+◌, ◌↔◌, ◌⊎◌, ℕ, Bool, true, Option, Some, None, List, All, AllPairs, Contains, map, length, nat_le}
 use Rattle.std.specs.List.{Any}
 use Rattle.sip_machine.specs.Limits.{IsWithin, IsOpenAt}
@@ -5,8 +6,6 @@ use Rattle.sip_machine.specs.Texts.{Texts}
 use Rattle.sip_standard.specs.MachineEvent.{MachineEvent}
 use Rattle.sip_machine.specs.Rules.{MachineRules, Waits}
 use Rattle.sip_states.specs.Runs.{Wait, RunGives}
-
--- The ways from one set of states to the next, as the code takes them.
 
 -- whether the moment is within the limit, where there is one
 abbrev pub is_within : ℕ → Option ℕ → Bool

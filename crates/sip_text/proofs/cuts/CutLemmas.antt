@@ -12,6 +12,7 @@ use Rattle.sip_text.proofs.texts.LacksLemmas.{Lacks}
 at_byte : (mark b : ℕ) (P : Bool → Type 0) → (nat_eq b mark ≡ true → P true) → (nat_eq b mark ≡ false → P false) → P (nat_eq b mark)
 at_byte mark b P yes_mark no_mark = go (nat_eq b mark) refl
   where
+    -- the claim holds whether or not the byte is the mark
     go : (same : Bool) → nat_eq b mark ≡ same → P same
     go true is = yes_mark is
     go false is = no_mark is
@@ -52,6 +53,8 @@ later_parts mark (Some text) = parts mark text
 pub parts-cut : (mark : ℕ) (text : List ℕ) → parts mark text ≡ before mark text ∷ later_parts mark (behind mark text)
 parts-cut mark [] = refl
 parts-cut mark (b ∷ text) =
+    -- `same` says whether the byte b is the mark: if it is, the first part is empty and the text behind it has the others; if not, b is put before the first
+    -- part
     at_byte mark b
     (λ same. cond same ([] ∷ parts mark text) (onto_first b (parts mark text))
     ≡ cond same [] (b ∷ before mark text) ∷ later_parts mark (cond same (Some text) (behind mark text)))
@@ -88,6 +91,7 @@ before-first mark zero (b ∷ text) within none is = (
   ap (λ same. cond same [] (b ∷ before mark text)) is,
   ap (λ same. cond same (Some text) (behind mark text)) is,
 )
+-- the first byte is not the mark, so it stands before it
 before-first mark (suc k) (b ∷ text) within none is =
     let other : nat_eq b mark ≡ false = false_from_ne_true (nat_eq b mark) (none 0 (omega arith) (omega arith)) in
     let rest = before-first mark k text (omega (arith, within)) (λ j low high. none (suc j) (omega arith) (omega arith)) is in
@@ -101,6 +105,7 @@ pub past-some : (mark : ℕ) (text rest : List ℕ) → past mark text ≡ Some 
 past-some mark [] rest is = cc
 past-some mark (b ∷ text) rest is = at (nat_eq b mark) refl is
   where
+    -- the claim holds whether or not the first byte is the mark
     at : (same : Bool) → nat_eq b mark ≡ same → cond same (Some text) None ≡ Some rest → b ∷ text ≡ mark ∷ rest
     at true same found = let rest_is : text ≡ rest = cc in ap (λ x. x ∷ text) (eqb-true b mark same) ∙ ap (λ t. mark ∷ t) rest_is
     at false same found = cc

@@ -35,7 +35,9 @@ double-nowhere (b ∷ a ∷ text) none =
 -- where k is the first place at which "::" begins, the first part of the text is its first k bytes, and the rest follows the "::"
 pub double-first : (k : ℕ) (text : List ℕ) → k < length text → is_double_at text k ≡ true → ((j : ℕ) → j < k → is_double_at text j ≡ false) → (before_double text ≡ take k text) × (behind_double text ≡ Some (drop (k + 2) text))
 double-first k [] within is none = absurd (omega (arith, within))
+-- the "::" begins at once
 double-first zero (b ∷ text) within is none = (ap (front_onto b text) is, ap (rest_onto text) is)
+-- it begins later, so that it begins in the rest of the text, one place earlier
 double-first (suc k) (b ∷ text) within is none =
     let here : is_double_at (b ∷ text) 0 ≡ false = none 0 (omega arith) in
     let rest = double-first k text (omega (arith, within)) (sym (double-later b k text) ∙ is) (λ j below. sym (double-later b j text) ∙ none (suc j) (omega (arith, below))) in
@@ -49,11 +51,12 @@ pub double-whole : (text rest : List ℕ) → behind_double text ≡ Some rest �
 double-whole [] rest is = cc
 double-whole (b ∷ text) rest is = at (is_double_at (b ∷ text) 0) refl is (double-whole text rest)
   where
+    -- where b and the first byte after it are colons, b and the text after it are "::" and the rest
     starts : (t : List ℕ) → b ≡ colon → slice_index t 0 ≡ colon → drop 1 t ≡ rest → b ∷ t ≡ double_colon ++ rest
     starts [] first second later = absurd (omega (arith, second))
     starts (a ∷ t) first second later = ap (λ x. x ∷ a ∷ t) first ∙ ap (λ x. colon ∷ x ∷ t) second ∙ ap (λ t'. colon ∷ colon ∷ t') later
 
-    -- whether "::" begins at the first byte
+    -- the claim holds whether or not "::" begins at the first byte
     at : (double : Bool) → is_double_at (b ∷ text) 0 ≡ double → rest_onto text double ≡ Some rest → (behind_double text ≡ Some rest → text ≡ before_double text ++ (double_colon ++ rest)) → b ∷ text ≡ front_onto b text double ++ (double_colon ++ rest)
     at true double found whole =
         let both = and_parts (nat_eq b colon) (nat_eq (slice_index text 0) colon) double in

@@ -1,4 +1,5 @@
 -- A text is stripped of the mark at its end in one way.
+-- In the lemmas u, or w, is what stands before the last byte b of a text.
 use Rattle.std.proofs.Common.{◌≡◌, ℕ, ◌-◌, ◌<◌, ◌⊎◌, Bool, true, false, ◌&&◌, nat_eq, nat_lt, cond, List, [], ◌∷◌, ◌++◌, length, take, slice_index, None, Some, refl, sym, ap, ◌∙◌, subst, inl, inr, arith}
 use Rattle.std.proofs.lemmas.Bool.{eqb-true, eq-eqb, lt-ltb}
 use Rattle.std.proofs.lemmas.List.{append_assoc, length-append}
@@ -36,6 +37,7 @@ up_to-end mark u b =
     ∙ ap (λ x. cond (nat_eq x mark) (Some (take (length u) text)) None) (slice_index-end u b)
     ∙ ap (λ t. cond (nat_eq b mark) (Some t) None) (take-end u b)
   where
+    -- u with the byte at its end
     text : List ℕ
     text = u ++ (b ∷ [])
 
@@ -50,6 +52,7 @@ up_to-some mark text u found = elim (last_byte text) [
   | inr more ↦ at more.0 more.1 more.2 (nat_eq more.1 mark) refl (sym (up_to-end mark more.0 more.1) ∙ sym (ap (up_to mark) more.2) ∙ found)
 ]
   where
+    -- the text is u and the mark, since u is what stands up to its last byte where this is the mark, and there is none where it is not
     at : (w : List ℕ) (b : ℕ) → text ≡ w ++ (b ∷ []) → (same : Bool) → nat_eq b mark ≡ same → cond same (Some w) None ≡ Some u → text ≡ u ++ (mark ∷ [])
     at w b whole true same is =
         let front : w ≡ u = cc in

@@ -44,6 +44,7 @@ behind_last-mark mark u v lacks =
     ap (λ o. option_map_or (λ w. drop (length w + 1) (u ++ (mark ∷ v))) o (u ++ (mark ∷ v))) (before_last-mark mark u v lacks)
     ∙ past_front u
   where
+    -- the bytes up to the mark after w are dropped
     past_front : (w : List ℕ) → drop (length w + 1) (w ++ (mark ∷ v)) ≡ v
     past_front w = let next : length w + 1 ≡ suc (length w) = omega arith in ap (λ n. drop n (w ++ (mark ∷ v))) next ∙ go w
       where
@@ -57,13 +58,14 @@ last-split : (mark : ℕ) (text u : List ℕ) → before_last mark text ≡ Some
 last-split mark [] u is = cc
 last-split mark (b ∷ text) u is = later (before_last mark text) (last-split mark text) is
   where
+    -- the claim holds whether or not the first byte is the mark
     here : (same : Bool) → nat_eq b mark ≡ same → cond same (Some []) None ≡ Some u → b ∷ text ≡ u ++ (mark ∷ drop (suc (length u)) (b ∷ text))
     here true same at =
         let empty : [] ≡ u = cc in
         ap (λ x. x ∷ text) (eqb-true b mark same) ∙ ap (λ t. t ++ (mark ∷ drop (suc (length t)) (b ∷ text))) empty
     here false same at = cc
 
-    -- the last mark stands in the rest of the text, or is the first byte
+    -- the claim holds whether or not the mark stands in the text after the first byte
     later : (o : Option (List ℕ)) → ((v : List ℕ) → o ≡ Some v → text ≡ v ++ (mark ∷ drop (suc (length v)) text)) → onto mark b o ≡ Some u → b ∷ text ≡ u ++ (mark ∷ drop (suc (length u)) (b ∷ text))
     later None split at = here (nat_eq b mark) refl at
     later (Some v) split at =

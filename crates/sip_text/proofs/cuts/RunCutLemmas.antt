@@ -41,10 +41,12 @@ pub run-mark : (test : ℕ → Bool) (mark n : ℕ) (text rest : List ℕ) → t
 run-mark test mark n text rest fails run found =
     let front = run-front test text in
     let lacks = lack-many mark (One test) (lack-one mark test fails) front.0 front.2 in
+    -- the run is as long as the front, and the mark follows it
     let len : n ≡ length front.0 = run ∙ front.4 in
     let tail : front.1 ≡ mark ∷ rest =
     sym (ap (λ m. drop m text) len ∙ ap (drop (length front.0)) front.3 ∙ drop-front front.0 front.1) ∙ past-some mark (drop n text) rest (sym found) in
     let split : text ≡ front.0 ++ led mark (Some rest) = front.3 ∙ ap (λ t. front.0 ++ t) tail in
+    -- the run is what stands before the first mark, and the rest what stands after it
     let first : front.0 ≡ before mark text = sym (before-led mark front.0 (Some rest) lacks) ∙ ap (before mark) (sym split) in (
       ap (λ m. take m text) len ∙ ap (take (length front.0)) front.3 ∙ take-front front.0 front.1 ∙ first,
       sym (behind-led mark front.0 (Some rest) lacks) ∙ ap (behind mark) (sym split),
@@ -61,9 +63,11 @@ pub run-other : (test : ℕ → Bool) (mark n : ℕ) (text : List ℕ) → test 
 run-other test mark n text fails run more missing =
     sym (false_from_ne_true (list_all test (before mark text)) (λ all. at (run ∙ run-before test mark text fails all) (behind mark text) refl))
   where
+    -- the run cannot end where the bytes before the first mark end, since neither the end nor the mark follows it
     at : n ≡ length (before mark text) → (o : Option (List ℕ)) → behind mark text ≡ o → ⊥
     at len None is = absurd (more (len
         ∙ sym (ap length (cut-whole mark text ∙ ap (λ o. before mark text ++ led mark o) is ∙ append-nil (before mark text)))))
+    -- if all bytes before the mark were of the class, the run would end at the mark
     at len (Some rest) is =
         let split : text ≡ before mark text ++ (mark ∷ rest) = cut-whole mark text ∙ ap (λ o. before mark text ++ led mark o) is in
         let tail : drop n text ≡ mark ∷ rest =

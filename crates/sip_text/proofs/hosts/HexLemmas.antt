@@ -1,4 +1,5 @@
 -- Hexseqs and hexparts, and their tests.
+-- In the lemmas u and v are what stands before and after, h is a first group, and us are the others, each after its colon.
 use Rattle.std.proofs.Common.{◌≡◌, ℕ, true, false, ◌&&◌, nat_eq, List, [], ◌∷◌, ◌++◌, Option, None, Some, length, slice_index, refl, sym, ap, ◌∙◌, subst, inl, inr, arith}
 use Rattle.std.specs.Prelude.{⊤}
 use Rattle.std.specs.List.{AllByRecursion, concat, slice_index_or}
@@ -44,7 +45,7 @@ optional-is : (text : List ℕ) → Optional Hexseq text → is_optional_hexseq 
 optional-is text (inl none) = subst (λ t. is_optional_hexseq t ≡ true) (sym none) refl
 optional-is text (inr seq) = or_right (nat_eq (length text) 0) (is_hexseq text) (hexseq-is text seq)
 
--- each colon of the text stands before a byte that is none, so that "::" begins nowhere in it
+-- each colon of the text stands before a byte that is no colon, so that "::" begins nowhere in it
 abbrev Single : List ℕ → Type 0
 Single [] = ⊤
 Single (b ∷ text) = ((nat_eq b colon && nat_eq (slice_index_or text 0 colon) colon) ≡ false) × Single text
@@ -75,6 +76,7 @@ single-hexseq : (text : List ℕ) → Hexseq text → Single text
 single-hexseq text (u, v, group, many, whole) =
     subst Single (sym (whole ∙ ap (λ t. u ++ t) many.2)) (go u many.0 group many.1)
   where
+    -- a hex4, and groups that each begin with one colon, have no "::" in them
     go : (h : List ℕ) (us : List (List ℕ)) → Hex4 h → AllByRecursion (Byte colon then Hex4) us → Single (h ++ concat us)
     go h [] one all = subst Single (sym (append-nil h)) (single-lacks h (lack-hex4 h one))
     go h (w ∷ us) one all =
@@ -91,18 +93,19 @@ next_default : (text : List ℕ) → nat_eq (slice_index_or text 0 colon) colon 
 next_default [] other = refl
 next_default (b ∷ text) other = other
 
--- a text in which each colon stands before a byte that is none has no "::"
+-- a text in which each colon stands before a byte that is no colon has no "::"
 single-none : (text : List ℕ) → Single text → behind_double text ≡ None
 single-none [] single = refl
 single-none (b ∷ text) single = ap (rest_onto text) here ∙ single-none text single.1
   where
+    -- no "::" stands at the front
     here : is_double_at (b ∷ text) 0 ≡ false
     here = elim (and_cases (nat_eq b colon) (nat_eq (slice_index_or text 0 colon) colon) single.0) [
       | inl other ↦ and_left (nat_eq b colon) (nat_eq (slice_index text 0) colon) other
       | inr other ↦ and_right (nat_eq b colon) (nat_eq (slice_index text 0) colon) (next_default text other)
     ]
 
--- where each colon of u stands before a byte that is none, u is the first part of u, "::" and v, and v follows the first "::"
+-- where each colon of u stands before a byte that is no colon, u is the first part of u, "::" and v, and v follows the first "::"
 single-double : (u v : List ℕ) → Single u → (before_double (u ++ (double_colon ++ v)) ≡ u) × (behind_double (u ++ (double_colon ++ v)) ≡ Some v)
 single-double [] v single = (refl, refl)
 single-double (b ∷ u) v single =
@@ -111,11 +114,12 @@ single-double (b ∷ u) v single =
       ap (rest_onto (u ++ (double_colon ++ v))) here ∙ rest.1,
     )
   where
-    -- a byte that is no colon is none with "::" after it either
+    -- the text begins with no colon, and so it does with "::" after it
     next : (t : List ℕ) → nat_eq (slice_index_or t 0 colon) colon ≡ false → nat_eq (slice_index (t ++ (double_colon ++ v)) 0) colon ≡ false
     next [] other = cc
     next (a ∷ t) other = other
 
+    -- no "::" stands at the front
     here : is_double_at (b ∷ (u ++ (double_colon ++ v))) 0 ≡ false
     here = elim (and_cases (nat_eq b colon) (nat_eq (slice_index_or u 0 colon) colon) single.0) [
       | inl other ↦ and_left (nat_eq b colon) (nat_eq (slice_index (u ++ (double_colon ++ v)) 0) colon) other
@@ -136,6 +140,7 @@ pub hexpart-is : (text : List ℕ) → Hexpart text → is_hexpart text ≡ true
 hexpart-is text (inl seq) =
     ap (λ o. option_map_or (λ r. is_optional_hexseq (before_double text) && is_optional_hexseq r) o (is_hexseq text)) (single-none text (single-hexseq text seq))
     ∙ hexseq-is text seq
+-- u is the groups before "::", v the rest after it, and t both without u
 hexpart-is text (inr (inl (u, t, seq, (mark, v, is_mark, rest, t_is), whole))) =
     double-is u v text (inr seq) rest (whole ∙ ap (λ x. u ++ x) (t_is ∙ ap (λ x. x ++ v) is_mark))
 hexpart-is text (inr (inr (mark, v, is_mark, rest, whole))) = double-is [] v text (inl refl) rest (whole ∙ ap (λ x. x ++ v) is_mark)
@@ -144,11 +149,12 @@ hexpart-is text (inr (inr (mark, v, is_mark, rest, whole))) = double-is [] v tex
 pub hexpart-yes : (text : List ℕ) → is_hexpart text ≡ true → Hexpart text
 hexpart-yes text pass = at (behind_double text) refl pass
   where
+    -- the text is a hexpart, whether "::" stands before, after or between groups, or alone
     split : (v : List ℕ) → Optional Hexseq (before_double text) → Optional Hexseq v → text ≡ before_double text ++ (double_colon ++ v) → Hexpart text
     split v (inl none) right whole = inr (inr (double_colon, v, refl, right, whole ∙ ap (λ x. x ++ (double_colon ++ v)) none))
     split v (inr seq) right whole = inr (inl (before_double text, double_colon ++ v, seq, (double_colon, v, refl, right, refl), whole))
 
-    -- whether the text has "::"
+    -- the claim holds whether or not the text has "::"
     at : (o : Option (List ℕ)) → behind_double text ≡ o → option_map_or (λ r. is_optional_hexseq (before_double text) && is_optional_hexseq r) o (is_hexseq text) ≡ true → Hexpart text
     at None is passes = inl (hexseq-yes text passes)
     at (Some v) is passes =
@@ -159,12 +165,13 @@ hexpart-yes text pass = at (behind_double text) refl pass
 pub open-yes : (text : List ℕ) → is_open text ≡ true → OpenHexpart (text ++ (colon ∷ []))
 open-yes text pass = at (up_to colon text) refl pass
   where
+    -- the text ends with one colon, so one more makes "::"
     ends : (u : List ℕ) → Optional Hexseq u → text ≡ u ++ (colon ∷ []) → OpenHexpart (text ++ (colon ∷ []))
     ends u (inl none) whole = inr (ap (λ t. t ++ (colon ∷ [])) (whole ∙ ap (λ t. t ++ (colon ∷ [])) none))
     ends u (inr seq) whole =
         inl (u, double_colon, seq, refl, ap (λ t. t ++ (colon ∷ [])) whole ∙ append_assoc u (colon ∷ []) (colon ∷ []))
 
-    -- whether the text ends with a colon
+    -- the claim holds whether or not the text ends with a colon
     at : (o : Option (List ℕ)) → up_to colon text ≡ o → option_map_or is_optional_hexseq o false ≡ true → OpenHexpart (text ++ (colon ∷ []))
     at None is passes = cc
     at (Some u) is passes = ends u (optional-yes u passes) (up_to-some colon text u is)
@@ -175,7 +182,9 @@ open-is text hexpart = elim hexpart [
   | inl ends ↦ at ends.0 (inr ends.2) (ends.4 ∙ ap (λ t. ends.0 ++ t) ends.3)
   | inr is ↦ at [] (inl refl) is
 ]
+  -- what stands before the last colon is a hexseq, or nothing, and one colon
   where
+    -- a text that ends with "::" is a front and a colon, and the front passes the test `is_open`
     at : (u : List ℕ) → Optional Hexseq u → text ≡ u ++ double_colon → (front : List ℕ) × (text ≡ front ++ (colon ∷ [])) × (is_open front ≡ true)
     at u optional whole = (
       u ++ (colon ∷ []),

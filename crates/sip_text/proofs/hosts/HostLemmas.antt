@@ -1,4 +1,5 @@
 -- A text is a host of one kind at most.
+-- A host is a name (`name`), an IPv4 address (`v4`) or an IPv6 address in brackets (`v6`).
 use Rattle.std.proofs.Common.{◌≡◌, ℕ, true, false, nat_eq, List, [], ◌∷◌, ◌++◌, refl, ap, ◌∙◌, subst, inl, inr, arith}
 use Rattle.std.specs.Int.{is_in_range}
 use Rattle.std.specs.Char.{is_ascii_alphabetic, is_ascii_digit}
@@ -58,6 +59,7 @@ IsOnlyHost text host = HostText text host × ((x : HostParts) → HostText text 
 pub only-v6 : (text : List ℕ) → is_v6_reference text ≡ true → IsOnlyHost text (v6 text)
 only-v6 text pass = ((reference-yes text pass, refl), only)
   where
+    -- the text is no other host than the IPv6 address in brackets
     only : (x : HostParts) → HostText text x → x ≡ v6 text
     only (name host) fits = absurd (bracketed text (reference-yes text pass) (lack-hostname left_bracket refl refl refl refl text fits.0))
     only (v4 host) fits = absurd (bracketed text (reference-yes text pass) (lack-v4 left_bracket refl refl text fits.0))
@@ -67,6 +69,7 @@ only-v6 text pass = ((reference-yes text pass, refl), only)
 pub only-v4 : (text : List ℕ) → is_v4 text ≡ true → IsOnlyHost text (v4 text)
 only-v4 text pass = ((v4-yes text pass, refl), only)
   where
+    -- the text is no other host than the IPv4 address
     only : (x : HostParts) → HostText text x → x ≡ v4 text
     only (name host) fits = absurd (lettered text fits.0 (v4-yes text pass))
     only (v4 host) fits = ap v4 fits.1
@@ -76,6 +79,7 @@ only-v4 text pass = ((v4-yes text pass, refl), only)
 pub only-name : (text : List ℕ) → is_hostname text ≡ true → IsOnlyHost text (name text)
 only-name text pass = ((hostname-yes text pass, refl), only)
   where
+    -- the text is no other host than the name
     only : (x : HostParts) → HostText text x → x ≡ name text
     only (name host) fits = ap name fits.1
     only (v4 host) fits = absurd (lettered text (hostname-yes text pass) fits.0)

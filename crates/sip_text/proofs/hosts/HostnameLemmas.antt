@@ -1,4 +1,5 @@
 -- Hostnames, and their test.
+-- In the lemmas us are labels with their dots, and w is the first of them.
 use Rattle.std.proofs.Common.{◌≡◌, ℕ, ◌<◌, Bool, true, false, nat_eq, List, [], ◌∷◌, ◌++◌, Option, None, Some, unwrap_or, length, slice_index, refl, sym, ap, ◌∙◌, subst, inl, inr, arith}
 use Rattle.std.specs.List.{AllByRecursion, concat, join_with_byte, list_all}
 use Rattle.std.specs.Char.{is_ascii_alphabetic, is_ascii_alphanumeric}
@@ -69,8 +70,10 @@ name-is : (text : List ℕ) → Name text → are_labels (parts dot text) ≡ tr
 name-is text (u, top, many, is_top, whole) =
     ap (λ t. are_labels (parts dot t)) (whole ∙ ap (λ t. t ++ top) many.2) ∙ go many.0 many.1
   where
+    -- labels with dots between them, and the last label, pass the test
     go : (us : List (List ℕ)) → AllByRecursion (Label is_ascii_alphanumeric then Byte dot) us → are_labels (parts dot (concat us ++ top)) ≡ true
     go [] all = ap are_labels (parts-one dot top (lack-top top is_top)) ∙ top-is top is_top
+    -- the first label and its dot come before the others
     go (w ∷ us) all =
         ap (λ t. are_labels (parts dot t)) (spelled w all.0)
         ∙ ap are_labels (parts-mark dot all.0.0 (concat us ++ top) (lack-domain all.0.0 all.0.2))
@@ -92,8 +95,10 @@ name-yes text pass =
     subst Name (ap (join_with_byte dot) (sym cut) ∙ join_with_byte-slice_split dot text)
     (go (before dot text) (later_parts dot (behind dot text)) (ap are_labels (sym cut) ∙ pass))
   where
+    -- labels that pass the test, with dots between them, are a name
     go : (label : List ℕ) (labels : List (List ℕ)) → are_labels (label ∷ labels) ≡ true → Name (join_with_byte dot (label ∷ labels))
     go label [] pass = ([], label, many-nil (Label is_ascii_alphanumeric then Byte dot), top-yes label pass, refl)
+    -- the first label passes its test, and the others are a hostname
     go label (next ∷ labels) pass =
         let both = and_parts (is_label label) (are_labels (next ∷ labels)) pass in
         let rest = go next labels both.1 in (
@@ -108,10 +113,12 @@ name-yes text pass =
 -- a hostname passes the test
 pub hostname-is : (text : List ℕ) → Hostname text → is_hostname text ≡ true
 hostname-is text (u, t, many, (top, end, is_top, inl none, t_is), whole) =
+    -- without a dot at its end the text is labels (u) and the top label, which has no dot
     let name : text ≡ u ++ top = whole ∙ ap (λ x. u ++ x) (t_is ∙ ap (λ x. top ++ x) none ∙ append-nil top) in
     let no_dot : up_to dot text ≡ None = ap (up_to dot) name ∙ up_to-lacks dot u top (lack-top top is_top) (long-label is_ascii_alphabetic top is_top) in
     ap (λ o. are_labels (parts dot (unwrap_or o text))) no_dot ∙ name-is text (u, top, many, is_top, name)
 hostname-is text (u, t, many, (top, end, is_top, inr is_dot, t_is), whole) =
+    -- with a dot at its end it is these and the dot, which the test takes off
     let name : text ≡ (u ++ top) ++ (dot ∷ []) =
     whole ∙ ap (λ x. u ++ x) (t_is ∙ ap (λ x. top ++ x) is_dot) ∙ sym (append_assoc u top (dot ∷ [])) in
     ap (λ o. are_labels (parts dot (unwrap_or o text))) (ap (up_to dot) name ∙ up_to-mark dot (u ++ top))
@@ -121,11 +128,12 @@ hostname-is text (u, t, many, (top, end, is_top, inr is_dot, t_is), whole) =
 pub hostname-yes : (text : List ℕ) → is_hostname text ≡ true → Hostname text
 hostname-yes text pass = at (up_to dot text) refl pass
   where
+    -- a name with an optional dot at its end is a hostname
     named : (name end : List ℕ) → Name name → Optional (Byte dot) end → Hostname (name ++ end)
     named name end (u, top, many, is_top, whole) optional =
         (u, top ++ end, many, (top, end, is_top, optional, refl), ap (λ x. x ++ end) whole ∙ append_assoc u top end)
 
-    -- whether the text ends with a dot
+    -- the claim holds whether or not the text ends with a dot
     at : (o : Option (List ℕ)) → up_to dot text ≡ o → are_labels (parts dot (unwrap_or o text)) ≡ true → Hostname text
     at None is passes = subst Hostname (append-nil text) (named text [] (name-yes text passes) (inl refl))
     at (Some name) is passes =

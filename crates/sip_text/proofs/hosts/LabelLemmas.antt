@@ -47,14 +47,16 @@ pub labels-last_run : (text : List ℕ) → list_all is_label_byte (before dot t
 labels-last_run text run none =
     labels-last text none ∙ ap (λ all. has_top_ends (before dot text) && all) run ∙ alone (has_top_ends (before dot text))
   where
+    -- a test that is joined by "and" with one that always passes says what it says alone
     alone : (x : Bool) → (x && true) ≡ x
     alone true = refl
     alone false = refl
 
--- where the first part has a byte that is none of a label, the parts do not pass the test of labels
+-- where the first part has a byte that no label has, the parts do not pass the test of labels
 pub labels-other : (text : List ℕ) → list_all is_label_byte (before dot text) ≡ false → are_labels (parts dot text) ≡ false
 labels-other text other = at (behind dot text) refl
   where
+    -- the claim holds whether or not the text has a dot
     at : (o : Option (List ℕ)) → behind dot text ≡ o → are_labels (parts dot text) ≡ false
     at None is = labels-last text is ∙ and_right (has_top_ends (before dot text)) (list_all is_label_byte (before dot text)) other
     at (Some rest) is =
@@ -64,6 +66,7 @@ labels-other text other = at (behind dot text) refl
 pub other_byte : (test : ℕ → Bool) (mark b : ℕ) → test mark ≡ false → test b ≡ true → nat_eq b mark ≡ false
 other_byte test mark b fails pass = at (nat_eq b mark) refl
   where
+    -- b is not the mark, whatever the test of it says, since b passes and the mark does not
     at : (same : Bool) → nat_eq b mark ≡ same → nat_eq b mark ≡ false
     at true is = absurd (both_ways (test mark) fails (ap test (sym (eqb-true b mark is)) ∙ pass))
     at false is = is
@@ -120,6 +123,7 @@ pub label-is : (first : ℕ → Bool) (text : List ℕ) → ((b : ℕ) → first
 label-is first text within (inl one) =
     let alphanumeric = within one.0 one.1 in
     subst (λ t. (is_label t ≡ true) × (first (slice_index t 0) ≡ true)) (sym one.2) (
+      -- the label is one byte, which is no hyphen
       passes_from (one.0 ∷ []) (record {
         long = refl;
         first = no_hyphen one.0 alphanumeric;
@@ -128,12 +132,15 @@ label-is first text within (inl one) =
       }),
       one.1,
     )
+-- the label has two bytes or more: the first and the last are letters or digits, and those between are bytes of labels
+-- u is the first byte, m those between and e the last one; t is m and e
 label-is first text within (inr (u, t, one, (m, e, many, last, t_is), whole)) =
     subst (λ x. (is_label x ≡ true) × (first (slice_index x 0) ≡ true)) (sym split) (
       passes_from (one.0 ∷ (m ++ (last.0 ∷ []))) (record {
         long = lt-ltb 0 (length (one.0 ∷ (m ++ (last.0 ∷ [])))) (omega arith);
         first = no_hyphen one.0 alphanumeric;
         last = ap (λ x. nat_eq x hyphen) (last_of one.0 last.0 m) ∙ no_hyphen last.0 last.1;
+        -- all bytes of the label are bytes of labels
         bytes = and_from _ _ (label_byte one.0 alphanumeric)
             (run-list_all is_label_byte (m ++ (last.0 ∷ []))
             (many-push (One is_label_byte) m (last.0 ∷ []) many (last.0, label_byte last.0 last.1, refl)));
@@ -141,9 +148,11 @@ label-is first text within (inr (u, t, one, (m, e, many, last, t_is), whole)) =
       one.1,
     )
   where
+    -- the first byte of the label is a letter or a digit
     alphanumeric : is_ascii_alphanumeric one.0 ≡ true
     alphanumeric = within one.0 one.1
 
+    -- the label is its first byte, what stands between, and its last byte
     split : text ≡ one.0 ∷ (m ++ (last.0 ∷ []))
     split = whole ∙ ap (λ x. x ++ t) one.2 ∙ ap (λ x. one.0 ∷ x) (t_is ∙ ap (λ x. m ++ x) last.2)
 
@@ -163,16 +172,19 @@ label-yes first (b ∷ text) pass starts = elim (last_byte text) [
   | inr more ↦ longer more.0 more.1 more.2
 ]
   where
+    -- the parts of the test all pass
     passes : LabelPasses (b ∷ text)
     passes = passes_parts (b ∷ text) pass
 
     -- where more bytes follow the first, of which e is the last, the text is a label
     longer : (m : List ℕ) (e : ℕ) → text ≡ m ++ (e ∷ []) → Label first (b ∷ text)
     longer m e is =
+        -- the last byte is no hyphen
         let bytes = list_all-end is_label_byte (b ∷ m) e (ap (λ t. list_all is_label_byte (b ∷ t)) (sym is) ∙ passes.bytes) in
         let inner = and_parts (is_label_byte b) (list_all is_label_byte m) bytes.0 in
         let plain : nat_eq e hyphen ≡ false =
         ap (λ x. nat_eq x hyphen) (sym (last_of b e m)) ∙ ap (λ t. nat_eq (slice_index (b ∷ t) (length (b ∷ t) - 1)) hyphen) (sym is) ∙ passes.last in
+        -- the label is its first byte, those between, and the last one
         inr (
           b ∷ [],
           text,

@@ -1,4 +1,5 @@
 -- The profile's hosts and URIs are the texts that have the parts of one.
+-- A host is a name (`name`), an IPv4 address (`v4`) or an IPv6 address in brackets (`v6`).
 use Rattle.std.proofs.Common.{◌≡◌, ℕ, Bool, true, false, List, [], ◌∷◌, ◌++◌, Option, None, Some, IsNone, IfSome, inl, inr, refl, sym, ap, ◌∙◌}
 use Rattle.std.proofs.lemmas.Bool.{both_ways}
 use Rattle.std.proofs.lemmas.List.{append_assoc}
@@ -56,7 +57,10 @@ record Info (text : List ℕ) : Type 0 where
 -- an optional userinfo of the profile is the text of a user and a password, or of none
 optional-userinfo : (text : List ℕ) → Optional Userinfo text → Info text
 optional-userinfo text (inl none) = record { user = None; password = None; user_fits = tt; fits = tt; owner = λ is. is; whole = none }
+-- this clause is of a user, perhaps with a password, and an "@"
+-- u is the user and v what follows: w the password with its colon, and x the "@"
 optional-userinfo text (inr (u, v, user, (w, x, word, at, v_is), whole)) =
+    -- `password` is the password that w has, if w is not empty
     let password = optional-led colon Password w word in
     record {
       user = Some u;
@@ -79,12 +83,15 @@ named-scheme text (inr is) = (true, is)
 
 -- a URI of the profile has parts
 pub uri-parts : (text : List ℕ) → Uri text → (p : UriParts) × UriText text p
+-- s is the scheme, c the colon, i the userinfo, h the host, o the port, and a and b the parameters and the headers; r1 to r5 are what follows each, and e0 to
+-- e5 say so
 uri-parts text (inl (s, r1, scheme, (c, r2, c_is, (i, r3, info, (h, r4, host, (o, r5, port, (a, b, params, headers, e5), e4), e3), e2), e1), e0)) =
     let named = named-scheme s scheme in
     let info_parts = optional-userinfo i info in
     let host_is = host-parts h host in
     let port_is = optional-led colon Port o port in
     let headers_is = optional-led question Headers b headers in
+    -- each part stands where its text is in the URI
     let p : SipParts = record { secure = named.0; user = info_parts.user; password = info_parts.password; host = host_is.0; port = port_is.0; params = a; headers = headers_is.0 } in
     let rest : r3 ≡ hostport_text p.host p.port ++ p.params ++ led question p.headers =
     e3 ∙ ap (λ t. t ++ r4) host_is.2 ∙ ap (λ t. host_text host_is.0 ++ t) (e4 ∙ ap (λ t. t ++ r5) port_is.2 ∙ ap (λ t. led colon port_is.0 ++ t) (e5 ∙ ap (λ t. a ++ t) headers_is.2))
@@ -93,22 +100,25 @@ uri-parts text (inl (s, r1, scheme, (c, r2, c_is, (i, r3, info, (h, r4, host, (o
       (
         s,
         named.1,
+        -- the parts fit, and their texts in a row are the whole text
         record { user = info_parts.user_fits; password = info_parts.fits; owner = info_parts.owner; host = host_is.1; port = port_is.1; params = params; headers = headers_is.1 },
         e0 ∙ ap (λ t. s ++ t) (e1 ∙ ap (λ t. t ++ r2) c_is ∙ ap (λ t. colon ∷ t) (e2 ∙ ap (λ t. t ++ r3) info_parts.whole ∙ ap (λ t. userinfo_text info_parts.user info_parts.password ++ t) rest)),
       ),
     )
+-- s is the scheme, c the colon and w the rest; v is c and w
 uri-parts text (inr (s, v, (scheme, none), (c, w, c_is, some, v_is), whole)) =
     (other s w, (scheme, (λ secure same. none (scheme-named s secure same)), some, whole ∙ ap (λ t. s ++ t) (v_is ∙ ap (λ t. t ++ w) c_is)))
 
 -- a text with the parts of a URI is a URI of the profile
 pub parts-uri : (text : List ℕ) (p : UriParts) → UriText text p → Uri text
--- a SIP URI
+-- this clause is of a SIP URI
 parts-uri text (sip p) (scheme, same, fits, whole) =
     let behind : List ℕ = p.params ++ led question p.headers in
     inl (
       scheme,
       colon ∷ sip_text p,
       scheme-named scheme p.secure same,
+      -- the scheme and the colon stand before the rest
       (
         colon ∷ [],
         sip_text p,
@@ -121,11 +131,13 @@ parts-uri text (sip p) (scheme, same, fits, whole) =
           (
             host_text p.host,
             led colon p.port ++ behind,
+            -- after the host come the port, the parameters and the headers
             parts-host (host_text p.host) p.host fits.host,
             (
               led colon p.port,
               behind,
               led-optional colon Port p.port fits.port,
+              -- the parameters and the headers stand at the end
               (p.params, led question p.headers, fits.params, led-optional question Headers p.headers fits.headers, refl),
               refl,
             ),
@@ -137,6 +149,6 @@ parts-uri text (sip p) (scheme, same, fits, whole) =
       ),
       whole,
     )
--- another URI
+-- this clause is of any other URI
 parts-uri text (other scheme rest) (is, none, some, whole) =
     inr (scheme, colon ∷ rest, (is, λ same. let named = named-scheme scheme same in none named.0 named.1), (colon ∷ [], rest, refl, some, refl), whole)

@@ -22,9 +22,11 @@ lack-decimal mark other = lack-between mark 1 3 (One is_ascii_digit) (lack-one m
 decimal_dot-yes : (later : List ℕ → Bool) (Q : List ℕ → Type 0) (text : List ℕ) → ((t : List ℕ) → later t ≡ true → Q t) → is_decimal_dot later text ≡ true → (DecimalGroup then Byte dot then Q) text
 decimal_dot-yes later Q text each pass = at (is_decimal (before dot text)) (behind dot text) refl refl pass
   where
+    -- the text is digits, a dot and a text of Q, since the test passes only where digits stand before a dot
     at : (digits : Bool) (o : Option (List ℕ)) → is_decimal (before dot text) ≡ digits → behind dot text ≡ o → option_map_or later (cond digits o None) false ≡ true → (DecimalGroup then Byte dot then Q) text
     at false o none is passes = cc
     at true None some is passes = cc
+    -- the digits, the dot and what follows it are the text
     at true (Some rest) some is passes = (
       before dot text,
       dot ∷ rest,
@@ -35,6 +37,7 @@ decimal_dot-yes later Q text each pass = at (is_decimal (before dot text)) (behi
 
 -- where each text of Q passes `later`, digits, a dot and a text of Q pass the test of digits, a dot and `later`
 decimal_dot-is : (later : List ℕ → Bool) (Q : List ℕ → Type 0) (text : List ℕ) → ((t : List ℕ) → Q t → later t ≡ true) → (DecimalGroup then Byte dot then Q) text → is_decimal_dot later text ≡ true
+-- u is the digits, v the text of Q, and t the dot and v
 decimal_dot-is later Q text each (u, t, group, (mark, v, is_mark, one, t_is), whole) =
     let split : text ≡ u ++ led dot (Some v) = whole ∙ ap (λ x. u ++ x) (t_is ∙ ap (λ x. x ++ v) is_mark) in
     let lacks = lack-decimal dot refl u group in
@@ -56,9 +59,11 @@ LastThree = DecimalGroup then Byte dot then LastTwo
 pub v4-yes : (text : List ℕ) → is_v4 text ≡ true → Ipv4 text
 v4-yes text pass = decimal_dot-yes (is_decimal_dot (is_decimal_dot is_decimal)) LastThree text three pass
   where
+    -- what passes the test of the last two numbers is two numbers
     two : (t : List ℕ) → is_decimal_dot is_decimal t ≡ true → LastTwo t
     two t = decimal_dot-yes is_decimal DecimalGroup t (between-group variant.Digit 3)
 
+    -- what passes the test of the last three numbers is three numbers
     three : (t : List ℕ) → is_decimal_dot (is_decimal_dot is_decimal) t ≡ true → LastThree t
     three t = decimal_dot-yes (is_decimal_dot is_decimal) LastTwo t two
 
@@ -66,9 +71,11 @@ v4-yes text pass = decimal_dot-yes (is_decimal_dot (is_decimal_dot is_decimal)) 
 pub v4-is : (text : List ℕ) → Ipv4 text → is_v4 text ≡ true
 v4-is text v4 = decimal_dot-is (is_decimal_dot (is_decimal_dot is_decimal)) LastThree text three v4
   where
+    -- two numbers pass the test of the last two
     two : (t : List ℕ) → LastTwo t → is_decimal_dot is_decimal t ≡ true
     two t = decimal_dot-is is_decimal DecimalGroup t (group-between variant.Digit 3)
 
+    -- three numbers pass the test of the last three
     three : (t : List ℕ) → LastThree t → is_decimal_dot (is_decimal_dot is_decimal) t ≡ true
     three t = decimal_dot-is (is_decimal_dot is_decimal) LastTwo t two
 
@@ -76,6 +83,7 @@ v4-is text v4 = decimal_dot-is (is_decimal_dot (is_decimal_dot is_decimal)) Last
 pub lack-v4 : (mark : ℕ) → is_ascii_digit mark ≡ false → nat_eq dot mark ≡ false → AllLack mark Ipv4
 lack-v4 mark no_digit other = before_dot LastThree (before_dot LastTwo (before_dot DecimalGroup (lack-decimal mark no_digit)))
   where
+    -- digits and a dot before a text of Q lack the mark where Q does
     before_dot : (Q : List ℕ → Type 0) → AllLack mark Q → AllLack mark (DecimalGroup then Byte dot then Q)
     before_dot Q lack =
         lack-then mark DecimalGroup (Byte dot then Q) (lack-decimal mark no_digit) (lack-then mark (Byte dot) Q (lack-byte mark dot other) lack)

@@ -25,10 +25,12 @@ pub v6-is : (text : List ℕ) → Ipv6 text → is_v6 text ≡ true
 v6-is text (inl (hexpart, end, is_hex, inl none, whole)) =
     let all : text ≡ hexpart = whole ∙ ap (λ t. hexpart ++ t) none ∙ append-nil hexpart in
     or_left (is_hexpart text) (has_v4_tail text) (ap is_hexpart all ∙ hexpart-is hexpart is_hex)
+-- this clause is of a hexpart, a colon and an IPv4 address
 v6-is text (inl (hexpart, end, is_hex, inr (mark, v4, is_mark, address, end_is), whole)) =
     or_right (is_hexpart text) (has_v4_tail text)
     (tail-is text hexpart v4 (or_left (is_hexpart hexpart) (is_open hexpart) (hexpart-is hexpart is_hex)) address
     (whole ∙ ap (λ t. hexpart ++ t) (end_is ∙ ap (λ t. t ++ v4) is_mark)))
+-- this clause is of a hexpart that ends with "::", and an IPv4 address
 v6-is text (inr (hexpart, v4, is_hex, address, whole)) =
     let front = open-is hexpart is_hex in
     or_right (is_hexpart text) (has_v4_tail text)
@@ -39,9 +41,11 @@ v6-is text (inr (hexpart, v4, is_hex, address, whole)) =
 tail-yes : (text : List ℕ) → has_v4_tail text ≡ true → Ipv6 text
 tail-yes text pass = at (before_last colon text) refl pass
   where
+    -- the text after the last colon
     v4 : List ℕ
     v4 = behind_last colon text
 
+    -- the claim holds whether or not the text has a colon
     at : (o : Option (List ℕ)) → before_last colon text ≡ o → option_map_or (λ f. is_v4 v4 && is_before_v4 f) o false ≡ true → Ipv6 text
     at None is passes = cc
     at (Some front) is passes =
@@ -73,12 +77,13 @@ reference-is text (first, t, is_first, (inner, last, address, is_last, t_is), wh
 pub reference-yes : (text : List ℕ) → is_v6_reference text ≡ true → Bracketed text
 reference-yes text pass = begins (past left_bracket text) refl pass
   where
+    -- the text is an IPv6 reference, since it ends with "]" where the test passes
     ends : (rest : List ℕ) → text ≡ left_bracket ∷ rest → (o : Option (List ℕ)) → up_to right_bracket rest ≡ o → option_map_or is_v6 o false ≡ true → Bracketed text
     ends rest whole None is passes = cc
     ends rest whole (Some inner) is passes =
         (left_bracket ∷ [], rest, refl, (inner, right_bracket ∷ [], v6-yes inner passes, refl, up_to-some right_bracket rest inner is), whole)
 
-    -- the text begins with "["
+    -- the text is an IPv6 reference, since it begins with "[" where the test passes
     begins : (o : Option (List ℕ)) → past left_bracket text ≡ o → option_map_or (λ rest. option_map_or is_v6 (up_to right_bracket rest) false) o false ≡ true → Bracketed text
     begins None is passes = cc
     begins (Some rest) is passes = ends rest (past-some left_bracket text rest is) (up_to right_bracket rest) refl passes

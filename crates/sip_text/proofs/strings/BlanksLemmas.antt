@@ -25,11 +25,13 @@ blanks-wsp u many = many-map (One is_wsp) Blank u blank-wsp many
 pub blanks-lws : (u : List ℕ) → Lws u → Many Blank u
 blanks-lws u (front, wsp, inl none, some, whole) =
     subst (Many Blank) (sym (whole ∙ ap (λ t. t ++ wsp) none)) (blanks-wsp wsp (many-some (One is_wsp) wsp some))
+-- blanks, a line end and a blank after it: a fold among blanks
 blanks-lws u (front, wsp, inr (before, end, many, is_end, front_is), (first, more, one, others, wsp_is), whole) =
     subst (Many Blank) (sym split)
     (many-append Blank before ((crlf ++ (one.0 ∷ [])) ++ more) (blanks-wsp before many)
     (many-cons Blank (crlf ++ (one.0 ∷ [])) more (blank-fold one.0 one.1) (blanks-wsp more others)))
   where
+    -- the text is these parts in a row
     split : u ≡ before ++ ((crlf ++ (one.0 ∷ [])) ++ more)
     split =
         whole ∙ ap (λ t. t ++ wsp) front_is
@@ -54,9 +56,11 @@ blanks-units text many = some-many Lws text (many-map Blank Lws text lws-blank m
 -- where a blank stands at the front of a text, `blank_len` gives its length
 blank-at_front : (u v : List ℕ) → Blank u → blank_len (u ++ v) ≡ length u
 blank-at_front u v (front, b, inl none, one, whole) =
+    -- the blank is one byte, SP or HTAB, and the length of such a one is 1
     let text : u ≡ one.0 ∷ [] = whole ∙ ap (λ t. t ++ b) none ∙ one.2 in
     ap (λ t. blank_len (t ++ v)) text ∙ ap (λ w. cond w 1 (cond (begins_with_fold (one.0 ∷ v)) 3 0)) one.1 ∙ sym (ap length text)
 blank-at_front u v (front, b, inr fold, one, whole) =
+    -- the blank is CR, LF and a byte, and the length of such a fold is 3
     let text : u ≡ crlf ++ (one.0 ∷ []) = whole ∙ ap (λ t. t ++ b) fold ∙ ap (λ t. crlf ++ t) one.2 in
     ap (λ t. blank_len (t ++ v)) text ∙ ap (λ w. cond w 3 0) one.1 ∙ sym (ap length text)
 
@@ -73,12 +77,13 @@ blank-piece : (text : List ℕ) → (blank_len text ≡ 0) ⊎ HasFront Blank te
 blank-piece [] = inl refl
 blank-piece (a ∷ text) = at (is_wsp a) refl
   where
+    -- CR, LF and a WSP are a blank of three bytes
     fold : (t : List ℕ) → a ≡ carriage_return → slice_index t 0 ≡ line_feed → is_wsp (slice_index t 1) ≡ true → HasFront Blank (a ∷ t) 3
     fold [] cr lf wsp = absurd (omega (arith, lf))
     fold (l ∷ []) cr lf wsp = cc
     fold (l ∷ b ∷ t) cr lf wsp = (crlf ++ (b ∷ []), t, blank-fold b wsp, ap (λ x. x ∷ l ∷ b ∷ t) cr ∙ ap (λ x. carriage_return ∷ x ∷ b ∷ t) lf, refl)
 
-    -- whether a fold stands there
+    -- the claim holds whether or not a fold stands there
     folds : (is : Bool) → begins_with_fold (a ∷ text) ≡ is → (fold_len is ≡ 0) ⊎ HasFront Blank (a ∷ text) (fold_len is)
     folds false is = inl refl
     folds true is =
@@ -86,7 +91,7 @@ blank-piece (a ∷ text) = at (is_wsp a) refl
         let ends = and_parts _ _ both.0 in
         inr (fold text (eqb-true _ _ ends.0) (eqb-true _ _ ends.1) both.1)
 
-    -- whether the first byte is SP or HTAB
+    -- the claim holds whether or not the first byte is SP or HTAB
     at : (wsp : Bool) → is_wsp a ≡ wsp → (cond wsp 1 (fold_len (begins_with_fold (a ∷ text))) ≡ 0) ⊎ HasFront Blank (a ∷ text) (cond wsp 1 (fold_len (begins_with_fold (a ∷ text))))
     at true is = inr (a ∷ [], text, blank-wsp (a ∷ []) (a, is, refl), refl, refl)
     at false is = folds (begins_with_fold (a ∷ text)) refl
@@ -111,20 +116,21 @@ longest-blanks text n front stops = record {
 pub blanks-longest : (text : List ℕ) (n : ℕ) → IsLongestFront Blanks text n → HasFront (Many Blank) text n × (blank_len (drop n text) ≡ 0)
 blanks-longest text n run = (units, stops (blank_len (drop n text)) refl)
   where
+    -- the run is any number of blanks
     units : HasFront (Many Blank) text n
     units = elim run.front [
       | inl none ↦ subst (HasFront (Many Blank) text) (sym none) ([], text, many-nil Blank, refl, refl)
       | inr front ↦ (front.0, front.1, units-blanks front.0 front.2, front.3, front.4)
     ]
 
-    -- no longer blank run stands at the front
+    -- no blank run at the front of the text is longer than n bytes
     longer : (k : ℕ) → HasFront (Many Blank) text (n + suc k) → ⊥
     longer k front = elim (blanks-units front.0 front.2) [
       | inl none ↦ absurd (omega (arith, front.4, ap length none))
       | inr blanks ↦ absurd (omega (arith, run.longest (n + suc k) (front.0, front.1, blanks, front.3, front.4)))
     ]
 
-    -- a blank after the run would make it longer
+    -- no blank stands after the run, since it would make the run longer
     stops : (k : ℕ) → k ≡ blank_len (drop n text) → k ≡ 0
     stops zero is = refl
     stops (suc k) is =

@@ -1,4 +1,5 @@
 -- A quoted string: its blanks, its quotes and its pieces stand where the reader finds them.
+-- In the lemmas u is a blank or a piece and v what follows it; n is the length of the blanks before the first quote, and k that of the pieces after it.
 use Rattle.std.proofs.Common.{◌≡◌, ℕ, ◌+◌, ◌<◌, ◌⊎◌, Bool, true, false, ◌&&◌, nat_eq, nat_lt, List, [], ◌∷◌, ◌++◌, None, Some, length, drop, slice_index, cond, refl, sym, ap, ◌∙◌, subst, inl, inr, arith}
 use Rattle.std.proofs.lemmas.Bool.{and_from, and_parts, or_cases, eqb-true, lt-ltb, ltb-true}
 use Rattle.std.proofs.lemmas.List.{append_assoc, length-append}
@@ -15,7 +16,7 @@ use Rattle.sip_text.proofs.texts.ManyLemmas.{many-nil, many-one, many-map, many-
 use Rattle.sip_text.proofs.cuts.CutLemmas.{past-some}
 use Rattle.sip_text.proofs.strings.BlanksLemmas.{units-blanks, blanks-units, blanks-lws, lws-blank, blank-step}
 
--- the byte is none of qdtext, and begins no pair
+-- the byte is no byte of qdtext, and begins no quoted pair
 abbrev IsPlain : ℕ → Type 0
 IsPlain b = (is_quoted_byte b ≡ false) × (nat_eq b backslash ≡ false)
 
@@ -35,6 +36,7 @@ item-blank u v (front, b, inl none, one, whole) =
     ∙ ap (λ q. cond q 1 (cond (begins_with_pair (one.0 ∷ v)) 2 (blank_len (one.0 ∷ v)))) plain.0
     ∙ ap (λ q. cond (q && nat_lt 1 (length (one.0 ∷ v)) && is_escaped_byte (slice_index (one.0 ∷ v) 1)) 2 (blank_len (one.0 ∷ v))) plain.1
     ∙ sym (ap (λ t. blank_len (t ++ v)) text)
+-- the blank is a fold, which begins with no plain byte and no escape
 item-blank u v (front, b, inr fold, one, whole) =
     let text : u ≡ crlf ++ (one.0 ∷ []) = whole ∙ ap (λ t. t ++ b) fold ∙ ap (λ t. crlf ++ t) one.2 in
     ap (λ t. item_len (t ++ v)) text ∙ sym (ap (λ t. blank_len (t ++ v)) text)
@@ -45,6 +47,7 @@ item-at_front u v (inl byte) =
     ap (λ t. item_len (t ++ v)) byte.2
     ∙ ap (λ q. cond q 1 (cond (begins_with_pair (byte.0 ∷ v)) 2 (blank_len (byte.0 ∷ v)))) byte.1
     ∙ sym (ap length byte.2)
+-- an escaped byte is two bytes, and a blank has the length of its own
 item-at_front u v (inr (inl pair)) =
     let text : u ≡ backslash ∷ pair.3.0 ∷ [] = pair.4 ∙ ap (λ t. t ++ pair.1) pair.2 ∙ ap (λ t. backslash ∷ t) pair.3.2 in
     let long : nat_lt 1 (length (backslash ∷ pair.3.0 ∷ v)) ≡ true = lt-ltb 1 (length (backslash ∷ pair.3.0 ∷ v)) (omega arith) in
@@ -64,6 +67,7 @@ item-piece : (text : List ℕ) → (item_len text ≡ 0) ⊎ HasFront QuotedItem
 item-piece [] = inl refl
 item-piece (a ∷ text) = at (is_quoted_byte a) refl
   where
+    -- the length of the piece: 2 for a quoted pair, and else that of the blank at the front
     other_len : Bool → ℕ
     other_len pair = cond pair 2 (blank_len (a ∷ text))
 
@@ -73,13 +77,14 @@ item-piece (a ∷ text) = at (is_quoted_byte a) refl
     pair_at (b ∷ t) long is escaped =
         (backslash ∷ b ∷ [], t, inr (inl (backslash ∷ [], b ∷ [], refl, (b, escaped, refl), refl)), ap (λ x. x ∷ b ∷ t) is, refl)
 
+    -- a blank at the front is a piece
     blank_at : (blank_len (a ∷ text) ≡ 0) ⊎ HasFront QuotedItem (a ∷ text) (blank_len (a ∷ text))
     blank_at = elim (blank-step.piece (a ∷ text)) [
       | inl none ↦ inl none
       | inr front ↦ inr (front.0, front.1, inr (inr front.2), front.3, front.4)
     ]
 
-    -- whether an escaped byte stands there
+    -- the claim holds whether or not an escaped byte stands there
     pairs : (pair : Bool) → begins_with_pair (a ∷ text) ≡ pair → (other_len pair ≡ 0) ⊎ HasFront QuotedItem (a ∷ text) (other_len pair)
     pairs true is =
         let both = and_parts _ _ is in
@@ -87,7 +92,7 @@ item-piece (a ∷ text) = at (is_quoted_byte a) refl
         inr (pair_at text (ltb-true _ _ first.1) (eqb-true _ _ first.0) both.1)
     pairs false is = blank_at
 
-    -- whether the first byte may stand in quotes
+    -- the claim holds whether or not the first byte may stand in quotes
     at : (quoted : Bool) → is_quoted_byte a ≡ quoted → (cond quoted 1 (other_len (begins_with_pair (a ∷ text))) ≡ 0) ⊎ HasFront QuotedItem (a ∷ text) (cond quoted 1 (other_len (begins_with_pair (a ∷ text))))
     at true is = inr (a ∷ [], text, inl (a, is, refl), refl, refl)
     at false is = pairs (begins_with_pair (a ∷ text)) refl
@@ -105,6 +110,7 @@ units-sws text (inr blanks) = units-blanks text blanks
 items-contents : (text : List ℕ) → Many (Qdtext or QuotedPair) text → Many QuotedItem text
 items-contents text many = many-flat (Qdtext or QuotedPair) QuotedItem text each many
   where
+    -- blanks are pieces, and so is each other content
     each : (u : List ℕ) → (Qdtext or QuotedPair) u → Many QuotedItem u
     each u (inl (inl lws)) = many-map Blank QuotedItem u (λ w blank. inr (inr blank)) (blanks-lws u lws)
     each u (inl (inr byte)) = many-one QuotedItem u (inl byte)
@@ -114,6 +120,7 @@ items-contents text many = many-flat (Qdtext or QuotedPair) QuotedItem text each
 contents-items : (text : List ℕ) → Many QuotedItem text → Many (Qdtext or QuotedPair) text
 contents-items text many = many-map QuotedItem (Qdtext or QuotedPair) text each many
   where
+    -- each piece is a content
     each : (u : List ℕ) → QuotedItem u → (Qdtext or QuotedPair) u
     each u (inl byte) = inl (inr byte)
     each u (inr (inl pair)) = inr pair
@@ -129,7 +136,7 @@ record Quotes (text blanks items rest : List ℕ) : Type 0 where
 abbrev quoted_text : List ℕ → List ℕ → List ℕ
 quoted_text blanks items = blanks ++ (dquote ∷ (items ++ (dquote ∷ [])))
 
--- its length is that of its blanks and pieces, and two quotes
+-- the text of a quoted string is as long as its blanks and its pieces, and two quotes
 length-quoted_text : (blanks items : List ℕ) → length (quoted_text blanks items) ≡ length blanks + length items + 2
 length-quoted_text blanks items =
     omega (arith, length-append blanks (dquote ∷ (items ++ (dquote ∷ []))), length-append items (dquote ∷ []))
@@ -142,10 +149,12 @@ quoted_text-append blanks items rest =
 
 -- a quoted string at the front of a text is blanks, a quote, pieces and a quote, and has the length of these
 quotes-front : (text : List ℕ) (n : ℕ) → HasFront (Sws then Quoted) text n → (blanks : List ℕ) × (items : List ℕ) × (rest : List ℕ) × Quotes text blanks items rest × (n ≡ length blanks + length items + 2)
+-- u is the string with its blanks and v what is left; t is the string after the blanks, and w that after the first quote
 quotes-front text n (u, v, (blanks, t, sws, (first, w, is_first, (items, last, contents, is_last, w_is), t_is), u_is), whole, n_is) = (
   blanks,
   items,
   v,
+  -- the blanks, the pieces and the rest are the text
   record {
     are_blanks = units-sws blanks sws;
     are_items = items-contents items contents;
@@ -153,7 +162,9 @@ quotes-front text n (u, v, (blanks, t, sws, (first, w, is_first, (items, last, c
   },
   n_is ∙ ap length spelled ∙ length-quoted_text blanks items,
 )
+  -- the parts in a row are the text that is spelled
   where
+    -- the text is spelled as the blanks and the items say
     spelled : u ≡ quoted_text blanks items
     spelled =
         u_is ∙ ap (λ x. blanks ++ x) (t_is ∙ ap (λ x. x ++ w) is_first ∙ ap (λ x. dquote ∷ x) (w_is ∙ ap (λ x. items ++ x) is_last))
@@ -166,6 +177,7 @@ front-quotes text blanks items rest quotes = (
   (
     blanks,
     dquote ∷ (items ++ (dquote ∷ [])),
+    -- the pieces stand between the two quotes
     blanks-units blanks quotes.are_blanks,
     (dquote ∷ [], items ++ (dquote ∷ []), refl, (items, dquote ∷ [], contents-items items quotes.are_items, refl, refl), refl),
     refl,
@@ -212,6 +224,7 @@ pub only-quoted : (text inner rest : List ℕ) (n k : ℕ) → HasFront (Many Bl
 only-quoted text inner rest n k front contents stops first ends last =
     (subst (HasFront (Sws then Quoted) text) len (front-quotes text front.0 contents.0 rest quotes), only)
   where
+    -- the text is the blanks, the quote, the pieces, the quote and the rest
     quotes : Quotes text front.0 contents.0 rest
     quotes = record {
       are_blanks = front.2;
@@ -223,6 +236,7 @@ only-quoted text inner rest n k front contents stops first ends last =
           );
     }
 
+    -- the length is that of the blanks, the pieces and the two quotes
     len : length front.0 + length contents.0 + 2 ≡ n + k + 2
     len = omega (arith, front.4, contents.4)
 

@@ -1,4 +1,5 @@
 -- Bytes of tokens, sixteen at a time: two look-ups by the halves of each byte.
+-- In the lemmas v is a block of bytes, i and k are places, and js, a and b are what each byte of a block becomes.
 use Rattle.std.proofs.Common.{◌≡◌, ℕ, zero, suc, ◌+◌, ◌-◌, ◌/◌, ◌^◌, ◌<◌, ◌≤◌, eqb, Bool, true, false, not, cond, List, [], ◌∷◌, map, length, get_or, replicate, bit_and, Fits, w8, refl, sym, ap, ◌∙◌, subst, inl, inr, arith}
 use Rattle.std.specs.List.{prefix_len}
 use Rattle.std.proofs.lemmas.Bool.{agree_below_at, cases_lt}
@@ -41,12 +42,15 @@ lane_fits (x ∷ xs) (suc i) h = lane_fits xs i h.1
 -- where the table t has sixteen entries, the shuffle of t by g x for each x of a block gives the entry of t at g x
 pub looked_up : (t : List ℕ) (g : ℕ → ℕ) (v js : List ℕ) → IsBlock v → js ≡ map g v → ((x : ℕ) → x < 256 → g x < 16) → swz_l w8 16 t 0 js ≡ map (λ x. get_or t (g x) 0) v
 looked_up t g v js fits e small =
+    -- js has 16 entries too, and the lists are compared entry by entry
     let long : length js ≡ 16 = ap length e ∙ length-map v g ∙ fits.0 in
     ext_get_or 0 _ _ (length-swz_l w8 16 t 0 js ∙ long ∙ sym (length-map v (λ x. get_or t (g x) 0) ∙ fits.0)) (λ i h.
+    -- entry i of js is g of byte i of the block v, and so less than 16
     let lt : i < 16 = omega (arith, length-swz_l w8 16 t 0 js) in
     let within : i < length v = omega (arith, fits.0) in
     let is : get_or js i 0 ≡ g (get_or v i 0) = ap (λ l. get_or l i 0) e ∙ get_or-map g v i 0 0 within in
     let below : get_or js i 0 < 16 = omega (arith, small (get_or v i 0) (lane_fits v i fits.1)) in
+    -- so the shuffle gives at i the entry of t at g of this byte
     get_or-swz_l_below w8 16 t 0 js i (omega arith) below
     ∙ ap (λ n. get_or t n 0) (omega arith ∙ is) ∙ sym (get_or-map (λ x. get_or t (g x) 0) v i 0 0 within))
 
@@ -67,6 +71,7 @@ pub shares-token : (x : ℕ) → x < 256 → not (eqb (shares x) 0) ≡ is_token
 shares-token x below = agree_below_at (λ y. not (eqb (shares y) 0)) is_token_byte 256 x refl below
 
 -- where two tests agree on each byte, the longest fronts that pass them are equally long
+-- p and q are the tests, and v is the bytes
 pub prefix_len-agree : (p q : ℕ → Bool) → ((x : ℕ) → x < 256 → p x ≡ q x) → (v : List ℕ) → Each1 (Fits w8) v → prefix_len p v ≡ prefix_len q v
 prefix_len-agree p q same [] fits = refl
 prefix_len-agree p q same (x ∷ xs) fits = ap (λ b. cond b (1 + prefix_len p xs) 0) (same x fits.0.fits) ∙ ap (λ n. cond (q x) (1 + n) 0) (prefix_len-agree p q same xs fits.1)
@@ -78,6 +83,7 @@ others v a b a_is b_is =
     ∙ ap mask_l (map-map (λ x. eqb x 0) shares v)
 
 -- the two look-ups of a block of sixteen bytes, joined bit by bit, are sixteen
+-- a and b are the two look-ups of the block v, which give f and g of each byte
 pub long-and : (v a b : List ℕ) (f g : ℕ → ℕ) → length v ≡ 16 → a ≡ map f v → b ≡ map g v → length (zip2 bit_and a b) ≡ 16
 long-and v a b f g long a_is b_is =
     let left : length a ≡ 16 = ap length a_is ∙ length-map v f ∙ long in
@@ -92,6 +98,7 @@ pub block-passes : (p : ℕ → Bool) (text : List ℕ) (at r : ℕ) → at + 16
 block-passes p text at r room r_is before k below =
     elim (cases_lt k at) [
       | inl low ↦ before k low
+      -- the byte lies in the block, among its first r bytes
       | inr high ↦
           let long = length-chunk at 16 text room in
           let few = prefix_len-le-length p (chunk at 16 text) in

@@ -32,6 +32,7 @@ between-group class most text pass =
     let ends = and_parts (nat_lt 0 (length text)) (nat_le (length text) most) both.0 in
     let many = list_all-run (is_in class) text both.1 in
     let ones = length-ones (is_in class) many.0 many.1 in
+    -- the bytes are of the class, and there are as many as the test says
     let len = ap length many.2 in (
       many.0,
       many.1,

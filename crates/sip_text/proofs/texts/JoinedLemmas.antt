@@ -1,4 +1,5 @@
 -- Texts joined by a mark, and the parts between the marks.
+-- In the lemmas u is the first part and us are the others, or any parts.
 use Rattle.std.proofs.Common.{◌≡◌, ℕ, Bool, true, List, [], ◌∷◌, ◌++◌, refl, sym, ap, ◌∙◌, subst}
 use Rattle.std.specs.List.{AllByRecursion, concat, join_with_byte, list_all}
 use Rattle.std.proofs.lemmas.Bool.{and_from, and_parts}
@@ -18,6 +19,7 @@ parts-joined mark P text lack joined =
     subst (λ t. AllByRecursion P (parts mark t)) (sym (joined.4 ∙ ap (λ t. joined.0 ++ t) joined.3.2))
     (go joined.0 joined.3.0 joined.2 joined.3.1)
   where
+    -- texts of P with the mark before each but the first are the parts of their text, and so each part is of P
     go : (u : List ℕ) (us : List (List ℕ)) → P u → AllByRecursion (Byte mark then P) us → AllByRecursion P (parts mark (u ++ concat us))
     go u [] one all =
         subst (AllByRecursion P) (sym (ap (parts mark) (append-nil u) ∙ parts-one mark u (lack u one))) (one, tt)
@@ -25,6 +27,7 @@ parts-joined mark P text lack joined =
         subst (AllByRecursion P) (sym (ap (parts mark) split ∙ parts-mark mark u (all.0.1 ++ concat us) (lack u one)))
         (one, go all.0.1 us all.0.3 all.1)
       where
+        -- the text v begins with the mark
         split : u ++ (v ++ concat us) ≡ u ++ (mark ∷ (all.0.1 ++ concat us))
         split = ap (λ t. u ++ (t ++ concat us)) (all.0.4 ∙ ap (λ t. t ++ all.0.1) all.0.2)
 
@@ -35,8 +38,10 @@ joined-parts mark P text all =
     subst (Joined mark P) (ap (join_with_byte mark) (sym cut) ∙ join_with_byte-slice_split mark text)
     (go (before mark text) (later_parts mark (behind mark text)) (subst (AllByRecursion P) cut all))
   where
+    -- texts of P with the mark between them are joined by it
     go : (u : List ℕ) (us : List (List ℕ)) → AllByRecursion P (u ∷ us) → Joined mark P (join_with_byte mark (u ∷ us))
     go u [] each = (u, [], each.0, many-nil (Byte mark then P), sym (append-nil u))
+    -- the first part is followed by a mark and the other parts
     go u (v ∷ us) each =
         let rest = go v us each.1 in (
           u,

@@ -31,6 +31,7 @@ pub lack-one : (mark : ℕ) (test : ℕ → Bool) → test mark ≡ false → Al
 lack-one mark test fails u one =
     subst (Lacks mark) (sym one.2) (at (nat_eq one.0 mark) refl, tt)
   where
+    -- the byte is not the mark, whatever the test of it says, since it passes and the mark does not
     at : (same : Bool) → nat_eq one.0 mark ≡ same → nat_eq one.0 mark ≡ false
     at true is = absurd (both_ways (test mark) fails (ap test (sym (eqb-true one.0 mark is)) ∙ one.1))
     at false is = is

@@ -1,4 +1,5 @@
 -- Repetition, read piece by piece.
+-- In the lemmas u, v and w are parts of a text, one after another.
 use Rattle.std.proofs.Common.{◌≡◌, ℕ, ◌+◌, ◌<◌, ◌≤◌, ◌⊎◌, List, [], ◌∷◌, ◌++◌, length, drop, refl, sym, ap, ◌∙◌, subst, inl, inr, arith}
 use Rattle.std.specs.List.{AllByRecursion, concat}
 use Rattle.std.proofs.lemmas.List.{append-nil, append_assoc, length-append}
@@ -48,6 +49,7 @@ some-many P text (u ∷ us, all, whole) = inr (u, concat us, all.0, (us, all.1, 
 pub many-flat : (P Q : List ℕ → Type 0) (text : List ℕ) → ((u : List ℕ) → P u → Many Q u) → Many P text → Many Q text
 many-flat P Q text each many = subst (Many Q) (sym many.2) (flat many.0 many.1)
   where
+    -- many texts of P are many texts of Q, one after the other
     flat : (us : List (List ℕ)) → AllByRecursion P us → Many Q (concat us)
     flat [] all = many-nil Q
     flat (u ∷ us) all = many-append Q u (concat us) (each u all.0) (flat us all.1)
@@ -81,6 +83,7 @@ pub run-more : (P : List ℕ → Type 0) (len : List ℕ → ℕ) (text : List �
 run-more P len text n k step front k_is some =
     elim (step.piece front.1) [
       | inl stops ↦ absurd (some (at_rest ∙ stops))
+      -- one piece more follows, which has k bytes
       | inr next ↦ (
         front.0 ++ next.0,
         next.1,
@@ -90,11 +93,13 @@ run-more P len text n k step front k_is some =
       )
     ]
   where
+    -- k is what `len` measures of the rest
     at_rest : k ≡ len front.1
     at_rest = k_is ∙ ap len (front-rest (Many P) text n front)
 
--- two texts that begin with pieces of equal length begin with the same piece
+-- where one text is p and x, and also q and y, and p and q are equally long, p is q, and x is y
 pub append_cancel_both : (p x q y : List ℕ) → length p ≡ length q → p ++ x ≡ q ++ y → (p ≡ q) × (x ≡ y)
+-- the one is empty exactly if the other is, since they are equally long; and else their first bytes, a and b, are the same
 append_cancel_both [] x [] y lens same = (refl, same)
 append_cancel_both [] x (b ∷ q) y lens same = absurd (omega (arith, lens))
 append_cancel_both (a ∷ p) x [] y lens same = absurd (omega (arith, lens))
@@ -110,13 +115,13 @@ at_front P len u w v text step one whole =
     let flat : text ≡ u ++ (w ++ v) = whole ∙ append_assoc u w v in
     (ap len flat ∙ step.at_piece u (w ++ v) one, flat)
 
--- a text at which no piece begins does not begin with a piece
+-- a text at whose front `len` measures no piece cannot begin with the piece u
 no_piece : (P : List ℕ → Type 0) (len : List ℕ → ℕ) (u w v text : List ℕ) → IsStep P len → P u → len text ≡ 0 → text ≡ (u ++ w) ++ v → ⊥
 no_piece P len u w v text step one stops whole =
     let measured = at_front P len u w v text step one whole in
     absurd (omega (arith, step.moves u one, measured.0, stops))
 
--- two texts that are equal, and begin with one piece each, begin with the same piece and go on with the same rest
+-- where one text is the piece u and then w and v, and also the piece x and then z and y, u is x, and the rests are the same
 same_piece : (P : List ℕ → Type 0) (len : List ℕ → ℕ) (u w v x z y : List ℕ) → IsStep P len → P u → P x → (u ++ w) ++ v ≡ (x ++ z) ++ y → (u ≡ x) × (w ++ v ≡ z ++ y)
 same_piece P len u w v x z y step one other same =
     let left = at_front P len u w v _ step one refl in
@@ -124,18 +129,22 @@ same_piece P len u w v x z y step one other same =
     append_cancel_both u (w ++ v) x (z ++ y) (sym left.0 ∙ right.0) (sym left.1 ∙ right.1)
 
 -- two runs of pieces that cannot go on, in the same text, are the same run
+-- us and xs are the pieces of the two runs, and v and y what follows them
 same_pieces : (P : List ℕ → Type 0) (len : List ℕ → ℕ) (us xs : List (List ℕ)) (v y : List ℕ) → IsStep P len → AllByRecursion P us → AllByRecursion P xs → concat us ++ v ≡ concat xs ++ y → len v ≡ 0 → len y ≡ 0 → (concat us ≡ concat xs) × (v ≡ y)
+-- where the one run has no piece left, the other has none, since none begins there
 same_pieces P len [] [] v y step ones others same v_stops y_stops = (refl, same)
 same_pieces P len [] (x ∷ xs) v y step ones others same v_stops y_stops =
     absurd (no_piece P len x (concat xs) y v step others.0 v_stops same)
 same_pieces P len (u ∷ us) [] v y step ones others same v_stops y_stops =
     absurd (no_piece P len u (concat us) v y step ones.0 y_stops (sym same))
+-- u and x are the first pieces, which are the same, and so are the runs after them
 same_pieces P len (u ∷ us) (x ∷ xs) v y step ones others same v_stops y_stops =
     let first = same_piece P len u (concat us) v x (concat xs) y step ones.0 others.0 same in
     let rest = same_pieces P len us xs v y step ones.1 others.1 first.1 v_stops y_stops in
     (ap (λ t. t ++ concat us) first.0 ∙ ap (λ t. x ++ t) rest.0, rest.1)
 
 -- pieces at the front of a text that no piece follows are the same pieces in each reading of the text
+-- u and x are the pieces, and v and y the rest, by two readings
 pub same_many : (P : List ℕ → Type 0) (len : List ℕ → ℕ) (u v x y : List ℕ) → IsStep P len → Many P u → Many P x → u ++ v ≡ x ++ y → len v ≡ 0 → len y ≡ 0 → (u ≡ x) × (v ≡ y)
 same_many P len u v x y step ones others same v_stops y_stops =
     let both = same_pieces P len ones.0 others.0 v y step ones.1 others.1
@@ -143,7 +152,9 @@ same_many P len u v x y step ones others same v_stops y_stops =
     (ones.2 ∙ both.0 ∙ sym others.2, both.1)
 
 -- pieces at the front of a text that no piece follows are at least as long as any pieces at its front
+-- us are the longest pieces, with v after them, and xs the others, with y after them
 longest_pieces : (P : List ℕ → Type 0) (len : List ℕ → ℕ) (us xs : List (List ℕ)) (v y : List ℕ) → IsStep P len → AllByRecursion P us → AllByRecursion P xs → concat us ++ v ≡ concat xs ++ y → len v ≡ 0 → length (concat xs) ≤ length (concat us)
+-- no other pieces are never longer; no longest pieces leave no other ones; else the first pieces are the same, and the rest follows
 longest_pieces P len us [] v y step ones others same stops = omega arith
 longest_pieces P len [] (x ∷ xs) v y step ones others same stops =
     absurd (no_piece P len x (concat xs) y v step others.0 stops same)
@@ -152,7 +163,7 @@ longest_pieces P len (u ∷ us) (x ∷ xs) v y step ones others same stops =
     let rest = longest_pieces P len us xs v y step ones.1 others.1 first.1 stops in
     omega (arith, rest, ap length first.0, length-append u (concat us), length-append x (concat xs))
 
--- the loop's exit: a run that cannot go on is the longest
+-- where no piece follows a run of pieces at the front of a text, no run of pieces there is longer
 pub longest_many : (P : List ℕ → Type 0) (len : List ℕ → ℕ) (text : List ℕ) (n : ℕ) → IsStep P len → HasFront (Many P) text n → len (drop n text) ≡ 0 → (m : ℕ) → HasFront (Many P) text m → m ≤ n
 longest_many P len text n step front stops m other =
     let v_stops : len front.1 ≡ 0 = ap len (sym (front-rest (Many P) text n front)) ∙ stops in
@@ -167,6 +178,7 @@ front-whole P text n front all =
     let empty = length_nil front.1 (omega (arith, ap length front.3, length-append front.0 front.1, front.4, all)) in
     subst P (sym (front.3 ∙ ap (λ t. front.0 ++ t) empty ∙ append-nil front.0)) front.2
   where
+    -- a text of length 0 is empty
     length_nil : (v : List ℕ) → length v ≡ 0 → v ≡ []
     length_nil [] none = refl
     length_nil (b ∷ v) none = absurd (omega (arith, none))

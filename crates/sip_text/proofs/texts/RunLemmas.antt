@@ -1,4 +1,5 @@
 -- Runs of bytes of one class: the longest front that passes a test.
+-- In the lemmas us are pieces and v what follows them; n, m, k and l are lengths of fronts, and r and s, as Bools, what two tests say.
 use Rattle.std.proofs.Common.{◌≡◌, ℕ, ◌+◌, ◌≤◌, ◌⊎◌, Bool, true, false, List, [], ◌∷◌, ◌++◌, length, cond, nat_eq, refl, sym, ap, ◌∙◌, inl, inr, arith}
 use Rattle.std.specs.List.{AllByRecursion, concat, prefix_len, list_all}
 use Rattle.std.proofs.lemmas.Bool.{and_from, and_parts, eq-eqb, eqb-true}
@@ -12,6 +13,7 @@ use Rattle.sip_text.proofs.texts.ManyLemmas.{many-cons, many-nil, many-some, fro
 pub run-list_all : (test : ℕ → Bool) (text : List ℕ) → Many (One test) text → list_all test text ≡ true
 run-list_all test text many = ap (list_all test) many.2 ∙ go many.0 many.1
   where
+    -- texts of one byte each that passes the test make a text whose bytes pass
     go : (us : List (List ℕ)) → AllByRecursion (One test) us → list_all test (concat us) ≡ true
     go [] all = refl
     go (u ∷ us) all =
@@ -29,7 +31,9 @@ pub run-front : (test : ℕ → Bool) (text : List ℕ) → HasFront (Many (One 
 run-front test [] = ([], [], many-nil (One test), refl, refl)
 run-front test (b ∷ text) = at (run-front test text) (test b) refl
   where
+    -- the claim holds whether or not the first byte passes the test
     at : HasFront (Many (One test)) text (prefix_len test text) → (passes : Bool) → test b ≡ passes → HasFront (Many (One test)) (b ∷ text) (cond passes (1 + prefix_len test text) 0)
+    -- the first byte passes, so it begins the run; or it fails, and there is no run
     at rest true is = (
       b ∷ rest.0,
       rest.1,
@@ -46,6 +50,7 @@ run-longest test text n front =
     ap (prefix_len test) (front.3 ∙ ap (λ t. t ++ front.1) front.2.2) in
     omega (arith, same, go front.2.0 front.1 front.2.1, front.4, ap length front.2.2)
   where
+    -- a run is no longer than `prefix_len` says, since each of its bytes passes and is counted
     go : (us : List (List ℕ)) (v : List ℕ) → AllByRecursion (One test) us → length (concat us) ≤ prefix_len test (concat us ++ v)
     go [] v all = omega arith
     go (u ∷ us) v all =
@@ -60,15 +65,18 @@ longest-run test text = record {
   front = front text;
   longest = λ m other. run-longest test text m (other.0, other.1, many-some (One test) other.0 other.2, other.3, other.4);
 }
+  -- the first byte passes and begins the run, or there is none
   where
+    -- the longest run at the front of a text has `prefix_len` bytes, or this is 0
     front : (xs : List ℕ) → (prefix_len test xs ≡ 0) ⊎ HasFront (OneOrMore (One test)) xs (prefix_len test xs)
     front [] = inl refl
     front (b ∷ xs) = at (test b) refl
       where
+        -- the run of the bytes after the first one
         rest : HasFront (Many (One test)) xs (prefix_len test xs)
         rest = run-front test xs
 
-        -- whether the first byte passes the test
+        -- the claim holds whether or not the first byte passes the test
         at : (passes : Bool) → test b ≡ passes → (cond passes (1 + prefix_len test xs) 0 ≡ 0) ⊎ HasFront (OneOrMore (One test)) (b ∷ xs) (cond passes (1 + prefix_len test xs) 0)
         at true is = inr (
           b ∷ rest.0,
@@ -83,6 +91,7 @@ longest-run test text = record {
 pub longest-same : (P : List ℕ → Type 0) (text : List ℕ) (n m : ℕ) → IsLongestFront P text n → IsLongestFront P text m → n ≡ m
 longest-same P text n m one other = omega (arith, within n m one.front other, within m n other.front one)
   where
+    -- one longest front is not longer than another
     within : (k l : ℕ) → (k ≡ 0) ⊎ HasFront P text k → IsLongestFront P text l → k ≤ l
     within k l (inl none) longest = omega (arith, none)
     within k l (inr front) longest = longest.longest k front

@@ -1,4 +1,5 @@
 -- The characters of a URI's parts: bytes of a class, and escapes.
+-- In the lemmas u are bytes of a class and v is what follows them; P and Q are sets of texts.
 use Rattle.std.proofs.Common.{◌≡◌, ℕ, nat_eq, suc, ◌+◌, ◌-◌, ◌<◌, ◌⊎◌, ◌↔◌, ◌&&◌, ◌||◌, ◌==◌, Bool, true, false, IsTrue, List, [], ◌∷◌, ◌++◌, Option, None, Some, IfSome, length, take, drop, cond, if◌then◌else◌, refl, sym, ap, ◌∙◌, subst, inl, inr, arith}
 use Rattle.std.specs.Bool.{Decides}
 use Rattle.std.specs.Char.{is_ascii_hexdigit}
@@ -16,7 +17,7 @@ use Rattle.sip_text.proofs.texts.LacksLemmas.{AllLack, lack-one, lack-byte, lack
 use Rattle.sip_text.proofs.texts.ManyLemmas.{many-nil, many-cons, many-append, many-map, many-some, some-many}
 use Rattle.sip_text.proofs.texts.RunLemmas.{list_all-run}
 
--- two hexadecimal digits after a "%" are an escape
+-- both bytes are hexadecimal digits, as they follow the "%" of an escape
 abbrev pub AreDigits : ℕ → ℕ → Type 0
 AreDigits high low = IsTrue (is_ascii_hexdigit high) × IsTrue (is_ascii_hexdigit low)
 
@@ -46,7 +47,10 @@ stripped-escape [] rest is = cc
 stripped-escape (mark ∷ []) rest is = cc
 stripped-escape (mark ∷ high ∷ []) rest is = cc
 stripped-escape (mark ∷ high ∷ low ∷ text) rest is = at _ refl is
+  -- a text of three bytes or more begins with an escape if its first bytes pass the tests
   where
+    -- the test of an escape passes, since there is a rest, and so the text begins with an escape
+    -- t is the answer of the test, and x and y are the two digits
     at : (t : Bool) → (mark == percent && is_ascii_hexdigit high && is_ascii_hexdigit low) ≡ t → (if t then Some text else None) ≡ Some rest → (x : ℕ) × (y : ℕ) × AreDigits x y × (mark ∷ high ∷ low ∷ text ≡ percent ∷ x ∷ y ∷ rest)
     at false test is = cc
     at true test is =
@@ -61,12 +65,14 @@ chars-cons : (class : Class) (b : ℕ) (text : List ℕ) → Many (ClassChar cla
 chars-cons class b text many =
     elim (some-many (ClassChar class) (b ∷ text) many) [
       | inl empty ↦ cc
+      -- the first character is a byte of the class, or an escape
       | inr (u, v, one, more, whole) ↦ elim one [
         | inl (byte, test, is) ↦
             let same : b ∷ text ≡ byte ∷ v = whole ∙ ap (λ t. t ++ v) is in
             let head : byte ≡ b = cc in
             let tail : v ≡ text = cc in
             inl (subst (λ x. IsTrue (is_in class x)) head test, subst (Many (ClassChar class)) tail more)
+        -- an escape begins with a percent sign
         | inr escape ↦
             let (high, low, digits, is) = escaped-bytes u escape in
             let same : b ∷ text ≡ percent ∷ high ∷ low ∷ v = whole ∙ ap (λ t. t ++ v) is in
@@ -107,13 +113,16 @@ run-cut : (test : ℕ → Bool) (text : List ℕ) → IsRun test text (drop (pre
 run-cut test [] = record { run = []; whole = refl; all = refl; stops = λ b rest is. cc }
 run-cut test (x ∷ text) = at (run-cut test text) (test x) refl
   where
+    -- the claim holds whether or not the first byte passes the test
     at : IsRun test text (drop (prefix_len test text) text) → (passes : Bool) → test x ≡ passes → IsRun test (x ∷ text) (drop (cond passes (1 + prefix_len test text) 0) (x ∷ text))
+    -- the first byte fails, so there is no run
     at more false is = record {
       run = [];
       whole = refl;
       all = refl;
       stops = λ b rest same. let head : x ≡ b = cc in ap test (sym head) ∙ is;
     }
+    -- the first byte passes, so it is one more of the run
     at more true is =
         let next : 1 + prefix_len test text ≡ suc (prefix_len test text) = omega arith in
         subst (λ n. IsRun test (x ∷ text) (drop n (x ∷ text))) (sym next) (record {
@@ -125,6 +134,7 @@ run-cut test (x ∷ text) = at (run-cut test text) (test x) refl
 
 -- past a run and an escape the rest is characters exactly if the whole text is, and it is shorter
 pub chars-past : (class : Class) (text stop rest : List ℕ) → is_in class percent ≡ false → IsRun (is_in class) text stop → behind_escape stop ≡ Some rest → (Many (ClassChar class) rest ↔ Many (ClassChar class) text) × (length rest < length text)
+-- the text is the run, the escape and the rest
 chars-past class text stop rest no_percent run is =
     let (high, low, digits, stop_is) = stripped-escape stop rest is in
     let whole : text ≡ run.run ++ (percent ∷ high ∷ low ∷ rest) = run.whole ∙ ap (λ t. run.run ++ t) stop_is in
@@ -133,10 +143,12 @@ chars-past class text stop rest no_percent run is =
         λ many. subst (Many (ClassChar class)) (sym whole)
             (chars-before class run.run (percent ∷ high ∷ low ∷ rest) run.all
             (many-cons (ClassChar class) (percent ∷ high ∷ low ∷ []) rest escape many)),
+        -- the escape is no byte of the class, so characters follow it
         λ many.
             let here : Many (ClassChar class) (percent ∷ high ∷ low ∷ rest) =
             chars-behind class run.run _ no_percent run.all (subst (Many (ClassChar class)) whole many) in
             elim (chars-cons class percent (high ∷ low ∷ rest) here) [
+              -- the percent sign is no byte of the class, so it begins the escape
               | inl plain ↦ absurd (both_ways (is_in class percent) no_percent plain.0)
               | inr (other, other_is, _, more) ↦
                   let same : other ≡ rest = let taken = strips-escape high low rest digits in cc in
@@ -152,6 +164,7 @@ chars-stop class text [] no_percent run is = (
   λ _. subst (Many (ClassChar class)) (sym run.whole) (chars-before class run.run [] run.all (many-nil (ClassChar class))),
   λ _. refl,
 )
+-- a byte that is neither of the class nor the begin of an escape is no character
 chars-stop class text (b ∷ stop) no_percent run is = (
   λ empty. absurd (omega (arith, eqb-true (length (b ∷ stop)) 0 empty)),
   λ many.
@@ -211,7 +224,8 @@ decides-some own text r = Decides-like r (some-map _ _ text (first-own own)) (so
 pub decides-many : (own : ℕ → Bool) (text : List ℕ) (r : Bool) → Decides r (Many (Own own) text) → Decides r (Many (CharOf own) text)
 decides-many own text r = Decides-like r (many-map _ _ text (first-own own)) (many-map _ _ text (own-first own))
 
--- what decides two sets alike decides them alike of a text that may be missing
+-- a test of texts that tells whether a text is of P, and so whether it is of Q, tells the same of a text that may be missing
+-- r is the test's answer, and o the text that may be missing
 pub if-some : {P Q : List ℕ → Type 0} → ((text : List ℕ) (r : Bool) → Decides r (P text) → Decides r (Q text)) → (o : Option (List ℕ)) (r : Bool) → Decides r (IfSome o P) → Decides r (IfSome o Q)
 if-some alike None r decides = decides
 if-some alike (Some text) r decides = alike text r decides

@@ -1,4 +1,5 @@
 -- Where a host ends in a URI: it lacks the marks of what follows, and does not end like a port.
+-- A host is a name (`name`), an IPv4 address (`v4`) or an IPv6 address (`v6`).
 use Rattle.std.proofs.Common.{◌≡◌, ℕ, false, nat_eq, List, [], ◌∷◌, ◌++◌, length, refl, sym, ap, ◌∙◌, subst, arith}
 use Rattle.std.specs.Char.{is_ascii_alphabetic, is_ascii_alphanumeric, is_ascii_digit, is_ascii_hexdigit}
 use Rattle.std.proofs.lemmas.Bool.{both_ways, eq-eqb}
@@ -20,21 +21,26 @@ lack-v6 mark no_hex no_digit no_colon no_dot no_left no_right =
     lack-then mark (Byte left_bracket) (Ipv6 then Byte right_bracket) (lack-byte mark left_bracket no_left)
     (lack-then mark Ipv6 (Byte right_bracket) address (lack-byte mark right_bracket no_right))
   where
+    -- groups of hexadecimal digits lack the mark
     seq : AllLack mark Hexseq
     seq = lack-joined mark colon Hex4 no_colon (lack-between mark 1 4 (One is_ascii_hexdigit) (lack-one mark is_ascii_hexdigit no_hex))
 
+    -- "::" lacks the mark
     double : AllLack mark (Exactly double_colon)
     double = lack-exactly mark double_colon (no_colon, (no_colon, tt))
 
+    -- each form of a hexpart lacks the mark
     part : AllLack mark Hexpart
     part =
         lack-or mark _ _ seq
         (lack-or mark _ _ (lack-then mark _ _ seq (lack-then mark _ _ double (lack-optional mark _ seq)))
         (lack-then mark _ _ double (lack-optional mark _ seq)))
 
+    -- a hexpart that ends with "::" lacks the mark
     opened : AllLack mark OpenHexpart
     opened = lack-or mark _ _ (lack-then mark _ _ seq double) double
 
+    -- an IPv6 address lacks the mark
     address : AllLack mark Ipv6
     address =
         lack-or mark _ _
@@ -72,8 +78,10 @@ has-mark : (mark : ℕ) (u v : List ℕ) → Lacks mark (u ++ mark ∷ v) → �
 has-mark mark [] v lacks = both_ways (nat_eq mark mark) lacks.0 (eq-eqb mark mark refl)
 has-mark mark (b ∷ u) v lacks = has-mark mark u v lacks.1
 
--- where a text ends with the mark, each end of the text that is not empty has the mark in it
+-- where a text ends with the mark, no end of the text that is not empty lacks the mark
+-- the text is x and the mark, and also u and its end, which is b and v
 last-in : (mark b : ℕ) (x u v : List ℕ) → x ++ mark ∷ [] ≡ u ++ b ∷ v → Lacks mark (b ∷ v) → ⊥
+-- the mark is the last byte, so it stands in the end, which lacks it; and u is shorter than x and the mark
 last-in mark b x [] v same lacks = has-mark mark x [] (subst (Lacks mark) (sym same) lacks)
 last-in mark b [] (c ∷ u) v same lacks =
     let tail : [] ≡ u ++ b ∷ v = cc in
@@ -88,6 +96,7 @@ host-no_port text (name host) u port fits is_port whole =
     has-mark colon u port (subst (Lacks colon) whole (lack-hostname colon refl refl refl refl text fits.0))
 host-no_port text (v4 host) u port fits is_port whole =
     has-mark colon u port (subst (Lacks colon) whole (lack-v4 colon refl refl text fits.0))
+-- an IPv6 address in brackets ends with "]", which no port has
 host-no_port text (v6 host) u port ((a, b, _, (inner, end, _, is_end, b_is), text_is), _) is_port whole =
     let ends : text ≡ (a ++ inner) ++ right_bracket ∷ [] =
     text_is ∙ ap (λ t. a ++ t) (b_is ∙ ap (λ t. inner ++ t) is_end) ∙ sym (append_assoc a inner (right_bracket ∷ [])) in

@@ -21,6 +21,7 @@ folded-lacks : (text : List ℕ) → Lacks colon (folded text) → Lacks colon t
 folded-lacks [] lacks = tt
 folded-lacks (b ∷ text) lacks = (at (nat_eq b colon) refl, folded-lacks text lacks.1)
   where
+    -- b is not a colon, whatever the test of it says, since its lower case is none
     at : (same : Bool) → nat_eq b colon ≡ same → nat_eq b colon ≡ false
     at true is =
         absurd (both_ways (nat_eq (to_ascii_lowercase b) colon) lacks.0

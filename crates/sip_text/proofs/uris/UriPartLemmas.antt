@@ -26,6 +26,8 @@ cut-optional mark P Q text lack (u, v, one, inl none, whole) =
       subst P (sym (ap (before mark) same ∙ before-led mark u None (lack u one))) one,
       subst (λ o. IfSome o Q) (sym (ap (behind mark) same ∙ behind-led mark u None (lack u one))) tt,
     )
+-- the mark stands between a text of P and one of Q
+-- u is the text of P, m the mark and w the text of Q; v is m and w
 cut-optional mark P Q text lack (u, v, one, inr (m, w, is_mark, other, both), whole) =
     let same : text ≡ u ++ led mark (Some w) = whole ∙ ap (λ t. u ++ t) (both ∙ ap (λ t. t ++ w) is_mark) in (
       subst P (sym (ap (before mark) same ∙ before-led mark u (Some w) (lack u one))) one,
@@ -36,12 +38,14 @@ cut-optional mark P Q text lack (u, v, one, inr (m, w, is_mark, other, both), wh
 pub optional-cut : (mark : ℕ) (P Q : List ℕ → Type 0) (text : List ℕ) → P (before mark text) → IfSome (behind mark text) Q → (P then Optional (Byte mark then Q)) text
 optional-cut mark P Q text one other = at (behind mark text) other (cut-whole mark text)
   where
+    -- the claim holds whether or not the text has the mark
     at : (o : Option (List ℕ)) → IfSome o Q → text ≡ before mark text ++ led mark o → (P then Optional (Byte mark then Q)) text
     at None none whole = (before mark text, [], one, inl refl, whole)
     at (Some v) some whole = (before mark text, mark ∷ v, one, inr (mark ∷ [], v, refl, some, refl), whole)
 
 -- where P lacks the mark, a text of P mark Q has the mark, and is of P before the first one and of Q after it
 pub cut-then : (mark : ℕ) (P Q : List ℕ → Type 0) (text : List ℕ) → AllLack mark P → (P then Byte mark then Q) text → P (before mark text) × IsSomeAnd (behind mark text) Q
+-- u is the text of P, m the mark and w the text of Q; v is m and w
 cut-then mark P Q text lack (u, v, one, (m, w, is_mark, other, both), whole) =
     let same : text ≡ u ++ led mark (Some w) = whole ∙ ap (λ t. u ++ t) (both ∙ ap (λ t. t ++ w) is_mark) in (
       subst P (sym (ap (before mark) same ∙ before-led mark u (Some w) (lack u one))) one,
@@ -52,6 +56,7 @@ cut-then mark P Q text lack (u, v, one, (m, w, is_mark, other, both), whole) =
 pub then-cut : (mark : ℕ) (P Q : List ℕ → Type 0) (text : List ℕ) → P (before mark text) → IsSomeAnd (behind mark text) Q → (P then Byte mark then Q) text
 then-cut mark P Q text one other = at (behind mark text) other (cut-whole mark text)
   where
+    -- the text is of P mark Q, since it has the mark
     at : (o : Option (List ℕ)) → IsSomeAnd o Q → text ≡ before mark text ++ led mark o → (P then Byte mark then Q) text
     at None none whole = absurd none
     at (Some v) some whole = (before mark text, mark ∷ v, one, (mark ∷ [], v, refl, some, refl), whole)
@@ -87,6 +92,7 @@ decides-header text name value r name_is value_is =
     (subst (OneOrMore HeaderChar) (sym name_is) both.0, subst (λ o. IsSomeAnd o (Many HeaderChar)) (sym value_is) both.1))
 
 -- where the first of two tests passes, the second decides both
+-- x and y are the answers of the tests for P and Q
 pub both-when : {P Q : Type 0} (x y : Bool) → x ≡ true → Decides x P → Decides y Q → Decides y (P × Q)
 both-when x y is first second = (λ yes_second. (first.0 is, second.0 yes_second), λ both. second.1 both.1)
 
@@ -115,6 +121,7 @@ past-is : (mark : ℕ) (text rest : List ℕ) → past mark text ≡ Some rest �
 past-is mark [] rest is = cc
 past-is mark (b ∷ text) rest is = at (b == mark) refl is
   where
+    -- the text is the mark and the rest, since the first byte is the mark
     at : (same : Bool) → (b == mark) ≡ same → (if same then Some text else None) ≡ Some rest → b ∷ text ≡ mark ∷ rest
     at false same is = cc
     at true same is = let tail : text ≡ rest = cc in ap (λ x. x ∷ text) (eqb-true b mark same) ∙ ap (λ t. mark ∷ t) tail
@@ -125,6 +132,7 @@ each-past mark P text part rest part_is rest_is one =
     let split : parts mark text ≡ part ∷ parts mark rest =
     parts-cut mark text ∙ ap (λ t. t ∷ later_parts mark (behind mark text)) (sym part_is)
     ∙ ap (λ o. part ∷ later_parts mark o) (sym rest_is) in
+    -- the text is the first part, the mark and the rest
     let whole : text ≡ part ++ led mark (Some rest) =
     cut-whole mark text ∙ ap (λ t. t ++ led mark (behind mark text)) (sym part_is)
     ∙ ap (λ o. part ++ led mark o) (sym rest_is) in (
@@ -181,7 +189,9 @@ each-joined text = joined-parts semicolon UriParameter text
 pub params-joined : (text : List ℕ) → UriParameters (semicolon ∷ text) → Joined semicolon UriParameter text
 params-joined text many =
     elim (some-many (Byte semicolon then UriParameter) (semicolon ∷ text) many) [
+      -- there are parameters, since the text begins with ";"
       | inl empty ↦ cc
+      -- u is the ";" (m) and the first parameter p, and v the others
       | inr (u, v, (m, p, is_mark, one, both), more, whole) ↦
           let same : semicolon ∷ text ≡ semicolon ∷ (p ++ v) =
           whole ∙ ap (λ t. t ++ v) (both ∙ ap (λ t. t ++ p) is_mark) in
@@ -216,6 +226,7 @@ pub decides-no_params : (text : List ℕ) (r : Bool) → None ≡ past semicolon
 decides-no_params [] r none is = (λ _. many-nil (Byte semicolon then UriParameter), λ _. is)
 decides-no_params (b ∷ text) r none is = (
   λ empty. absurd (omega (arith, eqb-true (length (b ∷ text)) 0 (sym is ∙ empty))),
+  -- a text of parameters that is not empty begins with a semicolon, but none stands at the front of this one
   λ many.
       let (rest, led_is) = params-led (b ∷ text) many in
       elim rest as (λ o. b ∷ text ≡ led semicolon o → r ≡ true) [

@@ -26,7 +26,7 @@ port-length text port =
     let len = ap length port.0.2 in
     (omega (arith, ones, len, port.0.3), omega (arith, ones, len, port.0.4))
 
--- each byte of a port is a digit
+-- no byte of a port is other than a digit
 pub port-digit : (text : List ℕ) (k : ℕ) → Port text → k < length text → is_ascii_digit (get_or text k 0) ≡ false → ⊥
 port-digit text k port within other =
     both_ways (list_all is_ascii_digit text) (list_all_at is_ascii_digit text k 0 within other)

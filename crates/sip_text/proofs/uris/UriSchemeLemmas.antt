@@ -9,6 +9,7 @@ use Rattle.sip_text.proofs.texts.RunLemmas.{run-list_all, list_all-run}
 
 -- a scheme begins with a letter, and bytes of a scheme follow
 scheme-bytes : (first : ℕ) (rest : List ℕ) → Scheme (first ∷ rest) → IsTrue (is_ascii_alphabetic first) × (list_all is_scheme_byte rest ≡ true)
+-- u is the letter b, and v the bytes after it
 scheme-bytes first rest (u, v, (b, letter, is), many, whole) =
     let same : first ∷ rest ≡ b ∷ v = whole ∙ ap (λ t. t ++ v) is in
     let head : b ≡ first = cc in

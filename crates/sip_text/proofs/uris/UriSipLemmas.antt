@@ -1,4 +1,5 @@
 -- What follows the scheme of a SIP URI is cut into its parts in one way.
+-- In the lemmas x is a reading of the text and y a host of it; P and Q are sets of texts, and o is an optional part.
 use Rattle.std.proofs.Common.{◌≡◌, ℕ, Bool, true, false, nat_eq, List, [], ◌∷◌, ◌++◌, Option, None, Some, IsNone, IfSome, is_some, length, drop, ◌≤◌, arith, refl, sym, ap, ◌∙◌, subst}
 use Rattle.std.specs.List.{list_all}
 use Rattle.std.proofs.lemmas.Bool.{false≢true, both_ways, and_parts, eq-eqb}
@@ -52,17 +53,20 @@ info-agrees text None password rest None key tail (_, password_is, rest_is) whol
 info-agrees text (Some user) password rest None key tail (behind_is, _, _) whole _ _ _ _ lacks =
     let none : behind at_sign text ≡ None = ap (behind at_sign) whole ∙ (uncut at_sign tail lacks).1 in
     cc
+-- the text has a userinfo, so an `@` stands in it
 info-agrees text None password rest (Some owner) key tail (behind_is, _, _) whole no_at _ key_at _ _ =
     let info = owner ++ led colon key in
     let lacks : Lacks at_sign info = lacks-append at_sign owner (led colon key) no_at (lacks-led at_sign colon key refl key_at) in
     let same : text ≡ info ++ led at_sign (Some tail) = whole ∙ append_assoc info (at_sign ∷ []) tail in
     let some : behind at_sign text ≡ Some tail = ap (behind at_sign) same ∙ behind-led at_sign info (Some tail) lacks in
     cc
+-- both have a userinfo: it ends at the first `@`, and the user at the first colon in it
 info-agrees text (Some user) password rest (Some owner) key tail (behind_is, user_is, password_is) whole no_at no_colon key_at _ _ =
     let info = owner ++ led colon key in
     let lacks : Lacks at_sign info = lacks-append at_sign owner (led colon key) no_at (lacks-led at_sign colon key refl key_at) in
     let same : text ≡ info ++ led at_sign (Some tail) = whole ∙ append_assoc info (at_sign ∷ []) tail in
     let some : behind at_sign text ≡ Some tail = ap (behind at_sign) same ∙ behind-led at_sign info (Some tail) lacks in
+    -- what stands before the first `@` is the same, and what stands after it
     let front : before at_sign text ≡ info = ap (before at_sign) same ∙ before-led at_sign info (Some tail) lacks in
     let user_same : user ≡ owner = user_is ∙ ap (before colon) front ∙ before-led colon owner key no_colon in
     let rest_same : rest ≡ tail = cc in (
@@ -78,6 +82,7 @@ port-agrees text host None name parts None (host_is, _) fits _ whole =
 port-agrees text host None name parts (Some number) (_, none) fits is_port whole = absurd (none name number is_port whole)
 port-agrees text host (Some port) name parts None (is_port, there) fits _ whole =
     absurd (host-no_port name parts host port fits is_port (sym (append-nil name) ∙ sym whole ∙ there))
+-- both have a port, which stands after the last colon
 port-agrees text host (Some port) name parts (Some number) (is_port, there) fits is_number whole =
     let same : host ++ colon ∷ port ≡ name ++ colon ∷ number = sym there ∙ whole in
     let lacks = lack-port port is_port.0 in
@@ -85,6 +90,7 @@ port-agrees text host (Some port) name parts (Some number) (is_port, there) fits
     let hosts : Some host ≡ Some name =
     sym (before_last-mark colon host port lacks) ∙ ap (before_last colon) same
     ∙ before_last-mark colon name number number_lacks in
+    -- the ports stand after it
     let ports : port ≡ number =
     sym (behind_last-mark colon host port lacks) ∙ ap (behind_last colon) same
     ∙ behind_last-mark colon name number number_lacks in
@@ -154,6 +160,7 @@ cuts-agree text cut p is fits whole =
     let no_at : Lacks at_sign (hostport ++ p.params) =
     lacks-append at_sign hostport p.params (hostport-lacks at_sign p.host p.port at_sign-foreign fits.host fits.port)
     (params-lack at_sign refl refl refl p.params fits.params) in
+    -- `info` says that the user and the password are cut as the text has them
     let info = info-agrees text cut.user cut.password is.rest p.user p.password (hostport ++ p.params ++ led question p.headers)
     is.userinfo whole
     (weaker User (Lacks at_sign) p.user user-at_sign fits.user) (weaker User (Lacks colon) p.user user-colon fits.user)
@@ -177,6 +184,7 @@ cuts-agree text cut p is fits whole =
       password = info.1;
       host = port.0;
       port = port.1;
+      -- the parameters stand after the first semicolon, and the headers after the first question mark
       params = is.params ∙ ap (λ t. led semicolon (behind semicolon t)) front
           ∙ ap (led semicolon) (behind-led semicolon hostport listed no_semicolon) ∙ sym listed_is;
       headers = is.headers ∙ ap (behind question) info.2 ∙ behind-led question (hostport ++ p.params) p.headers no_question;
@@ -205,6 +213,7 @@ host-cut test text user password rest no_question no_semicolon no_colon info all
     let headers = uncut question rest (lacks-all question test rest no_question all) in
     let params = uncut semicolon rest (lacks-all semicolon test rest no_semicolon all) in
     let whole : before semicolon (before question rest) ≡ rest = ap (before semicolon) (headers.0) ∙ params.0 in
+    -- the headers and parameters are none, and the rest is the host
     record {
       rest = rest;
       userinfo = info;
@@ -222,6 +231,7 @@ sip-cut text cut rest front hostport info front_is headers_is hostport_is port p
     let hostport_cut : hostport ≡ before semicolon (before question rest) = hostport_is ∙ ap (before semicolon) front_is in
     let whole : front ≡ hostport ++ led semicolon (behind semicolon front) =
     cut-whole semicolon front ∙ ap (λ t. t ++ led semicolon (behind semicolon front)) (sym hostport_is) in
+    -- each cut is made in what the cut before it left
     record {
       rest = rest;
       userinfo = info;
@@ -274,6 +284,7 @@ pub parts-fit : (secure : Bool) (text : List ℕ) (cut : CutParts) (host : HostP
 parts-fit secure text cut host is info tail fits =
     let spelled = host-spelled cut.host host fits in
     let hostport = before semicolon (before question is.rest) in
+    -- the rest is the host, the port, the parameters and the headers in a row
     let whole : is.rest ≡ host_text host ++ led colon cut.port ++ cut.params ++ led question cut.headers =
     cut-whole question is.rest ∙ ap (λ o. before question is.rest ++ led question o) (sym is.headers)
     ∙ ap (λ t. t ++ led question cut.headers) (
@@ -281,10 +292,12 @@ parts-fit secure text cut host is info tail fits =
     ∙ ap (λ t. t ++ cut.params) (port-whole hostport cut.host cut.port is.port
     ∙ ap (λ t. t ++ led colon cut.port) (sym spelled))) in (
       refl,
+      -- each part is a text of its production
       record {
         user = info.0;
         password = info.1;
         owner = info-owner text cut.user cut.password is.rest is.userinfo;
+        -- the host and the port fit
         host = subst (λ t. HostText t host) (sym spelled) fits;
         port = port-fits hostport cut.host cut.port is.port;
         params = tail.0;
@@ -296,6 +309,7 @@ parts-fit secure text cut host is info tail fits =
 -- parts of a SIP URI are those that were read where each of them is
 same-parts : (p : SipParts) (secure : Bool) (cut : CutParts) (host : HostParts) → p.secure ≡ secure → Agrees cut p → p.host ≡ host → p ≡ read_parts secure cut host
 same-parts p secure cut host secure_is same host_is =
+    -- one part after another is put in the place of the part that was read
     ap (λ (s : Bool). read_parts s (cut_of p) p.host) secure_is
     ∙ ap (λ (h : HostParts). read_parts secure (cut_of p) h) host_is
     ∙ ap (λ (u : Option (List ℕ)). read_parts secure (record (cut_of p) { user = u }) host) (sym same.user)
@@ -304,7 +318,7 @@ same-parts p secure cut host secure_is same host_is =
     ∙ ap (λ (u : List ℕ). read_parts secure (record (cut_of p) { user = cut.user; password = cut.password; port = cut.port; params = u }) host) (sym same.params)
     ∙ ap (λ (u : Option (List ℕ)). read_parts secure (record cut { headers = u }) host) (sym same.headers)
   where
-    -- where the text of a SIP URI is cut into its parts
+    -- the parts of a SIP URI as they are cut, with the text of the host that was cut
     cut_of : SipParts → CutParts
     cut_of q = record { user = q.user; password = q.password; host = cut.host; port = q.port; params = q.params; headers = q.headers }
 
@@ -315,7 +329,7 @@ parts-only secure text cut host (sip p) is only (secure_is, fits, whole) =
     ap sip (same-parts p secure cut host secure_is same (only p.host (subst (λ t. HostText t p.host) (sym same.host) fits.host)))
 parts-only secure text cut host (other scheme rest) is only none = absurd none
 
--- where the text that was cut off as a host is none, the text is no SIP URI
+-- where the text that was cut off as a host is no host, the text is no SIP URI
 pub no-host_cut : (secure : Bool) (text : List ℕ) (cut : CutParts) (x : UriParts) → IsSipCut text cut → ((y : HostParts) → HostText cut.host y → ⊥) → SipText secure text x → ⊥
 no-host_cut secure text cut (sip p) is none (_, fits, whole) =
     none p.host (subst (λ t. HostText t p.host) (sym (cuts-agree text cut p is fits whole).host) fits.host)
@@ -329,6 +343,7 @@ info-fits secure text cut (sip p) is (_, fits, whole) =
         subst (λ o. IfSome o User) (sym same.user) fits.user,
         subst (λ o. IfSome o Password) (sym same.password) fits.password,
       ),
+      -- the parameters and the headers fit, since they are those of the URI
       (
         subst UriParameters (sym same.params) fits.params,
         subst (λ o. IfSome o Headers) (sym same.headers) fits.headers,

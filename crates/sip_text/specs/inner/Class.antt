@@ -1,4 +1,4 @@
--- The classes of bytes that the readers test by the table.
+-- The classes of bytes that the readers test by the table. Those of RFC 3261, section 25.1, are told by the names that they have there.
 use Rattle.std.specs.Prelude.{ℕ, Bool, ◌||◌, ◌==◌, nat_le}
 use Rattle.std.specs.Int.{is_in_range}
 use Rattle.std.specs.Char.{is_ascii_alphabetic, is_ascii_alphanumeric, is_ascii_digit, is_ascii_hexdigit}
@@ -26,7 +26,7 @@ is_label_byte byte = is_ascii_alphanumeric byte || byte == hyphen
 abbrev pub is_unreserved : ℕ → Bool
 is_unreserved = is_alphanum_or "-_.!~*'()"
 
--- user-unreserved
+-- user-unreserved = "&" / "=" / "+" / "$" / "," / ";" / "?" / "/"
 abbrev pub is_user_unreserved : ℕ → Bool
 is_user_unreserved = is_among "&=+$,;?/"
 
@@ -34,15 +34,15 @@ is_user_unreserved = is_among "&=+$,;?/"
 abbrev pub is_password_unreserved : ℕ → Bool
 is_password_unreserved = is_among "&=+$,"
 
--- param-unreserved
+-- param-unreserved = "[" / "]" / "/" / ":" / "&" / "+" / "$"
 abbrev pub is_param_unreserved : ℕ → Bool
 is_param_unreserved = is_among "[]/:&+$"
 
--- hnv-unreserved
+-- hnv-unreserved = "[" / "]" / "/" / "?" / ":" / "+" / "$"
 abbrev pub is_hnv_unreserved : ℕ → Bool
 is_hnv_unreserved = is_among "[]/?:+$"
 
--- reserved
+-- reserved = ";" / "/" / "?" / ":" / "@" / "&" / "=" / "+" / "$" / ","
 abbrev pub is_reserved : ℕ → Bool
 is_reserved = is_among ";/?:@&=+$,"
 

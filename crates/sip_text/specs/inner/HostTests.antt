@@ -17,7 +17,7 @@ has_len most text = nat_lt 0 (length text) && nat_le (length text) most
 abbrev pub is_group : Class → ℕ → List ℕ → Bool
 is_group class most text = has_len most text && list_all (is_in class) text
 
--- 1*3DIGIT
+-- the text is 1*3DIGIT
 abbrev pub is_decimal : List ℕ → Bool
 is_decimal text = is_group variant.Digit 3 text
 
@@ -25,23 +25,23 @@ is_decimal text = is_group variant.Digit 3 text
 abbrev pub past_decimal : List ℕ → Option (List ℕ)
 past_decimal text = if is_decimal (before dot text) then behind dot text else None
 
--- 1*3DIGIT "." and then a text that passes the test `later`
+-- the text is 1*3DIGIT "." and then a text that passes the test `later`
 abbrev pub is_decimal_dot : (List ℕ → Bool) → List ℕ → Bool
 is_decimal_dot later text = option_map_or later (past_decimal text) false
 
--- IPv4address
+-- IPv4address = 1*3DIGIT "." 1*3DIGIT "." 1*3DIGIT "." 1*3DIGIT
 abbrev pub is_v4 : List ℕ → Bool
 is_v4 text = is_decimal_dot (is_decimal_dot (is_decimal_dot is_decimal)) text
 
--- hex4
+-- hex4 = 1*4HEXDIG
 abbrev pub is_hex4 : List ℕ → Bool
 is_hex4 text = is_group variant.HexDigit 4 text
 
--- hexseq
+-- hexseq = hex4 *( ":" hex4 )
 abbrev pub is_hexseq : List ℕ → Bool
 is_hexseq text = list_all is_hex4 (parts colon text)
 
--- [ hexseq ]
+-- [ hexseq ]: the text is empty or a hexseq
 abbrev pub is_optional_hexseq : List ℕ → Bool
 is_optional_hexseq text = length text == 0 || is_hexseq text
 
@@ -59,7 +59,7 @@ abbrev pub behind_double : List ℕ → Option (List ℕ)
 behind_double [] = None
 behind_double (b ∷ text) = if is_double_at (b ∷ text) 0 then Some (drop 1 text) else behind_double text
 
--- hexpart
+-- hexpart = hexseq / hexseq "::" [ hexseq ] / "::" [ hexseq ]
 abbrev pub is_hexpart : List ℕ → Bool
 is_hexpart text =
     option_map_or (λ rest. is_optional_hexseq (before_double text) && is_optional_hexseq rest)
@@ -77,11 +77,11 @@ is_before_v4 text = is_hexpart text || is_open text
 abbrev pub has_v4_tail : List ℕ → Bool
 has_v4_tail text = option_map_or (λ front. is_v4 (behind_last colon text) && is_before_v4 front) (before_last colon text) false
 
--- IPv6address
+-- IPv6address = hexpart [ ":" IPv4address ]
 abbrev pub is_v6 : List ℕ → Bool
 is_v6 text = is_hexpart text || has_v4_tail text
 
--- IPv6reference
+-- IPv6reference = "[" IPv6address "]"
 abbrev pub is_v6_reference : List ℕ → Bool
 is_v6_reference text =
     option_map_or (λ rest. option_map_or is_v6 (up_to right_bracket rest) false) (past left_bracket text) false
@@ -96,20 +96,20 @@ has_label_ends text =
 abbrev pub has_top_ends : List ℕ → Bool
 has_top_ends text = is_ascii_alphabetic (slice_index text 0) && has_label_ends text
 
--- domainlabel
+-- domainlabel = alphanum / alphanum *( alphanum / "-" ) alphanum
 abbrev pub is_label : List ℕ → Bool
 is_label text = has_label_ends text && list_all is_label_byte text
 
--- toplabel
+-- toplabel = ALPHA / ALPHA *( alphanum / "-" ) alphanum
 abbrev pub is_top_label : List ℕ → Bool
 is_top_label text = has_top_ends text && list_all is_label_byte text
 
--- *( domainlabel "." ) toplabel, by the parts between the dots
+-- *( domainlabel "." ) toplabel: the parts between the dots are such labels
 abbrev pub are_labels : List (List ℕ) → Bool
 are_labels [] = false
 are_labels (label ∷ []) = is_top_label label
 are_labels (label ∷ next ∷ labels) = is_label label && are_labels (next ∷ labels)
 
--- hostname
+-- hostname = *( domainlabel "." ) toplabel [ "." ]
 abbrev pub is_hostname : List ℕ → Bool
 is_hostname text = are_labels (parts dot (unwrap_or (up_to dot text) text))

@@ -1,4 +1,5 @@
 -- All transactions of a judge can wait until the earliest last moment on record, and not longer.
+-- In the lemmas n is the place of a key, s the set there, and r its record.
 use Rattle.std.proofs.Common.{◌≡◌, ◌≤◌, ◌+◌, ◌∙◌, ◌↔◌, ℕ, true, false, Option, Some, None, IsTrue, List, All, position, get_or, slice_get, refl, sym, subst, arith}
 use Rattle.std.specs.Option.{option_map}
 use Rattle.std.proofs.lemmas.Bool.{false≢true}
@@ -22,14 +23,15 @@ use Rattle.sip_verdict.proofs.tables.Halfway.{All-position_None, not_passing}
 use Rattle.sip_verdict.proofs.keys.Overdue.{overdue_none, in_time_some}
 use Rattle.sip_verdict.proofs.tables.TablesPassing.{at_place, All-place, All-places, zip-place, keys_are}
 
--- What follows is of tables that track the entries es, and a moment at which no transaction need have done anything more.
+-- What follows is of the tables t, which track the entries es and which an entry at `from` may pass.
+-- At `moment`, which is not earlier, no transaction need have done anything more.
 module _ (texts : Texts) (t : Tabled) (es : List (Observation KeyParts)) (from : ℕ) (may : MayPass texts t from) (recorded : AllAreOnRecord t) (tracks : TablesTrack texts es t) (moment : ℕ)
     (newest : newest_moment es ≤ moment) (later : from ≤ moment) where
   -- the key has a run over the entries that stands at the moment
   abbrev Runs : KeyParts → Type 0
   Runs key = StandsUntil t.times (machine_of_key t.times.rules key) (events_for key es) moment
 
-  -- What follows is of one key, its set and its last moment on record.
+  -- What follows is of the key with the number n, its set s and its last moment on record.
   module _ (n : ℕ) (key : KeyParts) (s : AnySet) (at : slice_get t.keys n ≡ Some key) (here : slice_get t.sets n ≡ Some s) where
     -- the set of the key leads to the runs over its events
     leads : LeadsOf texts t.times (machine_of_key t.times.rules key) (events_for key es) (newest_moment es) s
@@ -69,6 +71,7 @@ module _ (texts : Texts) (t : Tabled) (es : List (Observation KeyParts)) (from :
   none_waits : due_of t moment ≡ None → CanWaitUntil t.times es moment
   none_waits none = subst (All Runs) keys_of_all (All-places Runs t.keys (λ n key at. let (s, here) = set_of_key n key at in let (r, on) = record_of_key n key at in in_time n key s at here r on (nothing (position (is_overdue moment) t.records) refl none n r on)))
     where
+      -- where no record is found overdue, none is
       nothing : (found : Option ℕ) → position (is_overdue moment) t.records ≡ found → option_map (λ i. i + 1) found ≡ None → (n : ℕ) (r : Option (Option ℕ)) → slice_get t.records n ≡ Some r → is_overdue moment r ≡ false
       nothing None is e n r on = not_passing (is_overdue moment r) (All-place (λ x. ¬ (IsTrue (is_overdue moment x))) t.records n r on (All-position_None (is_overdue moment) t.records is))
       nothing (Some i) is e n r on = absurd cc
@@ -77,6 +80,7 @@ module _ (texts : Texts) (t : Tabled) (es : List (Observation KeyParts)) (from :
   waits_none : CanWaitUntil t.times es moment → due_of t moment ≡ None
   waits_none waits = go (position (is_overdue moment) t.records) refl
     where
+      -- no record is found overdue, since none is
       go : (found : Option ℕ) → position (is_overdue moment) t.records ≡ found → option_map (λ i. i + 1) found ≡ None
       go None is = refl
       go (Some i) is =

@@ -1,4 +1,5 @@
 -- What a judge holds after one entry more.
+-- In the lemmas j is what a judge holds, k what it holds one entry later, and es what was observed of the entries so far.
 use Rattle.std.proofs.Common.{◌≡◌, ◌+◌, ◌-◌, ◌∙◌, ℕ, Option, Some, None, IfSome, MatchOption, slice_get, List, length, sym, ap, subst}
 use Rattle.std.proofs.lemmas.List.{length_push}
 use Rattle.sip_standard.specs.Key.{KeyParts}
@@ -43,6 +44,7 @@ stands_on j k e next number moment goes_on es stands (seen, observed, follows) =
   seen,
   observed,
   record {
+    -- the judge has one entry more, whose moment is the newest
     goes_on = goes_on;
     number = number ∙ next ∙ ap (λ n. n + 1) stands.number ∙ sym (length_push es seen);
     moment = moment ∙ sym (observed_moment es (item e) seen observed);

@@ -1,4 +1,5 @@
 -- What the entries that were read say of the whole log of the input.
+-- In the lemmas es is what was observed of the entries so far, and e what is observed of the next one.
 use Rattle.std.proofs.Common.{inl, inr, refl, Option, IfSome, List, [], ◌∷◌, ◌++◌, ℕ, sym, subst, append_assoc}
 use Rattle.std.proofs.lemmas.List.{append-nil}
 use Rattle.sip_standard.specs.Key.{KeyParts}
@@ -15,9 +16,10 @@ use Rattle.sip_verdict.specs.LegalLog.{IsGood}
 use Rattle.sip_verdict.specs.inner.Walking.{HasRead}
 use Rattle.sip_verdict.proofs.listings.WalkingLemmas.{read_log}
 
--- items that are seen as entries, with one item more that is seen after them, are seen as the entries and that of the one more
+-- where items are seen as the entries es, and one item more is seen after them as e, all of them are seen as es and e
 pub seen-push : (before : List (Observation KeyParts)) (xs : List Item) (es : List (Observation KeyParts)) (x : Item) (e : Observation KeyParts) → AreSeen before xs es → Sees (before ++ es) x e
     → AreSeen before (xs ++ x ∷ []) (es ++ e ∷ [])
+-- x is the one item more, seen as e; there are as many entries as items
 seen-push before [] [] x e a s = (subst (λ fs. Sees fs x e) (append-nil before) s, tt)
 seen-push before [] (f ∷ es) x e a s = elim a [ ]
 seen-push before (y ∷ xs) [] x e a s = elim a [ ]
@@ -30,11 +32,13 @@ pub judges_front : (p : Times) (end : LogEnd) (v : Verdict) (before : List (Obse
 judges_front p end v before [] rest [] seen good left = subst (λ fs. IsVerdictAfter p fs rest end v) (append-nil before) left
 judges_front p end v before [] rest (e ∷ es) seen good left = elim seen [ ]
 judges_front p end v before (item ∷ items) rest [] seen good left = elim seen [ ]
+-- the first of the entries is in no trouble, so the verdict is on those after it
 judges_front p end v before (item ∷ items) rest (e ∷ es) seen good left =
     let along = append_assoc before (e ∷ []) es in
     let fine = good before e es refl in (
       e,
       seen.0,
+      -- the entry is formed, each key has a run, and none is too wide
       inr (
         fine.formed,
         fine.runs,
@@ -43,7 +47,8 @@ judges_front p end v before (item ∷ items) rest (e ∷ es) seen good left =
       ),
     )
 
--- What follows is of items that were judged without a verdict, and what is observed of them.
+-- What follows is of items of a log by the times p that were judged without a verdict; es is what is observed of them, and start the bytes from which they
+-- were read.
 module _ (p : Times) (start : Option (List ℕ)) (items : List Item) (es : List (Observation KeyParts)) (observed : AreSeen [] items es) (good : IsGood p es) where
   -- a verdict after the entries that were judged is the verdict of each input whose log has them first
   goes_on : (rest : List Item) (end : LogEnd) (v : Verdict) → IsVerdictAfter p es rest end v → (input : List ℕ) → LogSays input p (items ++ rest) end → IsVerdictOf input v

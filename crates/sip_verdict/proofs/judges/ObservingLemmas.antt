@@ -1,4 +1,5 @@
 -- What a judge is told of an entry is what is observed of it.
+-- In the lemmas i and j are two entries, e and f what is observed of them, and c is what an entry concerns.
 use Rattle.std.specs.Prelude.{not, codes, bytes_eq, is_some, option_map, option_to_list, if◌then◌else◌}
 use Rattle.std.proofs.Common.{◌≡◌, ◌≢◌, ◌≤◌, ◌&&◌, ℕ, Bool, true, false, Option, Some, None, MatchOption, List, [], ◌++◌, refl, sym, ap, ◌∙◌, subst}
 use Rattle.std.proofs.lemmas.Bool.{false≢true}
@@ -48,6 +49,7 @@ pub silent_observed : (texts : Texts) (es : List (Observation KeyParts)) (item :
     → IsObserved texts es item (silent_told item.action) (silent_observation item.action item.moment (keys_in es))
 silent_observed texts es item stays = go item.action stays
   where
+    -- an item that goes in no direction is observed as it is told: only a mark and a restart have no message
     go : (a : Action) → direction_of a ≡ None → IsObserved texts es item (silent_told a) (silent_observation a item.moment (keys_in es))
     go Sent stays = cc
     go Received stays = cc
@@ -67,6 +69,7 @@ silent_heard texts moment Restart = tt
 silent_none : (item : Item) → direction_of item.action ≡ None → ConcernsNone item
 silent_none item stays = (silent_observation item.action item.moment [], observes_silent [] item stays, go item.action)
   where
+    -- an item without a message concerns no key, whichever action it is
     go : (a : Action) → (silent_observation a item.moment []).keys ≡ []
     go Sent = refl
     go Received = refl
@@ -78,6 +81,7 @@ silent_none item stays = (silent_observation item.action item.moment [], observe
 pub silent_kept : (old new : Texts) (entry : Entry) → direction_of entry.action ≡ None → new ≡ old → IsKept old new entry (silent_told entry.action)
 silent_kept old new entry stays same = go entry.action refl
   where
+    -- the book stays as it is where an item has no message, whichever action it is
     go : (a : Action) → entry.action ≡ a → IsKept old new entry (silent_told a)
     go Sent is = same
     go Received is = same
@@ -130,6 +134,7 @@ pub observes_heard : (item : Item) (direction : Direction) (text : List ℕ) (r 
 observes_heard item direction text r texts event number keys same reads has concerns event_is kept =
     is_heard (said_of r) keys (subst (λ t. Says t (gives (said_of r))) same reads.says) has concerns (ap (λ h. record { fault = None; event = h; keys = keys }) (ap (event_in texts) event_is ∙ alike))
   where
+    -- the event of the code is the event of the definitions
     alike : event_in texts (event_of item r number) ≡ message_event item (said_of r)
     alike = ap (λ t. record { moment = item.moment; action = item.action; text = t; kind = kind_of r.message.start; reliable = is_reliable r.parts.via.1.transport }) kept
 
@@ -168,6 +173,7 @@ lacks_branch false (Some x) lacks = absurd (false≢true lacks)
 branchless : (direction : Direction) (item : Item) (s : Said) → Says item.text (gives s) → cookie_branch s.via.branch ≡ None → (e : Observation KeyParts) × ObservesMessage direction item e × (e.keys ≡ [])
 branchless direction item s says none = go (lacks_cookie s direction) refl
   where
+    -- the message is observed without keys, whether or not its missing cookie is a fault
     go : (lacks : Bool) → lacks_cookie s direction ≡ lacks → (e : Observation KeyParts) × ObservesMessage direction item e × (e.keys ≡ [])
     go true lacks = (fault_observation item no_cookie, has_no_cookie s says lacks refl, refl)
     go false has =
@@ -175,6 +181,7 @@ branchless direction item s says none = go (lacks_cookie s direction) refl
 
 -- where the bytes of a message concern no key when it goes one way, they concern none when it goes the other way
 other_way : (way direction : Direction) (i j : Item) (e : Observation KeyParts) → i.text ≡ j.text → ObservesMessage way i e → e.keys ≡ [] → (f : Observation KeyParts) × ObservesMessage direction j f × (f.keys ≡ [])
+-- the same fault is found whichever way it goes; without a cookie, or without keys, it has no branch, and so no key either way
 other_way way direction i j e same (has_fault fault has is) none = (fault_observation j fault, has_fault fault (subst (λ t. Says t (stops fault)) same has) refl, refl)
 other_way way direction i j e same (has_no_cookie s says lacks is) none =
     branchless direction j s (subst (λ t. Says t (gives s)) same says) (lacks_branch (is_sent (λ method. true) s.start way) (cookie_branch s.via.branch) lacks)
@@ -198,7 +205,7 @@ none_alike i j same i_says j_says (e, seen, none) =
     let (f, f_seen, f_none) = other_way way direction i j e same (subst (λ d. MatchOption d (e ≡ silent_observation i.action i.moment []) (λ way. ObservesMessage way i e)) i_goes seen) none in
     (f, observes [] j f direction j_goes f_seen, f_none)
 
--- an entry of which some key is observed concerns a key
+-- an item of which some key is observed is not one that concerns none
 pub concerns_some : (i : Item) (keys : List KeyParts) (e : Observation KeyParts) → Sees [] i e → e.keys ≡ keys → keys ≢ [] → ¬ ConcernsNone i
 concerns_some i keys e seen are some (f, f_seen, none) = some (sym are ∙ ap (λ o. o.keys) (observes_one [] i e f seen f_seen) ∙ none)
 

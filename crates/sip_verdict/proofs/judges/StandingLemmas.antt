@@ -1,4 +1,6 @@
 -- What is kept of the transactions before and after an entry is judged.
+-- In the lemmas n is a number of a message or the place of a key, ns are numbers and ks their keys, r is a record, and t, u and v are tables, one after
+-- another.
 use Rattle.std.proofs.Common.{◌≡◌, ◌≢◌, ◌≤◌, ◌<◌, ◌+◌, ◌-◌, ◌⊎◌, inl, inr, ℕ, zero, suc, Bool, true, false, cond, Contains, map, slice_get, get_or, IfNone, Option, Some, None, List, [], ◌∷◌, ◌++◌, All, AllPairs, length, refl, sym, ap, ◌∙◌, subst, arith}
 use Rattle.std.specs.Prelude.{fold, ◌==◌, take}
 use Rattle.std.specs.Cmp.{unsigned_Decides}
@@ -46,7 +48,7 @@ use Rattle.sip_verdict.proofs.tables.TablesPassing.{at_place, keys_are}
 abbrev pub IsGrown : Texts → ℕ → List ℕ → Texts → Type 0
 IsGrown old number bytes new = (new ≡ old) ⊎ (new ≡ old ++ (number, bytes) ∷ [])
 
--- What follows is of a book, and the same book with one message more.
+-- What follows is of a book, `old`, and of `new`, the same book with one message more, by its number and its bytes.
 module _ (old new : Texts) (number : ℕ) (bytes : List ℕ) where
   -- a book that has grown keeps the messages that it kept
   grown_keeps : IsGrown old number bytes new → (n : ℕ) → Keeps old n → Keeps new n
@@ -56,6 +58,7 @@ module _ (old new : Texts) (number : ℕ) (bytes : List ℕ) where
   -- a book that has grown knows the messages of the sets
   grown_known : IsGrown old number bytes new → (set : AnySet) → IsKnownSet old set → IsKnownSet new set
   grown_known grown set known =
+      -- o.0 is the machine of the set, o.1 are its states as those of this machine, and names are the messages that a state names
       let o = some_machine set in
       let names = (meaning_of o.0).names in
       subst (IsKnownSet new) (sym o.2)
@@ -77,11 +80,12 @@ module _ (old new : Texts) (number : ℕ) (bytes : List ℕ) where
   grown_numbered (inl same) below n keeps = let low = below n (subst (λ texts. Keeps texts n) same keeps) in omega arith
   grown_numbered (inr more) below n keeps = go (Keeps-grow_cases old number bytes n (subst (λ texts. Keeps texts n) more keeps))
     where
+      -- each number that the book keeps is below the one after the newest
       go : Keeps old n ⊎ (number ≡ n) → n < number + 1
       go (inl k) = let low = below n k in omega arith
       go (inr e) = omega arith
 
-  -- What follows is of transactions after the entries es.
+  -- What follows is of transactions after the entries es by the times p.
   module _ (p : Times) (es : List (Observation KeyParts)) where
     -- a transaction that leads to its runs beside a book leads to them beside the book with one message more
     ready_more : (t : KeyParts × AnySet) → IsReady (key_keeping old p) es t → IsReady (key_keeping (old ++ (number, bytes) ∷ []) p) es t
@@ -90,6 +94,7 @@ module _ (old new : Texts) (number : ℕ) (bytes : List ℕ) where
         let m = meaning_of machine in (
           s,
           is,
+          -- the set has the same machine beside the new book, and its states name the same bytes
           record {
             machine_is = leads.machine_is;
             leads = Leads-grow m.names m.seen (seen_by_names_of machine) old number bytes (m.rules p) (events_for t.0 es) (newest_moment es) s.moment s.states leads.leads;
@@ -107,13 +112,14 @@ module _ (old new : Texts) (number : ℕ) (bytes : List ℕ) where
   pub grown_track : IsGrown old number bytes new → (es : List (Observation KeyParts)) (t : Tabled) → TablesTrack old es t → TablesTrack new es t
   grown_track grown es t s = record { keys = s.keys; ready = grown_ready t.times es grown (transactions_of t) s.ready; good = s.good }
 
--- What follows is of tables before and after the keys that an entry concerns were looked up.
+-- What follows is of the tables `old` and `new`, before and after the keys ks that an entry concerns were looked up; ns are their numbers.
 module _ (ks : List KeyParts) (ns : List ℕ) (old new : Tabled) (touched : TouchesEach ks ns old new) where
   -- after the keys were looked up, each last moment is on record, except those of the transactions that the entry concerns
   pub touched_recorded : length old.sets ≡ length old.keys → AllAreOnRecord old → AreOnRecord ns new
   touched_recorded long recorded =
       touches_recorded ns ks ns old new (λ n waiting. waiting) long (record { long = recorded.long; each = λ n set r at here. waits_more n set r (recorded.each n set r at here) }) touched
     where
+      -- a last moment that is on record is so, too, where those of the entry's keys may be missing
       waits_more : (n : ℕ) (set : AnySet) (r : Option (Option ℕ)) → IsOnRecord [] (n + 1) set r → IsOnRecord ns (n + 1) set r
       waits_more n set None h = absurd (false≢true h)
       waits_more n set (Some limit) h = h
@@ -132,6 +138,7 @@ module _ (ks : List KeyParts) (ns : List ℕ) (old new : Tabled) (touched : Touc
 pub few_keys : (keys : Concerned KeyParts) (ns : List ℕ) (old new : Tabled) → TouchesEach (each keys) ns old new → length new.keys ≤ length old.keys + 2
 few_keys keys ns old new touched = let more = touches_few (each keys) ns old new touched in let few = at_most_two keys in omega arith
   where
+    -- an entry concerns at most two keys
     at_most_two : (c : Concerned KeyParts) → length (each c) ≤ 2
     at_most_two concerned.None = omega arith
     at_most_two (concerned.Own own) = omega arith
@@ -143,6 +150,7 @@ pub text_of_none : (texts : Texts) (n : ℕ) → ¬ Keeps texts n → text_of te
 text_of_none [] n none = refl
 text_of_none (kept ∷ texts) n none = go (kept.0 == n) refl (text_of_none texts n (λ has. none (Contains-there kept.0 (map (λ k. k.0) texts) n has)))
   where
+    -- a number that the book does not keep has no text, whether or not the first message has the number
     go : (b : Bool) → (kept.0 == n) ≡ b → text_of texts n ≡ [] → cond b kept.1 (text_of texts n) ≡ []
     go true same rest = absurd (none (subst (Contains (map (λ k. k.0) (kept ∷ texts))) ((unsigned_Decides kept.0 n).0 same) (Contains-here kept.0 (map (λ k. k.0) texts))))
     go false differ rest = rest
@@ -155,6 +163,7 @@ listed_each count (concerned.OwnAndCancelled own cancelled) some = refl
 listed_each count concerned.All some = absurd (false≢true (sym some))
 
 -- numbers of keys stay numbers of these keys when one number and its key are put after them
+-- ns are the numbers of the keys ks among all keys, and n is the number of k
 have_more : (all : List KeyParts) (ns : List ℕ) (ks : List KeyParts) (n : ℕ) (k : KeyParts) → HaveNumbers all ns ks → 0 < n → slice_get all (n - 1) ≡ Some k → HaveNumbers all (ns ++ n ∷ []) (ks ++ k ∷ [])
 have_more all [] [] n k have low at = (low, at, tt)
 have_more all [] (key ∷ ks) n k have low at = absurd have
@@ -165,9 +174,11 @@ have_more all (m ∷ ns) (key ∷ ks) n k (some, there, rest) low at = (some, th
 pub have_all : (all : List KeyParts) → HaveNumbers all (up_to (length all)) all
 have_all all = subst (HaveNumbers all (up_to (length all))) (take_all (length all) all (omega arith)) (front (length all) (omega arith))
   where
+    -- the first n keys have the numbers up to n
     front : (n : ℕ) → n ≤ length all → HaveNumbers all (up_to n) (take n all)
     front zero low = tt
     front (suc n) low =
+        -- the last of the numbers is that of the key there
         let key = at_place all n (omega (arith, low)) in
         let before : suc n - 1 ≡ n = omega arith in
         let more : suc n ≡ n + 1 = omega arith in
@@ -175,8 +186,10 @@ have_all all = subst (HaveNumbers all (up_to (length all))) (take_all (length al
         (have_more all (up_to n) (take n all) (suc n) key.0 (front n (omega (arith, low))) (omega arith) (ap (slice_get all) before ∙ key.1))
 
 -- after an entry without trouble the next entry may be taken, by the tables and the book that the entry leaves
+-- the book is `old`, then `mid` with the entry's message, then `last`; t, u and v are the tables with each
 pub may_next : (verdict : Option Verdict) (old mid last : Texts) (t u v : Tabled) (number moment : ℕ) (bytes : List ℕ) → MayTake old t number moment → IsGrown old number bytes mid
     → length u.keys ≤ length t.keys + 2 → v.keys ≡ u.keys → last ≡ mid → MayPass last v moment → IfNone verdict (AllAreOnRecord v) → IfNone verdict (MayTake last v (number + 1) moment)
+-- without trouble each number and each limit stands as after the entry; with a verdict nothing more is asked
 may_next None old mid last t u v number moment bytes may grown few keys book passes recorded = record {
   passes = passes;
   recorded = recorded;
@@ -187,6 +200,7 @@ may_next None old mid last t u v number moment bytes may grown few keys book pas
 may_next (Some x) old mid last t u v number moment bytes may grown few keys book passes recorded = tt
 
 -- numbers under which keys stand in the tables were given
+-- ns are the numbers of the keys ks in the tables t
 pub are_given : (t : Tabled) (ns : List ℕ) (ks : List KeyParts) → HaveNumbers t.keys ns ks → All (IsGiven t) ns
 are_given t [] ks h = All-nil (IsGiven t)
 are_given t (n ∷ ns) [] h = absurd h
@@ -195,7 +209,7 @@ are_given t (n ∷ ns) (k ∷ ks) (low, at, rest) =
 
 -- What follows is of one entry i that is judged: old, mid and last are the book before it, with its message, and after it.
 module _ (verdict : Option Verdict) (old mid last : Texts) (number : ℕ) (bytes : List ℕ) (grown : IsGrown old number bytes mid) (i : Item) (moment count : ℕ) where
-  -- this is told of the entry, and observed of it after any entries
+  -- the judge is told this of the entry, and whatever entries come before it, what is observed of it agrees with that
   abbrev Tells : Observed → Type 0
   Tells told = (es : List (Observation KeyParts)) → (e : Observation KeyParts) × Sees es i e × IsObserved mid es i told e
 
@@ -205,6 +219,7 @@ module _ (verdict : Option Verdict) (old mid last : Texts) (number : ℕ) (bytes
       → IsJudged t.times (key_keeping last t.times) es e (transactions_of v) verdict)
       → (es : List (Observation KeyParts)) → TablesTrack old es t → count ≡ length es + 1 → newest_moment es ≤ moment
       → (e : Observation KeyParts) × Sees es i e × IsJudged t.times (key_keeping last t.times) es e (transactions_of v) verdict × HaveNumbers v.keys [] e.keys
+  -- e is what is observed of the entry, which has no fault
   unheard_judged t v at tells judged es tracks counts newest =
       let (e, seen, (fine, e_at, none)) = tells es in (
         e,
@@ -215,6 +230,8 @@ module _ (verdict : Option Verdict) (old mid last : Texts) (number : ℕ) (bytes
       )
 
   -- a message that transactions hear is judged as what is observed of it, with the keys that it concerns
+  -- t are the tables before, u those with the entry's keys looked up, and v those after the event
+  -- mid is the book with the message of the entry, last the book that is kept in the end, and i the item of the entry
   pub heard_judged : (event : NumberedEvent) (concerned : Concerned KeyParts) (numbers : Concerned ℕ) (t u v : Tabled) → length t.sets ≡ length t.keys → TouchesEach (each concerned) (each numbers) t u
       → AllPairs (λ a b. a ≢ b) u.keys → v.keys ≡ u.keys → event.moment ≡ moment → is_all numbers ≡ false
       → Tells (Heard event concerned)
@@ -223,7 +240,9 @@ module _ (verdict : Option Verdict) (old mid last : Texts) (number : ℕ) (bytes
       → IsJudged u.times (key_keeping last u.times) es e (transactions_of v) verdict)
       → (es : List (Observation KeyParts)) → TablesTrack old es t → count ≡ length es + 1 → newest_moment es ≤ moment
       → (e : Observation KeyParts) × Sees es i e × IsJudged t.times (key_keeping last t.times) es e (transactions_of v) verdict × HaveNumbers v.keys (each numbers) e.keys
+  -- the entry has no fault, and concerns these keys
   heard_judged event concerned numbers t u v long touched apart keys at some tells judged es tracks counts newest = (
+    -- `seen` is what is observed of the message: each key that it concerns has its number, and is told the event
     seen,
     (let (e, observed, is) = tells es in subst (Sees es i) is observed),
     subst (λ p. IsJudged p (key_keeping last p) es seen (transactions_of v) verdict) times
@@ -237,13 +256,16 @@ module _ (verdict : Option Verdict) (old mid last : Texts) (number : ℕ) (bytes
       seen : Observation KeyParts
       seen = record { fault = None; event = event_in mid event; keys = each concerned }
 
+      -- looking up keys leaves the times
       times : u.times ≡ t.times
       times = touches_times (each concerned) (each numbers) t u touched
 
+      -- the keys that the entry concerns have these numbers
       have : HaveNumbers u.keys (each numbers) (each concerned)
       have = have_numbers (each concerned) (each numbers) t u touched
 
   -- a restart is judged as what is observed of it, with all keys so far
+  -- t and v are the tables before and after the restart
   pub restart_judged : (event : NumberedEvent) (t v : Tabled) → length t.sets ≡ length t.keys → AllPairs (λ a b. a ≢ b) t.keys → v.keys ≡ t.keys
       → event ≡ record { moment = moment; action = Restart; number = 0; kind = Request Other; reliable = false } → ((n : ℕ) → Keeps mid n → 0 < n) → i.moment ≡ moment
       → Tells told.Restart
@@ -253,12 +275,15 @@ module _ (verdict : Option Verdict) (old mid last : Texts) (number : ℕ) (bytes
       → (es : List (Observation KeyParts)) → TablesTrack old es t → count ≡ length es + 1 → newest_moment es ≤ moment
       → (e : Observation KeyParts) × Sees es i e × IsJudged t.times (key_keeping last t.times) es e (transactions_of v) verdict × HaveNumbers v.keys (up_to (length v.keys)) e.keys
   restart_judged event t v long apart same is above at tells judged es tracks counts newest =
+      -- e is what is observed of the restart, with all keys
       let (e, seen, e_is) = tells es in
       let keys : e.keys ≡ t.keys = ap (λ x. x.keys) e_is ∙ sym (sym (keys_are t long) ∙ tracks.keys) in
+      -- a restart has no message, and the book has none under 0
       let silent : [] ≡ text_of mid 0 = sym (text_of_none mid 0 (λ keeps. (let low = above 0 keeps in omega (arith, low)))) in
       let heard : e.event ≡ event_in mid event =
       ap (λ x. x.event) e_is ∙ ap (λ n. (restart_observation n []).event) at
       ∙ ap (λ text. record { moment = moment; action = Restart; text = text; kind = Request Other; reliable = false }) silent ∙ sym (ap (event_in mid) is) in
+      -- all keys hear the restart
       let here : e.event.moment ≡ moment = ap (λ x. x.moment) heard ∙ ap (λ x. x.moment) is in (
         e,
         seen,
@@ -268,6 +293,7 @@ module _ (verdict : Option Verdict) (old mid last : Texts) (number : ℕ) (bytes
       )
 
 -- the number at a place of the numbers stands for the key at the same place of the keys
+-- ns are the numbers of the keys ks among all keys, i is the place, and k the key there; d stands for no number
 number_at : (all : List KeyParts) (ns : List ℕ) (ks : List KeyParts) → HaveNumbers all ns ks → (i d : ℕ) → i < length ns → (k : KeyParts) × (slice_get ks i ≡ Some k) × (slice_get all (get_or ns i d - 1) ≡ Some k)
 number_at all [] ks h i d low = absurd (omega arith)
 number_at all (n ∷ ns) [] h i d low = absurd h

@@ -38,13 +38,13 @@ none_of machine t new is none = of_set (λ X M S m s. s.states ≡ []) machine t
 some_of : (machine : MachineKind) (t : Held Times (StateOf machine)) (new : AnySet) → new ≡ set_of machine t → ¬ IsEmpty new → t.states ≢ []
 some_of machine t new is some none = some (subst IsEmpty (sym is) (to_set (λ X M S m s. s.states ≡ []) machine t none))
 
--- What follows is of one transaction, whose set leads to its runs over the events.
+-- What follows is of one transaction: `old` is its set, which leads to its runs over the events, and `new` its set after one event more.
 module _ (texts : Texts) (p : Times) (machine : MachineKind) (events : List MachineEvent) (from : ℕ) (old new : AnySet) (leads : LeadsOf texts p machine events from old) where
   -- the moment of the states of the old set is not after the event
   low_of : (moment : ℕ) → moment_of old ≤ moment → leads.0.moment ≤ moment
   low_of moment low = subst (λ m. m ≤ moment) (ap moment_of leads.1 ∙ moment_is machine leads.0) low
 
-  -- What follows is of one event e that the transaction hears.
+  -- What follows is of e, an event that the transaction hears at the moment of the set or later.
   module _ (e : NumberedEvent) (late : from ≤ e.moment) (low : moment_of old ≤ e.moment) where
     -- where no state is left, no run takes the event
     pub hears_none : SetTakes texts e old new → IsEmpty new → ¬ RunsUntil (key_rules p machine) (events ++ event_in texts e ∷ []) e.moment
@@ -56,6 +56,7 @@ module _ (texts : Texts) (p : Times) (machine : MachineKind) (events : List Mach
     -- where states are left, and not too many, the runs go on
     pub hears_some : SetTakes texts e old new → ¬ IsEmpty new → IsStepped (key_rules p machine) events (event_in texts e) (λ es. LeadsOf texts p machine es e.moment new) (λ f. StandsOf texts p machine events f new) all.Fine
     hears_some takes some =
+        -- n.0 are the states after the event, as those of the machine; m is what the machine means, and h says how its runs go on
         let n = after_event texts e machine leads.0 old new leads.1 takes in
         let m = meaning_of machine in
         let h = heard_some m.names m.in_range m.seen m.rules (lawful_of machine) texts p events from leads.0 n.0 leads.2 (event_in texts e) late (low_of e.moment low) n.2.states n.2.machine n.2.at

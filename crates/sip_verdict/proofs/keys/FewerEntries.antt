@@ -80,6 +80,7 @@ fewer-entries p key front more order run =
     let machine = machine_of_key p.rules key in
     let r = key_rules p machine in
     let from : All (IsFrom 0) (front ++ more) = λ k d within. omega arith in
+    -- the run over all entries is one by steps, which is cut at the newest moment of the first ones
     let (y, whole) = stands-run p machine (events_for key (front ++ more)) (newest_moment (front ++ more)) run in
     run-stands p machine (events_for key front) (newest_moment front)
     (Run-fewer r (events_for key front) (events_for key more) (newest_moment front) (newest_moment (front ++ more)) y

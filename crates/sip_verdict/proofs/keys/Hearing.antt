@@ -14,6 +14,7 @@ use Rattle.sip_verdict.proofs.keys.OneMachine.{none_runs, some_runs, took_after,
 use Rattle.sip_states.proofs.sets.Taking.{took_waits}
 
 -- What follows is of the set of one transaction, which leads to its runs over the events; `new` is the set after one event more.
+-- `seen` gives what a state stands for beside the book, `names` the messages that it names, and InRange says that its numbers are in range.
 module _ {M X S : Type 0} (names : S → List ℕ) (InRange : S → Type 0) (seen : Texts → S → X) (rules : M → MachineRules X) (lawful : (machine : M) → IsLawful (rules machine))
     (texts : Texts) (machine : M) (events : List MachineEvent) (from : ℕ) (set new : Held M S) (leads : LeadsTo names seen rules texts machine set events from) where
   -- P holds of where a run can stand at a moment after it waited from the states of the set, by the rules of this machine
@@ -53,6 +54,7 @@ module _ {M X S : Type 0} (names : S → List ℕ) (InRange : S → Type 0) (see
           (took_waits names InRange seen texts (rules machine) (lawful machine) _ e new.states given) some,
       λ wide. took_narrow names InRange seen texts (rules machine) events from set.moment set.states leads.leads e late low new.states given few wide,
       led (events ++ e ∷ []) e.moment same at taken,
+      -- the new states stand for those in which the runs can stand after the event
       record {
         members = took_after names InRange seen texts (rules machine) events from set.moment set.states leads.leads e late low new.states given;
         distinct = given.distinct;

@@ -1,4 +1,5 @@
 -- What one entry leaves of a key whose set leads to its runs.
+-- In the lemmas es is what was observed of the entries before e, q are any times, and fs and gs are events.
 use Rattle.std.proofs.Common.{◌≡◌, ◌≤◌, ℕ, true, false, Option, Some, List, [], ◌∷◌, ◌++◌, sym, subst}
 use Rattle.sip_standard.specs.declared.action.Action.TheVariants.{Restart}
 use Rattle.sip_standard.specs.Key.{KeyParts}

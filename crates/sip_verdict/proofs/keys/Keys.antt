@@ -56,6 +56,7 @@ pub among-contains : (key : KeyParts) (keys : List KeyParts) → list_any (same_
 among-contains key [] h = absurd (false≢true h)
 among-contains key (k ∷ keys) h = go (same_key key k) refl (among-contains key keys) h
   where
+    -- a key that is found is among the keys, whether or not the first is this one
     go : (b : Bool) → same_key key k ≡ b → (list_any (same_key key) keys ≡ true → Contains keys key) → (b || list_any (same_key key) keys) ≡ true → Contains (k ∷ keys) key
     go true e below h = (0, omega arith, sym ((same_key-decides key k).0 e))
     go false e below h = let c = below h in (suc c.0, omega (arith, c.1), c.2)
@@ -63,6 +64,7 @@ among-contains key (k ∷ keys) h = go (same_key key k) refl (among-contains key
 -- a key that is one of the keys is found among them
 pub contains-among : (key : KeyParts) (keys : List KeyParts) → Contains keys key → list_any (same_key key) keys ≡ true
 contains-among key [] h = absurd (omega (arith, h.1))
+-- the key stands at the first place, or at a later one, n
 contains-among key (k ∷ keys) (zero, lt, h) = ap (λ b. b || list_any (same_key key) keys) ((same_key-decides key k).1 (sym h))
 contains-among key (k ∷ keys) (suc n, lt, h) = or_true (same_key key k) (list_any (same_key key) keys) (contains-among key keys (n, omega arith, h))
 
@@ -81,6 +83,7 @@ keys_in-all es e all = keys_in-push es e ∙ ap (fold with_key (keys_in es)) all
 pub not_among : (key : KeyParts) (keys : List KeyParts) → ¬ Contains keys key → list_any (same_key key) keys ≡ false
 not_among key keys none = go (list_any (same_key key) keys) refl
   where
+    -- the search finds nothing, since the key is none of them
     go : (b : Bool) → list_any (same_key key) keys ≡ b → b ≡ false
     go true e = absurd (none (among-contains key keys e))
     go false e = refl
@@ -89,11 +92,12 @@ not_among key keys none = go (list_any (same_key key) keys) refl
 pub among-with_key : (key : KeyParts) (keys : List KeyParts) (k : KeyParts) → list_any (same_key key) (with_key keys k) ≡ false → (list_any (same_key key) keys ≡ false) × (same_key key k ≡ false)
 among-with_key key keys k h = go (list_any (same_key k) keys) refl h
   where
+    -- the key is not k, since k is among the keys and the key is not
     old : (b : Bool) → same_key key k ≡ b → list_any (same_key k) keys ≡ true → list_any (same_key key) keys ≡ false → b ≡ false
     old false e known none = refl
     old true e known none = absurd (false≢true (sym none ∙ ap (λ x. list_any (same_key x) keys) ((same_key-decides key k).0 e) ∙ known))
 
-    -- whether k is among the keys already
+    -- neither the keys nor k are the key, whether or not k is among the keys already
     go : (b : Bool) → list_any (same_key k) keys ≡ b → list_any (same_key key) (cond b keys (keys ++ k ∷ [])) ≡ false → (list_any (same_key key) keys ≡ false) × (same_key key k ≡ false)
     go true e none = (none, old (same_key key k) refl e none)
     go false e none = let (a, b) = or_false _ _ (sym (list_any-append (same_key key) keys (k ∷ [])) ∙ none) in (a, (or_false _ _ b).0)

@@ -20,12 +20,13 @@ iff_trans e f = (λ a. f.0 (e.0 a), λ c. e.1 (f.1 c))
 pub iff_sym : {A B : Type 0} → A ↔ B → B ↔ A
 iff_sym e = (e.1, e.0)
 
--- What follows is of states of the code and what they stand for.
+-- What follows is of states of the code: `seen` gives what each stands for beside a book, and `names` the messages that it names.
 module _ {X S : Type 0} (names : S → List ℕ) (seen : Texts → S → X) where
   -- the first state of a machine, alone in a set, leads to the runs over no event
   pub Leads-start : (texts : Texts) (r : MachineRules X) (first : S) → seen texts first ≡ r.first → Knows names texts first → (from : ℕ) → Leads names seen texts r [] from 0 (first ∷ [])
   Leads-start texts r first is known from =
       record {
+        -- one can wait from the first state alone just where a run over no event stands
         known = All-cons (Knows names texts) first [] known (All-nil (Knows names texts));
         runs = λ n x late low.
             iff_trans
@@ -58,16 +59,19 @@ module _ {X S : Type 0} (names : S → List ℕ) (seen : Texts → S → X) wher
       (record { among = Contains-map (seen texts) states s member; reached = reached; waits = waits }))
 
   -- a set leads to the same runs beside another book that has the same bytes for the messages that its states name
+  -- a and b are the two books, and x is a state that names messages
   pub Leads-book : ((a b : Texts) (x : S) → ((n : ℕ) → Contains (names x) n → text_of a n ≡ text_of b n) → seen a x ≡ seen b x) →
       (a b : Texts) (r : MachineRules X) (events : List MachineEvent) (from moment : ℕ) (states : List S) → All (AgreeOn names a b) states →
       Leads names seen a r events from moment states → Leads names seen b r events from moment states
   Leads-book by_names a b r events from moment states agree leads =
       record {
+        -- the other book has what the states name, and the states stand for the same
         known = All-weaker (AgreeOn names a b) (Knows names b) (λ x agrees k d low. (agrees (get_or (names x) k d) (Contains-get_or (names x) k d low)).0) states agree;
         runs = λ n x late low. subst (λ xs. Wait r (Contains xs) moment n x ↔ RuledRun r events n x) (map-seen names seen by_names a b states agree) (leads.runs n x late low);
       }
 
   -- a set leads to the same runs beside a book that has grown by one message
+  -- a and b are books, and x is a state that names messages
   pub Leads-grow : ((a b : Texts) (x : S) → ((n : ℕ) → Contains (names x) n → text_of a n ≡ text_of b n) → seen a x ≡ seen b x) →
       (texts : Texts) (number : ℕ) (bytes : List ℕ) (r : MachineRules X) (events : List MachineEvent) (from moment : ℕ) (states : List S) →
       Leads names seen texts r events from moment states → Leads names seen (texts ++ (number, bytes) ∷ []) r events from moment states
@@ -75,7 +79,9 @@ module _ {X S : Type 0} (names : S → List ℕ) (seen : Texts → S → X) wher
       Leads-book by_names texts (texts ++ (number, bytes) ∷ []) r events from moment states
       (All-weaker (Knows names texts) (AgreeOn names texts (texts ++ (number, bytes) ∷ [])) (AgreeOn-grow names texts number bytes) states leads.known) leads
 
--- What follows is of states of the code beside one book, by the rules r of a machine.
+-- What follows is of states of the code by the rules r of a machine: `seen` gives what each stands for beside the book `texts`, `names` the messages that it
+-- names,
+-- and InRange says that its numbers are in range.
 module _ {X S : Type 0} (names : S → List ℕ) (InRange : S → Type 0) (seen : Texts → S → X) (texts : Texts) (r : MachineRules X) where
   -- the states that the event e gives from a set that leads to the runs over the events lead to the runs over the events and e
   pub Leads-take : (events : List MachineEvent) (from moment : ℕ) (states : List S) → Leads names seen texts r events from moment states →
@@ -84,6 +90,7 @@ module _ {X S : Type 0} (names : S → List ℕ) (InRange : S → Type 0) (seen 
   Leads-take events from moment states leads e late low new gives =
       record {
         known = gives.known;
+        -- to stand after the event is to wait in one of the new states
         runs = λ n x reached later.
             iff_trans
             (Wait-iff r (Contains (map (seen texts) new)) (AfterRun r events e) (λ y. iff_trans (gives.members y) (gives_after names seen texts r events from moment states leads e late low y)) e.moment n x)

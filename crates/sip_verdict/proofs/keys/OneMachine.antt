@@ -13,7 +13,9 @@ use Rattle.sip_states.proofs.runs.RunLemmas.{Run-wait}
 use Rattle.sip_states.proofs.sets.Waiting.{Wait-stay}
 use Rattle.sip_verdict.proofs.keys.Leading.{iff_trans, gives_after, Leads-none, Leads-some}
 
--- What follows is of a set of states that leads to the runs over the events, by the rules r of one machine.
+-- What follows is of the states of a set at `moment`, which lead to the runs over the events by the rules r of one machine; `from` is the moment of the
+-- newest entry.
+-- `seen` gives what a state stands for beside the book, and `names` the messages that it names.
 module _ {X S : Type 0} (names : S → List ℕ) (seen : Texts → S → X) (texts : Texts) (r : MachineRules X) (events : List MachineEvent) (from moment : ℕ) (states : List S)
     (leads : Leads names seen texts r events from moment states) (late : from ≤ moment) where
   -- where the set is empty, no run stands at its moment
@@ -26,11 +28,13 @@ module _ {X S : Type 0} (names : S → List ℕ) (seen : Texts → S → X) (tex
       let (s, member) = first_of_some states some in
       (seen texts s, Leads-some names seen texts r events from moment states leads late s member (All-contains (λ t. Waits r (seen texts t) moment) states s waits member))
     where
+      -- a list that is not empty has an element
       first_of_some : (xs : List S) → xs ≢ [] → (s : S) × Contains xs s
       first_of_some [] some = absurd (some refl)
       first_of_some (x ∷ xs) some = (x, Contains-here x xs)
 
--- What follows is of a set of states that leads to the runs over the events, and an event e that comes then or later.
+-- What follows is of a set of states that leads to the runs over the events, and an event e that comes then or later. `seen` gives what a state stands for,
+-- `names` the messages that it names, InRange says that its numbers are in range, and r are the rules.
 module _ {X S : Type 0} (names : S → List ℕ) (InRange : S → Type 0) (seen : Texts → S → X) (texts : Texts) (r : MachineRules X)
     (events : List MachineEvent) (from moment : ℕ) (states : List S) (leads : Leads names seen texts r events from moment states) (e : MachineEvent) (late : from ≤ e.moment) (low : moment ≤ e.moment) where
   -- after the event the set holds just the last states of the runs that end with it
@@ -46,7 +50,8 @@ module _ {X S : Type 0} (names : S → List ℕ) (InRange : S → Type 0) (seen 
       (wide_among (AfterRun r events e) (RunGives r (Wait r (Contains (map (seen texts) states)) moment e.moment) e)
       (λ x. (gives_after names seen texts r events from moment states leads e late low x).1) wide)
 
--- What follows is of a set of states that leads to the runs by lawful rules, and an event e that comes then or later.
+-- What follows is of a set of states that leads to the runs by the lawful rules r, and an event e that comes then or later.
+-- `seen` gives what a state stands for beside the book, and `names` the messages that it names.
 module _ {X S : Type 0} (names : S → List ℕ) (seen : Texts → S → X) (texts : Texts) (r : MachineRules X) (lawful : IsLawful r)
     (events : List MachineEvent) (from moment : ℕ) (states : List S) (leads : Leads names seen texts r events from moment states) (e : MachineEvent) (late : from ≤ e.moment) (low : moment ≤ e.moment) where
   -- where the event gives a state, a run with the event stands in that state at its moment

@@ -25,7 +25,7 @@ run_before r events e n (y, run) =
     let given = (After-run r events e wait.start).0 wait.begins in
     (given.before, given.among)
 
--- What follows is of the set of one transaction, the last moment on record to which it can wait, and a moment that comes.
+-- What follows is of the set of one transaction, of `limit`, the last moment on record to which it can wait, and of a moment that comes.
 module _ (texts : Texts) (p : Times) (machine : MachineKind) (events : List MachineEvent) (from : ℕ) (set : AnySet) (leads : LeadsOf texts p machine events from set) (limit : Option ℕ) (agenda : IsAgendaOf limit set)
     (moment : ℕ) (late : from ≤ moment) (low : moment_of set ≤ moment) where
   -- from the states of the set a run can wait until a moment exactly if the moment is within the limit
@@ -49,6 +49,7 @@ module _ (texts : Texts) (p : Times) (machine : MachineKind) (events : List Mach
   pub overdue_none : is_overdue moment (Some limit) ≡ true → ¬ RunsUntil (key_rules p machine) events moment
   overdue_none past run = go limit past (runs_within.0 run)
     where
+      -- a moment is not past a last moment and within it at once
       go : (l : Option ℕ) → is_overdue moment (Some l) ≡ true → IsWithin moment l → ⊥
       go None past within = false≢true past
       go (Some last) past within = omega (arith, ltb-true last moment past, within)
@@ -57,6 +58,7 @@ module _ (texts : Texts) (p : Times) (machine : MachineKind) (events : List Mach
   pub in_time_some : is_overdue moment (Some limit) ≡ false → RunsUntil (key_rules p machine) events moment
   in_time_some in_time = runs_within.1 (go limit in_time)
     where
+      -- a moment that is not past the last moment is within it
       go : (l : Option ℕ) → is_overdue moment (Some l) ≡ false → IsWithin moment l
       go None in_time = tt
       go (Some last) in_time = omega (arith, ltb-false last moment in_time)

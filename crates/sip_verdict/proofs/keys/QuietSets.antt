@@ -50,21 +50,25 @@ module _ (texts : Texts) (p : Times) (machine : MachineKind) (events : List Mach
   quiet_stepped =
       let m = meaning_of machine in
       let (x, one, still) = quiet_still p machine texts held (quiet_in machine held (subst IsQuietSet leads.1 quiet)) in
+      -- the restart leads from the one state to that state alone
       let gives : StandFor m.names m.in_range m.seen texts (RunGives r (Wait r (Contains (map (m.seen texts) held.states)) held.moment e.moment) (event_in texts e)) held.states =
       subst (λ xs. StandFor m.names m.in_range m.seen texts (RunGives r (Wait r (Contains (map (m.seen texts) xs)) held.moment e.moment) (event_in texts e)) xs) (sym one)
       (restart_still p machine texts x still held.moment (event_in texts e) is not_later) in
       let own = subst (λ q. StandFor m.names m.in_range m.seen texts (RunGives (m.rules q) (Wait (m.rules q) (Contains (map (m.seen texts) held.states)) held.moment e.moment) (event_in texts e)) held.states)
       (sym leads.2.machine_is) gives in
+      -- the set has a state, so the runs go on
       let some : held.states ≢ [] = λ none. (let never : x ∷ [] ≡ [] = sym one ∙ none in cc) in
       let h = heard_some m.names m.in_range m.seen m.rules (lawful_of machine) texts p events from held new leads.2 (event_in texts e) late not_later own refl refl some (omega (arith, ap length one)) in
       let same : (n : ℕ) → e.moment ≤ n → (y : PhaseOf machine) → Wait r (Contains (map (m.seen texts) held.states)) held.moment n y ↔ Wait r (Contains (map (m.seen texts) held.states)) e.moment n y
       = λ n reached y. subst (λ xs. Wait r (Contains (map (m.seen texts) xs)) held.moment n y ↔ Wait r (Contains (map (m.seen texts) xs)) e.moment n y) (sym one)
+      -- the set as it was stands where the new one does, since its state is still
       (iff_trans (waits_still p machine texts x still held.moment n (omega (arith, not_later, reached)) y) (iff_sym (waits_still p machine texts x still e.moment n reached y))) in (
         h.0,
         h.1,
         (
           held,
           leads.1,
+          -- the set has the same machine after the restart, and leads to the runs over one event more
           record {
             machine_is = leads.2.machine_is;
             leads = record { known = h.2.leads.known; runs = λ n y reached after. iff_trans (same n reached y) (h.2.leads.runs n y reached reached) };

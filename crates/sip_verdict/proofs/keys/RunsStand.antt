@@ -20,7 +20,7 @@ StandsUntil p machine events moment = (y : PhaseOf machine) × Stands (transacti
 abbrev pub AreTooMany : (machine : MachineKind) → (PhaseOf machine → Type 0) → Type 0
 AreTooMany machine P = (many : List (PhaseOf machine)) × AllPairs (λ x y. x ≢ y) many × (1024 < length many) × All P many
 
--- What follows is of the runs of one machine over the events.
+-- What follows is of the runs of one machine over the events, by the times p.
 module _ (p : Times) (machine : MachineKind) (events : List MachineEvent) where
   -- where the machine has a run by its rules, it stands somewhere in the words of the standard
   pub run-stands : (moment : ℕ) → RunsUntil (key_rules p machine) events moment → StandsUntil p machine events moment

@@ -48,12 +48,14 @@ module _ {T : Type 0} (p : Times) (k : Keeping T) (es : List (Observation KeyPar
 
     -- what the event of e leaves of the runs of the key's machine is what e leaves of the key
     pub own_passed : (outcome : Outcome) → IsStepped r (events_for (k.key t) es) e.event (λ fs. k.Leads t fs e.event.moment) (k.Stands t (events_for (k.key t) es)) outcome → IsPassed p k es e t outcome
+    -- some state is left, and not too many
     own_passed all.Fine h = record {
       runs = runs_key _ own h.0;
       narrow = λ wide. h.1 (stands-wide p machine (events_for (k.key t) es) e.event wide.1);
       ready = subst (k.Leads t (events_for (k.key t) (es ++ e ∷ []))) (sym (newest_moment-push es e)) (subst (λ fs. k.Leads t fs e.event.moment) (sym own) h.2);
       stands = λ concerned. h.3;
     }
+    -- no state is left, so that a run over the entry cannot be; or there are too many
     own_passed (all.NoRun number) h = λ run. h (key_runs _ own run)
     own_passed (all.TooWide number) h = (runs_key _ own h.0, (concerned, wide-stands p machine (events_for (k.key t) es) e.event h.1))
 
@@ -76,6 +78,7 @@ module _ {T : Type 0} (p : Times) (k : Keeping T) (es : List (Observation KeyPar
   pub run_still : RunsOver p (es ++ e ∷ []) (k.key t) → RunsUntil r (events_for (k.key t) es) e.event.moment
   run_still run = go (concerns (k.key t) e) refl
     where
+      -- there is a run over the events so far that waits until the entry, whether or not the entry concerns the transaction
       go : (b : Bool) → concerns (k.key t) e ≡ b → RunsUntil r (events_for (k.key t) es) e.event.moment
       go true concerned = run_before r (events_for (k.key t) es) e.event e.event.moment (key_runs _ (own concerned) run)
       go false unconcerned = key_runs _ (other unconcerned) run

@@ -1,4 +1,5 @@
 -- The text of an entry's transactions is the listing that the definitions ask for.
+-- In the lemmas i is an entry and d the way that its message went; ks are keys, and ns their numbers.
 use Rattle.std.proofs.Common.{◌≡◌, ◌≢◌, ◌∙◌, ◌<◌, ◌+◌, ◌-◌, ℕ, Bool, true, false, cond, Option, Some, None, MatchOption, List, [], ◌∷◌, ◌++◌, All, AllPairs, length, slice_get, refl, sym, ap, subst, arith, append_assoc}
 use Rattle.std.specs.Prelude.{IsAscii, fold}
 use Rattle.std.specs.List.{list_any}
@@ -66,6 +67,7 @@ more_ascii : (keys more : List KeyParts) → All (λ k. IsAscii k.method) keys �
 more_ascii keys [] old new = old
 more_ascii keys (k ∷ more) old new = more_ascii (with_key keys k) more (one (list_any (same_key k) keys)) (All-tail (λ x. IsAscii x.method) k more new)
   where
+    -- the methods of the keys with k are ASCII, whether or not k is one of the keys
     one : (b : Bool) → All (λ x. IsAscii x.method) (cond b keys (keys ++ k ∷ []))
     one true = old
     one false = All-push (λ x. IsAscii x.method) keys k old (All-head (λ x. IsAscii x.method) k more new)
@@ -73,9 +75,11 @@ more_ascii keys (k ∷ more) old new = more_ascii (with_key keys k) more (one (l
 -- the keys of all entries so far have methods in ASCII
 keys_ascii_after : (before : List (Observation KeyParts)) (items : List Item) (es : List (Observation KeyParts)) → All (λ k. IsAscii k.method) (keys_in before) → AreSeen before items es
     → All (λ k. IsAscii k.method) (keys_in (before ++ es))
+-- no item is left; there are as many entries as items
 keys_ascii_after before [] [] ascii seen = subst (λ es. All (λ k. IsAscii k.method) (keys_in es)) (sym (append-nil before)) ascii
 keys_ascii_after before [] (e ∷ es) ascii seen = absurd seen
 keys_ascii_after before (i ∷ items) [] ascii seen = absurd seen
+-- e is what is observed of the item i, whose keys have methods in ASCII too
 keys_ascii_after before (i ∷ items) (e ∷ es) ascii seen =
     subst (λ all. All (λ k. IsAscii k.method) (keys_in all)) (append_assoc before (e ∷ []) es)
     (keys_ascii_after (before ++ e ∷ []) items es
@@ -92,7 +96,8 @@ first_place keys apart n key at =
     first_at (λ k. same_key key k ≡ true) keys n key at ((same_key-decides key key).1 refl)
     (λ m k low there same. (let place : m ≡ n = same_place keys apart m n key (there ∙ ap Some (sym ((same_key-decides key k).0 same))) at in omega (arith, low, place)))
 
--- What follows is of the listing of the entry e, after which no transaction is in trouble.
+-- What follows is of the listing of the entry e after the entries es, by the times p: no transaction of the tables t is in trouble after it.
+-- `number` gives the number by which a message is told, as the book `texts` has it.
 module _ (number : List ℕ → ℕ) (texts : Texts) (tells : TellsBook number texts) (p : Times) (es : List (Observation KeyParts)) (e : Observation KeyParts) (t : Tabled)
     (known : All (IsKnownSet texts) t.sets) (long : length t.sets ≡ length t.keys) (apart : AllPairs (λ a b. a ≢ b) t.keys)
     (judged : IsJudged p (key_keeping texts p) es e (transactions_of t) None) where
@@ -102,11 +107,13 @@ module _ (number : List ℕ → ℕ) (texts : Texts) (tells : TellsBook number t
   key_text key n old new concerned ascii low at (k, set, lines, key_at, set_at, lists, is) =
       let same : k ≡ key = (let both : Some k ≡ Some key = sym key_at ∙ at in cc) in
       let count : (n - 1) + 1 ≡ n = omega (arith, low) in
+      -- the transaction stands after the entry with its set
       let stands = All-place (IsStanding (key_keeping texts p) es e) (transactions_of t) (n - 1) (key, set) (zip-place t.keys t.sets (n - 1) key set at set_at) judged.1 in (
         transaction_text n key lines,
         record {
           place = n;
           placed = subst (λ ks. IsFirstKey (λ k. same_key key k ≡ true) ks n) (sym (keys_are t long) ∙ judged.0.keys)
+              -- the place and the lines are those of the key
               (subst (IsFirstKey (λ k. same_key key k ≡ true) t.keys) count (first_place t.keys apart (n - 1) key at));
           lines = lines;
           states = standing_lines number texts p (machine_of_key p.rules key) (events_for key es) e.event set lines (stands concerned)
@@ -119,10 +126,12 @@ module _ (number : List ℕ → ℕ) (texts : Texts) (tells : TellsBook number t
   -- where the listings of several transactions were appended, the text has grown by what is asked for of their keys
   key_texts : (ks : List KeyParts) (ns : List ℕ) (old new : List ℕ) → All (λ k. (concerns k e ≡ true) × IsAscii k.method) ks → HaveNumbers t.keys ns ks → AppendsEach t ns old new
       → (text : List ℕ) × AreKeyTexts p number es e ks text × (new ≡ old ++ text)
+  -- no key is left, and nothing was appended; there are as many numbers as keys
   key_texts [] [] old new good have same = ([], refl, same ∙ sym (append-nil old))
   key_texts [] (n ∷ ns) old new good have more = absurd have
   key_texts (k ∷ ks) [] old new good have more = absurd have
   key_texts (k ∷ ks) (n ∷ ns) old new good (low, at, rest) (between, first, more) =
+      -- the first key's text was appended first (`one`), and then those of the others
       let here = All-head (λ x. (concerns x e ≡ true) × IsAscii x.method) k ks good in
       let one = key_text k n old between here.0 here.1 low at first in
       let others = key_texts ks ns between new (All-tail (λ x. (concerns x e ≡ true) × IsAscii x.method) k ks good) rest more in

@@ -24,7 +24,7 @@ use Rattle.sip_states.proofs.keyed.ByMachine.{some_machine, of_set, to_set}
 abbrev pub TellsBook : (List ℕ → ℕ) → Texts → Type 0
 TellsBook number texts = (n : ℕ) → Keeps texts n → number (text_of texts n) ≡ n
 
--- What follows is of messages that are told by their numbers in the book.
+-- What follows is of messages that are told by their numbers: `number` gives the number of a text as the book `texts` has it.
 module _ (number : List ℕ → ℕ) (texts : Texts) (tells : TellsBook number texts) where
   -- where the states of a set name messages of the book, they are told by the book's numbers
   told_states : {S : Type 0} (names : S → List ℕ) (xs : List S) → All (Knows names texts) xs → All (λ x. Tells number texts (names x)) xs
@@ -39,7 +39,7 @@ module _ (number : List ℕ → ℕ) (texts : Texts) (tells : TellsBook number t
       let known_s = of_set (λ X M S m s. IsKnown m texts s) machine s (subst (IsKnownSet texts) is known) in
       subst (TellsSet number texts) (sym is) (to_set (λ X M S m s. All (λ x. Tells number texts (m.names x)) s.states) machine s (told_states (meaning_of machine).names s.states known_s))
 
--- one map after another maps by one function after the other
+-- mapping by g and then by f is mapping by f after g
 map-after : {A B C : Type 0} (f : B → C) (g : A → B) (xs : List A) → map f (map g xs) ≡ map (λ x. f (g x)) xs
 map-after f g [] = refl
 map-after f g (x ∷ xs) = ap (λ ys. f (g x) ∷ ys) (map-after f g xs)

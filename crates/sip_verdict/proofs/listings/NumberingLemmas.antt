@@ -1,4 +1,5 @@
 -- Messages of a log have the number of the first entry with their bytes.
+-- In the lemmas i and j are two entries, n is a number under which a message is kept, and ns are numbers of transactions.
 use Rattle.std.specs.Str.{bytes_eq}
 use Rattle.std.proofs.Common.{◌≡◌, ◌≢◌, ◌∙◌, ◌<◌, ◌+◌, ◌&&◌, ◌⊎◌, inl, inr, ℕ, Bool, true, false, Option, Some, None, IfNone, List, [], ◌∷◌, ◌++◌, All, cond, length, refl, sym, ap, subst, arith}
 use Rattle.std.proofs.lemmas.Bool.{false_from_ne_true}
@@ -26,7 +27,7 @@ entry_from-next number (i ∷ items) item text none it =
     rw (All-head (λ i. carries i text ≡ false) i items none)
     (entry_from-next (number + 1) items item text (All-tail (λ i. carries i text ≡ false) i items none) it ∙ omega arith)
 
--- a choice of a number or x that is not 0 is the same of the number or y, where y is x unless x is 0
+-- where a number or x, by a flag, is not 0, it stays when y stands in place of x, if y is x wherever x is not 0
 chosen : (b : Bool) (number x y : ℕ) → (x ≢ 0 → y ≡ x) → cond b number x ≢ 0 → cond b number y ≡ cond b number x
 chosen true number x y more some = refl
 chosen false number x y more some = more some
@@ -43,7 +44,7 @@ stay_numbered items more texts a n keeps =
     entry_from-kept 1 items more (text_of texts n) (λ none. let zero_is : n ≡ 0 = sym (a.numbered n keeps) ∙ none in absurd (let low = a.some n keeps in omega (arith, zero_is, low)))
     ∙ a.numbered n keeps
 
--- What follows is of a book that numbers the entries of the items, and one item i more.
+-- What follows is of the book `old`, which numbers the entries of the items, and of one item i more.
 module _ (items : List Item) (i : Item) (old : Texts) (a : AreNumbered items old) where
   -- where the item concerns no key, or the book has its message already, the book numbers the entries with the item too
   same_book : (¬ ConcernsNone i → (n : ℕ) × Keeps old n × (text_of old n ≡ i.text)) → AreNumbered (items ++ i ∷ []) old
@@ -53,23 +54,25 @@ module _ (items : List Item) (i : Item) (old : Texts) (a : AreNumbered items old
     kept = All-push (λ j. ¬ ConcernsNone j → (n : ℕ) × Keeps old n × (text_of old n ≡ j.text)) items i a.kept kept;
   }
 
-  -- What follows is of an item whose message is new in the book.
+  -- What follows is of an item whose message is new in the book: it gets this number, which is the number of its entry.
   module _ (number : ℕ) (counts : number ≡ length items + 1) (says : has_message i.action ≡ true) (some : ¬ ConcernsNone i) (below : (n : ℕ) → Keeps old n → n < number) (book : IsBook (old ++ (number, i.text) ∷ [])) where
     -- an earlier item does not carry the bytes of the new message
     absent : (j : Item) → (¬ ConcernsNone j → (n : ℕ) × Keeps old n × (text_of old n ≡ j.text)) → carries j i.text ≡ false
     absent j kept = by (has_message j.action) refl
       where
+        -- the message of j is not that of i
         differ : has_message j.action ≡ true → bytes_eq j.text i.text ≡ true → ⊥
         differ is same =
             let bytes = (bytes_eq-Decides j.text i.text).0 same in
             let k = kept (λ none. some (none_alike j i bytes is says none)) in
+            -- the bytes of both would be the same, and so would the numbers
             let text : text_of (old ++ (number, i.text) ∷ []) k.0 ≡ text_of (old ++ (number, i.text) ∷ []) number =
             text_of-grow old number i.text k.0 k.1 ∙ k.2 ∙ bytes ∙ sym (text_of-added old number i.text below) in
             let one = book.apart k.0 number (Keeps-grow old number i.text k.0 k.1) (Keeps-added old number i.text) text in
             let low = below k.0 k.1 in
             omega (arith, one, low)
 
-        -- whether the earlier item has a message
+        -- the earlier item does not have the new message, whether or not it has one
         by : (b : Bool) → has_message j.action ≡ b → (b && bytes_eq j.text i.text) ≡ false
         by false is = refl
         by true is = false_from_ne_true (bytes_eq j.text i.text) (differ is)
@@ -78,6 +81,7 @@ module _ (items : List Item) (i : Item) (old : Texts) (a : AreNumbered items old
     more_book : AreNumbered (items ++ i ∷ []) (old ++ (number, i.text) ∷ [])
     more_book = record {
       some = λ n keeps. elim (Keeps-grow_cases old number i.text n keeps) [ inl k ↦ a.some n k | inr e ↦ omega (arith, counts, e) ];
+      -- the number of a message is that of the first entry with its bytes
       numbered = λ n keeps. elim (Keeps-grow_cases old number i.text n keeps) [
         | inl k ↦ ap (first_entry (items ++ i ∷ [])) (text_of-grow old number i.text n k) ∙ stay_numbered items (i ∷ []) old a n k
         | inr e ↦
@@ -85,6 +89,7 @@ module _ (items : List Item) (i : Item) (old : Texts) (a : AreNumbered items old
             ∙ (entry_from-next 1 items i i.text (All-weaker (λ j. ¬ ConcernsNone j → (n : ℕ) × Keeps old n × (text_of old n ≡ j.text)) (λ j. carries j i.text ≡ false) absent items a.kept)
             (ap (λ b. b && bytes_eq i.text i.text) says ∙ (bytes_eq-Decides i.text i.text).1 refl) ∙ omega (arith, counts, e))
       ];
+      -- each item that concerns something has its message in the book
       kept = All-push (λ j. ¬ ConcernsNone j → (n : ℕ) × Keeps (old ++ (number, i.text) ∷ []) n × (text_of (old ++ (number, i.text) ∷ []) n ≡ j.text)) items i
           (All-weaker (λ j. ¬ ConcernsNone j → (n : ℕ) × Keeps old n × (text_of old n ≡ j.text))
           (λ j. ¬ ConcernsNone j → (n : ℕ) × Keeps (old ++ (number, i.text) ∷ []) n × (text_of (old ++ (number, i.text) ∷ []) n ≡ j.text))
@@ -121,6 +126,7 @@ unless_trouble P (Some v) p = tt
 -- What follows is of the texts of transactions.
 
 -- where the listings of some transactions were appended, and then that of one more, the listings of all of these were
+-- ns are the numbers of the transactions, n is that of the one more, and t are the tables
 pub appends_more : (t : Tabled) (ns : List ℕ) (n : ℕ) (old mid new : List ℕ) → AppendsEach t ns old mid → Appends t n mid new → AppendsEach t (ns ++ n ∷ []) old new
 appends_more t [] n old mid new same one = (new, subst (λ x. Appends t n x new) same one, refl)
 appends_more t (m ∷ ns) n old mid new (between, first, rest) one = (between, first, appends_more t ns n between mid new rest one)

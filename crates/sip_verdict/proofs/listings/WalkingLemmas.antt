@@ -28,7 +28,7 @@ told-fault before after P errors.Io reason is fails = cc
 told-fault before after P errors.Memory reason is fails = cc
 told-fault before after P errors.Failed reason is fails = cc
 
--- What follows is of a reader that has read the header and these items.
+-- What follows is of a reader: `now` is its state after the header and these items, by the times of the header, and `new` its state after one call more.
 module _ (start : Option (List ℕ)) (times : Times) (items : List Item) (now new : log.ReaderState) (read : HasRead start times items now) where
   -- where the reader gives an entry, the entry was read after the others
   pub gives_entry : (e : Entry) → Nexts now new (Ok (Some e)) → HasRead start times (items ++ item e ∷ []) new

@@ -49,6 +49,7 @@ walks_start way start now p texts t none empty read = record {
   items = [];
   es = [];
   observed = tt;
+  -- no entry was read, and the tables are empty
   follows = follows_none way p texts t none empty;
   long = refl;
   counts = refl;
@@ -61,10 +62,11 @@ tracks_of : (way : Aim) (texts : Texts) (t : Tabled) (left : ℕ) (items : List 
 tracks_of aim.End texts t left items es follows = follows.tracks
 tracks_of (aim.Entry number) texts t left items es follows = follows.0
 
--- What follows is of one entry that is judged.
+-- What follows is of an entry e that is judged: before it the book is `old`, the tables are t and `left` messages were named after one entry;
+-- after it they are `new`, u and `rest`.
 
 module _ (old new : Texts) (t u : Tabled) (left rest : ℕ) (e : Entry) where
-  -- what follows the entries with few messages kept follows the entry too, where the aim is the end, or its verdict is given
+  -- where the aim is the end, a book and tables that go on over the entry do so as the walk asks, or the verdict of the entry is given
   end_on : (items : List Item) (es : List (Observation KeyParts)) (seen : Observation KeyParts) (verdict : Option Verdict) → AreFollowedOn new u rest es seen verdict
       → FollowsOn aim.End new u rest items (item e) es seen verdict
   end_on items es seen None follows = follows
@@ -92,8 +94,10 @@ module _ (old new : Texts) (t u : Tabled) (left rest : ℕ) (e : Entry) where
       → IfOk result (λ verdict. (es : List (Observation KeyParts)) → TablesTrack old es t → e.number ≡ length es + 1 → newest_moment es ≤ e.moment
       → (seen : Observation KeyParts) × Sees es (item e) seen × IsJudged t.times (key_keeping new t.times) es seen (transactions_of u) verdict)
       → IfOk result (JudgesOn way old t left new u rest e)
+  -- an error judges nothing
   judges_entry way number is (Err error) times stays says = tt
   judges_entry way number is (Ok verdict) times stays says =
+      -- h is what is seen of the entry, with its verdict
       subst (λ a. JudgesOn a old t left new u rest e verdict) (sym is) (λ items es follows long next order.
       let h = says es follows.0 next order in
       (h.0, h.1, entry_on number items es h.0 verdict follows.1 (next ∙ ap (λ n. n + 1) (sym long)) times stays h.2))
@@ -117,10 +121,12 @@ listed_trouble (Undecided entry transaction) k at = refl
 listed_trouble (FaultOfLog entry reason) k at = refl
 
 -- a verdict of trouble at an entry that is not after the aim is what is listed of the aim
+-- v is the verdict, of trouble at entry k, and n is the aim
 stops_at : (input : List ℕ) (v : Verdict) (k n : ℕ) → trouble_of v ≡ Some k → k ≤ n → IsVerdictOf input v → IsListingOf input n (Stopped v)
 stops_at input v k n at low is = (is, subst (λ o. IsSomeAnd o (λ k. k ≤ n)) (sym at) low)
 
 -- a walk that meets trouble not after its aim answers rightly with the verdict of the input
+-- v is the verdict, of trouble at entry k, and n is the entry of an aim
 pub walks_stop : (way : Aim) (start : Option (List ℕ)) (v : Verdict) (k : ℕ) → trouble_of v ≡ Some k → ((n : ℕ) → way ≡ aim.Entry n → k ≤ n) → IfSome start (λ input. IsVerdictOf input v)
     → WalksTo way start (Err v)
 walks_stop aim.End start v k at low is = is
@@ -149,7 +155,8 @@ legal_until p items es count observed good counts =
     let v : Verdict = Legal count (length (keys_in es)) in
     subst (λ all. IsVerdictAfter p [] all Clean v) (append-nil items) (judges_front p Clean v [] items [] es observed good (ap (λ n. Legal n (length (keys_in es))) counts))
 
--- What follows is of a walk that has read `count` entries on its way to its aim.
+-- What follows is of a walk that has read `count` entries on its way to its aim, `way`: its reader is in the state `now`, its book is `texts`,
+-- its tables are t, and `left` messages were named after one of the entries.
 module _ (way : Aim) (start : Option (List ℕ)) (now : log.ReaderState) (count left : ℕ) (texts : Texts) (t : Tabled) (walks : Walks way start now count left texts t) where
   -- the tables track the entries that were read on the walk
   tracks : TablesTrack texts walks.es t
@@ -170,7 +177,7 @@ module _ (way : Aim) (start : Option (List ℕ)) (now : log.ReaderState) (count 
       (judged_ends t.times start walks.items walks.es walks.observed tracks.good (Stops fault) (FaultOfLog (count + 1) reason)
       (ap (λ c. FaultOfLog (c + 1) reason) walks.counts ∙ ap (FaultOfLog (length walks.es + 1)) is) logs)
 
-  -- What follows is of one entry e more on the walk.
+  -- What follows is of one entry e more on the walk; `new` is the state of the reader after it.
   module _ (e : Entry) (next : e.number ≡ count + 1) (order : now.last ≤ e.moment) (new : log.ReaderState) (read : HasRead start t.times (walks.items ++ item e ∷ []) new) where
     -- the next entry has the number after those that were walked
     number_is : e.number ≡ length walks.es + 1
@@ -189,6 +196,7 @@ module _ (way : Aim) (start : Option (List ℕ)) (now : log.ReaderState) (count 
           es = walks.es ++ h.0 ∷ [];
           observed = seen-push [] walks.items walks.es (item e) h.0 walks.observed h.1;
           follows = h.2;
+          -- one entry more was read, and the judge stands after it
           long = length_push walks.items (item e) ∙ ap (λ n. n + 1) walks.long ∙ sym (length_push walks.es h.0);
           counts = number_is ∙ sym (length_push walks.es h.0);
           read = subst (λ p. HasRead start p (walks.items ++ item e ∷ []) new) (sym times) read;
@@ -196,6 +204,7 @@ module _ (way : Aim) (start : Option (List ℕ)) (now : log.ReaderState) (count 
         }
 
     -- where the next entry is in trouble, the walk answers rightly with the verdict of the entry
+    -- texts2, u and left2 are the book, the tables and what is left after the entry, and v is its verdict
     pub walks_trouble : (left2 : ℕ) (texts2 : Texts) (u : Tabled) (v : Verdict) → JudgesOn way texts t left texts2 u left2 e (Some v) → u.times ≡ t.times → ((n : ℕ) → way ≡ aim.Entry n → count < n) → WalksTo way start (Err v)
     walks_trouble left2 texts2 u v says times low =
         let h = says walks.items walks.es walks.follows walks.long number_is in_order in
@@ -217,6 +226,7 @@ module _ (way : Aim) (start : Option (List ℕ)) (now : log.ReaderState) (count 
     -- an entry without trouble: its listing stands in each log that goes on from what was read
     listed_at (Text text) says =
         IfSome-map start (λ input. (more : List Item) × (end : LogEnd) × LogSays input t.times ((walks.items ++ item e ∷ []) ++ more) end) (λ input. IsListingOf input e.number (Text text)) (λ input l.
+        -- h is what is observed of the entry e, and l a log that goes on from what was read
         let h = says l.0 in
         let observed = seen-push [] walks.items walks.es (item e) h.0 walks.observed h.1 in
         record {
@@ -225,6 +235,7 @@ module _ (way : Aim) (start : Option (List ℕ)) (now : log.ReaderState) (count 
           rest = l.0;
           end = l.1;
           log = l.2;
+          -- up to the entry the log is legal, and the text is that of its transactions
           transactions = length (keys_in (walks.es ++ h.0 ∷ []));
           legal = legal_until t.times (walks.items ++ item e ∷ []) (walks.es ++ h.0 ∷ []) e.number observed h.2.0 (number_is ∙ sym (length_push walks.es h.0));
           front = walks.es;
@@ -242,6 +253,7 @@ module _ (way : Aim) (start : Option (List ℕ)) (now : log.ReaderState) (count 
         × IsListedEntry t.times (first_entry ((items ++ item e ∷ []) ++ more)) es seen listing)
         → WalksTo way start (Ok listing)
     walks_listed listing here says =
+        -- the aim is this entry, so what follows is told of a walk to it, and what is listed of it is the answer
         let follows = subst (λ a. Follows a texts t left walks.items walks.es) here walks.follows in
         subst (λ a. WalksTo a start (Ok listing)) (sym here)
         (listed_at listing (λ more. says walks.es walks.items more follows.0 follows.1 walks.observed walks.long number_is in_order))

@@ -31,6 +31,7 @@ AreShown-push count [] text e form n number none is =
       refl,
       ap (λ (t : List ℕ). t ++ shown_entry n e form) none ∙ ap (λ k. shown_entry k e form) one ∙ sym (append-nil (shown_entry (count + 1) e form)),
     )
+-- the first entry is shown before the others and this one
 AreShown-push count (x ∷ xs) text e form n number (first, more, is_first, shown, whole) is = (
   first,
   more ++ shown_entry n e form,
@@ -55,6 +56,7 @@ abbrev pub Answers : Option (List ℕ) → Option (List ℕ) → Option (List �
 Answers start old new shown = IfSome start (λ input. (text : List ℕ) × IsShownOf input text shown × Appends old new text)
 
 -- where the answer is the given one, and P holds of it whenever there is an answer, P holds of the answer
+-- r is the result of the whole call, and Q what holds where it wrote all
 pub finished : {E : Type 0} (r : Result Shown E) (shown : Shown) (P : Shown → Type 0) (Q : Type 0) → IfOk r (λ answer. answer ≡ shown) → OnOk r Q → (Q → P shown) → IfOk r P
 finished (Ok answer) shown P Q same wrote f = subst P (sym same) (f wrote)
 finished (Err e) shown P Q same wrote f = tt
@@ -65,6 +67,7 @@ showed_start start now p w on times stands = record {
   times = p;
   items = [];
   text = [];
+  -- nothing was written yet
   shown = refl;
   appends = Appends-nil w;
   on = on;
@@ -72,13 +75,14 @@ showed_start start now p w on times stands = record {
   stands = stands;
 }
 
--- What follows is of a log of which the items that were read were shown, and the reader after one call more.
+-- What follows is of a log of which the items that were read were shown: `old` is the sink before the first, w the sink now, `now` the state of the reader,
+-- and `new` its state after one call more.
 module _ (start : Option (List ℕ)) (now : log.ReaderState) (old w : Option (List ℕ)) (s : Showed start now old w) (new : log.ReaderState) where
   -- the reader has counted the entries that were shown
   count_is : now.count ≡ length s.items
   count_is = (subst (λ x. StandsAt x start s.items now) s.on s.stands).1
 
-  -- What follows is of the writer after the last line, or after one entry more.
+  -- What follows is of w2, the sink after the last line or after one entry more.
   module _ (w2 : Option (List ℕ)) where
     -- where the log ends here, and the last line was written, all that was written is right for the input
     ends : (end : LogEnd) (shown : Shown) → EndsAs (length s.items) [] end shown → (t : Option Times) → t ≡ Some s.times → IfSome start (λ input. IfSome t (λ p. LogSays input p s.items end))
@@ -86,12 +90,14 @@ module _ (start : Option (List ℕ)) (now : log.ReaderState) (old w : Option (Li
     ends end shown is t same logs last =
         IfSome-map start (λ input. IfSome t (λ p. LogSays input p s.items end)) (λ input. (text : List ℕ) × IsShownOf input text shown × Appends old w2 text) (λ input l. (
           s.text ++ (last_text shown ++ line_feed ∷ []),
+          -- all items of the log were shown
           inr (record {
             times = s.times;
             items = s.items;
             rest = [];
             end = end;
             log = subst (λ all. LogSays input s.times all end) (sym (append-nil s.items)) (subst (λ o. IfSome o (λ p. LogSays input p s.items end)) same l);
+            -- the text of the entries and the last line are all that was written
             front = s.text;
             entries = s.shown;
             ends = is;
@@ -109,6 +115,7 @@ module _ (start : Option (List ℕ)) (now : log.ReaderState) (old w : Option (Li
     pub showed_stops : (n : ℕ) → n ≡ now.count → (e : LogError) → Nexts now new (Err e)
         → FailsAs now.has_failed new.has_failed (λ fault. Appends w w2 (last_text (FaultOfLog (n + 1) fault) ++ line_feed ∷ []) → Answers start old w2 (FaultOfLog (n + 1) fault)) e
     showed_stops n many e nexts =
+        -- the times are those of the header; the log stops after the entries that were read, and this is what the last line says
         let times = Nexts-times now new (Err e) s.times s.on s.times_are nexts in
         FailsAs-map now.has_failed new.has_failed (λ fault. IfSome start (λ input. StopsAt start s.items now new input new.times fault))
         (λ fault. Appends w w2 (last_text (FaultOfLog (n + 1) fault) ++ line_feed ∷ []) → Answers start old w2 (FaultOfLog (n + 1) fault)) e
@@ -128,6 +135,7 @@ module _ (start : Option (List ℕ)) (now : log.ReaderState) (old w : Option (Li
     showed_more w2 form is appends = record {
       times = s.times;
       items = s.items ++ item e ∷ [];
+      -- the entry's form stands after the text so far
       text = s.text ++ shown_entry e.number (item e) form;
       shown = AreShown-push 0 s.items s.text (item e) form e.number (omega (arith, number_is)) s.shown is;
       appends = Appends-trans old w w2 s.text (shown_entry e.number (item e) form) s.appends appends;
@@ -139,19 +147,23 @@ module _ (start : Option (List ℕ)) (now : log.ReaderState) (old w : Option (Li
     -- where the message of the next entry has a fault, what was written with the last line is right, and the answer is this fault
     pub showed_fault : (w2 : Option (List ℕ)) (fault : Fault) → has_message e.action ≡ true → Says e.bytes.items (stops fault) → Appends w w2 (last_text (Malformed e.number fault) ++ line_feed ∷ []) → Answers start old w2 (Malformed e.number fault)
     showed_fault w2 fault some is last =
+        -- the entry was counted, the log goes on with the items and this one, and has the times of its header
         let counted = Nexts-counted start s.items now new e nexts in
         let whole = Stands-log start (s.items ++ item e ∷ []) new counted.on (Stands-gives start s.items now new e s.stands nexts) in
         let times = Nexts-times now new (Ok (Some e)) s.times s.on s.times_are nexts in
         IfSome-map start (λ input. IfSome new.times (λ q. (more : List Item) × (end : LogEnd) × LogSays input q ((s.items ++ item e ∷ []) ++ more) end))
         (λ input. (text : List ℕ) × IsShownOf input text (Malformed e.number fault) × Appends old w2 text) (λ input found.
+        -- l is that log, of which this entry is the first with a fault
         let l = subst (λ t. IfSome t (λ q. (more : List Item) × (end : LogEnd) × LogSays input q ((s.items ++ item e ∷ []) ++ more) end)) times found in (
           s.text ++ (last_text (Malformed e.number fault) ++ line_feed ∷ []),
+          -- the text so far is that of the entries before the faulty one
           inr (record {
             times = s.times;
             items = s.items;
             rest = item e ∷ l.0;
             end = l.1;
             log = subst (λ all. LogSays input s.times all l.1) (append_assoc s.items (item e ∷ []) l.0) l.2;
+            -- the text so far and the last line with the fault are all that was written
             front = s.text;
             entries = s.shown;
             ends = (fault, some, is, ap (λ n. Malformed n fault) number_is);

@@ -1,3 +1,4 @@
+-- A survey forgets transactions that are over, and finds the same of the others.
 pub mod Forgetting
 pub mod Forgotten
 pub mod IdleAgain

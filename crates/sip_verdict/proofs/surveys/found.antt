@@ -1,3 +1,4 @@
+-- What a survey finds at each entry, and that each trouble is found once.
 pub mod FirstFinding
 pub mod Found
 pub mod FoundParts

@@ -1,3 +1,5 @@
+-- A part of a log, and that it has the findings of its own keys.
+pub mod Ahead
 pub mod ByBranch
 pub mod CutLogs
 pub mod Cutting

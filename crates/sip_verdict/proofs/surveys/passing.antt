@@ -1,3 +1,4 @@
+-- How the transactions of a survey pass an entry.
 pub mod Begun
 pub mod Ended
 pub mod Hearing

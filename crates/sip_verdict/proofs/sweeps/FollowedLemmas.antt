@@ -40,9 +40,11 @@ not_below texts rising d (suc i) low =
 pub book_few : (texts : Texts) → IsBook texts → (number : ℕ) → ((n : ℕ) → Keeps texts n → n < number) → length texts ≤ number
 book_few texts book number below = go (length texts) refl
   where
+    -- there are at most as many messages as this number: the book has none, or its newest number is below it
     go : (count : ℕ) → length texts ≡ count → length texts ≤ number
     go zero size = omega (arith, size)
     go (suc last) size =
+        -- the last message has at least the number of those before it
         let low : last < length texts = omega (arith, size) in
         let kept = get_or texts last (0, []) in
         let high = not_below texts book.rising (0, []) last low in
@@ -110,7 +112,7 @@ followed_none p texts t none empty =
 pub followed_keys : (texts : Texts) (t : Tabled) (es : List (Observation KeyParts)) → length t.sets ≡ length t.keys → TablesTrack texts es t → length t.keys ≡ length (keys_in es)
 followed_keys texts t es long tracks = ap length (sym (firsts-zip t.keys t.sets long) ∙ tracks.keys)
 
--- What follows is of one entry i: the book and the tables before it, and after it before the sweep.
+-- What follows is of one entry i: `old` and t are the book and the tables before it, `mid` and u after it, before the sweep.
 module _ (old mid : Texts) (t u : Tabled) (times : u.times ≡ t.times) (number : ℕ) (i : Item) where
   -- what was judged of the entry after those that the old messages and sets follow, as the new ones follow it
   abbrev Says : Option Verdict → Type 0
@@ -128,6 +130,7 @@ module _ (old mid : Texts) (t u : Tabled) (times : u.times ≡ t.times) (number 
       let h = says es follows.tracks counts order in (
         h.0,
         h.1,
+        -- few messages are kept still, as many as were left by the last sweep and as many again
         record {
           tracks = tracks_on es h.0 h.2;
           named = subst (λ p. WereNamed p (es ++ h.0 ∷ []) left) (sym times) (more_named t.times es h.0 left follows.named);
@@ -143,6 +146,7 @@ module _ (old mid : Texts) (t u : Tabled) (times : u.times ≡ t.times) (number 
   followed_swept says texts v same tracks named now is left es follows counts order =
       let h = says es follows.tracks counts order in
       let on = tracks_on es h.0 h.2 in
+      -- as many messages are kept as are named now
       let many = named (es ++ h.0 ∷ []) on (observed_moment es i h.0 h.1) in (
         h.0,
         h.1,
@@ -155,6 +159,7 @@ module _ (old mid : Texts) (t u : Tabled) (times : u.times ≡ t.times) (number 
       )
 
 -- where the book was swept, the next entry may be taken by what is left
+-- t and u are the tables before and after the sweep
 pub swept_take : (old texts : Texts) (t u : Tabled) (number moment : ℕ) → MayTake old t number moment → MayPass texts u moment → AllAreOnRecord u → ((n : ℕ) → Keeps texts n → Keeps old n) → u.keys ≡ t.keys
     → MayTake texts u number moment
 swept_take old texts t u number moment may passes recorded fewer keys = record {

@@ -28,7 +28,7 @@ any_first P x xs p = let here = Contains-get_or (x ∷ xs) 0 x (omega arith) in 
 any_rest : {X : Type 0} (P : X → Type 0) (x : X) (xs : List X) → Any P xs → Any P (x ∷ xs)
 any_rest P x xs any = let there = Contains-append_right (x ∷ []) xs any.1 (any.0, any.2, any.3) in (there.0, any.1, there.1, there.2, any.4)
 
--- What follows is of tables and one message, by its number.
+-- What follows is of the tables t and one message, by its number.
 module _ (t : Tabled) (message : ℕ) where
   -- where an entry concerns no transaction, its message may not be named
   pub none_may : ¬ (MayBeNamed t message concerned.None)
@@ -61,6 +61,7 @@ module _ (t : Tabled) (message : ℕ) where
       | inl its ↦ first_may own cancelled one at its
       | inr also ↦ inr (any_rest (OneMayName t message) own (cancelled ∷ []) (any_first (OneMayName t message) cancelled [] (other, there, also)))
     ],
+    -- the converse: all may be named, or one of the two
     λ may. elim may [
       | inl all ↦ absurd (false≢true all)
       | inr any ↦ elim (any_cases (OneMayName t message) own (cancelled ∷ []) any) [

@@ -28,7 +28,8 @@ IsNumberOf texts numbers text = (n : ℕ) × Contains numbers n × (text_of text
 abbrev pub RunNames : {X : Type 0} → MachineRules X → (X → List (List ℕ)) → List MachineEvent → ℕ → List ℕ → Type 0
 RunNames {X} r messages events moment text = (y : X) × RuledRun r events moment y × Contains (messages y) text
 
--- What follows is of one machine: what its states name by number, and what the phases for which they stand name by text.
+-- What follows is of one machine: `names` is what its states name by number, and `messages` what the phases for which they stand name by text.
+-- `seen` gives what a state stands for beside the book `texts`, and InRange says that its numbers are in range.
 module _ {X S : Type 0} (names : S → List ℕ) (InRange : S → Type 0) (seen : Texts → S → X) (messages : X → List (List ℕ))
     (named : (texts : Texts) (x : S) → messages (seen texts x) ≡ map (text_of texts) (names x)) (texts : Texts) (r : MachineRules X) (events : List MachineEvent) where
   -- once a set that leads to the runs has waited until a moment, its states name just what the states of the runs name there
@@ -41,6 +42,7 @@ module _ {X S : Type 0} (names : S → List ℕ) (InRange : S → Type 0) (seen 
         let there : Contains (map (text_of texts) (names x)) text = subst (λ ts. Contains ts text) (named texts x) (subst (λ z. Contains (messages z) text) (sym is) has) in
         let (n, in_names, text_is) = Contains-from_map (text_of texts) (names x) text there in
         (n, Contains-flat_map names new x n among in_names, text_is),
+    -- the converse: a number that a new state names
     λ h. let (n, has, is) = h in
         let (x, among, in_names) = Contains-from_flat_map names new n has in
         let y = seen texts x in (
@@ -55,7 +57,9 @@ module _ {X S : Type 0} (names : S → List ℕ) (InRange : S → Type 0) (seen 
       → RunNames r messages events moment text → ⊥
   silent_names from at moment old lawful late low leads rests silent text (y, run, has) = go ((Wait-cases r lawful (Contains (map (seen texts) old)) at moment y).0 ((leads.runs moment y late low).1 run))
     where
+      -- the wait cannot lead to a state that names the message, whether it stays or ends
       go : StaysFrom r (Contains (map (seen texts) old)) at moment y ⊎ EndsFrom r (Contains (map (seen texts) old)) at moment y → ⊥
+      -- the state is one of the set, which names nothing; or it is the ended one, which names nothing either
       go (inl stays) =
           let (x, among, is) = Contains-from_map (seen texts) old y stays.among in
           let there : Contains (map (text_of texts) (names x)) text = subst (λ ts. Contains ts text) (named texts x) (subst (λ z. Contains (messages z) text) (sym is) has) in

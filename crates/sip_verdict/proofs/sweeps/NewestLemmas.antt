@@ -1,4 +1,5 @@
 -- Where no set names the newest message, it can be dropped: the sets name kept messages still, and lead and stand as before.
+-- In the lemmas n is the number of a message or the place of a set, s a set of a machine, and t and u are the tables before and after.
 use Rattle.std.proofs.Common.{◌≡◌, ◌<◌, ◌+◌, ◌-◌, ◌⊎◌, inl, inr, ℕ, Bool, true, false, Option, Some, None, List, [], ◌∷◌, ◌++◌, All, Contains, get_or, slice_get, refl, sym, ap, ◌∙◌, subst, arith}
 use Rattle.std.specs.List.{flat_map}
 use Rattle.std.proofs.lemmas.Bool.{false≢true}
@@ -50,7 +51,7 @@ known_unnamed texts number below set known has =
     let low = below number (All-contains (Keeps texts) (names x) number (All-contains (Knows names texts) s.states x knows among) named) in
     omega (arith, low)
 
--- What follows is of the newest message of a book, which is dropped: `new` are the texts without it.
+-- What follows is of the newest message of a book, by its number and its bytes, which is dropped: `new` are the texts without it.
 module _ (number : ℕ) (bytes : List ℕ) (new : Texts) where
   -- the texts with the newest message, which is dropped
   abbrev old : Texts
@@ -65,7 +66,7 @@ module _ (number : ℕ) (bytes : List ℕ) (new : Texts) where
       let kept = All-contains (Keeps old) (names x) n (knows k d low) has in
       go (Keeps-grow_cases new number bytes n kept)
     where
-      -- the message is an old one, or the dropped one, which is not named
+      -- the book without the dropped message keeps each that is named, with the same text: it is not the dropped one
       go : Keeps new n ⊎ (number ≡ n) → Keeps new n × (text_of old n ≡ text_of new n)
       go (inl keeps) = (keeps, text_of-grow new number bytes n keeps)
       go (inr same) = absurd (unnamed n (Contains-flat_map (meaning_of machine).names s.states (get_or s.states k d) n (Contains-get_or s.states k d low) has) (sym same))
@@ -107,7 +108,7 @@ module _ (number : ℕ) (bytes : List ℕ) (new : Texts) where
         StandFor-book m.names m.in_range m.seen (seen_by_names_of machine) old new (AfterRun (key_rules p machine) events e) s.states (agree machine s (unnamed_of machine s set is unnamed) stand.known) stand,
       )
 
-  -- What follows is of sets none of which names the dropped message, each beside its key.
+  -- What follows is of the tables t, none of whose sets names the dropped message, each set beside its key.
   module _ (p : Times) (es : List (Observation KeyParts)) (t : Tabled) (unnamed : All (λ set. ¬ Contains (numbers_of set) number) t.sets) where
     -- the set at a place does not name the message
     unnamed_at : (n : ℕ) (x : KeyParts × AnySet) → slice_get (transactions_of t) n ≡ Some x → ¬ Contains (numbers_of x.1) number
@@ -139,6 +140,7 @@ pub dropped_take : (number : ℕ) (texts_before new : Texts) (t : Tabled) (next 
 dropped_take number texts_before new t next moment (inl same) may = subst (λ texts. MayTake texts t next moment) (sym same) may
 dropped_take number texts_before new t next moment (inr (bytes, is, unnamed)) may =
     let before = subst (λ texts. MayTake texts t next moment) is may in
+    -- no set names the message, so the book has still all that they name
     record {
       passes = record {
         order = before.passes.order;
@@ -146,6 +148,7 @@ dropped_take number texts_before new t next moment (inr (bytes, is, unnamed)) ma
         long = before.passes.long;
       };
       recorded = before.recorded;
+      -- the numbers of the book were there before
       numbered = λ n keeps. before.numbered n (Keeps-grow new number bytes n keeps);
       some = λ n keeps. before.some n (Keeps-grow new number bytes n keeps);
       few = before.few;
@@ -182,6 +185,7 @@ pub all_unnamed : (number : ℕ) (concerned : Concerned ℕ) (t : Tabled) → is
     → All (λ set. ¬ Contains (numbers_of set) number) t.sets
 all_unnamed number concerned t some others these = All-places (λ set. ¬ Contains (numbers_of set) number) t.sets (λ n set at. go n set at (is_among (each concerned) (n + 1)) refl)
   where
+    -- no set names the message, whether or not it is of a transaction that the entry concerns
     go : (n : ℕ) (set : AnySet) → slice_get t.sets n ≡ Some set → (b : Bool) → is_among (each concerned) (n + 1) ≡ b → ¬ Contains (numbers_of set) number
     go n set at true among = these_unnamed number t (each concerned) these n set among at
     go n set at false among = others some n set among at

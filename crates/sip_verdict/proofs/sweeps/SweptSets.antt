@@ -1,4 +1,6 @@
 -- In a sweep the sets wait, and the book keeps what they name: the sets lead to the same runs, and their last moments stay.
+-- In the lemmas r are the rules of a machine, `at`, h and moment are moments, x is a state, and a and b are two books.
+-- Of one transaction s is the set before the wait, t the set after it, m what the states of its machine mean, and n the number of a message.
 use Rattle.std.proofs.Common.{◌≡◌, ◌≤◌, ◌<◌, ◌↔◌, ◌⊎◌, inl, inr, ℕ, Option, List, All, AllPairs, Contains, map, get_or, refl, sym, ap, ◌∙◌, subst, arith}
 use Rattle.std.specs.List.{flat_map}
 use Rattle.std.proofs.lemmas.List.Elements.{Contains-get_or}
@@ -38,6 +40,7 @@ waited_leads names InRange seen texts r lawful events from at moment old new low
 }
 
 -- a set leads to the same runs beside the book with some of its messages alone, where these are all that the set names
+-- a and b are any two books that agree on what the state x names
 pub kept_leads : {X S : Type 0} (names : S → List ℕ) (seen : Texts → S → X) → ((a b : Texts) (x : S) → ((n : ℕ) → Contains (names x) n → text_of a n ≡ text_of b n) → seen a x ≡ seen b x)
     → (texts : Texts) (numbers : List ℕ) → IsBook texts → AllPairs (λ a b. a < b) numbers → All (Keeps texts) numbers → (r : MachineRules X) (events : List MachineEvent) (from moment : ℕ) (states : List S)
     → ((n : ℕ) → Contains (flat_map names states) n → Contains numbers n) → Leads names seen texts r events from moment states → Leads names seen (only numbers texts) r events from moment states
@@ -56,11 +59,13 @@ module _ (texts : Texts) (numbers : List ℕ) (book : IsBook texts) (up : AllPai
       let m = meaning_of machine in
       let (t, new_is, waited) = of_sets (λ X M S m s u. HasWaited m moment s u) machine s new (subst (λ o. SetWaits moment o new) is waits) in
       let not_later : s.moment ≤ moment = subst (λ n. n ≤ moment) (ap moment_of is ∙ moment_is machine s) low in
+      -- the set that has waited leads to the same runs
       let stand = subst (λ q. StandFor m.names m.in_range m.seen texts (Wait (m.rules q) (Contains (map (m.seen texts) s.states)) s.moment moment) t.states) leads.machine_is (waited.states texts book leads.leads.known) in
       let leads_on = waited_leads m.names m.in_range m.seen texts (m.rules p) (lawful_of machine p) events from s.moment moment s.states t.states not_later leads.leads stand in
       let here = subst (λ n. Leads m.names m.seen texts (m.rules p) events from n t.states) (sym waited.at) leads_on in (
         t,
         new_is,
+        -- the states of the set mean the same beside the messages that are kept
         record {
           machine_is = waited.machine ∙ leads.machine_is;
           leads = kept_leads m.names m.seen (seen_by_names_of machine) texts numbers book up kept (m.rules p) events from t.moment t.states
@@ -69,6 +74,7 @@ module _ (texts : Texts) (numbers : List ℕ) (book : IsBook texts) (up : AllPai
       )
   swept_leads moment old new low (inr (same, silent)) within (s, is, leads) =
       let m = meaning_of machine in (
+        -- the set did not wait, and names nothing
         s,
         same ∙ is,
         record {
@@ -78,16 +84,21 @@ module _ (texts : Texts) (numbers : List ℕ) (book : IsBook texts) (up : AllPai
         },
       )
 
--- What follows shows that it does not depend on the book until when a wait lasts.
+-- What follows shows that the end of a wait does not depend on the book: by the rules r what a state stands for, as `seen` gives it, may end in the same
+-- window
+-- and wait until the same moment beside each book.
 
 module _ {X S : Type 0} (seen : Texts → S → X) (r : MachineRules X) (lawful : IsLawful r) (window_same : (a b : Texts) (x : S) → r.window (seen a x) ≡ r.window (seen b x))
     (until_same : (a b : Texts) (x : S) → r.until (seen a x) ≡ r.until (seen b x)) where
   -- where some state comes of a wait beside one book, some state comes of it beside the other
+  -- a and b are the books, h is the moment of the states, and y a state of the rules at the moment m
   some_wait : (a b : Texts) (states : List S) (h m : ℕ) → ((y : X) × Wait r (Contains (map (seen a) states)) h m y) → (y : X) × Wait r (Contains (map (seen b) states)) h m y
   some_wait a b states h m (y, wait) = go ((Wait-cases r lawful (Contains (map (seen a) states)) h m y).0 wait)
     where
+      -- the run waits on by the other book, whether it stays or ends
       go : StaysFrom r (Contains (map (seen a) states)) h m y ⊎ EndsFrom r (Contains (map (seen a) states)) h m y → (y : X) × Wait r (Contains (map (seen b) states)) h m y
       go (inl stays) =
+          -- the state stays, or it ends
           let (x, among, is) = Contains-from_map (seen a) states y stays.among in (
             seen b x,
             Wait-stay r (Contains (map (seen b) states)) h m (seen b x) (record {
@@ -96,6 +107,7 @@ module _ {X S : Type 0} (seen : Texts → S → X) (r : MachineRules X) (lawful 
               waits = subst (IsWithin m) (ap r.until (sym is) ∙ until_same a b x) stays.waits;
             }),
           )
+      -- the state ends within its window, which is the same beside both books
       go (inr ends) =
           let (x, among, is) = Contains-from_map (seen a) states ends.start ends.among in (
             r.ended,
@@ -103,6 +115,7 @@ module _ {X S : Type 0} (seen : Texts → S → X) (r : MachineRules X) (lawful 
               start = seen b x;
               among = Contains-map (seen b) states x among;
               at = ends.at;
+              -- the state ends at the same moment
               after = ends.after;
               before = ends.before;
               hides = record {
@@ -122,6 +135,7 @@ pub agenda_waited : {X S : Type 0} (names : S → List ℕ) (InRange : S → Typ
     → StandFor names InRange seen texts (Wait r (Contains (map (seen texts) old)) at moment) new → (limit : Option ℕ) → IsAgenda r (Contains (map (seen texts) old)) at limit
     → IsAgenda r (Contains (map (seen texts) new)) moment limit
 agenda_waited {X} names InRange seen texts r lawful at moment old new low stand limit agenda n later =
+    -- to wait until the moment and then until n is to wait until n
     let same : (x : X) → Wait r (Contains (map (seen texts) new)) moment n x ↔ Wait r (Contains (map (seen texts) old)) at n x = λ x.
     iff_trans (Wait-iff r (Contains (map (seen texts) new)) (Wait r (Contains (map (seen texts) old)) at moment) stand.members moment n x) (Wait-twice r lawful (Contains (map (seen texts) old)) at moment n low later x) in
     let lasts = agenda n (omega (arith, low, later)) in
@@ -141,10 +155,12 @@ pub swept_agenda : (texts : Texts) → IsBook texts → (moment : ℕ) (old new 
 swept_agenda texts book moment old new low (inr (same, silent)) known limit agenda = subst (IsAgendaOf limit) (sym same) agenda
 swept_agenda texts book moment old new low (inl waits) known limit agenda =
     let (machine, s, is) = some_machine old in
+    -- the set has waited, from the moment s until the moment t
     let m = meaning_of machine in
     let known_s = of_set (λ X M S m s. IsKnown m texts s) machine s (subst (IsKnownSet texts) is known) in
     let (t, new_is, waited) = of_sets (λ X M S m s u. HasWaited m moment s u) machine s new (subst (λ o. SetWaits moment o new) is waits) in
     let not_later : s.moment ≤ moment = subst (λ n. n ≤ moment) (ap moment_of is ∙ moment_is machine s) low in
+    -- the last moment was right before the wait, and so it is after it
     let r = m.rules s.machine in
     let stand = waited.states texts book known_s in
     let was : IsAgenda r (Contains (map (m.seen texts) s.states)) s.moment limit = of_set (λ X M S m s. HasAgenda m limit s) machine s (subst (IsAgendaOf limit) is agenda) texts in

@@ -32,7 +32,7 @@ named_is t start out none (added, is, rising, same) numbers are =
     let all : numbers ≡ added = are ∙ is ∙ ap (λ xs. xs ++ added) none in
     (subst (AllPairs (λ a b. a < b)) (sym all) rising, λ n. subst (λ xs. Contains xs n ↔ Contains (flat_map numbers_of t.sets) n) (sym all) (same n))
 
--- What follows is of a sweep: t are the tables before, u after all sets have waited, and `numbers` what the sets name.
+-- What follows is of a sweep of the book `texts`: t are the tables before, u after all sets have waited until the moment, and `numbers` what the sets name.
 module _ (texts : Texts) (book : IsBook texts) (t u : Tabled) (moment : ℕ) (advances : AdvancesAll moment t u) (may : MayPass texts t moment)
     (numbers : List ℕ) (up : AllPairs (λ a b. a < b) numbers) (same : (n : ℕ) → Contains numbers n ↔ Contains (flat_map numbers_of u.sets) n) where
   -- the set that stood at the place before the sweep
@@ -49,7 +49,9 @@ module _ (texts : Texts) (book : IsBook texts) (t u : Tabled) (moment : ℕ) (ad
       let (old, was) = before n new at in
       go old new (All-place (λ set. moment_of set ≤ moment) t.sets n old was may.order) (advances.each n old new was at))
     where
+      -- the moment of the set is not after this one
       go : (old new : AnySet) → moment_of old ≤ moment → IsAdvanced moment old new → moment_of new ≤ moment
+      -- a set that has waited is at the moment, and another one is as it was
       go old new low (inl waits) =
           let (machine, s, is) = some_machine old in
           let (v, new_is, waited) = of_sets (λ X M S m s u. HasWaited m moment s u) machine s new (subst (λ o. SetWaits moment o new) is waits) in
@@ -69,14 +71,17 @@ module _ (texts : Texts) (book : IsBook texts) (t u : Tabled) (moment : ℕ) (ad
       All-of : (xs : List ℕ) → ((k : ℕ) → Contains xs k → Keeps texts k) → All (Keeps texts) xs
       All-of xs each k d low = each (get_or xs k d) (Contains-get_or xs k d low)
 
-      -- of one set: each message that it names was kept before
+      -- each message that a set names after the wait was kept before
       go : (k : ℕ) (old new : AnySet) → IsKnownSet texts old → IsAdvanced moment old new → Contains (numbers_of new) k → Keeps texts k
+      -- the set stayed as it was, and names nothing
       go k old new known (inr (stays, silent)) has = absurd (Contains-none k (subst (λ ns. Contains ns k) (ap numbers_of stays ∙ silent) has))
       go k old new known (inl waits) has =
+          -- the set waited: s is the old set and v the new one, seen with its machine
           let (machine, s, is) = some_machine old in
           let names = (meaning_of machine).names in
           let (v, new_is, waited) = of_sets (λ X M S m s u. HasWaited m moment s u) machine s new (subst (λ o. SetWaits moment o new) is waits) in
           let stand = waited.states texts book (of_set (λ X M S m s. IsKnown m texts s) machine s (subst (IsKnownSet texts) is known)) in
+          -- x is the state of v that names the message k
           let (x, among, named) = Contains-from_flat_map names v.states k (subst (λ ns. Contains ns k) (ap numbers_of new_is ∙ numbers_are machine v) has) in
           All-contains (Keeps texts) (names x) k (All-contains (Knows names texts) v.states x stand.known among) named
 
@@ -86,8 +91,10 @@ module _ (texts : Texts) (book : IsBook texts) (t u : Tabled) (moment : ℕ) (ad
     pub swept_known : All (IsKnownSet (only numbers texts)) u.sets
     swept_known = All-places (IsKnownSet (only numbers texts)) u.sets (λ n new at.
         let (machine, s, is) = some_machine new in
+        -- s is the set `new` at place n, seen with its machine, and a state has the names of the messages that it needs
         let names = (meaning_of machine).names in
         let known : IsKnown (meaning_of machine) (only numbers texts) s = λ k d low i e low_i.
+        -- x is the state at place k of s, and `number` the number at place i of its names: a set names it, so that it is kept
         (let x = get_or s.states k d in
         let number = get_or (names x) i e in
         let has = Contains-flat_map names s.states x number (Contains-get_or s.states k d low) (Contains-get_or (names x) i e low_i) in
@@ -106,6 +113,7 @@ module _ (texts : Texts) (book : IsBook texts) (t u : Tabled) (moment : ℕ) (ad
         let p = t.times in
         subst (λ q. Tracks q (key_keeping (only numbers texts) q) es (transactions_of u)) (sym advances.times) (record {
           keys = keys ∙ tracks.keys;
+          -- each set leads to its runs beside the smaller book
           ready = All-places (IsReady (key_keeping (only numbers texts) p) es) (transactions_of u) (λ n x at.
               let there = place-zip u.keys u.sets n x at in
               let (old, was) = before n x.1 there.1 in
@@ -127,7 +135,7 @@ module _ (texts : Texts) (book : IsBook texts) (t u : Tabled) (moment : ℕ) (ad
         (recorded.each n old r was there);
   }
     where
-      -- of one set: its last moment on record is still right
+      -- the last moment on record of one set is still right after the wait
       go : (r : Option (Option ℕ)) (old new : AnySet) → moment_of old ≤ moment → IsKnownSet texts old → IsAdvanced moment old new → IsOnRecord [] 0 old r → IsOnRecord [] 0 new r
       go None old new low known advanced h = h
       go (Some limit) old new low known advanced h = swept_agenda texts book moment old new low advanced known limit h

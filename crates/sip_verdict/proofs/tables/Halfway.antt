@@ -1,4 +1,5 @@
 -- What is known of the transactions while an entry passes, when some sets are still to hear its event.
+-- In the lemmas n is the place of a key, s the set there and r its record, and t and u are the tables before and after.
 use Rattle.std.proofs.Common.{◌≡◌, ◌≢◌, ◌≤◌, ◌<◌, ◌+◌, ◌-◌, ◌⊎◌, ◌||◌, inl, inr, ℕ, suc, Bool, true, false, Option, Some, None, List, [], ◌∷◌, ◌++◌, All, AllPairs, IsTrue, map, length, position, get_or, slice_get, refl, sym, ap, ◌∙◌, subst, arith}
 use Rattle.std.specs.List.{position_or_len}
 use Rattle.std.specs.Option.{option_map}
@@ -51,7 +52,7 @@ pub not_passing : (b : Bool) → ¬ (b ≡ true) → b ≡ false
 not_passing true h = absurd (h refl)
 not_passing false h = refl
 
--- What follows is of one entry e after the entries es, where some transactions have passed it and others have not.
+-- What follows is of one entry e after the entries es, by the times p, where some transactions have passed it and others have not; `keys` are all keys.
 module _ (texts : Texts) (p : Times) (es : List (Observation KeyParts)) (e : Observation KeyParts) (keys : List KeyParts) where
   -- what is kept of a key is a set of its machine
   abbrev k : Keeping (KeyParts × AnySet)
@@ -85,11 +86,13 @@ module _ (texts : Texts) (p : Times) (es : List (Observation KeyParts)) (e : Obs
     pub halfway_all : (outcome : Outcome) → IsHalfway [] t outcome → IsOutcome p k es e (transactions_of t) outcome
     halfway_all all.Fine h = All-places (GoesOn p k es e) (transactions_of t) goes
       where
+        -- each transaction goes on at the entry
         goes : (n : ℕ) (x : KeyParts × AnySet) → slice_get (transactions_of t) n ≡ Some x → GoesOn p k es e x
         goes n x at =
             let there = place-zip t.keys t.sets n x at in
             let key = subst (λ ks. slice_get ks n ≡ Some x.0) h.same there.0 in
             let says = h.says n x.0 key refl in
+            -- the key has a run and is not too wide, and its set leads on
             let passed = h.passed refl n x.0 x.1 key there.1 refl in
             record { runs = says.0; narrow = says.1; ready = passed.0; stands = passed.1 }
     halfway_all (all.NoRun number) h = first (λ key. ¬ HasOne key) number h.same h.says
@@ -98,7 +101,8 @@ module _ (texts : Texts) (p : Times) (es : List (Observation KeyParts)) (e : Obs
       first (IsWideAt p es e) number h.same h.says.1,
     )
 
-  -- What follows is of one set more that hears the event.
+  -- What follows is of one set more that hears the event, that with this number; those of ns are still to hear it. The tables were t and are u,
+  -- `outcome` is how the hearing had come out so far, and `one` how it comes out for this set.
   module _ (event : NumberedEvent) (is_event : (n : ℕ) (key : KeyParts) → slice_get keys n ≡ Some key → e.event ≡ event_in texts event) (number : ℕ) (ns : List ℕ) (once : is_among ns number ≡ false) (late : newest_moment es ≤ event.moment) (t u : Tabled) (outcome : Outcome)
       (h : IsHalfway (number ∷ ns) t outcome) (given : IsGiven t number) (one : Outcome) (own : Hears texts event number t u one) where
     -- the place of the set
@@ -159,6 +163,7 @@ module _ (texts : Texts) (p : Times) (es : List (Observation KeyParts)) (e : Obs
         → is_among ns (n + 1) ≡ false → IsReady k (es ++ e ∷ []) (key, s) × IsStanding k es e (key, s)
     more_passed fine n key s at here none = go (other n s here) (no_more n none)
       where
+        -- the set is ready for later entries and stands after this one: it has just heard the entry, or it waits or has passed
         go : ((n ≡ place) × (own.after ≡ s)) ⊎ ((n ≢ place) × (slice_get t.sets n ≡ Some s)) → (is_among (number ∷ ns) (n + 1) ≡ false) ⊎ (n ≡ place) → IsReady k (es ++ e ∷ []) (key, s) × IsStanding k es e (key, s)
         go (inl a) w =
             let g : GoesOn p k es e (mine.0, own.after) = subst (IsPassed p k es e (mine.0, own.after)) (both_fine outcome one fine).1 left in
@@ -177,6 +182,7 @@ module _ (texts : Texts) (p : Times) (es : List (Observation KeyParts)) (e : Obs
     }
 
   -- where sets hear the event one after another, the outcome after all of them is that of all keys
+  -- ns are the numbers of the transactions; t and `before` are the tables and the outcome before, and u and `after` those after
   pub halfway_each : (event : NumberedEvent) → ((n : ℕ) (key : KeyParts) → slice_get keys n ≡ Some key → e.event ≡ event_in texts event) → newest_moment es ≤ event.moment → (ns : List ℕ) (t u : Tabled) (before after : Outcome) → IsHalfway ns t before → All (IsGiven t) ns
       → AllPairs (λ a b. a ≢ b) ns → HearsEach texts event ns t before u after → IsHalfway [] u after
   halfway_each event is_event late [] t u before after h given apart (same, fine) = subst (λ o. IsHalfway [] u o) (sym fine) (subst (λ x. IsHalfway [] x before) (sym same) h)
@@ -185,13 +191,13 @@ module _ (texts : Texts) (p : Times) (es : List (Observation KeyParts)) (e : Obs
       (one_more event is_event n ns (first_apart n ns apart) late t between before h (All-head (IsGiven t) n ns given) one first)
       (heard_given texts event n t between one first ns (All-tail (IsGiven t) n ns given)) (AllPairs-tail n ns apart) rest
 
--- What follows is of tables in which no set has heard the event yet.
+-- What follows is of the tables t, in which no set has heard the event of the entry e yet: `numbers` are those of the sets that are to hear it.
 module _ (texts : Texts) (p : Times) (es : List (Observation KeyParts)) (e : Observation KeyParts) (moment : ℕ) (hearing : Option Hearing) (t : Tabled) (may : MayPass texts t moment)
     (numbers : List ℕ) (recorded : AreOnRecord numbers t) (told : AreTold texts t.keys moment hearing e) (ready : All (IsReady (key_keeping texts p) es) (transactions_of t))
     (newest : newest_moment es ≤ moment) (heard : (number : ℕ) → is_among numbers number ≡ true → concerns_number hearing number ≡ true)
     (others : (n : ℕ) (key : KeyParts) (s : AnySet) → slice_get t.keys n ≡ Some key → slice_get t.sets n ≡ Some s → is_among numbers (n + 1) ≡ false
     → (concerns_number hearing (n + 1) ≡ false) ⊎ GoesOn p (key_keeping texts p) es e (key, s)) where
-  -- What follows is of one key, its set and its last moment on record.
+  -- What follows is of the key with the number n, its set s and its last moment on record.
   module _ (n : ℕ) (key : KeyParts) (s : AnySet) (at : slice_get t.keys n ≡ Some key) (here : slice_get t.sets n ≡ Some s) where
     -- the set of the key leads to the runs over its events
     leads : LeadsOf texts p (machine_of_key p.rules key) (events_for key es) (newest_moment es) s
@@ -217,6 +223,7 @@ module _ (texts : Texts) (p : Times) (es : List (Observation KeyParts)) (e : Obs
     in_time None on is other = absurd (false≢true (sym other ∙ recorded.each n s None here on))
     in_time (Some limit) on is other = elim (others n key s at here other) [ inl apart ↦ waits_on apart | inr goes ↦ goes ]
       where
+        -- a set that the event does not concern goes on, since its last moment is not past
         waits_on : concerns_number hearing (n + 1) ≡ false → GoesOn p (key_keeping texts p) es e (key, s)
         waits_on apart =
             other_passed p (key_keeping texts p) es e (key, s) ((told n key at).concerned ∙ apart)
@@ -252,7 +259,7 @@ module _ (texts : Texts) (p : Times) (es : List (Observation KeyParts)) (e : Obs
       passed = λ fine n key s at here other. (let g = goes n key s at here other in (g.ready, g.stands));
     }
 
-  -- What follows is of the first key whose last moment is past.
+  -- What follows is of the first key whose last moment is past, the one at i.
   module _ (i : ℕ) (low : i < length t.records) (late_is : is_overdue moment (get_or t.records i None) ≡ true) (earlier : (n : ℕ) → n < i → is_overdue moment (get_or t.records n None) ≡ false) where
     -- where a last moment is past, the outcome is that the first such key has no run
     first_due : IsHalfway texts p es e t.keys numbers t (all.NoRun (i + 1))
@@ -262,11 +269,13 @@ module _ (texts : Texts) (p : Times) (es : List (Observation KeyParts)) (e : Obs
         record {
           same = refl;
           says = record {
+            -- the first key whose last moment is past has no run
             place = i;
             counts = refl;
             key = key;
             at = at;
             holds = late i key s at here (get_or t.records i None) (slice_get-get_or t.records i None low) late_is;
+            -- the keys before it have a run
             earlier = λ n k below there other none. (let (x, was) = set_of_key n k there in
                 none (in_time n k x there was (get_or t.records n None) (slice_get-get_or t.records n None (omega arith)) (earlier n below) other).runs);
           };
@@ -278,9 +287,12 @@ module _ (texts : Texts) (p : Times) (es : List (Observation KeyParts)) (e : Obs
   pub halfway_start : IsHalfway texts p es e t.keys numbers t (overdue_outcome (due_of t moment))
   halfway_start = go (position (is_overdue moment) t.records) refl
     where
+      -- the entry is halfway passed with the outcome of the search, whether a record is found overdue or none is
       go : (found : Option ℕ) → position (is_overdue moment) t.records ≡ found → IsHalfway texts p es e t.keys numbers t (overdue_outcome (option_map (λ i. i + 1) found))
       go None is = none_due (nowhere t.records is)
         where
+          -- where no record is found overdue, none is
+          -- rs are the records, and r is the one at the place n
           nowhere : (rs : List (Option (Option ℕ))) → position (is_overdue moment) rs ≡ None → (n : ℕ) (r : Option (Option ℕ)) → slice_get rs n ≡ Some r → is_overdue moment r ≡ false
           nowhere rs is n r at = not_passing (is_overdue moment r) (All-place (λ x. ¬ IsTrue (is_overdue moment x)) rs n r at (All-position_None (is_overdue moment) rs is))
       go (Some i) is = let found = position-Some (is_overdue moment) t.records i None is in first_due i found.0 found.1 found.2
@@ -306,9 +318,11 @@ pub quiet_others : (texts : Texts) (p : Times) (es : List (Observation KeyParts)
     → (concerns_number (Some h) (n + 1) ≡ false) ⊎ GoesOn p (key_keeping texts p) es e (key, s)
 quiet_others texts p es e moment h t may told ready newest hear numbers hearers n key s at here none = by_all (is_all h.concerned) refl
   where
+    -- what the tables keep of a transaction
     k : Keeping (KeyParts × AnySet)
     k = key_keeping texts p
 
+    -- the number is not among those that the event concerns
     not_named : is_among (each h.concerned) (n + 1) ≡ false
     not_named = not_passing (is_among (each h.concerned) (n + 1)) (λ among. false≢true (sym none ∙ hearers.named (n + 1) among))
 
@@ -323,7 +337,7 @@ quiet_others texts p es e moment h t may told ready newest hear numbers hearers 
         own_passed p k es e (key, s) ((told n key at).concerned ∙ ap (λ b. b || is_among (each h.concerned) (n + 1)) every) all.Fine
         (subst (λ f. IsStepped (key_rules p machine) events f (λ fs. LeadsOf texts p machine fs f.moment s) (λ g. StandsOf texts p machine events g s) all.Fine) (sym (told n key at).event) stepped)
 
-    -- whether the event is a restart, which concerns all
+    -- the event does not concern the transaction, or the transaction goes on, whether or not the event is a restart, which concerns all
     by_all : (b : Bool) → is_all h.concerned ≡ b → (concerns_number (Some h) (n + 1) ≡ false) ⊎ GoesOn p k es e (key, s)
     by_all true all = inr (goes all)
     by_all false some = inl (ap (λ b. b || is_among (each h.concerned) (n + 1)) some ∙ not_named)

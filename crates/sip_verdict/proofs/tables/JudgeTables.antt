@@ -16,6 +16,7 @@ first_may texts t p moment none empty = subst (λ b. MayTake b t 1 moment) (sym 
     known = All-nil (IsKnownSet []);
     long = refl;
   };
+  -- there is no set, no record and no message
   recorded = record {
     long = refl;
     each = λ n set recorded here there. absurd cc;
@@ -29,6 +30,7 @@ first_may texts t p moment none empty = subst (λ b. MayTake b t 1 moment) (sym 
 pub next_may : (texts : Texts) (t : Tabled) (count last number moment : ℕ) → number ≡ count + 1 → last ≤ moment → MayTake texts t (count + 1) last → MayTake texts t number moment
 next_may texts t count last number moment next order may = subst (λ n. MayTake texts t n moment) (sym next) (record {
   passes = record {
+    -- the sets are not later, and the book and the records are the same
     order = All-weaker (λ set. moment_of set ≤ last) (λ set. moment_of set ≤ moment) (λ set h. omega arith) t.sets may.passes.order;
     known = may.passes.known;
     long = may.passes.long;

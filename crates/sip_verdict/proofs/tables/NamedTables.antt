@@ -40,9 +40,11 @@ use Rattle.sip_states.proofs.keyed.NamesLemmas.{Contains-flat_map, Contains-from
 use Rattle.sip_verdict.proofs.sweeps.NamedLemmas.{RunNames, IsNumberOf, waited_names, silent_names, named_of, first_silent, ended_silent}
 
 -- a run over no event stands in the first state
+-- y is the state in which the run stands at the moment m
 stays_first : {X : Type 0} (r : MachineRules X) → IsLawful r → (m : ℕ) (y : X) → RuledRun r [] m y → y ≡ r.first
 stays_first {X} r lawful m y run = go ((Wait-cases r lawful (λ x. x ≡ r.first) 0 m y).0 ((Run-wait_first r m y).0 run))
   where
+    -- a run over no event stays in the first state, which has no end
     go : StaysFrom r (λ x. x ≡ r.first) 0 m y ⊎ EndsFrom r (λ x. x ≡ r.first) 0 m y → y ≡ r.first
     go (inl stays) = stays.among
     go (inr ends) = absurd (IsOpenAt-none ends.at (r.window ends.start) (ap r.window ends.among ∙ lawful.first_has_no_end) ends.hides.opened)
@@ -75,10 +77,12 @@ many_texts texts book P all named numbers up same kept = record {
       let under : i < length numbers = omega (arith, lt, within) in
       let a = get_or numbers i 0 in
       let b = get_or numbers j 0 in
+      -- equal texts would have one number
       let text_same : text_of texts a ≡ text_of texts b = sym (get_or-map (text_of texts) numbers i 0 d under) ∙ alike ∙ get_or-map (text_of texts) numbers j 0 d within in
       let one : a ≡ b = book.apart a b (kept i 0 under) (kept j 0 within) text_same in
       let less = up i j 0 lt within in
       omega (arith, one, less));
+  -- each of the texts is named by one of the numbers, and there are as many
   just = λ text. (
     λ h. let (n, has, is) = Contains-from_map (text_of texts) numbers text h in (named text).1 (n, (same n).0 has, is),
     λ h. let (n, has, is) = (named text).0 h in subst (Contains (map (text_of texts) numbers)) is (Contains-map (text_of texts) numbers n ((same n).1 has)),
@@ -88,7 +92,7 @@ many_texts texts book P all named numbers up same kept = record {
 
 -- What follows is of tables after all sets have waited until the moment.
 module _ (texts : Texts) (book : IsBook texts) (p : Times) (moment : ℕ) where
-  -- What follows is of one key: its runs name just what its set names.
+  -- What follows is of one key, whose runs name just what its set names: `old` is its set before the wait, and `new` after it; `text` is any message.
   module _ (machine : MachineKind) (events : List MachineEvent) (from : ℕ) (old new : AnySet) (leads : LeadsOf texts p machine events from old) (late : from ≤ moment) (low : moment_of old ≤ moment) (text : List ℕ) where
     -- what the code holds for the set
     abbrev held : Held Times (StateOf machine)
@@ -111,6 +115,7 @@ module _ (texts : Texts) (book : IsBook texts) (p : Times) (moment : ℕ) where
         (waited.states texts book leads.2.leads.known) in
         subst (λ ns. RunNames r (messages_of machine) events moment text ↔ IsNumberOf texts ns text) (sym (ap numbers_of new_is ∙ numbers_are machine t))
         (waited_names m.names m.in_range m.seen (messages_of machine) (named_of machine) texts r events from held.moment moment held.states t.states late not_later leads.2.leads stand text)
+    -- a set that did not wait names nothing, and so do its runs
     by_set (inr (same, silent)) = (
       λ run. absurd (let m = meaning_of machine in
           silent_names m.names m.in_range m.seen (messages_of machine) (named_of machine) texts r events from held.moment moment held.states (lawful_of machine p) late not_later leads.2.leads
@@ -118,11 +123,11 @@ module _ (texts : Texts) (book : IsBook texts) (p : Times) (moment : ℕ) where
       λ h. absurd (Contains-none h.0 (subst (λ ns. Contains ns h.0) (ap numbers_of same ∙ silent) h.1)),
     )
 
-    -- what runs of the key name is what the set names that has waited
+    -- what runs of the key name is what its set names once it has waited
     pub key_named : IsAdvanced moment old new → StandsNaming p machine events moment text ↔ IsNumberOf texts (numbers_of new) text
     key_named advanced = iff_trans (names_stand p machine events moment text) (by_set advanced)
 
-  -- What follows is of all keys of the entries.
+  -- What follows is of all keys of the entries es: t are the tables before the wait, and u after it.
   module _ (es : List (Observation KeyParts)) (t u : Tabled) (times : t.times ≡ p) (tracks : TablesTrack texts es t) (long : length t.sets ≡ length t.keys) (newest : newest_moment es ≡ moment)
       (order : All (λ set. moment_of set ≤ moment) t.sets) (as_long : length u.sets ≡ length t.sets)
       (advanced : (n : ℕ) (old new : AnySet) → slice_get t.sets n ≡ Some old → slice_get u.sets n ≡ Some new → IsAdvanced moment old new) where
@@ -143,6 +148,7 @@ module _ (texts : Texts) (book : IsBook texts) (p : Times) (moment : ℕ) where
     from_key : (key : KeyParts) (text : List ℕ) → StandsNaming p (machine_of_key p.rules key) (events_for key es) moment text
         → (b : Bool) → list_any (same_key key) (keys_in es) ≡ b → IsNumberOf texts (flat_map numbers_of u.sets) text
     from_key key text named false none = absurd (no_events_silent p moment (machine_of_key p.rules key) (events_for key es) text (new_key key es none) named)
+    -- the key is one of the tables, with the set before the wait and after it
     from_key key text named true some =
         let keys : t.keys ≡ keys_in es = sym (keys_are t long) ∙ tracks.keys ∙ ap (λ q. keys_in es) times in
         let (n, low, is) = subst (λ ks. Contains ks key) (sym keys) (among-contains key (keys_in es) some) in
@@ -157,6 +163,7 @@ module _ (texts : Texts) (book : IsBook texts) (p : Times) (moment : ℕ) where
     tables_named text = (
       λ h. from_key h.key text (h.state, subst (λ n. Stands (transaction_of (machine_of_key p.rules h.key)).figure p (events_for h.key es) n h.state) newest h.stands, h.names)
           (list_any (same_key h.key) (keys_in es)) refl,
+      -- a number that a set names is named by the runs of its key
       λ h. let (number, has, text_is) = h in
           let (new, (n, low, is), in_set) = Contains-from_flat_map numbers_of u.sets number has in
           let there : slice_get u.sets n ≡ Some new = slice_get-get_or u.sets n new low ∙ ap Some is in

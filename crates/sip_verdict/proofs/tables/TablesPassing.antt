@@ -1,4 +1,6 @@
 -- The sets of the tables hear the event of an entry, one after another.
+-- In the lemmas ns are the numbers of the sets that hear the event, and t and u are the tables before and after.
+-- n is a place in a list or the number of a set, and s the set there; a and b say what stands at a place of two lists.
 use Rattle.std.proofs.Common.{◌≡◌, ◌≢◌, ◌<◌, ◌+◌, ◌-◌, ◌⊎◌, ◌||◌, inl, inr, ℕ, zero, suc, Bool, true, false, nat_eq, Option, Some, None, List, [], ◌∷◌, ◌++◌, All, AllPairs, Contains, map, length, set, slice_get, refl, sym, ap, ◌∙◌, subst, arith}
 use Rattle.std.specs.List.{zip}
 use Rattle.std.specs.Cmp.{unsigned_Decides}
@@ -47,6 +49,7 @@ zip-place (u ∷ xs) (v ∷ ys) zero x y a b = cc
 zip-place (u ∷ xs) (v ∷ ys) (suc n) x y a b = zip-place xs ys n x y a b
 
 -- a pair at a place of two lists side by side has the two elements that stand there
+-- z is the pair at the place n of the lists xs and ys
 pub place-zip : {A B : Type 0} (xs : List A) (ys : List B) (n : ℕ) (z : A × B) → slice_get (zip xs ys) n ≡ Some z → (slice_get xs n ≡ Some z.0) × (slice_get ys n ≡ Some z.1)
 place-zip [] ys n z at = absurd cc
 place-zip (u ∷ xs) [] n z at = absurd cc
@@ -61,6 +64,7 @@ keys_are t long = firsts-zip t.keys t.sets long
 pub among_one : (n number : ℕ) (ns : List ℕ) → is_among (number ∷ ns) n ≡ true → n ≢ number → is_among ns n ≡ true
 among_one n number ns h differ = go (nat_eq n number) refl
   where
+    -- n is not the first number, so it is among the others
     go : (b : Bool) → nat_eq n number ≡ b → is_among ns n ≡ true
     go true same = absurd (differ ((unsigned_Decides n number).0 same))
     go false same = sym (ap (λ b. b || is_among ns n) same) ∙ h
@@ -69,6 +73,7 @@ among_one n number ns h differ = go (nat_eq n number) refl
 pub among_not : (n number : ℕ) (ns : List ℕ) → is_among ns n ≡ false → (is_among (number ∷ ns) n ≡ false) ⊎ (n ≡ number)
 among_not n number ns h = go (nat_eq n number) refl
   where
+    -- a number that is not among the others is not among them all, or it is the first
     go : (b : Bool) → nat_eq n number ≡ b → (is_among (number ∷ ns) n ≡ false) ⊎ (n ≡ number)
     go true same = inr ((unsigned_Decides n number).0 same)
     go false same = inl (ap (λ b. b || is_among ns n) same ∙ h)
@@ -81,6 +86,7 @@ among_first n number ns same = ap (λ b. b || is_among ns n) ((unsigned_Decides 
 pub among_rest : (n number : ℕ) (ns : List ℕ) → is_among ns n ≡ true → is_among (number ∷ ns) n ≡ true
 among_rest n number ns h = go (nat_eq n number)
   where
+    -- a number that is among the others is among them all
     go : (b : Bool) → (b || is_among ns n) ≡ true
     go true = refl
     go false = h
@@ -89,9 +95,11 @@ among_rest n number ns h = go (nat_eq n number)
 pub first_apart : (number : ℕ) (ns : List ℕ) → AllPairs (λ a b. a ≢ b) (number ∷ ns) → is_among ns number ≡ false
 first_apart number ns apart = list_any_none (nat_eq number) ns (λ k d low. differ _ (apart 0 (suc k) d (omega arith) (omega arith)))
   where
+    -- numbers that differ fail the test of equal numbers
     differ : (n : ℕ) → number ≢ n → nat_eq number n ≡ false
     differ n apart_from = go (nat_eq number n) refl
       where
+        -- the test cannot pass, since the numbers differ
         go : (b : Bool) → nat_eq number n ≡ b → b ≡ false
         go true same = absurd (apart_from ((unsigned_Decides number n).0 same))
         go false same = refl
@@ -112,6 +120,7 @@ leaves_sets number after (all.TooWide told) t u h = ap (λ x. x.sets) h
 pub settles_leaves : (number : ℕ) (after : AnySet) (t u : Tabled) → Settles number (with_set t number after) u → Leaves number after all.Fine t u
 settles_leaves number after t u s = (s.limit, subst (IsAgendaOf s.limit) same s.agenda, s.recorded)
   where
+    -- the set at the place is the one after the entry
     same : s.set ≡ after
     same = elim (set_place t.sets (number - 1) (number - 1) after s.set s.at) [ inl h ↦ sym h.1 | inr h ↦ absurd (h.0 refl) ]
 
@@ -125,12 +134,14 @@ trouble_leaves number after (all.TooWide told) t trouble = refl
 pub given_still : (number : ℕ) (t u : Tabled) → u.keys ≡ t.keys → IsGiven t number → IsGiven u number
 given_still number t u keys g = record { low = g.low; high = (let same = ap length keys in let high = g.high in omega arith) }
 
--- What follows is of a set that has heard its event and has a state: its last moment is put on record.
+-- What follows is of `after`, the set with this number, which has heard its event and has a state: `limit` is its last moment, which is put on record,
+-- and those of ns are still to hear the event.
 module _ (t : Tabled) (number : ℕ) (ns : List ℕ) (low : 0 < number) (after : AnySet) (limit : Option ℕ) (agenda : IsAgendaOf limit after) (old : AreOnRecord (number ∷ ns) t) where
   -- where the set's last moment was written, each place is on record, or its set is still to hear the event
   recorded_at : (n : ℕ) (s : AnySet) (r : Option (Option ℕ)) → slice_get (set t.sets (number - 1) after) n ≡ Some s → slice_get (set t.records (number - 1) (Some limit)) n ≡ Some r → IsOnRecord ns (n + 1) s r
   recorded_at n s r at here = go (set_place t.sets (number - 1) n after s at) (set_place t.records (number - 1) n (Some limit) r here)
     where
+      -- the last moment of the set is on record, whether the set stands at the place of the number or elsewhere
       go : ((n ≡ number - 1) × (after ≡ s)) ⊎ ((n ≢ number - 1) × (slice_get t.sets n ≡ Some s)) → ((n ≡ number - 1) × (Some limit ≡ r)) ⊎ ((n ≢ number - 1) × (slice_get t.records n ≡ Some r))
           → IsOnRecord ns (n + 1) s r
       go (inl a) (inl b) = subst (IsOnRecord ns (n + 1) s) b.1 (subst (IsAgendaOf limit) a.1 agenda)
@@ -138,7 +149,7 @@ module _ (t : Tabled) (number : ℕ) (ns : List ℕ) (low : 0 < number) (after :
       go (inr a) (inl b) = absurd (a.0 b.0)
       go (inr a) (inr b) = only r (old.each n s r a.1 b.1)
         where
-          -- a record that was right but for the set itself is right
+          -- what is on record of another set than the one that heard the event is as right as before
           only : (x : Option (Option ℕ)) → IsOnRecord (number ∷ ns) (n + 1) s x → IsOnRecord ns (n + 1) s x
           only None h = among_one (n + 1) number ns h (λ same. a.0 (omega (arith, same)))
           only (Some l) h = h
@@ -192,6 +203,7 @@ heard_recorded texts event ns t u before after given old h = on_record_if after 
 pub recorded_more : (few more : List ℕ) (t : Tabled) → ((n : ℕ) → is_among few n ≡ true → is_among more n ≡ true) → AreOnRecord few t → AreOnRecord more t
 recorded_more few more t among recorded = record { long = recorded.long; each = λ n set r at here. one n set r (recorded.each n set r at here) }
   where
+    -- a last moment that may be missing among few may be missing among more
     one : (n : ℕ) (set : AnySet) (r : Option (Option ℕ)) → IsOnRecord few (n + 1) set r → IsOnRecord more (n + 1) set r
     one n set None h = among (n + 1) h
     one n set (Some limit) h = h
@@ -224,6 +236,7 @@ all_hearers t numbers are = record {
 -- What follows is of sets that hear an event one after another.
 
 -- where some sets have heard the event, and then one more has, all of them have, and the outcomes are joined
+-- the tables are t at first, u after the sets with the numbers ns have heard the event, and v after the set with the number n has
 pub hears_more : (texts : Texts) (event : NumberedEvent) (ns : List ℕ) (n : ℕ) (t u v : Tabled) (before mid one : Outcome) → HearsEach texts event ns t before u mid → Hears texts event n u v one
     → HearsEach texts event (ns ++ n ∷ []) t before v (first_of mid one)
 hears_more texts event [] n t u v before mid one (same, fine) last =
@@ -245,6 +258,7 @@ set-other (x ∷ xs) (suc i) (suc n) a other = set-other xs i n a (λ same. othe
 pub among_none : (n number : ℕ) (ns : List ℕ) → is_among (number ∷ ns) n ≡ false → (n ≢ number) × (is_among ns n ≡ false)
 among_none n number ns h = (λ same. false≢true (sym h ∙ among_first n number ns same), go (is_among ns n) refl)
   where
+    -- the search cannot find n among the others, since it is not among all
     go : (b : Bool) → is_among ns n ≡ b → b ≡ false
     go true at = absurd (false≢true (sym h ∙ among_rest n number ns at))
     go false at = refl
@@ -261,9 +275,11 @@ hears_others texts event (m ∷ ns) t u before after given (between, one, first,
     hears_others texts event ns between u (first_of before one) after (heard_given texts event m t between one first ns (All-tail (IsGiven t) m ns given)) rest n others ∙ here
 
 -- a number that the event does not concern is not among the hearers
+-- c is what the event concerns, and `numbers` are those of the hearers
 pub others_left : (c : Concerned ℕ) (numbers : List ℕ) (n : ℕ) → ((n : ℕ) → is_among numbers n ≡ true → (is_all c || is_among (each c) n) ≡ true) → (is_all c || is_among (each c) n) ≡ false → is_among numbers n ≡ false
 others_left c numbers n heard none = go (is_among numbers n) refl
   where
+    -- the search cannot find n, since the event does not concern it
     go : (b : Bool) → is_among numbers n ≡ b → b ≡ false
     go true at = absurd (false≢true (sym none ∙ heard n at))
     go false at = refl

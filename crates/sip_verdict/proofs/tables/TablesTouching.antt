@@ -1,4 +1,6 @@
 -- Keys that an entry concerns are looked up in the tables.
+-- In the lemmas ks are keys, and ns their numbers.
+-- es is what was observed of the entries so far.
 use Rattle.std.proofs.Common.{◌≡◌, ◌≢◌, ◌≤◌, ◌<◌, ◌+◌, ◌-◌, ◌⊎◌, ◌||◌, inl, inr, ℕ, zero, suc, Bool, true, false, nat_eq, Option, Some, None, List, [], ◌∷◌, ◌++◌, All, AllPairs, Contains, length, slice_get, refl, sym, ap, ◌∙◌, subst, arith, length-append}
 use Rattle.std.specs.Prelude.{fold}
 use Rattle.std.specs.List.{list_any, zip}
@@ -36,6 +38,7 @@ touched_elim Q more key number old new holds (inl h) = subst Q (sym h.1) holds
 touched_elim Q more key number old new holds (inr h) = subst Q (sym h.2) (more old key holds)
 
 -- what holds of tables, and of them with any key more, holds after several keys were looked up
+-- Q is what holds of tables, and ns are the numbers of the keys ks
 pub touches_elim : (Q : Tabled → Type 0) → ((t : Tabled) (key : KeyParts) → Q t → Q (with_key t key)) → (ks : List KeyParts) (ns : List ℕ) (old new : Tabled) → Q old → TouchesEach ks ns old new → Q new
 touches_elim Q more [] [] old new holds same = subst Q (sym same) holds
 touches_elim Q more [] (n ∷ ns) old new holds h = absurd h
@@ -71,6 +74,7 @@ start_known texts p key =
     let machine = machine_of_key p.rules key in
     to_set (λ X M S m s. IsKnown m texts s) machine (held_at_start p machine) (known_one machine)
   where
+    -- the book knows the first set of each machine
     known_one : (machine : MachineKind) → IsKnown (meaning_of machine) texts (held_at_start p machine)
     known_one machine = All-push (λ x. All (Keeps texts) ((meaning_of machine).names x)) [] (first_of machine) (λ k d l. absurd (omega (arith, l))) (first_knows machine texts)
 
@@ -78,6 +82,7 @@ start_known texts p key =
 pub touches_may : (texts : Texts) (moment : ℕ) (ks : List KeyParts) (ns : List ℕ) (old new : Tabled) → MayPass texts old moment → TouchesEach ks ns old new → MayPass texts new moment
 touches_may texts moment ks ns old new may h = touches_elim (λ t. MayPass texts t moment) more ks ns old new may h
   where
+    -- one key more leaves what the entry may pass
     more : (t : Tabled) (key : KeyParts) → MayPass texts t moment → MayPass texts (with_key t key) moment
     more t key m = record {
       order = All-push (λ set. moment_of set ≤ moment) t.sets (start_of t.times key) m.order (let at = start_at t.times key in omega arith);
@@ -85,7 +90,7 @@ touches_may texts moment ks ns old new may h = touches_elim (λ t. MayPass texts
       long = long_more t key m.long;
     }
 
--- What follows shows that each last moment stays on record when keys come, except those of the sets that are to hear an event.
+-- What follows shows that each last moment stays on record when keys come, except those of the sets that are to hear an event, whose numbers are `waits`.
 module _ (waits : List ℕ) where
   -- where a key comes that is to hear the event, the last moments of the sets that are to hear alone may be missing
   with_key_recorded : (key : KeyParts) (number : ℕ) (old : Tabled) → length old.sets ≡ length old.keys → number ≡ length old.keys + 1 → is_among waits number ≡ true → AreOnRecord waits old → AreOnRecord waits (with_key old key)
@@ -94,16 +99,21 @@ module _ (waits : List ℕ) where
     each = λ i s r at here. go i s r (push_place old.sets (start_of old.times key) i s at) (push_place old.records None i r here);
   }
     where
+      -- the last moment of the set is on record: it is an old set with its old record, or the new one, whose record may be missing
+      -- s is the set at the place i, and r its record
       go : (i : ℕ) (s : AnySet) (r : Option (Option ℕ)) → (slice_get old.sets i ≡ Some s) ⊎ ((i ≡ length old.sets) × (start_of old.times key ≡ s))
           → (slice_get old.records i ≡ Some r) ⊎ ((i ≡ length old.records) × (None ≡ r)) → IsOnRecord waits (i + 1) s r
+      -- an old set has an old record, and the new set the new one, for there are as many sets as records; the new one waits to be put on record
       go i s r (inl a) (inl b) = h.each i s r a b
       go i s r (inl a) (inr b) = (let within = slice_get_within old.sets i s a in let same = h.long in absurd (omega (arith, b.0)))
       go i s r (inr a) (inl b) = (let within = slice_get_within old.records i r b in let same = h.long in absurd (omega (arith, a.0)))
       go i s r (inr a) (inr b) = subst (IsOnRecord waits (i + 1) s) b.1 (subst (λ n. is_among waits n ≡ true) (let same = h.long in omega (arith, counts, b.0)) waiting)
 
   -- after keys were looked up, those that are still to hear alone may lack a last moment on record
+  -- ns are the numbers of the keys ks
   pub touches_recorded : (ks : List KeyParts) (ns : List ℕ) (old new : Tabled) → ((n : ℕ) → is_among ns n ≡ true → is_among waits n ≡ true) → length old.sets ≡ length old.keys → AreOnRecord waits old → TouchesEach ks ns old new
       → AreOnRecord waits new
+  -- as many numbers as keys; `between` are the tables once the first key was looked up, and the others are looked up from there
   touches_recorded [] [] old new wait long h same = subst (AreOnRecord waits) (sym same) h
   touches_recorded [] (n ∷ ns) old new wait long h touched = absurd touched
   touches_recorded (k ∷ ks) [] old new wait long h touched = absurd touched
@@ -116,13 +126,14 @@ module _ (waits : List ℕ) where
       recorded (inr new_one) = subst (AreOnRecord waits) (sym new_one.2) (with_key_recorded k n old long new_one.1 (wait n (among_first n n ns refl)) h)
 
 -- two lists of the same length, each with one element more at its end, are side by side the pairs of before and one pair more
+-- x and y are the elements more
 zip-push : {A B : Type 0} (xs : List A) (ys : List B) (x : A) (y : B) → length ys ≡ length xs → zip (xs ++ x ∷ []) (ys ++ y ∷ []) ≡ zip xs ys ++ (x, y) ∷ []
 zip-push [] [] x y long = refl
 zip-push [] (v ∷ ys) x y long = absurd (omega arith)
 zip-push (u ∷ xs) [] x y long = absurd (omega arith)
 zip-push (u ∷ xs) (v ∷ ys) x y long = ap (λ z. (u, v) ∷ z) (zip-push xs ys x y (omega arith))
 
--- What follows is of keys that come into tables for the first time.
+-- What follows is of keys that come into tables for the first time, beside the book `texts` and by the times p.
 module _ (texts : Texts) (p : Times) where
   -- a new key's set leads to the runs over no event
   pub starts : (key : KeyParts) (from : ℕ) → LeadsOf texts p (machine_of_key p.rules key) [] from (start_of p key)
@@ -141,11 +152,13 @@ module _ (texts : Texts) (p : Times) where
     ap transactions_of h.1,
     subst (λ ks. Contains ks key) (sym (keys_are old long)) (number - 1, slice_get_within old.keys (number - 1) key h.0.1, get_or_from_slice_get old.keys (number - 1) key key h.0.1),
   )
+  -- the key is new, and so is its set
   touched key number old new times long (inr h) = inr (
     λ among. absent (subst (λ ks. Contains ks key) (keys_are old long) among),
     ap transactions_of h.2 ∙ zip-push old.keys old.sets key (start_of old.times key) long ∙ ap (λ q. transactions_of old ++ (key, start_of q key) ∷ []) times,
   )
     where
+      -- the key is not among the old ones
       absent : ¬ Contains old.keys key
       absent (i, low, is) = h.0 i key low is
 
@@ -161,6 +174,7 @@ module _ (texts : Texts) (p : Times) where
       (kept_touched (key_keeping texts p) es (k, start_of p k) (starts k (newest_moment es)) keys (transactions_of old) (transactions_of between) kept (touched k n old between times long one))
 
 -- an element of a list stays at its place when more elements come after it
+-- x is the element at the place n of xs, and ys are those that come after
 pub slice_get-more : {A : Type 0} (xs ys : List A) (n : ℕ) (x : A) → slice_get xs n ≡ Some x → slice_get (xs ++ ys) n ≡ Some x
 slice_get-more [] ys n x at = absurd cc
 slice_get-more (u ∷ xs) ys zero x at = at
@@ -194,12 +208,14 @@ same_test false true f g = g refl
 same_test false false f g = refl
 
 -- where all elements of a list differ, no element stands at two places
+-- x is the element that would stand at the places i and k
 pub same_place : {A : Type 0} (xs : List A) → AllPairs (λ a b. a ≢ b) xs → (i k : ℕ) (x : A) → slice_get xs i ≡ Some x → slice_get xs k ≡ Some x → i ≡ k
 same_place [] apart i k x a b = absurd cc
 same_place (u ∷ xs) apart zero zero x a b = refl
 same_place (u ∷ xs) apart zero (suc k) x a b =
     let is : u ≡ x = cc in
     absurd (apart zero (suc k) x (omega arith) (let low = slice_get_within xs k x b in omega arith) (is ∙ sym (get_or_from_slice_get xs k x x b)))
+-- the one place is the first, and the other a later one
 same_place (u ∷ xs) apart (suc i) zero x a b =
     let is : u ≡ x = cc in
     absurd (apart zero (suc i) x (omega arith) (let low = slice_get_within xs i x a in omega arith) (is ∙ sym (get_or_from_slice_get xs i x x a)))
@@ -207,12 +223,15 @@ same_place (u ∷ xs) apart (suc i) (suc k) x a b =
     ap suc (same_place xs (λ m n d low within. apart (suc m) (suc n) d (omega arith) (omega arith)) i k x a b)
 
 -- a key is one of the keys exactly if its number is among theirs
+-- ns are the numbers of the keys ks among all keys, and k is the key at the place n of all
 pub same_numbers : (all : List KeyParts) → AllPairs (λ a b. a ≢ b) all → (ns : List ℕ) (ks : List KeyParts) → HaveNumbers all ns ks → (n : ℕ) (k : KeyParts) → slice_get all n ≡ Some k → list_any (same_key k) ks ≡ is_among ns (n + 1)
 same_numbers all apart [] [] h n k at = refl
 same_numbers all apart [] (key ∷ ks) h n k at = absurd h
 same_numbers all apart (i ∷ ns) [] h n k at = absurd h
+-- the key is the first one, or among the others
 same_numbers all apart (i ∷ ns) (key ∷ ks) (some, there, rest) n k at = λ j. one j || same_numbers all apart ns ks rest n k at j
   where
+    -- the key is this one exactly if the number is its number
     one : same_key k key ≡ nat_eq (n + 1) i
     one =
         same_test (same_key k key) (nat_eq (n + 1) i)

@@ -29,7 +29,7 @@ module _ {T : Type 0} (k : Keeping T) (es : List (Observation KeyParts)) where
   pub kept_tracked : (p : Times) (ts : List T) → Tracks p k es ts → AreKept k es (keys_in es) ts
   kept_tracked p ts s = record { keys = s.keys; among = λ key none. none; ready = s.ready }
 
-  -- What follows is of transactions with one key more, which was looked up.
+  -- What follows is of transactions with one key more, which was looked up: `fresh` is its transaction, `old` were all before, and `new` are all now.
   module _ (fresh : T) (starts : k.Leads fresh [] (newest_moment es)) (keys : List KeyParts) (old new : List T) (kept : AreKept k es keys old) where
     -- with one key that was looked up, the transactions are kept with that key too
     pub kept_touched : IsTouched k fresh old new → AreKept k es (with_key keys (k.key fresh)) new
@@ -39,9 +39,11 @@ module _ {T : Type 0} (k : Keeping T) (es : List (Observation KeyParts)) where
       ready = subst (All (IsReady k es)) (sym h.0) kept.ready;
     }
       where
+        -- a key that is known is not added again
         known : with_key keys (k.key fresh) ≡ keys
         known = cond-true (list_any (same_key (k.key fresh)) keys) keys (keys ++ k.key fresh ∷ [])
             (contains-among (k.key fresh) keys (subst (λ ks. Contains ks (k.key fresh)) kept.keys h.1))
+    -- the key is new, and its set leads to the runs over no event
     kept_touched (inr h) = record {
       keys = ap (map k.key) h.1 ∙ map-append k.key old (fresh ∷ []) ∙ ap (λ ks. ks ++ k.key fresh ∷ []) kept.keys ∙ sym unknown;
       among = λ key more. kept.among key (among-with_key key keys (k.key fresh) more).0;
@@ -49,9 +51,11 @@ module _ {T : Type 0} (k : Keeping T) (es : List (Observation KeyParts)) where
           (All-push (IsReady k es) old fresh kept.ready (subst (λ fs. k.Leads fresh fs (newest_moment es)) (sym (new_key (k.key fresh) es (kept.among (k.key fresh) none))) starts));
     }
       where
+        -- a fresh key is not among the keys
         none : list_any (same_key (k.key fresh)) keys ≡ false
         none = not_among (k.key fresh) keys (λ there. h.0 (subst (λ ks. Contains ks (k.key fresh)) (sym kept.keys) there))
 
+        -- a fresh key is added at the end
         unknown : with_key keys (k.key fresh) ≡ keys ++ k.key fresh ∷ []
         unknown = cond-false (list_any (same_key (k.key fresh)) keys) keys (keys ++ k.key fresh ∷ []) none
 
@@ -75,7 +79,7 @@ module _ {T : Type 0} (p : Times) (k : Keeping T) where
     pub before_touched : (ts : List T) → AreKept k es (fold with_key (keys_in es) e.keys) ts → IsGood p es → TracksBefore p k es e ts
     before_touched ts kept good = record { keys = kept.keys ∙ sym (keys_in-push es e); ready = kept.ready; good = good }
 
-    -- What follows is of the transactions before the entry and after it, with the same keys.
+    -- What follows is of `old` and `new`, the transactions before the entry and after it, with the same keys: k says what is kept before, and k2 after it.
     module _ (k2 : Keeping T) (old new : List T) (before : TracksBefore p k2 es e old) (same : map k.key new ≡ map k2.key old) where
       -- where the message of the entry has no fault and every transaction goes on, the transactions follow the entry too
       pub judged_fine : e.fault ≡ None → All (GoesOn p k es e) new → Tracks p k (es ++ e ∷ []) new × All (IsStanding k es e) new
@@ -83,6 +87,7 @@ module _ {T : Type 0} (p : Times) (k : Keeping T) where
         record {
           keys = same ∙ before.keys;
           ready = All-weaker (GoesOn p k es e) (IsReady k (es ++ e ∷ [])) (λ t g. g.ready) new goes;
+          -- each transaction has a run over the entry, and is not too wide
           good = good-push p es e before.good (record {
             formed = formed;
             runs = subst (All (RunsOver p (es ++ e ∷ []))) (same ∙ before.keys)

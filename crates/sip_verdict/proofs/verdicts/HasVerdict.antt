@@ -35,6 +35,7 @@ first_or_none : (P : KeyParts → Type 0) (keys : List KeyParts) → Weakly (All
 first_or_none P [] never = never (inl (All-nil (λ k. ¬ (P k))))
 first_or_none P (key ∷ keys) never = first_or_none P keys at
   where
+    -- P does not hold of the first key
     here : P key → ⊥
     here holds = never (inr (1, ([], key, keys, refl, holds, All-nil (λ k. ¬ (P k)), refl)))
 
@@ -50,7 +51,7 @@ all_of P [] all never = never (All-nil P)
 all_of P (key ∷ keys) all never =
     All-head (λ k. ¬ (¬ (P k))) key keys all (λ holds. all_of P keys (All-tail (λ k. ¬ (¬ (P k))) key keys all) (λ later. never (All-cons P key keys holds later)))
 
--- What follows is of one entry e after the entries es.
+-- What follows is of one entry e after the entries es, by the times p.
 module _ (p : Times) (es : List (Observation KeyParts)) (e : Observation KeyParts) where
   -- the keys of the entries and e
   abbrev keys : List KeyParts
@@ -68,6 +69,7 @@ module _ (p : Times) (es : List (Observation KeyParts)) (e : Observation KeyPart
   fine_or_trouble : ((v : Verdict) → ¬ (HasTrouble p es e v)) → Weakly (IsFine p es e)
   fine_or_trouble no_trouble not_fine = by_fault e.fault refl
     where
+      -- no key is too wide, or some key is the first that is
       by_width : e.fault ≡ None → All Runs keys → (All (λ key. ¬ (Wide key)) keys ⊎ ((n : ℕ) × IsFirstKey Wide keys n)) → ⊥
       by_width none runs (inl narrow) = not_fine (record { formed = none; runs = runs; narrow = narrow })
       by_width none runs (inr (n, first)) = no_trouble (Undecided (length es + 1) n) (refl, none, runs, first)
@@ -77,7 +79,7 @@ module _ (p : Times) (es : List (Observation KeyParts)) (e : Observation KeyPart
       by_run none (inl all) = all_of Runs keys all (λ runs. first_or_none Wide keys (by_width none runs))
       by_run none (inr (n, first)) = no_trouble (Breach (length es + 1) n) (refl, none, first)
 
-      -- whether the entry's message has a fault
+      -- a contradiction follows whether or not the entry's message has a fault
       by_fault : (fault : Option Fault) → e.fault ≡ fault → ⊥
       by_fault None none = first_or_none (λ key. ¬ (Runs key)) keys (by_run none)
       by_fault (Some fault) some = no_trouble (Malformed (length es + 1) fault) (refl, some)
@@ -86,13 +88,15 @@ module _ (p : Times) (es : List (Observation KeyParts)) (e : Observation KeyPart
 observes_message : (direction : Direction) (item : Item) → Weakly ((e : Observation KeyParts) × ObservesMessage direction item e)
 observes_message direction item never = reading-or-fault item.text no_reading no_fault
   where
+    -- the message has no fault
     no_fault : (fault : Fault) → ¬ (Says item.text (stops fault))
     no_fault fault is = never (_, has_fault fault is refl)
 
+    -- the message has no reading
     no_reading : (r : message.Reading) → ¬ (Reads item.text r)
     no_reading r reads = by_cookie (lacks_cookie (said_of r) direction) refl
       where
-        -- whether the cookie is lacking
+        -- a contradiction follows whether or not the cookie is lacking
         by_cookie : (b : Bool) → lacks_cookie (said_of r) direction ≡ b → ⊥
         by_cookie true lacks = never (_, has_no_cookie (said_of r) reads.says lacks refl)
         by_cookie false has = never (_, is_heard (said_of r) _ reads.says has refl refl)
@@ -101,13 +105,15 @@ observes_message direction item never = reading-or-fault item.text no_reading no
 pub sees_entry : (before : List (Observation KeyParts)) (item : Item) → Weakly ((e : Observation KeyParts) × Sees before item e)
 sees_entry before item = by_action item.action refl
   where
+    -- the keys of the entries before
     keys : List KeyParts
     keys = keys_in before
 
-    -- this is observed of the entry where its action is a
+    -- e is what is observed of the entry if its action is a
     Seen : Observation KeyParts → Action → Type 0
     Seen e a = MatchOption (direction_of a) (e ≡ silent_observation a item.moment keys) (λ d. ObservesMessage d item e)
 
+    -- something is observed, whichever action the entry has
     by_action : (a : Action) → item.action ≡ a → Weakly ((e : Observation KeyParts) × Sees before item e)
     by_action Sent is never = observes_message way.Sent item (λ seen. never (seen.0, subst (Seen seen.0) (sym is) seen.1))
     by_action Received is never = observes_message way.Received item (λ seen. never (seen.0, subst (Seen seen.0) (sym is) seen.1))
@@ -129,6 +135,6 @@ verdict_of_log : (input : List ℕ) → LacksHeader input ⊎ ((p : Times) × (i
 verdict_of_log input (inl none) never = never (LogFault 0 Header, inl (none, refl))
 verdict_of_log input (inr (p, items, end, is)) never = judges_some p [] items end (λ one. never (one.0, inr (p, items, end, is, one.1)))
 
--- each input has a verdict
+-- it cannot be that an input has no verdict
 pub has_verdict : (input : List ℕ) → ¬ ((v : Verdict) → ¬ (IsVerdictOf input v))
 has_verdict input never = verdict_of_log input (log_is_some input) (λ one. never one.0 one.1)

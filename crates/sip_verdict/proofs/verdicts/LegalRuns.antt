@@ -26,6 +26,7 @@ pub empty_or_last : {A : Type 0} (xs : List A) → (xs ≡ []) ⊎ ((front : Lis
 empty_or_last [] = inl refl
 empty_or_last {A} (x ∷ xs) = go (empty_or_last xs)
   where
+    -- the list has a last element: the first, or the last of those after it
     go : (xs ≡ []) ⊎ ((front : List A) × (y : A) × (xs ≡ front ++ y ∷ [])) → (x ∷ xs ≡ []) ⊎ ((front : List A) × (y : A) × (x ∷ xs ≡ front ++ y ∷ []))
     go (inl e) = inr ([], x, ap (λ z. x ∷ z) e)
     go (inr h) = inr (x ∷ h.0, h.1, ap (λ z. x ∷ z) h.2)
@@ -34,9 +35,11 @@ empty_or_last {A} (x ∷ xs) = go (empty_or_last xs)
 good_runs : (p : Times) (es : List (Observation KeyParts)) → IsGood p es → All (RunsOver p es) (keys_in es)
 good_runs p es good = go (empty_or_last es)
   where
+    -- each key of these entries has a run over them
     AllRun : List (Observation KeyParts) → Type 0
     AllRun xs = All (RunsOver p xs) (keys_in xs)
 
+    -- each key has a run over the entries: there are none, or the last one is in no trouble
     go : (es ≡ []) ⊎ ((front : List (Observation KeyParts)) × (e : Observation KeyParts) × (es ≡ front ++ e ∷ [])) → All (RunsOver p es) (keys_in es)
     go (inl none) = subst AllRun (sym none) (All-nil (RunsOver p []))
     go (inr h) = subst AllRun (sym h.2) (good h.0 h.1 [] h.2).runs
@@ -45,7 +48,7 @@ good_runs p es good = go (empty_or_last es)
 good_formed : (p : Times) (es : List (Observation KeyParts)) → IsGood p es → All (λ e. e.fault ≡ None) es
 good_formed p es good = All-from_splits (λ e. e.fault ≡ None) es (λ front e rest is. (good front e rest is).formed)
 
--- What follows is of one input with the verdict that it is legal.
+-- What follows is of one input with the verdict that it is legal, with so many entries and transactions; p are the times of its header.
 module _ (input : List ℕ) (entries transactions : ℕ) (p : Times) where
   -- where the verdict after these entries is that the log is legal, the log ends cleanly, with no entry in trouble
   legal_end : (done : List Item) (es : List (Observation KeyParts)) (rest : List Item) (end : LogEnd) → LogSays input p (done ++ rest) end → AreSeen [] done es → IsGood p es →
@@ -55,6 +58,7 @@ module _ (input : List ℕ) (entries transactions : ℕ) (p : Times) where
     items = done;
     es = es;
     whole = subst (λ all. LogSays input p all Clean) (append-nil done) log;
+    -- each entry is in no trouble, so each key has a run and each message is of the grammar
     seen = seen;
     good = good;
     entries_are = cc;
@@ -64,6 +68,7 @@ module _ (input : List ℕ) (entries transactions : ℕ) (p : Times) where
   }
   legal_end done es [] (Stops fault) log seen good is = cc
   legal_end done es (item ∷ rest) end log seen good (e, sees, inl trouble) = absurd trouble
+  -- the next item is in no trouble, so the log goes on with it
   legal_end done es (item ∷ rest) end log seen good (e, sees, inr (formed, runs, narrow, left)) =
       legal_end (done ++ item ∷ []) (es ++ e ∷ []) rest end (subst (λ all. LogSays input p all end) (sym (append_assoc done (item ∷ []) rest)) log)
       (seen-push [] done es item e seen sees) (good-push p es e good (record { formed = formed; runs = runs; narrow = narrow })) left

@@ -1,4 +1,6 @@
 -- Only one thing is observed of an entry.
+-- In the lemmas e and f are two observations of one entry, s and t what its message says by two readings, a and b the two facts about them, and es what was
+-- observed before.
 use Rattle.std.proofs.Common.{◌≡◌, ℕ, true, false, Option, Some, None, MatchOption, List, ◌++◌, sym, ap, ◌∙◌}
 use Rattle.std.specs.Prelude.{option_to_list}
 use Rattle.sip_standard.specs.declared.fault.Fault.{Fault}
@@ -37,9 +39,11 @@ message_one direction item e f (has_fault a has is) (has_fault b has2 is2) =
     let alike : a ≡ b = cc in is ∙ ap (fault_observation item) alike ∙ sym is2
 message_one direction item e f (has_fault a has is) (has_no_cookie s says lacks is2) = absurd (fault_says_none item.text a s has says)
 message_one direction item e f (has_fault a has is) (is_heard s keys says fine concerns is2) = absurd (fault_says_none item.text a s has says)
+-- a message that lacks the cookie has no other fault, and is not heard
 message_one direction item e f (has_no_cookie s says lacks is) (has_fault b has is2) = absurd (fault_says_none item.text b s has says)
 message_one direction item e f (has_no_cookie s says lacks is) (has_no_cookie t says2 lacks2 is2) = is ∙ sym is2
 message_one direction item e f (has_no_cookie s says lacks is) (is_heard t keys says2 fine concerns is2) = absurd (cookie_once item.text direction s t says says2 lacks fine)
+-- a message that is heard has neither fault
 message_one direction item e f (is_heard s keys says fine concerns is) (has_fault b has is2) = absurd (fault_says_none item.text b s has says)
 message_one direction item e f (is_heard s keys says fine concerns is) (has_no_cookie t says2 lacks is2) = absurd (cookie_once item.text direction t s says2 says lacks fine)
 message_one direction item e f (is_heard s keys says fine concerns is) (is_heard t more says2 fine2 concerns2 is2) =

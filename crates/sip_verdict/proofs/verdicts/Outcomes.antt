@@ -74,6 +74,7 @@ module _ (Runs Wide : KeyParts → Type 0) (keys : List KeyParts) where
     of_both P a b n k at (inr among) = b n k at among
 
     -- the first key for the places of A is the first for the places of both, where P holds of no key before it at the places of B
+    -- i is the number of the key that is first, and k any key at a place n before it
     first_left : (P : KeyParts → Type 0) (i : ℕ) → IsFirstAmong P keys A i → ((n : ℕ) (k : KeyParts) → n + 1 < i → slice_get keys n ≡ Some k → B n → ¬ P k) → IsFirstAmong P keys Either i
     first_left P i f others = record {
       place = f.place;
@@ -85,6 +86,7 @@ module _ (Runs Wide : KeyParts → Type 0) (keys : List KeyParts) where
     }
 
     -- the first key for the places of B is the first for the places of both, where P holds of no key before it at the places of A
+    -- i is the number of the key that is first, and k any key at a place n before it
     first_right : (P : KeyParts → Type 0) (i : ℕ) → IsFirstAmong P keys B i → ((n : ℕ) (k : KeyParts) → n + 1 < i → slice_get keys n ≡ Some k → A n → ¬ P k) → IsFirstAmong P keys Either i
     first_right P i f others = record {
       place = f.place;
@@ -104,12 +106,15 @@ module _ (Runs Wide : KeyParts → Type 0) (keys : List KeyParts) where
 
     -- where two outcomes are said of two groups, their join is said of both groups together
     pub says_both : (a b : Outcome) → Says A a → Says B b → Says Either (first_of a b)
+    -- h and l are what the two outcomes say. Where the first group is fine, the outcome of the second, with the place j of its key, is that of both
     says_both all.Fine all.Fine h l = of_both (λ k. Runs k × ¬ Wide k) h l
     says_both all.Fine (all.NoRun j) h l = first_right (λ k. ¬ Runs k) j l (λ n k below at among none. none (h n k at among).0)
     says_both all.Fine (all.TooWide j) h l = (of_both Runs (λ n k at among. (h n k at among).0) l.0, first_right Wide j l.1 (λ n k below at among. (h n k at among).1))
+    -- where a key of the first group, at place i, has no run, it is the first of both groups, unless the second group has an earlier one
     says_both (all.NoRun i) all.Fine h l = first_left (λ k. ¬ Runs k) i h (λ n k below at among none. none (l n k at among).0)
     says_both (all.NoRun i) (all.NoRun j) h l = first_both (λ k. ¬ Runs k) i j h l
     says_both (all.NoRun i) (all.TooWide j) h l = first_left (λ k. ¬ Runs k) i h (λ n k below at among none. none (l.0 n k at among))
+    -- where a key of the first group has too many states, a key without a run in the second group comes before it
     says_both (all.TooWide i) all.Fine h l = (of_both Runs h.0 (λ n k at among. (l n k at among).0), first_left Wide i h.1 (λ n k below at among. (l n k at among).1))
     says_both (all.TooWide i) (all.NoRun j) h l = first_right (λ k. ¬ Runs k) j l (λ n k below at among none. none (h.0 n k at among))
     says_both (all.TooWide i) (all.TooWide j) h l = (of_both Runs h.0 l.0, first_both Wide i j h.1 l.1)

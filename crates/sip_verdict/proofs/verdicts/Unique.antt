@@ -1,4 +1,5 @@
 -- There is at most one verdict on an entry.
+-- In the lemmas v and w are verdicts, n and k numbers of keys, and zs is what stands between two cuts of one list.
 use Rattle.std.proofs.Common.{◌≡◌, ◌⊎◌, inl, inr, ◌+◌, ℕ, List, [], ◌∷◌, ◌++◌, length, Some, None, All, Contains, refl, sym, ap, ◌∙◌, subst, arith, length-append}
 use Rattle.std.proofs.lemmas.List.Elements.{All-contains, Contains-append_right}
 use Rattle.sip_standard.specs.declared.verdict.Verdict.{Verdict}
@@ -23,6 +24,7 @@ pub first_is_one : (P : KeyParts → Type 0) (keys : List KeyParts) (n k : ℕ) 
 first_is_one P keys n k (before, key, rest, is, holds, earlier, counts) (front, first, more, are, also, none, number) =
     go (split_compare before rest front more key first (sym is ∙ are))
   where
+    -- the two numbers are the same, since the two first keys are
     go : ((before ≡ front) × (key ≡ first)) ⊎ (((zs : List KeyParts) × (front ≡ before ++ key ∷ zs)) ⊎ ((zs : List KeyParts) × (before ≡ front ++ first ∷ zs))) → n ≡ k
     go (inl h) = counts ∙ ap (λ xs. length xs + 1) h.0 ∙ sym number
     go (inr (inl h)) = absurd (All-middle (λ x. ¬ (P x)) before h.0 key (subst (All (λ x. ¬ (P x))) h.1 none) holds)
@@ -36,7 +38,7 @@ first_not_all P keys n (before, key, rest, is, holds, earlier, counts) h = All-m
 pub first_not_run : (P : KeyParts → Type 0) (keys : List KeyParts) (n : ℕ) → IsFirstKey (λ k. ¬ (P k)) keys n → All P keys → ⊥
 first_not_run P keys n (before, key, rest, is, none, earlier, counts) h = none (All-middle P before rest key (subst (All P) is h))
 
--- What follows is of one entry e after the entries of `front`.
+-- What follows is of one entry e after the entries of `front`, by the times p.
 module _ (p : Times) (front : List (Observation KeyParts)) (e : Observation KeyParts) where
   -- the keys of the entries and e
   abbrev keys : List KeyParts
@@ -63,12 +65,15 @@ module _ (p : Times) (front : List (Observation KeyParts)) (e : Observation KeyP
   trouble_is_one (Malformed n f) (Malformed k g) a b = let s : Some f ≡ Some g = sym a.1 ∙ b.1 in let s' : n ≡ k = a.0 ∙ sym b.0 in cc
   trouble_is_one (Malformed n f) (Breach k t) a b = let s : Some f ≡ None = sym a.1 ∙ b.1 in cc
   trouble_is_one (Malformed n f) (Undecided k t) a b = let s : Some f ≡ None = sym a.1 ∙ b.1 in cc
+  -- a breach means that no message has a fault, and names the first key without a run
   trouble_is_one (Breach n t) (Malformed k g) a b = let s : None ≡ Some g = sym a.1 ∙ b.1 in cc
   trouble_is_one (Breach n t) (Breach k u) a b = let s : t ≡ u = first_is_one (λ key. ¬ (Runs key)) keys t u a.2 b.2 in let s' : n ≡ k = a.0 ∙ sym b.0 in cc
   trouble_is_one (Breach n t) (Undecided k u) a b = absurd (first_not_run Runs keys t a.2 b.2)
+  -- undecided means that each key has a run, and names the first key that is too wide
   trouble_is_one (Undecided n t) (Malformed k g) a b = let s : None ≡ Some g = sym a.1 ∙ b.1 in cc
   trouble_is_one (Undecided n t) (Breach k u) a b = absurd (first_not_run Runs keys u b.2 a.2)
   trouble_is_one (Undecided n t) (Undecided k u) a b = let s : t ≡ u = first_is_one Wide keys t u a.3 b.3 in let s' : n ≡ k = a.0 ∙ sym b.0 in cc
+  -- no verdict on a whole log tells of trouble
   trouble_is_one (Legal n t) w a b = absurd a
   trouble_is_one (LogFault n r) w a b = absurd a
   trouble_is_one v (Legal n t) a b = absurd b
@@ -86,6 +91,7 @@ module _ (p : Times) where
   good-push es e good fine front f rest is =
       go (split_compare es [] front rest e f is)
     where
+      -- the entry f is fine after those before it: it is the last one, or an earlier one
       go : ((es ≡ front) × (e ≡ f)) ⊎ (((zs : List (Observation KeyParts)) × (front ≡ es ++ e ∷ zs)) ⊎ ((zs : List (Observation KeyParts)) × (es ≡ front ++ f ∷ zs))) → IsFine p front f
       go (inl h) = subst (λ x. IsFine p front x) h.1 (subst (λ x. IsFine p x e) h.0 fine)
       go (inr (inl h)) = absurd (omega (arith, simp length-append at (ap length is), simp length-append at (ap length h.1)))

@@ -1,3 +1,4 @@
+-- Which transactions a survey forgets, by their sets and histories.
 use Rattle.std.specs.Prelude.{◌≡◌, ◌≤◌, ◌↔◌, ℕ, Bool, false, Some, List, length, max, slice_get}
 use Rattle.sip_standard.specs.Key.{KeyParts}
 use Rattle.sip_standard.specs.Observation.{Observation}
@@ -7,8 +8,6 @@ use Rattle.sip_states.specs.declared.any_set.AnySet.{AnySet}
 use Rattle.sip_verdict.specs.declared.histories.Histories.{Histories}
 use Rattle.sip_verdict.specs.declared.histories.History.{History}
 use Rattle.sip_verdict.specs.Forgetting.{IsOver}
-
--- What follows says which transactions a survey forgets, by their sets and histories.
 
 -- where a transaction is over, its set is quiet
 abbrev pub AreQuietIfOver : List (Observation KeyParts) → Tabled → Type 0

@@ -31,7 +31,7 @@ pub record IsHorizonOf (m : Horizon) (es : List (Observation KeyParts)) : Type 0
   pub until_inside : m.until ≤ length es
   pub long_ago : (m.until ≡ 0) ⊎ IsLongAgo m.age m.until es
 
--- one more entry has the number after so many, and keeps order and limits
+-- after `count` entries one more has the next number, and keeps order and limits
 abbrev pub StreamsOn : ℕ → ProgressState → ProgressState → Next → Type 0
 StreamsOn count old new (Entry e) = (new.stage ≡ entries) × Continues (count + 1) old.last e × (new.last ≡ e.moment)
 StreamsOn count old new End = ⊤

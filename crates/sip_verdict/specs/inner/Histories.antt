@@ -1,9 +1,8 @@
+-- What a survey keeps of the entries of each transaction.
 use Rattle.std.specs.Prelude.{◌≡◌, ◌≤◌, ◌-◌, ◌⊎◌, ◌++◌, ◌∷◌, [], ℕ, Some, IfSome, List, length, slice_get, slice_set}
 use Rattle.sip_standard.specs.Outcome.{gives}
 use Rattle.sip_standard.specs.Says.{Said, Says}
 use Rattle.sip_verdict.specs.declared.histories.History.{History}
-
--- What follows says what a survey keeps of the entries of each transaction.
 
 -- these bytes are the branch of the top Via as a message spells it, where the other bytes spell a message that has one
 abbrev pub SpellsBranch : List ℕ → List ℕ → Type 0

@@ -1,3 +1,4 @@
+-- How an error of reading a log is told by a verdict.
 use Rattle.std.specs.Prelude.{Result, Ok, Err}
 use Rattle.sip_log.specs.declared.log_error.LogError.{LogError}
 use Rattle.sip_log.specs.declared.log_error.LogError.TheVariants as log

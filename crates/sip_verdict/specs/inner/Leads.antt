@@ -1,3 +1,4 @@
+-- Sets of states that stand for all runs over some events.
 use Rattle.std.specs.Prelude.{◌≤◌, ◌↔◌, ℕ, List, All, Contains, map}
 use Rattle.sip_machine.specs.Texts.{Texts}
 use Rattle.sip_standard.specs.MachineEvent.{MachineEvent}

@@ -1,3 +1,4 @@
+-- What a judge is told of an entry.
 use Rattle.std.specs.Prelude.{◌≡◌, ◌≢◌, ◌⊎◌, ◌++◌, ◌∷◌, [], ℕ, true, false, List, None, AllPairs, Result, Ok, Err, ⊤}
 use Rattle.sip_machine.specs.Texts.{Texts, Keeps, text_of}
 use Rattle.sip_machine.specs.NumberedEvent.{event_in, FitsBook}
@@ -19,8 +20,6 @@ use Rattle.sip_standard.specs.Observation.{Observation, fault_observation, silen
 use Rattle.sip_standard.specs.VerdictOf.{keys_in}
 use Rattle.sip_verdict.specs.Entries.{ConcernsNone}
 use Rattle.sip_verdict.specs.inner.Concerned.{each, is_all}
-
--- What follows says what a judge is told of an entry.
 
 -- the keys of the transactions that a message concerns, all different and given one by one, or that it lacks the cookie; want of memory is not spoken of
 abbrev pub AreKeysOf : Said → Direction → Result (Concerned KeyParts) KeyError → Type 0

@@ -1,3 +1,4 @@
+-- How a log is shown, entry by entry.
 use Rattle.std.specs.Prelude.{◌≡◌, ℕ, Bool, true, List, Option, Some, None, Result, Ok, Err, ⊤}
 use Rattle.std.specs.Io.KnownBytes.{Appends}
 use Rattle.sip_standard.specs.declared.action.Action.{Action}
@@ -10,8 +11,6 @@ use Rattle.sip_standard.specs.Says.{Says}
 use Rattle.sip_standard.specs.declared.show_error.ShowError.{ShowError}
 use Rattle.sip_standard.specs.declared.show_error.ShowError.TheVariants.{Read, Write, Memory}
 use Rattle.sip_standard.specs.Showing.{IsCanonOf, shown_entry}
-
--- What follows says how a log is shown, entry by entry.
 
 -- a message has no canonical form because it has this fault; want of memory is not spoken of
 abbrev pub IsFaulty : List ℕ → ReadError → Type 0

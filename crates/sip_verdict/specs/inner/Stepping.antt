@@ -1,3 +1,4 @@
+-- What an event leaves of the runs of one machine.
 use Rattle.std.specs.Prelude.{◌≡◌, ◌++◌, [], ◌∷◌, ℕ, List}
 use Rattle.sip_machine.specs.Texts.{Texts}
 use Rattle.sip_standard.specs.MachineEvent.{MachineEvent}
@@ -9,14 +10,12 @@ use Rattle.sip_states.specs.inner.RuledRuns.{RuledRun, AfterRun}
 use Rattle.sip_states.specs.Held.{Held}
 use Rattle.sip_verdict.specs.inner.Leads.{Leads}
 
--- What follows says what an event leaves of the runs of one machine.
-
 -- a set of this machine says, from a moment on, exactly where the runs over the events stand
 pub record LeadsTo {M X S : Type 0} (names : S → List ℕ) (seen : Texts → S → X) (rules : M → MachineRules X) (texts : Texts) (machine : M) (set : Held M S) (events : List MachineEvent) (from : ℕ) : Type 0 where
   pub machine_is : set.machine ≡ machine
   pub leads : Leads names seen texts (rules machine) events from set.moment set.states
 
--- there is a run over the events that stands at the moment
+-- some run over the events stands at the moment
 abbrev pub RunsUntil : {X : Type 0} → MachineRules X → List MachineEvent → ℕ → Type 0
 RunsUntil {X} r events moment = (y : X) × RuledRun r events moment y
 

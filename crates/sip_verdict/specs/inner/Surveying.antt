@@ -1,3 +1,4 @@
+-- What a survey keeps of the transactions of a log.
 use Rattle.std.specs.Prelude.{◌≡◌, ◌≢◌, ◌≤◌, ◌<◌, ◌+◌, ◌-◌, ◌⊎◌, ◌++◌, [], ◌∷◌, ℕ, Bool, true, false, Option, Some, None, List, AllPairs, Contains, ◌↔◌, MatchBool, length, map, slice_get, slice_set}
 use Rattle.sip_standard.specs.Key.{KeyParts}
 use Rattle.sip_standard.specs.Times.{Times}
@@ -17,8 +18,6 @@ use Rattle.sip_standard.specs.VerdictOf.{RunsOver, keys_in}
 use Rattle.sip_verdict.specs.SurveyOf.{IsSound, Breaks, Widens}
 use Rattle.sip_verdict.specs.inner.Tracking.{IsReady, GoesOn}
 use Rattle.sip_verdict.specs.inner.TablesTracking.{LeadsOf, key_keeping, is_among, AreOnRecord}
-
--- What follows says what a survey keeps of the transactions of a log.
 
 -- the transactions of the tables, some of them in trouble: the last moment of each is on record, except where its set is still to hear the event; and a
 -- transaction in trouble has none on record
@@ -67,7 +66,7 @@ pub record TablesSurvey (texts : Texts) (es : List (Observation KeyParts)) (t : 
   pub each : (n : ℕ) (key : KeyParts) (set : AnySet) (is_deaf : Bool) → slice_get t.keys n ≡ Some key → slice_get t.sets n ≡ Some set → slice_get deaf n ≡ Some is_deaf
       → IsFollowed texts t.times es key set is_deaf
 
--- What follows is of one entry e after the entries es.
+-- What follows is of one entry e after the entries es, beside the book `texts` and by the times p.
 module _ (texts : Texts) (p : Times) (es : List (Observation KeyParts)) (e : Observation KeyParts) where
   -- while the entry e passes, a key that was in no trouble and has come into none goes on over e, or is still to hear it; a key in trouble was in trouble
   -- before, or its number is among those that came into trouble at e

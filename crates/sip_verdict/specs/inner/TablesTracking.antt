@@ -1,3 +1,4 @@
+-- What is kept of the transactions of a log: the set of each key, by the machine of the key.
 use Rattle.std.specs.Prelude.{◌≡◌, ◌≢◌, ◌||◌, ◌≤◌, ◌<◌, ◌+◌, ◌-◌, ◌⊎◌, ◌++◌, [], ◌∷◌, ℕ, nat_eq, Bool, true, false, Option, Some, None, List, All, AllPairs, Any, Contains, IfSome, length, slice_get, ⊤}
 use Rattle.std.specs.List.{zip, list_any}
 use Rattle.sip_standard.specs.Key.{KeyParts}
@@ -25,8 +26,6 @@ use Rattle.sip_verdict.specs.inner.Keyed.{concerns}
 use Rattle.sip_verdict.specs.inner.Stepping.{LeadsTo, IsStepped}
 use Rattle.sip_verdict.specs.inner.Tracking.{Keeping, Tracks, TracksBefore, IsOwnOutcome, first_of}
 use Rattle.sip_verdict.specs.inner.Concerned.{each, is_all}
-
--- What follows says what is kept of the transactions of a log: the set of each key, by the machine of the key.
 
 -- a set says, with these times and from a moment on, exactly where the runs over the events stand
 abbrev pub LeadsBy : {X S : Type 0} → Meaning X Times S → Texts → Times → List MachineEvent → ℕ → Held Times S → Type 0

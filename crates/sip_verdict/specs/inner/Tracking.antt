@@ -1,3 +1,4 @@
+-- How something that is kept of each transaction follows the entries of a log, whatever it is.
 use Rattle.std.specs.Prelude.{◌≡◌, ◌⊎◌, ◌++◌, [], ◌∷◌, ℕ, true, Option, Some, None, List, All, Contains, map, min, ⊤}
 use Rattle.sip_standard.specs.MachineEvent.{MachineEvent}
 use Rattle.sip_standard.specs.declared.verdict.Verdict.{Verdict}
@@ -10,8 +11,6 @@ use Rattle.sip_verdict.specs.LegalLog.{IsGood}
 use Rattle.sip_verdict.specs.inner.Keyed.{concerns}
 use Rattle.sip_standard.specs.Key.{KeyParts}
 use Rattle.sip_standard.specs.Times.{Times}
-
--- What follows says how something that is kept of each transaction follows the entries of a log, whatever it is.
 
 -- what is kept has a key, and two things may hold of it: it leads to the runs over events from a moment on, or it is just where the runs with one more stand
 pub record Keeping (T : Type 0) : Type 1 where

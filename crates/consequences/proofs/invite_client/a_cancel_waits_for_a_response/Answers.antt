@@ -23,5 +23,6 @@ by : (p : Times) (rules : Rules) (before after : List MachineEvent) (invite e : 
 by p R6026 before after invite e y none sent cancels stands = cancel-waits corrected.Receives receives_6026 p invite before after e y none sent cancels stands
 by p R3261 before after invite e y none sent cancels stands = cancel-waits without.Receives receives_3261 p invite before after e y none sent cancels stands
 
+-- the law is what was shown above of each of the rules
 pub returns : goal.returns
 returns c = by

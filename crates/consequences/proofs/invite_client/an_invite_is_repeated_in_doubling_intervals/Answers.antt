@@ -19,5 +19,6 @@ by : (p : Times) (rules : Rules) (events : List MachineEvent) (m : ℕ) (y : Sta
 by p R6026 events m y stands = invites-are-spaced corrected.Receives receives_6026 p events m y stands
 by p R3261 events m y stands = invites-are-spaced without.Receives receives_3261 p events m y stands
 
+-- the law is what was shown above of each of the rules
 pub returns : goal.returns
 returns c = by

@@ -38,8 +38,10 @@ silent p R6026 before after invite e y sent unanswered is_sent stands late =
 silent p R3261 before after invite e y sent unanswered is_sent stands late =
     silent-after-timer-b without.Receives receives_3261 p (what_stands_lasts OfInviteClient3261 p) before after invite e y sent unanswered is_sent stands late
 
+-- the transaction has ended by timer B, as was shown above
 pub returns-clause-over : goal.returns-clause-over
 returns-clause-over c = over
 
+-- only a CANCEL is sent after timer B, as was shown above
 pub returns-clause-silent : goal.returns-clause-silent
 returns-clause-silent c = silent

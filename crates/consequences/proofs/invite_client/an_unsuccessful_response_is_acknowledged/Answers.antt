@@ -22,7 +22,9 @@ use Rattle.sip_states.proofs.runs.StandsLemmas.{what_stands_lasts}
 use Rattle.consequences.proofs.lemmas.run.Lists.{any-none}
 use Rattle.consequences.proofs.invite_client.an_unsuccessful_response_is_acknowledged.Goals as goal
 
--- What follows is of a run in which an INVITE was sent and a response of 300 to 699 came before timer B, and m is after its ACK was due.
+-- What follows is of a run by the times p: `invite` is sent after the events `before`, and after those of `between` comes `response`, a 300 to 699 before
+-- timer B.
+-- The events of `after` come last, and the moment m is after the ACK of the response was due.
 module _ (p : Times) (before between after : List MachineEvent) (invite response : MachineEvent) (m : ℕ) (none : All (λ f. ¬ (SendsRequest Invite f)) before) (sent : SendsRequest Invite invite)
     (gets : GetsResponse IsUnsuccessful response) (early : response.moment < open_at p invite.moment (64 * p.t1)) (late : close_at p response.moment 0 < m) where
   -- the event ends the transaction, or takes it where no ACK is owed: a 2xx, a refusal or a restart
@@ -35,13 +37,14 @@ module _ (p : Times) (before between after : List MachineEvent) (invite response
       → Stands (figure_of rules Client true) p (before ++ invite ∷ (between ++ response ∷ after)) m y → Any (Acknowledges p invite response) after ⊎ Any (λ f. IsRefused f ⊎ IsRestart f) after
   by rules y unbroken not_again stands = by_rules rules y stands
     where
+      -- nothing ended the transaction before the response: no event broke it, and neither timer B nor timer D fired
       waiting : ¬ (Any IsBroken between ⊎ (open_at p invite.moment (64 * p.t1) ≤ response.moment)
           ⊎ (Any (GetsResponse IsUnsuccessful) between × ((invite.reliable ≡ true) ⊎ (open_at p invite.moment 32000 ≤ response.moment))))
       waiting (inl broken) = any-none IsBroken between unbroken broken
       waiting (inr (inl over)) = absurd (omega (arith, over, early))
       waiting (inr (inr again)) = not_again again
 
-      -- by which of the rules the element keeps
+      -- the two rules, by one of which the element was built
       by_rules : (rules : Rules) (y : StateOf rules Client true) → Stands (figure_of rules Client true) p (before ++ invite ∷ (between ++ response ∷ after)) m y
           → Any (Acknowledges p invite response) after ⊎ Any (λ f. IsRefused f ⊎ IsRestart f) after
       by_rules R6026 y stands = acknowledged corrected.Receives receives_6026 p invite response (what_stands_lasts OfInviteClient p) before between after m y none sent waiting gets stands late
@@ -53,11 +56,13 @@ module _ (p : Times) (before between after : List MachineEvent) (invite response
   first rules y quiet stands =
       by rules y (All-weaker (λ f. ¬ (GetsResponse IsFinal f) × ¬ (IsRefused f) × ¬ (IsRestart f)) (λ g. ¬ (IsBroken g)) unbroken between quiet) not_again stands
     where
+      -- an event that is no final response, no refusal and no restart breaks nothing
       unbroken : (g : MachineEvent) → ¬ (GetsResponse IsFinal g) × ¬ (IsRefused g) × ¬ (IsRestart g) → ¬ (IsBroken g)
       unbroken g calm (inl success) = calm.0 (success.0, (success.1.0, success.1.1, (success.1.2.0, omega (arith, success.1.2.1))))
       unbroken g calm (inr (inl refused)) = calm.1 refused
       unbroken g calm (inr (inr restarted)) = calm.2 restarted
 
+      -- timer D has not ended the transaction after an earlier 300 to 699
       not_again : ¬ (Any (GetsResponse IsUnsuccessful) between × ((invite.reliable ≡ true) ⊎ (open_at p invite.moment 32000 ≤ response.moment)))
       not_again (came, ending) =
           any-none (GetsResponse IsUnsuccessful) between (All-weaker (λ f. ¬ (GetsResponse IsFinal f) × ¬ (IsRefused f) × ¬ (IsRestart f)) (λ g. ¬ (GetsResponse IsUnsuccessful g))
@@ -69,6 +74,7 @@ module _ (p : Times) (before between after : List MachineEvent) (invite response
   again rules y unreliable quiet in_time stands =
       by rules y (All-weaker (λ f. ¬ (GetsResponse IsSuccess f) × ¬ (IsRefused f) × ¬ (IsRestart f)) (λ g. ¬ (IsBroken g)) unbroken between quiet) not_again stands
     where
+      -- an event that is no 2xx, no refusal and no restart breaks nothing
       unbroken : (g : MachineEvent) → ¬ (GetsResponse IsSuccess g) × ¬ (IsRefused g) × ¬ (IsRestart g) → ¬ (IsBroken g)
       unbroken g calm (inl success) = calm.0 success
       unbroken g calm (inr (inl refused)) = calm.1 refused
@@ -77,6 +83,7 @@ module _ (p : Times) (before between after : List MachineEvent) (invite response
       false-true : ¬ (false ≡ true)
       false-true same = cc
 
+      -- timer D has not ended the transaction after an earlier 300 to 699
       not_again : ¬ (Any (GetsResponse IsUnsuccessful) between × ((invite.reliable ≡ true) ⊎ (open_at p invite.moment 32000 ≤ response.moment)))
       not_again (came, inl reliable) = false-true (sym unreliable ∙ reliable)
       not_again (came, inr over) = absurd (omega (arith, over, in_time))
@@ -86,6 +93,7 @@ pub returns-clause-first : goal.returns-clause-first
 returns-clause-first c = λ p rules before between after invite response m y none sent quiet gets early stands late.
     first p before between after invite response m none sent gets early late rules y quiet stands
 
+-- the law is what was shown above of a response that comes again
 pub returns-clause-again : goal.returns-clause-again
 returns-clause-again c = λ p rules before between after invite response m y none sent unreliable quiet gets early in_time stands late.
     again p before between after invite response m none sent gets early late rules y unreliable quiet in_time stands

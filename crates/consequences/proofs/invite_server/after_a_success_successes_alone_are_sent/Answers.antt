@@ -24,9 +24,11 @@ only p before final e sends (inl good) = inl good.1
 only p before final e sends (inr (inl bad)) = absurd (one-code final bad.0 sends.1)
 only p before final e sends (inr (inr old)) = inr old
 
+-- by RFC 6026 what is sent after the 2xx is a 2xx, or a provisional response that was owed before it
 pub returns-clause-corrected : goal.returns-clause-corrected
 returns-clause-corrected c = λ p before after final e y first one_kind sends anew sent stands.
     only p before final e sends (sent-after-final invite_server p (λ x. x) (is-server-6026 p) before final (final-too final sends) one_kind (λ x y h. (y, h, refl)) after e y first anew sent stands)
 
+-- by RFC 3261 only a 2xx is sent after the 2xx
 pub returns-clause-without : goal.returns-clause-without
 returns-clause-without c = λ p before after final e y first one_kind sends none sent stands. successes-alone p before final sends one_kind after e y first none sent stands

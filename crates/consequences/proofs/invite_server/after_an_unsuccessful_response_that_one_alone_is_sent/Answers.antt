@@ -22,7 +22,7 @@ use Rattle.consequences.proofs.lemmas.server.FinalResponse.{one-code, sent-after
 use Rattle.consequences.proofs.lemmas.server.InviteServers.{Row, is-server-6026, is-server-3261, first_in}
 use Rattle.consequences.proofs.invite_server.after_an_unsuccessful_response_that_one_alone_is_sent.Goals as goal
 
--- What follows is of a run in which a final response of 300 to 699 was sent.
+-- What follows is of a run by the times p: after the events `before` the server sends `final`, a response of 300 to 699; `after` and e come later.
 module _ (p : Times) (before after : List MachineEvent) (final e : MachineEvent) (sends : SendsResponse IsUnsuccessful final) where
   -- a response of 300 to 699 is a final one
   is_final : SendsResponse IsFinal final
@@ -43,6 +43,7 @@ module _ (p : Times) (before after : List MachineEvent) (final e : MachineEvent)
   row-3261 : (x : InviteServerPhase) (y : InviteServer3261Phase × Change) → without.Sends p (first_in x) final.kind final y → (row : Row) × corrected.Sends p x final.kind final row × (y ≡ (first_in row.0, row.1))
   row-3261 x y h = by ((is-server-3261 p).sent x final.kind final y h)
     where
+      -- the response has a row, since it is no 2xx, which alone may go without one
       by : ((row : Row) × corrected.Sends p x final.kind final row × (y ≡ (first_in row.0, row.1)))
           ⊎ ((reliable : Bool) × (set : ℕ) × (last : Option (List ℕ)) × (x ≡ Proceeding reliable set last) × ((code : ℕ) × (final.kind ≡ Response code) × IsSuccess code))
           → (row : Row) × corrected.Sends p x final.kind final row × (y ≡ (first_in row.0, row.1))
@@ -57,5 +58,6 @@ module _ (p : Times) (before after : List MachineEvent) (final e : MachineEvent)
   by R3261 y first one_kind anew sent stands =
       only (sent-after-final invite_server_3261 p first_in (is-server-3261 p) before final is_final one_kind row-3261 after e y first anew sent stands)
 
+-- the law is what was shown above of each of the rules
 pub returns : goal.returns
 returns c = λ p rules before after final e y first one_kind sends anew sent stands. by p before after final e sends rules y first one_kind anew sent stands

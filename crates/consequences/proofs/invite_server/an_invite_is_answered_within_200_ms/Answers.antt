@@ -26,5 +26,6 @@ by p R6026 before after invite m y none gets stands late =
 by p R3261 before after invite m y none gets stands late =
     answered-in-time invite_server_3261 p first_in (is-server-3261 p) invite (without-asleep p) before after m y none gets stands late
 
+-- the law is what was shown above of each of the rules
 pub returns : goal.returns
 returns c = by

@@ -1,4 +1,7 @@
 -- An INVITE client acknowledges each 300 to 699.
+-- In the lemmas x is the phase or the state before a step and y the state after it, k is the kind of a message, row is where a row leads, m is a moment, and
+-- h is a moment or what is known of a row.
+-- es are the events so far; w is what a client that calls has: its request, when it was first sent, and when it is sent again.
 use Rattle.std.proofs.Common.{◌≡◌, ◌≤◌, ◌<◌, ◌*◌, ◌⊎◌, inl, inr, ℕ, Bool, true, false, Some, None, List, [], ◌∷◌, ◌++◌, All, Contains, refl, sym, subst, ◌∙◌, arith}
 use Rattle.std.specs.List.{Any}
 use Rattle.std.proofs.lemmas.List.Elements.{Contains-push}
@@ -26,9 +29,9 @@ use Rattle.consequences.proofs.lemmas.client.InviteClients.{Row, Receiving, clie
 use Rattle.consequences.proofs.lemmas.client.Unanswered.{CallsFrom, begins-calling}
 use Rattle.consequences.proofs.lemmas.server.Said.{codes-are-one}
 
--- What follows is of an INVITE, and of a client with these rows.
+-- What follows is of the transaction of `invite`: an INVITE client whose rows for responses are R, with the times p.
 module _ (R : Receiving) (is : IsReceiving R) (p : Times) (invite : MachineEvent) where
-  -- the client
+  -- the figure of this client
   abbrev f : Figure InviteClientPhase
   f = client R
 
@@ -97,12 +100,13 @@ module _ (R : Receiving) (is : IsReceiving R) (p : Times) (invite : MachineEvent
     waits-sent (Calling w) row low waits h = rw (sends-calling p w e.kind e row h).2 waits
     waits-sent (Proceeding reliable request None) row low waits h = by (sends-proceeding p reliable request None e.kind e row h).1
       where
+        -- the client waits after either row
         by : (row ≡ (Proceeding reliable request (Some e.moment), keeps)) ⊎ (row ≡ (Proceeding reliable request None, keeps)) → Waits Now row.0
         by (inl leads) = rw leads (waits.0, waits.1, low)
         by (inr leads) = rw leads waits
     waits-sent (Proceeding reliable request (Some first)) row low waits h = by (sends-proceeding p reliable request (Some first) e.kind e row h).1
       where
-        -- a CANCEL after the first one changes its moment or not
+        -- the client waits after either row: a CANCEL after the first one counts as the first, or leaves that as it was
         by : (row ≡ (Proceeding reliable request (Some e.moment), keeps)) ⊎ (row ≡ (Proceeding reliable request (Some first), keeps)) → Waits Now row.0
         by (inl leads) = rw leads (waits.0, waits.1, low)
         by (inr leads) = rw leads waits
@@ -118,6 +122,7 @@ module _ (R : Receiving) (is : IsReceiving R) (p : Times) (invite : MachineEvent
     -- a step leads from a client that waits to a phase of which Waits holds, or Over holds
     waits-steps : (a : Action) (x : InviteClientPhase) (owes : List Owed) (y : Owing InviteClientPhase) → e.action ≡ a → invite.moment ≤ e.moment → Waits es x → Steps f p a e (record { phase = x; owes = owes }) y
         → Waits Now y.phase ⊎ Over Now e.moment
+    -- a received message has a row, or leaves the phase as it is; after a failed send or a restart the client is over
     waits-steps Received x owes y was low waits (inl (row, is_row, to)) = rw to (waits-received x row was low waits is_row)
     waits-steps Received x owes y was low waits (inr (none, same)) = inl (rw same (waits-later es (e ∷ []) x waits))
     waits-steps Sent x owes y was low waits emits = inl (waits-emits x owes y low waits emits)
@@ -134,25 +139,27 @@ module _ (R : Receiving) (is : IsReceiving R) (p : Times) (invite : MachineEvent
   waits-ends es h (Completed false request set) owes waits may = let opening = may.0 in inr (inr (waits.3, inr (omega (arith, waits.2, opening))))
   waits-ends es h x owes waits may = absurd waits
 
-  -- a run keeps that the client waits, or need not acknowledge any more
+  -- along a run the client goes on to wait, or need not acknowledge any more
   awaits-kept : IsKept f p Awaits
   awaits-kept = record { as_it_waits = as_it_waits; as_it_ends = as_it_ends; as_it_takes = as_it_takes }
     where
+      -- Awaits stays true as time passes
+      -- the run stands in x from the moment h until the moment m
       as_it_waits : (es : List MachineEvent) (h m : ℕ) (x : Owing InviteClientPhase) → Awaits es h x → h ≤ m → Lasts f p x m → Awaits es m x
       as_it_waits es h m x (from, inl waits) low lasts = (omega (arith, from, low), inl waits)
       as_it_waits es h m x (from, inr over) low lasts = (omega (arith, from, low), inr (subst (λ fs. Over fs m) (append-nil es) (over-later es [] h m low over)))
 
-      -- an end keeps Awaits
+      -- Awaits stays true where the transaction ends
       as_it_ends : (es : List MachineEvent) (h : ℕ) (x : Owing InviteClientPhase) → Awaits es h x → MayEnd f p x h → Awaits es h (quiet Ended)
       as_it_ends es h x (from, inl waits) may = (from, inr (waits-ends es h x.phase x.owes waits may))
       as_it_ends es h x (from, inr over) may = (from, inr over)
 
-      -- an event keeps Awaits
+      -- Awaits stays true after an event
       as_it_takes : (es : List MachineEvent) (e : MachineEvent) (x y : Owing InviteClientPhase) → Awaits es e.moment x → Takes f p x e y → Awaits (es ++ e ∷ []) e.moment y
       as_it_takes es e x y (from, inl waits) take = (from, waits-steps es e e.action x.phase (left_at e x) y refl from waits take)
       as_it_takes es e x y (from, inr over) take = (from, inr (over-later es (e ∷ []) e.moment e.moment (omega arith) over))
 
-  -- What follows leads from the response to its ACK.
+  -- What follows leads from `response`, a response of 300 to 699, to its ACK.
 
   module _ (response : MachineEvent) where
     -- the ACK of the response, which must be sent as late as an element may be
@@ -195,6 +202,7 @@ module _ (R : Receiving) (is : IsReceiving R) (p : Times) (invite : MachineEvent
         has (Calling w) k code (Completed w.reliable w.request response.moment, gains true response.text) kind (is.takes_calling p w code response bad)
     opens es (Proceeding reliable request None) k code kind bad waits =
         has (Proceeding reliable request None) k code (Completed reliable request response.moment, gains true response.text) kind (is.takes_proceeding p reliable request None code response bad)
+    -- in proceeding, and in completed, the row leads to completed too
     opens es (Proceeding reliable request (Some first)) k code kind bad waits =
         has (Proceeding reliable request (Some first)) k code (Completed reliable request response.moment, gains true response.text) kind
         (is.takes_proceeding p reliable request (Some first) code response bad)
@@ -231,48 +239,54 @@ module _ (R : Receiving) (is : IsReceiving R) (p : Times) (invite : MachineEvent
         any-last (Acknowledges p invite response) es e ((was, ack.0), subst (λ bytes. AckOf e.text bytes response.text) done ack.1, low)
     owes-paid es x e was done pays low = absurd done
 
-    -- what is sent keeps that the ACK is owed, or is that ACK
+    -- where the ACK is owed, it is still owed after a send, or was what was sent
     owes-emits : (es : List MachineEvent) (x : InviteClientPhase) (owes : List Owed) (e : MachineEvent) (y : Owing InviteClientPhase) → e.action ≡ Sent → IsCompleted x → Contains owes debt
         → Emits f p e (record { phase = x; owes = owes }) y → Owing-on (es ++ e ∷ []) e.moment y
     owes-emits es x owes e y was done owed (inl (row, is_row, to)) = inl (rw to (owes-sent x owes e row done owed is_row))
     owes-emits es x owes e y was done owed (inr (inl (left, pays, to))) = by (other-paid debt refl _ owes left pays owed)
       where
+        -- the state still owes the ACK, or the ACK was sent: this event may have paid it
         by : Contains left debt ⊎ (Satisfies x e.kind e response.text × (e.moment ≤ close_at p response.moment 0)) → Owing-on (es ++ e ∷ []) e.moment y
         by (inl still) = inl (rw to (done, still))
         by (inr paid) = inr (inl (owes-paid es x e was done paid.0 paid.1))
     owes-emits es x owes e y was done owed (inr (inr (stays, same))) = absurd stays
 
-    -- a step keeps that the ACK is owed, or is that of the ACK, of a refused message or of a restart
+    -- where the ACK is owed, it is still owed after a step, or the step is that of the ACK, of a refused message or of a restart
     owes-steps : (a : Action) (es : List MachineEvent) (x : InviteClientPhase) (owes : List Owed) (e : MachineEvent) (y : Owing InviteClientPhase) → e.action ≡ a → IsCompleted x → Contains owes debt
         → Steps f p a e (record { phase = x; owes = owes }) y → Owing-on (es ++ e ∷ []) e.moment y
+    -- a received message leads along a row that keeps the debt, or leaves all as it is
     owes-steps Received es x owes e y was done owed (inl (row, is_row, to)) = inl (rw to (owes-received x owes e row done owed is_row))
     owes-steps Received es x owes e y was done owed (inr (none, same)) = inl (rw same (done, owed))
     owes-steps Sent es x owes e y was done owed emits = owes-emits es x owes e y was done owed emits
+    -- a refused message and a restart end the wait; a mark is no step
     owes-steps Failed es x owes e y was done owed fails = inr (inr (any-last (λ g. IsRefused g ⊎ IsRestart g) es e (inl was)))
     owes-steps Mark es x owes e y was done owed h = absurd h
     owes-steps Restart es x owes e y was done owed h = inr (inr (any-last (λ g. IsRefused g ⊎ IsRestart g) es e (inr was)))
 
-    -- a run keeps that the ACK is owed, or that it was sent in time, or that a message was refused or the element started again
+    -- along a run the ACK stays owed, unless it was sent in time, a message was refused, or the element started again
     owes-kept : IsKept f p Owing-on
     owes-kept = record { as_it_waits = λ es h m x holds low lasts. holds; as_it_ends = as_it_ends; as_it_takes = as_it_takes }
       where
+        -- an end keeps Owing-on, since nothing ends while the ACK is owed
         as_it_ends : (es : List MachineEvent) (h : ℕ) (x : Owing InviteClientPhase) → Owing-on es h x → MayEnd f p x h → Owing-on es h (quiet Ended)
         as_it_ends es h x (inl owes) may = absurd (no-end debt refl f p x h owes.1 may)
         as_it_ends es h x (inr over) may = inr over
 
-        -- an event keeps that the ACK is owed or was sent
+        -- after an event the ACK is still owed, or was sent
         as_it_takes : (es : List MachineEvent) (e : MachineEvent) (x y : Owing InviteClientPhase) → Owing-on es e.moment x → Takes f p x e y → Owing-on (es ++ e ∷ []) e.moment y
         as_it_takes es e x y (inl owes) take = owes-steps e.action es x.phase (left_at e x) e y refl owes.0 (still-owed debt refl e x owes.1) take
         as_it_takes es e x y (inr (inl acked)) take = inr (inl (any-earlier (Acknowledges p invite response) es (e ∷ []) acked))
         as_it_takes es e x y (inr (inr broken)) take = inr (inr (any-earlier (λ g. IsRefused g ⊎ IsRestart g) es (e ∷ []) broken))
 
     -- once the time to acknowledge a 300 to 699 is over, its ACK has been sent, or a message was refused, or the element began anew
+    -- `lasts` says that each state in which a run can stand can wait; y is the state in which the run stands at the moment m, and g an event
     pub acknowledged : (lasts : (events : List MachineEvent) (m : ℕ) (x : Owing InviteClientPhase) → Stands f p events m x → Lasts f p x m) (before between after : List MachineEvent) (m : ℕ) (y : Owing InviteClientPhase) →
         All (λ g. ¬ (SendsRequest Invite g)) before → SendsRequest Invite invite → ¬ (Over between response.moment) → GetsResponse IsUnsuccessful response →
         Stands f p (before ++ invite ∷ (between ++ response ∷ after)) m y → close_at p response.moment 0 < m → Any (Acknowledges p invite response) after ⊎ Any (λ g. IsRefused g ⊎ IsRestart g) after
     acknowledged lasts before between after m y none sent waiting gets stands late =
         by-invite (cut f p (quiet Idle) 0 before invite (between ++ response ∷ after) m y (stands-run f p (before ++ invite ∷ (between ++ response ∷ after)) m y stands))
       where
+        -- m is after the deadline of the ACK, so the ACK is owed no more
         by-end : Owing-on after m y → Any (Acknowledges p invite response) after ⊎ Any (λ g. IsRefused g ⊎ IsRestart g) after
         by-end (inl owes) = let low = in-time debt refl f p y m owes.1 (lasts (before ++ invite ∷ (between ++ response ∷ after)) m y stands) in absurd (omega (arith, low, late))
         by-end (inr over) = over
@@ -286,7 +300,7 @@ module _ (R : Receiving) (is : IsReceiving R) (p : Times) (invite : MachineEvent
         by-response : (x : Owing InviteClientPhase) → CallsFrom invite x.phase → Cut f p x invite.moment between response after m y → Any (Acknowledges p invite response) after ⊎ Any (λ g. IsRefused g ⊎ IsRestart g) after
         by-response x calls found = by (run-keeps f p Awaits awaits-kept between x invite.moment response.moment found.from (omega arith, inl (calling-waits x.phase calls)) found.leads).1
           where
-            -- the client waited for the response, or the time for its ACK was over before it
+            -- the ACK is sent, or a refusal or a restart comes: the client waited for the response, or the time for its ACK was over before it
             by : Waits between found.from.phase ⊎ Over between response.moment → Any (Acknowledges p invite response) after ⊎ Any (λ g. IsRefused g ⊎ IsRestart g) after
             by (inl waits) =
                 let owes = response-owes between found.from.phase (left_at response found.from) found.to gets.1.0 gets.1.1 gets.1.2 waits (step-of f p Received response found.from found.to gets.0 found.step) in

@@ -1,4 +1,5 @@
 -- Both INVITE clients: they send by the same rows, and differ only in where a received 2xx leads.
+-- In the lemmas k is the kind of the message of the event e, and y is where its row leads.
 use Rattle.std.proofs.Common.{◌≡◌, ◌*◌, ◌⊎◌, inl, inr, ℕ, Bool, true, Option, Some, None, List, refl}
 use Rattle.sip_standard.specs.AckOf.{AckOf}
 use Rattle.sip_standard.specs.declared.kind.Method.TheVariants.{Invite, Ack, Cancel}
@@ -40,12 +41,15 @@ Answers reliable request k e y =
 
 -- what holds of the rows of both clients
 pub record IsReceiving (R : Receiving) : Type 0 where
+  -- in idle, in ended and in accepted no row receives a message of any kind k
   pub idle : (p : Times) (k : Kind) (e : MachineEvent) (y : Row) → ¬ (R p Idle k e y)
   pub ended : (p : Times) (k : Kind) (e : MachineEvent) (y : Row) → ¬ (R p Ended k e y)
   pub accepted : (p : Times) (set : ℕ) (k : Kind) (e : MachineEvent) (y : Row) → ¬ (R p (Accepted set) k e y)
+  -- in calling, whose data is w, and in proceeding, the row y of a message is one of `Answers`: what a client does at a response
   pub calling : (p : Times) (w : Waiting) (k : Kind) (e : MachineEvent) (y : Row) → R p (Calling w) k e y → Answers w.reliable w.request k e y
   pub proceeding : (p : Times) (reliable : Bool) (request : List ℕ) (cancel : Option ℕ) (k : Kind) (e : MachineEvent) (y : Row) → R p (Proceeding reliable request cancel) k e y →
       Answers reliable request k e y
+  -- in completed the row is that of a response of 300 to 699: the client stays in completed, and owes an ACK of this response
   pub completed : (p : Times) (reliable : Bool) (request : List ℕ) (set : ℕ) (k : Kind) (e : MachineEvent) (y : Row) → R p (Completed reliable request set) k e y →
       (code : ℕ) × (k ≡ Response code) × IsUnsuccessful code × (y ≡ (Completed reliable request set, gains true e.text))
   -- a 300 to 699 has a row in calling, in proceeding and in completed
@@ -56,6 +60,7 @@ pub record IsReceiving (R : Receiving) : Type 0 where
       R p (Completed reliable request set) (Response code) e (Completed reliable request set, gains true e.text)
 
 -- by RFC 6026 a row in calling is one of a response, and leads where `Answers` says
+-- w is the data of calling, k the kind of the message e, and y the row
 calling_6026 : (p : Times) (w : Waiting) (k : Kind) (e : MachineEvent) (y : Row) → Receives p (Calling w) k e y → Answers w.reliable w.request k e y
 calling_6026 p w (Response code) e y (inl h) = (code, refl, inl h)
 calling_6026 p w (Response code) e y (inr (inl h)) = (code, refl, inr (inl (h.0, rw h.1 tt)))
@@ -81,15 +86,18 @@ receives_6026 = record {
   idle = λ p k e y h. h;
   ended = λ p k e y h. h;
   accepted = λ p set k e y h. h;
+  -- in calling, in proceeding and in completed each row is one of the table
   calling = calling_6026;
   proceeding = proceeding_6026;
   completed = completed_6026;
+  -- a response of 300 to 699 has a row in each of the three
   takes_calling = λ p w code e h. inr (inr (h, refl));
   takes_proceeding = λ p reliable request cancel code e h. inr (h, refl);
   takes_completed = λ p reliable request set code e h. (h, refl);
 }
 
 -- by RFC 3261 alone a row in calling is one of a response, and leads where `Answers` says
+-- w is the data of calling, k the kind of the message e, and y the row
 calling_3261 : (p : Times) (w : Waiting) (k : Kind) (e : MachineEvent) (y : Row) → without.Receives p (Calling w) k e y → Answers w.reliable w.request k e y
 calling_3261 p w (Response code) e y (inl h) = (code, refl, inl h)
 calling_3261 p w (Response code) e y (inr (inl h)) = (code, refl, inr (inl (h.0, rw h.1 tt)))
@@ -109,9 +117,11 @@ receives_3261 = record {
   idle = λ p k e y h. h;
   ended = λ p k e y h. h;
   accepted = λ p set k e y h. h;
+  -- in calling, in proceeding and in completed each row is one of the table
   calling = calling_3261;
   proceeding = proceeding_3261;
   completed = completed_6026;
+  -- a response of 300 to 699 has a row in each of the three
   takes_calling = λ p w code e h. inr (inr (h, refl));
   takes_proceeding = λ p reliable request cancel code e h. inr (h, refl);
   takes_completed = λ p reliable request set code e h. (h, refl);
@@ -133,12 +143,14 @@ pays-completed reliable request set k e message h = absurd h
 pub sends-idle : (p : Times) (k : Kind) (e : MachineEvent) (y : Row) → Sends p Idle k e y →
     ((k ≡ Request Invite) × (y ≡ (Calling (record { reliable = e.reliable; request = e.text; start = e.moment; set = e.moment; interval = p.t1 }), keeps)))
     ⊎ (¬ (k ≡ Request Invite) × (y ≡ (Idle, keeps)))
+-- of an INVITE the row is that of calling, of an ACK and a CANCEL it stays in idle, and nothing else has one
 sends-idle p (Request Invite) e y h = inl (refl, h)
 sends-idle p (Request Ack) e y h = inr (λ is. cc, h)
 sends-idle p (Request Cancel) e y h = inr (λ is. cc, h)
 sends-idle p k e y h = absurd h
 
 -- in calling a row sends only the INVITE again
+-- w is the data of calling, k the kind of the message e, and y the row
 pub sends-calling : (p : Times) (w : Waiting) (k : Kind) (e : MachineEvent) (y : Row) → Sends p (Calling w) k e y →
     (k ≡ Request Invite) × Retransmits p w.reliable w.request w.set w.interval e × (y ≡ (Calling (record w { set = e.moment; interval = 2 * w.interval }), keeps))
 sends-calling p w (Request Invite) e y h = (refl, h.0, h.1)

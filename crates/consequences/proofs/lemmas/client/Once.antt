@@ -1,4 +1,5 @@
 -- A client sends its request once: after it the client is never idle again, and a restart ends it.
+-- In the lemmas x is the phase or the state before a step and y what follows it, k is the kind of a message, and m a moment.
 use Rattle.std.proofs.Common.{◌≡◌, ◌⊎◌, inl, inr, ℕ, Bool, true, false, Some, List, ◌∷◌, ◌++◌, refl, sym, subst, ◌∙◌}
 use Rattle.sip_standard.specs.declared.action.Action.{Action}
 use Rattle.sip_standard.specs.declared.action.Action.TheVariants.{Sent, Received, Failed, Mark, Restart}
@@ -20,16 +21,22 @@ use Rattle.consequences.proofs.lemmas.run.Running.{IsKept, left_at, step-of, sta
 -- a client of which HasAsked says whether a phase comes after its request: no row leads back before it; the ended phase receives nothing, sends only
 -- what MaySend allows, and stays
 pub record IsOnce {X : Type 0} (f : Figure X) (p : Times) (HasAsked : X → Type 0) (IsRequest MaySend : Kind → Type 0) : Type 0 where
+  -- idle comes before the request, and ended after it
   pub idle : ¬ (HasAsked f.idle)
   pub ended : HasAsked f.ended
+  -- no row y of a message that is received or sent leads from a phase x after the request to one before it
   pub received : (x : X) (k : Kind) (e : MachineEvent) (y : X × Change) → HasAsked x → f.Receives p x k e y → HasAsked y.0
   pub sent : (x : X) (k : Kind) (e : MachineEvent) (y : X × Change) → HasAsked x → f.Sends p x k e y → HasAsked y.0
+  -- whoever sends the request e comes to a state y after it
   pub asks : (e : MachineEvent) (x y : Owing X) → IsRequest e.kind → Emits f p e x y → HasAsked y.phase
+  -- the ended phase receives nothing; what it sends is of a kind of MaySend, and the row leaves the phase and the debts as they are
   pub none_received : (k : Kind) (e : MachineEvent) (y : X × Change) → ¬ (f.Receives p f.ended k e y)
   pub over : (k : Kind) (e : MachineEvent) (y : X × Change) → f.Sends p f.ended k e y → MaySend k × (y ≡ (f.ended, keeps))
+  -- nothing can be sent that changes nothing
   pub unmoved : (x : X) (k : Kind) → ¬ (f.Stays x k)
 
--- What follows is of a client that sends its request once: its figure f with the times p.
+-- What follows is of a client that sends its request once, with the figure f and the times p: HasAsked holds of the phases in which it has sent it,
+-- IsRequest of the kinds of its requests, and MaySend of the kinds that it may send after the request.
 module _ {X : Type 0} (f : Figure X) (p : Times) (HasAsked : X → Type 0) (IsRequest MaySend : Kind → Type 0) (once : IsOnce f p HasAsked IsRequest MaySend) where
   -- a message that is sent leads from a phase after the request to a phase after the request
   emits : (e : MachineEvent) (x y : Owing X) → HasAsked x.phase → Emits f p e x y → HasAsked y.phase
@@ -44,15 +51,17 @@ module _ {X : Type 0} (f : Figure X) (p : Times) (HasAsked : X → Type 0) (IsRe
 
   -- a step leads from a phase after the request to a phase after the request
   steps : (a : Action) (e : MachineEvent) (x y : Owing X) → HasAsked x.phase → Steps f p a e x y → HasAsked y.phase
+  -- a received message leads along a row, or leaves the phase as it is; what is sent or refused leads along a row as well
   steps Received e x y asked (inl (row, is_row, to)) = rw to (once.received x.phase e.kind e row asked is_row)
   steps Received e x y asked (inr (none, same)) = rw same asked
   steps Sent e x y asked h = emits e x y asked h
   steps Failed e x y asked h = fails (f.ends_refused x.phase e.kind) e x y asked h
+  -- a mark is no step; a restart would leave idle alone as it is, and ends what is not idle
   steps Mark e x y asked h = absurd h
   steps Restart e x y asked (inl (idle, to)) = absurd (once.idle (subst HasAsked idle asked))
   steps Restart e x y asked (inr (other, to)) = rw to once.ended
 
-  -- a run keeps that the phase is one after the request
+  -- where a run was in a phase after the request, it stays in such phases
   asked-kept : IsKept f p (λ es m y. HasAsked y.phase)
   asked-kept = record {
     as_it_waits = λ es h m x asked low lasts. asked;
@@ -73,15 +82,17 @@ module _ {X : Type 0} (f : Figure X) (p : Times) (HasAsked : X → Type 0) (IsRe
 
   -- no step leads away from the end
   pub over-steps : (a : Action) (e : MachineEvent) (y : Owing X) → Steps f p a e (quiet f.ended) y → y ≡ quiet f.ended
+  -- the ended phase receives nothing; what is sent or refused from it leaves it
   over-steps Received e y (inl (row, is_row, to)) = absurd (once.none_received e.kind e row is_row)
   over-steps Received e y (inr (none, same)) = same
   over-steps Sent e y h = (over-emits e y h).1
   over-steps Failed e y h = over-fails (f.ends_refused f.ended e.kind) e y h
+  -- a mark is no step, and a restart leaves the end as it is
   over-steps Mark e y h = absurd h
   over-steps Restart e y (inl (idle, to)) = absurd (once.idle (subst HasAsked idle once.ended))
   over-steps Restart e y (inr (other, to)) = to
 
-  -- a run keeps that the phase is the ended one, with no debts
+  -- where a run was in the ended phase without debts, it stays there
   over-kept : IsKept f p (λ es m y. y ≡ quiet f.ended)
   over-kept = record {
     as_it_waits = λ es h m x over low lasts. over;
@@ -95,6 +106,7 @@ module _ {X : Type 0} (f : Figure X) (p : Times) (HasAsked : X → Type 0) (IsRe
   restart-ends before between after request restart m y sent asks restarts stands =
       by-request (cut f p (quiet f.idle) 0 before request (between ++ restart ∷ after) m y (stands-run f p (before ++ request ∷ (between ++ restart ∷ after)) m y stands))
     where
+      -- a restart ends a client that has asked, and it stays ended
       by-restart : (x : Owing X) → HasAsked x.phase → Cut f p x request.moment between restart after m y → y ≡ quiet f.ended
       by-restart x asked found =
           let still = run-keeps f p (λ es h z. HasAsked z.phase) asked-kept between x request.moment restart.moment found.from asked found.leads in
@@ -125,7 +137,7 @@ abbrev pub IsInvited : invite.InviteClientPhase → Type 0
 IsInvited invite.Idle = ⊥
 IsInvited x = Unit {0}
 
--- What follows shows that both INVITE clients send their INVITE once.
+-- What follows shows that both INVITE clients send their INVITE once: R are the rows of one for responses, and p its times.
 module _ (R : Receiving) (is : IsReceiving R) (p : Times) where
   -- a phase that is done is one after the INVITE
   done-invited : (x : invite.InviteClientPhase) → IsDone x → IsInvited x
@@ -141,6 +153,7 @@ module _ (R : Receiving) (is : IsReceiving R) (p : Times) where
 
   -- the row of a received message leads from a phase after the INVITE to a phase after the INVITE
   received : (x : invite.InviteClientPhase) (k : Kind) (e : MachineEvent) (row : Row) → IsInvited x → R p x k e row → IsInvited row.0
+  -- no message has a row in idle, in ended and in accepted; elsewhere it is one of `answers-invited`, or an ACK is owed in completed
   received invite.Idle k e row asked h = absurd asked
   received invite.Ended k e row asked h = absurd (is.ended p k e row h)
   received (invite.Accepted set) k e row asked h = absurd (is.accepted p set k e row h)
@@ -154,9 +167,11 @@ module _ (R : Receiving) (is : IsReceiving R) (p : Times) where
   sent (invite.Calling w) k e row asked h = rw (sends-calling p w k e row h).2 tt
   sent (invite.Proceeding reliable request cancel) k e row asked h = by (sends-proceeding p reliable request cancel k e row h).1
     where
+      -- after either row the INVITE has been sent
       by : (row ≡ (invite.Proceeding reliable request (Some e.moment), keeps)) ⊎ (row ≡ (invite.Proceeding reliable request cancel, keeps)) → IsInvited row.0
       by (inl leads) = rw leads tt
       by (inr leads) = rw leads tt
+  -- accepted, completed and ended stay as they are
   sent (invite.Accepted set) k e row asked h = rw (sends-accepted p set k e row h).1 tt
   sent (invite.Completed reliable request set) k e row asked h = rw (sends-completed p reliable request set k e row h).1 tt
   sent invite.Ended k e row asked h = rw (sends-ended p k e row h).1 tt
@@ -165,10 +180,12 @@ module _ (R : Receiving) (is : IsReceiving R) (p : Times) where
   sent-invite : (x : invite.InviteClientPhase) (k : Kind) (e : MachineEvent) (row : Row) → k ≡ Request Invite → invite.Sends p x k e row → IsInvited row.0
   sent-invite invite.Idle k e row asks h = by (sends-idle p k e row h)
     where
+      -- the row leads to a phase after the INVITE: in idle the message is the INVITE, so the row leads to calling
       by : ((k ≡ Request Invite) × (row ≡ (invite.Calling (record { reliable = e.reliable; request = e.text; start = e.moment; set = e.moment; interval = p.t1 }), keeps)))
           ⊎ (¬ (k ≡ Request Invite) × (row ≡ (invite.Idle, keeps))) → IsInvited row.0
       by (inl leads) = rw leads.1 tt
       by (inr leads) = absurd (leads.0 asks)
+  -- in any other phase the INVITE was sent before, and after each sent message the phase is still one of these
   sent-invite (invite.Calling w) k e row asks h = sent (invite.Calling w) k e row tt h
   sent-invite (invite.Proceeding reliable request cancel) k e row asks h = sent (invite.Proceeding reliable request cancel) k e row tt h
   sent-invite (invite.Accepted set) k e row asks h = sent (invite.Accepted set) k e row tt h
@@ -225,6 +242,7 @@ pub asks-once : (p : Times) → IsOnce plain.plain_client p IsAsked IsAnyRequest
 asks-once p = record {
   idle = λ h. h;
   ended = tt;
+  -- where the request was sent, each row of a received or sent message leads to a phase after it; and the row of a request that is sent does
   received = plain-received p;
   sent = λ x k e row asked h. plain-sent p x k e row h;
   asks = λ e x y asks h. plain-asks p e x y h;

@@ -1,4 +1,5 @@
 -- How far apart a client sends its request again.
+-- In the lemmas ms are the moments of the requests so far and m the one of the next; x is the phase or the state before a step, and y the state after it.
 use Rattle.std.proofs.Common.{◌≡◌, ◌≤◌, ◌*◌, ◌⊎◌, inl, inr, ℕ, Bool, true, false, Some, List, [], ◌∷◌, ◌++◌, filter, map, min, refl, sym, ap, subst, ◌∙◌, arith, if◌then◌else◌}
 use Rattle.sip_standard.specs.declared.action.Action.{Action}
 use Rattle.sip_standard.specs.declared.action.Action.TheVariants.{Sent, Received, Failed, Mark, Restart}
@@ -16,12 +17,12 @@ use Rattle.consequences.specs.Repeats.{sends_invite, sends_request, AreSpaced, I
 use Rattle.consequences.proofs.lemmas.client.InviteClients.{Row, Receiving, client, IsDone, Answers, IsReceiving, pays-nothing, sends-idle, sends-calling, sends-proceeding, sends-accepted, sends-completed, sends-ended}
 use Rattle.consequences.proofs.lemmas.run.Running.{IsKept, left_at, stands-run, run-keeps}
 
--- the moments after the first one lie no closer than the growing intervals, the last of them is `last`, and the next interval is `more`
+-- the moments after the first one lie no closer than the growing intervals, early tolerance aside; the last of them is `last`, and the next interval is `more`
 abbrev SpacedTo : Times → (ℕ → ℕ) → ℕ → ℕ → List ℕ → ℕ → ℕ → Type 0
 SpacedTo p next first interval [] last more = (last ≡ first) × (more ≡ interval)
 SpacedTo p next first interval (m ∷ ms) last more = (open_at p first interval ≤ m) × SpacedTo p next m (next interval) ms last more
 
--- SpacedTo stays true with one moment more, which comes after the next interval or later
+-- SpacedTo stays true with one moment more, which is not before the timer of the next interval, set at the last moment, may first fire
 one-more : (p : Times) (next : ℕ → ℕ) (first interval : ℕ) (ms : List ℕ) (last more m : ℕ) → SpacedTo p next first interval ms last more → open_at p last more ≤ m →
     SpacedTo p next first interval (ms ++ m ∷ []) m (next more)
 one-more p next first interval [] last more m spaced low =
@@ -59,6 +60,7 @@ passed-more : (test : MachineEvent → Bool) (es : List MachineEvent) (e : Machi
 passed-more test [] e is = pass-cons test e [] true is
 passed-more test (g ∷ es) e is = by (test g) refl (passed-more test es e is)
   where
+    -- where e passes the test, its moment is the last of those that pass, whether or not g passes as well
     by : (b : Bool) → test g ≡ b → passed test (es ++ e ∷ []) ≡ passed test es ++ e.moment ∷ [] → passed test (g ∷ (es ++ e ∷ [])) ≡ passed test (g ∷ es) ++ e.moment ∷ []
     by true here same = pass-cons test g (es ++ e ∷ []) true here ∙ ap (λ ms. g.moment ∷ ms) same ∙ sym (ap (λ ms. ms ++ e.moment ∷ []) (pass-cons test g es true here))
     by false here same = pass-cons test g (es ++ e ∷ []) false here ∙ same ∙ sym (ap (λ ms. ms ++ e.moment ∷ []) (pass-cons test g es false here))
@@ -68,6 +70,7 @@ passed-same : (test : MachineEvent → Bool) (es : List MachineEvent) (e : Machi
 passed-same test [] e is = pass-cons test e [] false is
 passed-same test (g ∷ es) e is = by (test g) refl (passed-same test es e is)
   where
+    -- where e does not pass the test, the moments of those that pass stay as they are, whether or not g passes
     by : (b : Bool) → test g ≡ b → passed test (es ++ e ∷ []) ≡ passed test es → passed test (g ∷ (es ++ e ∷ [])) ≡ passed test (g ∷ es)
     by true here same = pass-cons test g (es ++ e ∷ []) true here ∙ ap (λ ms. g.moment ∷ ms) same ∙ sym (pass-cons test g es true here)
     by false here same = pass-cons test g (es ++ e ∷ []) false here ∙ same ∙ sym (pass-cons test g es false here)
@@ -82,9 +85,9 @@ not-an-invite (Request Cancel) other = refl
 not-an-invite (Request Other) other = refl
 not-an-invite (Response code) other = refl
 
--- What follows is of the moments at which an INVITE client with these rows sends INVITEs.
+-- What follows is of the moments at which an INVITE client sends INVITEs: R are its rows for responses, and p its times.
 module _ (R : Receiving) (is : IsReceiving R) (p : Times) where
-  -- the client
+  -- the figure of this client
   abbrev f : Figure invite.InviteClientPhase
   f = client R
 
@@ -126,6 +129,7 @@ module _ (R : Receiving) (is : IsReceiving R) (p : Times) where
 
   -- the row of a received message keeps what is known of the moments
   invited-received : (ms : List ℕ) (x : invite.InviteClientPhase) (e : MachineEvent) (row : Row) → Invited ms x → R p x e.kind e row → Invited ms row.0
+  -- in idle, in ended and in accepted no message has a row; elsewhere a response ends the sending, or leaves the moments as they are
   invited-received ms invite.Idle e row invited h = absurd (is.idle p e.kind e row h)
   invited-received ms invite.Ended e row invited h = absurd (is.ended p e.kind e row h)
   invited-received ms (invite.Accepted set) e row invited h = absurd (is.accepted p set e.kind e row h)
@@ -144,6 +148,7 @@ module _ (R : Receiving) (is : IsReceiving R) (p : Times) where
   -- the first INVITE begins the moments, and what else is sent in idle leaves them
   invited-sent ms now invite.Idle e row one other invited h = by (sends-idle p e.kind e row h)
     where
+      -- the moments of the INVITEs are right after the row: in idle the INVITE leads to calling and begins them, and any other message changes nothing
       by : ((e.kind ≡ Request Invite) × (row ≡ (invite.Calling (record { reliable = e.reliable; request = e.text; start = e.moment; set = e.moment; interval = p.t1 }), keeps)))
           ⊎ (¬ (e.kind ≡ Request Invite) × (row ≡ (invite.Idle, keeps))) → Invited now row.0
       by (inl leads) = rw leads.1 (e.moment, [], one leads.0 ∙ ap (λ ks. ks ++ e.moment ∷ []) invited, (refl, refl))
@@ -155,13 +160,15 @@ module _ (R : Receiving) (is : IsReceiving R) (p : Times) where
   -- what is sent in proceeding is a CANCEL, which leaves the moments
   invited-sent ms now (invite.Proceeding reliable request cancel) e row one other invited h = by (sends-proceeding p reliable request cancel e.kind e row h).1
     where
+      -- no INVITE is sent in proceeding, so no moment is added
       same : now ≡ ms
       same = other (λ is_invite. no-invite (sym (sends-proceeding p reliable request cancel e.kind e row h).0 ∙ is_invite))
 
-      -- a CANCEL is the first one or not
+      -- the moments of the INVITEs are right after the row, whether or not the CANCEL counts as the first one
       by : (row ≡ (invite.Proceeding reliable request (Some e.moment), keeps)) ⊎ (row ≡ (invite.Proceeding reliable request cancel, keeps)) → Invited now row.0
       by (inl leads) = rw (leads, same) invited
       by (inr leads) = rw (leads, same) invited
+  -- in accepted, completed and ended only another message than an INVITE is sent, so that the moments stay
   invited-sent ms now (invite.Accepted set) e row one other invited h =
       let sends = sends-accepted p set e.kind e row h in rw (sends.1, other (λ is_invite. no-invite (sym sends.0 ∙ is_invite))) invited
   invited-sent ms now (invite.Completed reliable request set) e row one other invited h =
@@ -174,6 +181,7 @@ module _ (R : Receiving) (is : IsReceiving R) (p : Times) where
   ack-is-none same = cc
 
   -- a message that is sent keeps what is known of the moments, with one more where it is an INVITE
+  -- x and y are the states before and after the message e is sent, and `ms` and `now` the moments of the INVITEs sent until then
   invited-emits : (ms now : List ℕ) (e : MachineEvent) (x y : Owing invite.InviteClientPhase) → (e.kind ≡ Request Invite → now ≡ ms ++ e.moment ∷ []) → (¬ (e.kind ≡ Request Invite) → now ≡ ms) → Invited ms x.phase
       → Emits f p e x y → Invited now y.phase
   invited-emits ms now e x y one other invited (inl (row, is_row, to)) = rw to (invited-sent ms now x.phase e row one other invited is_row)
@@ -182,11 +190,12 @@ module _ (R : Receiving) (is : IsReceiving R) (p : Times) where
       rw to (subst (λ ks. Invited ks x.phase) (sym same) invited)
   invited-emits ms now e x y one other invited (inr (inr (stays, same))) = absurd stays
 
-  -- an INVITE that the transport refuses ends the transaction in every phase
+  -- in no phase does the transaction outlive an INVITE that the transport refuses
   ended-by-an-invite : (x : invite.InviteClientPhase) → ¬ (invite.ends_refused x (Request Invite) ≡ false)
   ended-by-an-invite x same = cc
 
   -- a message that is refused keeps what is known of the moments
+  -- x and y are the states before and after the message e was refused, and ms the moments of the INVITEs sent until then
   invited-fails : (ends : Bool) (ms : List ℕ) (e : MachineEvent) (x y : Owing invite.InviteClientPhase) → invite.ends_refused x.phase e.kind ≡ ends → Invited ms x.phase → Fails ends f p e x y → Invited ms y.phase
   invited-fails true ms e x y ends invited fails = rw fails.1 (invited-spaced ms x.phase invited)
   invited-fails false ms e x y ends invited emits =
@@ -198,12 +207,14 @@ module _ (R : Receiving) (is : IsReceiving R) (p : Times) where
   invited-steps Received es e x y was invited (inl (row, is_row, to)) =
       rw (to, passed-same test es e (ap (λ a. sends_invite a e.kind) was)) (invited-received (passed test es) x.phase e row invited is_row)
   invited-steps Received es e x y was invited (inr (none, same)) = rw (same, passed-same test es e (ap (λ a. sends_invite a e.kind) was)) invited
+  -- a sent INVITE adds its moment, and any other sent message none
   invited-steps Sent es e x y was invited emits =
       invited-emits (passed test es) (passed test (es ++ e ∷ [])) e x y
       (λ is_invite. passed-more test es e (ap (λ a. sends_invite a e.kind) was ∙ ap (sends_invite Sent) is_invite))
       (λ other. passed-same test es e (ap (λ a. sends_invite a e.kind) was ∙ not-an-invite e.kind other)) invited emits
   invited-steps Failed es e x y was invited fails =
       rw (passed-same test es e (ap (λ a. sends_invite a e.kind) was)) (invited-fails (invite.ends_refused x.phase e.kind) (passed test es) e x y refl invited fails)
+  -- a mark is no event, and a restart adds no moment
   invited-steps Mark es e x y was invited h = absurd h
   invited-steps Restart es e x y was invited (inl (idle, to)) =
       rw (to, passed-same test es e (ap (λ a. sends_invite a e.kind) was)) (subst (Invited (passed test es)) idle invited)
@@ -226,7 +237,7 @@ module _ (R : Receiving) (is : IsReceiving R) (p : Times) where
 
 -- What follows is of the client of any other method.
 
--- What follows is of the moments at which a non-INVITE client sends its request.
+-- What follows is of the moments at which a non-INVITE client with the times p sends its request.
 module _ (p : Times) where
   -- each interval is twice the one before, and at most T2
   abbrev next-plain : ℕ → ℕ
@@ -253,6 +264,7 @@ module _ (p : Times) where
   asked-spaced ms plain.Ended asked = asked
 
   -- the row of a received message keeps what is known of the moments
+  -- x is the phase, k the kind of the message e, and ms the moments at which the request was sent until then
   asked-received : (ms : List ℕ) (x : plain.PlainClientPhase) (k : Kind) (e : MachineEvent) (row : plain.PlainClientPhase × Change) → Asked ms x → plain.Receives p x k e row → Asked ms row.0
   asked-received ms (plain.Trying w) (Response code) e row asked (inl h) = rw h.1 asked
   asked-received ms (plain.Trying w) (Response code) e row asked (inr h) = rw h.1 (asked-spaced ms (plain.Trying w) asked)
@@ -264,9 +276,12 @@ module _ (p : Times) where
   fires-too set interval more m low fires = omega (arith, low, fires)
 
   -- the row of a sent message is that of a request, and keeps what is known of the moments, with one more
+  -- x is the phase, k the kind of the message e, and ms the moments at which the request was sent until then
   asked-sent : (ms : List ℕ) (x : plain.PlainClientPhase) (k : Kind) (e : MachineEvent) (row : plain.PlainClientPhase × Change) → Asked ms x → plain.Sends p x k e row →
       (sends_request Sent k ≡ true) × Asked (ms ++ e.moment ∷ []) row.0
+  -- the first send begins the list of moments
   asked-sent ms plain.Idle (Request method) e row asked h = (refl, rw h (p.t1, (e.moment, [], ap (λ ks. ks ++ e.moment ∷ []) asked, (refl, refl)), omega arith))
+  -- a repeat comes when timer E fires, which is then set again for the next interval
   asked-sent ms (plain.Trying w) (Request method) e row asked h =
       let low = asked.2 in
       (refl, rw h.1 (next-plain asked.0, begins-more p next-plain ms w.set asked.0 e.moment asked.1 (fires-too w.set w.interval asked.0 e.moment asked.2 h.0.fires), omega (arith, low)))
@@ -280,6 +295,7 @@ module _ (p : Times) where
   asked-steps Received es e x y was asked (inl (row, is_row, to)) =
       rw (to, passed-same test-plain es e (ap (λ a. sends_request a e.kind) was)) (asked-received (passed test-plain es) x.phase e.kind e row asked is_row)
   asked-steps Received es e x y was asked (inr (none, same)) = rw (same, passed-same test-plain es e (ap (λ a. sends_request a e.kind) was)) asked
+  -- a sent request adds its moment, and nothing else is sent
   asked-steps Sent es e x y was asked (inl (row, is_row, to)) =
       let sent = asked-sent (passed test-plain es) x.phase e.kind e row asked is_row in
       rw (to, passed-more test-plain es e (ap (λ a. sends_request a e.kind) was ∙ sent.0)) sent.1
@@ -287,6 +303,7 @@ module _ (p : Times) where
   asked-steps Sent es e x y was asked (inr (inr (stays, same))) = absurd stays
   asked-steps Failed es e x y was asked fails =
       rw (fails.1, passed-same test-plain es e (ap (λ a. sends_request a e.kind) was)) (asked-spaced (passed test-plain es) x.phase asked)
+  -- a mark is no event, and a restart adds no moment
   asked-steps Mark es e x y was asked h = absurd h
   asked-steps Restart es e x y was asked (inl (idle, to)) =
       rw (to, passed-same test-plain es e (ap (λ a. sends_request a e.kind) was)) (subst (Asked (passed test-plain es)) idle asked)

@@ -1,4 +1,7 @@
 -- A client of any method but INVITE ends by timer F, and sends nothing after it.
+-- In the lemmas x is the phase or the state before a step and y the state after it, k is the kind of a message, row is where a row leads, m is a moment, and
+-- h is a moment or what is known of a row.
+-- es are the events so far; w is what a client that waits has: its request, when it was first sent, and when it is sent again.
 use Rattle.std.proofs.Common.{◌≡◌, ◌≤◌, ◌<◌, ◌*◌, ◌⊎◌, inl, inr, ℕ, List, [], ◌∷◌, ◌++◌, All, refl, subst, arith}
 use Rattle.std.specs.List.{Any}
 use Rattle.sip_standard.specs.declared.action.Action.{Action}
@@ -17,7 +20,7 @@ use Rattle.consequences.specs.Events.{SendsAnyRequest, GetsResponse}
 use Rattle.consequences.proofs.lemmas.run.Lists.{any-last, any-earlier, any-none}
 use Rattle.consequences.proofs.lemmas.run.Running.{IsKept, left_at, step-of, stands-run, Cut, cut, run-keeps}
 
--- What follows is of the non-INVITE client.
+-- What follows is of the non-INVITE client with the times p.
 module _ (p : Times) where
   -- where the client waits for its response, its request was first sent by the moment
   abbrev BeganBy : ℕ → PlainClientPhase → Type 0
@@ -26,6 +29,7 @@ module _ (p : Times) where
   BeganBy m x = Unit {0}
 
   -- what began by a moment began by every later one
+  -- x is the phase, and h and m are the two moments
   began-later : (x : PlainClientPhase) (h m : ℕ) → h ≤ m → BeganBy h x → BeganBy m x
   began-later Idle h m low began = tt
   began-later Ended h m low began = tt
@@ -65,17 +69,19 @@ module _ (p : Times) where
   emits-waits e x y began (inr (inl (left, pays, to))) = absurd pays.holds.0
   emits-waits e x y began (inr (inr (stays, same))) = absurd stays
 
-  -- a step keeps BeganBy
+  -- BeganBy stays true after a step
   began-steps : (a : Action) (e : MachineEvent) (x y : Owing PlainClientPhase) → BeganBy e.moment x.phase → Steps plain_client p a e x y → BeganBy e.moment y.phase
+  -- a received message leads along a row, or leaves all as it is; what is sent keeps BeganBy, and a refused send ends the transaction
   began-steps Received e x y began (inl (row, is_row, to)) = rw to (began-received x.phase e.kind e row began is_row)
   began-steps Received e x y began (inr (none, same)) = rw same began
   began-steps Sent e x y began emits = waits-began y.phase e.moment (emits-waits e x y began emits)
   began-steps Failed e x y began fails = rw fails.1 tt
+  -- a mark is no step, and a restart leads to idle or to the end
   began-steps Mark e x y began h = absurd h
   began-steps Restart e x y began (inl (idle, to)) = rw to tt
   began-steps Restart e x y began (inr (other, to)) = rw to tt
 
-  -- a run keeps BeganBy
+  -- BeganBy stays true throughout a run
   began-kept : IsKept plain_client p (λ es m y. BeganBy m y.phase)
   began-kept = record {
     as_it_waits = λ es h m x began low lasts. began-later x.phase h m low began;
@@ -123,13 +129,16 @@ module _ (p : Times) where
     waits-steps : (a : Action) (es : List MachineEvent) (e : MachineEvent) (x y : Owing PlainClientPhase) → e.action ≡ a → WaitsBy moment x.phase → Steps plain_client p a e x y → Asks (es ++ e ∷ []) e.moment y
     waits-steps Received es e x y was waits (inl (row, is_row, to)) = by (waits-received es e x.phase e.kind x.owes row was refl waits is_row)
       where
+        -- Asks holds after the row: the client waits still, or it is silent after a final response
         by : WaitsBy moment row.0 ⊎ (IsSilent row.0 × Any (GetsResponse IsFinal) (es ++ e ∷ [])) → Asks (es ++ e ∷ []) e.moment y
         by (inl still) = inl (rw to still)
         by (inr done) = inr (rw to done.0, inr done.1)
+    -- a message without a row, and one that is sent, leave the client waiting
     waits-steps Received es e x y was waits (inr (none, same)) = inl (rw same waits)
     waits-steps Sent es e x y was waits (inl (row, is_row, to)) = inl (rw to (sent-still x.phase e.kind e row waits is_row))
     waits-steps Sent es e x y was waits (inr (inl (left, pays, to))) = absurd pays.holds.0
     waits-steps Sent es e x y was waits (inr (inr (stays, same))) = absurd stays
+    -- a refusal or a restart ends it
     waits-steps Failed es e x y was waits fails = inr (rw fails.1 tt, inl fails.1)
     waits-steps Mark es e x y was waits h = absurd h
     waits-steps Restart es e x y was waits (inl (idle, to)) = absurd (not-idle x.phase waits idle)
@@ -162,20 +171,23 @@ module _ (p : Times) where
     over-later es e x (silent, inl ended) = (silent, inl (rw ended refl))
     over-later es e x (silent, inr came) = (silent, inr (any-earlier (GetsResponse IsFinal) es (e ∷ []) came))
 
-    -- a step keeps IsOver
+    -- IsOver stays true after a step
     over-steps : (a : Action) (es : List MachineEvent) (e : MachineEvent) (x y : Owing PlainClientPhase) → IsOver es x → Steps plain_client p a e x y → IsOver es y
+    -- what is over has no row of a received or a sent message
     over-steps Received es e x y over (inl (row, is_row, to)) = absurd (silent-receives x.phase e.kind e row over.0 is_row)
     over-steps Received es e x y over (inr (none, same)) = rw same over
     over-steps Sent es e x y over emits = absurd (silent-emits e x y over.0 emits)
+    -- a refused send ends it again; a mark is no step, and a restart ends it
     over-steps Failed es e x y over fails = (rw fails.1 tt, inl fails.1)
     over-steps Mark es e x y over h = absurd h
     over-steps Restart es e x y over (inl (idle, to)) = absurd (silent-is-not-idle x.phase over.0 idle)
     over-steps Restart es e x y over (inr (other, to)) = (rw to tt, inl to)
 
-    -- a run keeps that the client waits for its response or is over
+    -- along a run the client goes on to wait for its response, or is over
     asks-kept : IsKept plain_client p Asks
     asks-kept = record { as_it_waits = λ es h m x asks low lasts. asks; as_it_ends = λ es h x asks may. inr (tt, inl refl); as_it_takes = as_it_takes }
       where
+        -- Asks stays true after an event
         as_it_takes : (es : List MachineEvent) (e : MachineEvent) (x y : Owing PlainClientPhase) → Asks es e.moment x → Takes plain_client p x e y → Asks (es ++ e ∷ []) e.moment y
         as_it_takes es e x y (inl waits) take = waits-steps e.action es e (record { phase = x.phase; owes = left_at e x }) y refl waits take
         as_it_takes es e x y (inr over) take = inr (over-steps e.action (es ++ e ∷ []) e (record { phase = x.phase; owes = left_at e x }) y (over-later es e x over) take)
@@ -184,18 +196,21 @@ module _ (p : Times) where
   waits-in-time : (moment m : ℕ) (x : Owing PlainClientPhase) (phase : PlainClientPhase) → x.phase ≡ phase → WaitsBy moment phase → Lasts plain_client p x m → m ≤ close_at p moment (64 * p.t1)
   waits-in-time moment m x phase is waits lasts = by phase waits (subst (λ z. Lasts plain_client p (record { phase = z; owes = x.owes }) m) is lasts)
     where
+      -- a phase that waits lasts until timer F at most
       by : (phase : PlainClientPhase) → WaitsBy moment phase → Lasts plain_client p (record { phase = phase; owes = x.owes }) m → m ≤ close_at p moment (64 * p.t1)
       by (Trying w) waits lasts = let low = lasts.0 in omega (arith, waits, low)
       by (Proceeding w) waits lasts = let low = lasts.0 in omega (arith, waits, low)
       by phase waits lasts = absurd waits
 
-  -- What follows is of a request that is sent in a run.
+  -- What follows is of a run with the times p in which `request` is sent after the events `before` and before those of `after`.
+  -- Each state in which it can stand can also wait until the moment at which it stands there.
   module _ (lasts : (events : List MachineEvent) (m : ℕ) (x : Owing PlainClientPhase) → Stands plain_client p events m x → Lasts plain_client p x m) (before after : List MachineEvent) (request : MachineEvent)
       (sends : SendsAnyRequest request) where
     -- after a request that is sent, the client waits for its response or is over
     asked : (m : ℕ) (y : Owing PlainClientPhase) → Stands plain_client p (before ++ request ∷ after) m y → Asks request.moment after m y
     asked m y stands = by-cut (cut plain_client p (quiet Idle) 0 before request after m y (stands-run plain_client p (before ++ request ∷ after) m y stands))
       where
+        -- the run is cut at the request
         by-cut : Cut plain_client p (quiet Idle) 0 before request after m y → Asks request.moment after m y
         by-cut found =
             let began = run-keeps plain_client p (λ es h x. BeganBy h x.phase) began-kept before (quiet Idle) 0 request.moment found.from tt found.leads in
@@ -206,6 +221,7 @@ module _ (p : Times) where
     pub over-by-timer-f : (m : ℕ) (y : Owing PlainClientPhase) → All (λ g. ¬ (GetsResponse IsFinal g)) after → Stands plain_client p (before ++ request ∷ after) m y → close_at p request.moment (64 * p.t1) < m → y ≡ quiet Ended
     over-by-timer-f m y unanswered stands late = by (asked m y stands)
       where
+        -- m is after timer F, and no final response came, so the client has ended
         by : Asks request.moment after m y → y ≡ quiet Ended
         by (inl waits) = let low = waits-in-time request.moment m y y.phase refl waits (lasts (before ++ request ∷ after) m y stands) in absurd (omega (arith, low, late))
         by (inr (silent, inl ended)) = ended
@@ -215,6 +231,7 @@ module _ (p : Times) where
     pub silent-after-timer-f : (e : MachineEvent) (y : Owing PlainClientPhase) → e.action ≡ Sent → StandsAfter plain_client p (before ++ request ∷ after) e y → e.moment ≤ close_at p request.moment (64 * p.t1)
     silent-after-timer-f e y sent (x, stands, take) = by (asked e.moment x stands)
       where
+        -- e comes by timer F: a client that waits still is not past it, and one that is silent sends nothing
         by : Asks request.moment after e.moment x → e.moment ≤ close_at p request.moment (64 * p.t1)
         by (inl waits) = waits-in-time request.moment e.moment x x.phase refl waits (lasts (before ++ request ∷ after) e.moment x stands)
         by (inr over) =

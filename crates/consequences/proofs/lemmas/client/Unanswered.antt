@@ -1,4 +1,7 @@
 -- An INVITE client before a response has come: it sends no CANCEL, and ends by timer B.
+-- In the lemmas x is the phase or the state before a step and y the state after it, k is the kind of a message, row is where a row leads, m is a moment, and
+-- h is a moment or what is known of a row.
+-- es are the events so far; w is what a client that calls has: its request, when it was first sent, and when it is sent again.
 use Rattle.std.proofs.Common.{◌≡◌, ◌≤◌, ◌<◌, ◌*◌, ◌⊎◌, inl, inr, ℕ, Bool, true, false, Some, None, List, [], ◌∷◌, ◌++◌, All, refl, sym, ap, subst, ◌∙◌, arith}
 use Rattle.std.specs.List.{Any}
 use Rattle.std.proofs.lemmas.List.{append-nil}
@@ -42,9 +45,9 @@ CallsFrom invite x = ⊥
 not-calling : {A : Type 0} (x : InviteClientPhase) (reliable : Bool) (request : List ℕ) (set : ℕ) (invite : MachineEvent) → x ≡ Completed reliable request set → CallsFrom invite x → A
 not-calling x reliable request set invite is calls = absurd (subst (CallsFrom invite) is calls)
 
--- What follows is of an INVITE client with these rows.
+-- What follows is of an INVITE client: R are its rows for responses, and p its times.
 module _ (R : Receiving) (is : IsReceiving R) (p : Times) where
-  -- the client
+  -- the figure of this client
   abbrev f : Figure InviteClientPhase
   f = client R
 
@@ -58,6 +61,7 @@ module _ (R : Receiving) (is : IsReceiving R) (p : Times) where
   unasked-emits e x owes y from never (inr (inr (stays, same))) = absurd stays
   unasked-emits e Idle owes y from never (inl (row, is_row, to)) = by (sends-idle p e.kind e row is_row)
     where
+      -- the client has sent no INVITE after the row: in idle an INVITE has a row, but none is sent here
       by : ((e.kind ≡ Request Invite) × (row ≡ (Calling (record { reliable = e.reliable; request = e.text; start = e.moment; set = e.moment; interval = p.t1 }), keeps)))
           ⊎ (¬ (e.kind ≡ Request Invite) × (row ≡ (Idle, keeps))) → IsUnasked y.phase
       by (inl (invite, leads)) = absurd (never invite)
@@ -71,6 +75,7 @@ module _ (R : Receiving) (is : IsReceiving R) (p : Times) where
   unasked-fails true e x owes y ends from fails = rw fails.1 tt
   unasked-fails false e x owes y ends from fails = unasked-emits e x owes y from (λ invite. ended-by-an-invite x (ap (ends_refused x) (sym invite) ∙ ends)) fails
     where
+      -- in no phase does the client outlive an INVITE that is refused
       ended-by-an-invite : (x : InviteClientPhase) → ¬ (ends_refused x (Request Invite) ≡ false)
       ended-by-an-invite x is = cc
 
@@ -81,6 +86,7 @@ module _ (R : Receiving) (is : IsReceiving R) (p : Times) where
   unasked-steps Received e Ended owes y was from never (inl (row, is_row, to)) = absurd (is.ended p e.kind e row is_row)
   unasked-steps Received e x owes y was from never (inl row) = absurd from
   unasked-steps Received e x owes y was from never (inr (none, same)) = rw same from
+  -- what is sent or refused leads to idle or ended, and so does a restart; a mark is no step
   unasked-steps Sent e x owes y was from never emits = unasked-emits e x owes y from (λ invite. never (was, invite)) emits
   unasked-steps Failed e x owes y was from never fails = unasked-fails (ends_refused x e.kind) e x owes y refl from fails
   unasked-steps Mark e x owes y was from never h = absurd h
@@ -103,12 +109,13 @@ module _ (R : Receiving) (is : IsReceiving R) (p : Times) where
       by x.phase (left_at invite x) (run-keeps f p Before before-kept before (quiet Idle) 0 invite.moment x (λ all. tt) run none)
       (step-of f p Sent invite x y sent.0 take)
     where
+      -- the row of the INVITE leads to calling, with the INVITE's bytes and moment
       by_row : (row : Row) (owes : List Owed) → ((invite.kind ≡ Request Invite) × (row ≡ (Calling (record { reliable = invite.reliable; request = invite.text; start = invite.moment; set = invite.moment; interval = p.t1 }), keeps)))
           ⊎ (¬ (invite.kind ≡ Request Invite) × (row ≡ (Idle, keeps))) → CallsFrom invite row.0
       by_row row owes (inl (is_invite, leads)) = rw leads (refl, refl, refl)
       by_row row owes (inr (other, leads)) = absurd (other sent.1)
 
-      -- an INVITE is sent by a row, since nothing is owed before it
+      -- after the INVITE the client calls with it: an INVITE is sent by a row, since nothing is owed before it
       by : (phase : InviteClientPhase) (owes : List Owed) → IsUnasked phase → Emits f p invite (record { phase = phase; owes = owes }) y → CallsFrom invite y.phase
       by Idle owes from (inl (row, is_row, to)) = rw to (by_row row owes (sends-idle p invite.kind invite row is_row))
       by Ended owes from (inl (row, is_row, to)) = absurd (no-cancel (sym sent.1 ∙ (sends-ended p invite.kind invite row is_row).0))
@@ -123,13 +130,14 @@ module _ (R : Receiving) (is : IsReceiving R) (p : Times) where
   response-came : (es : List MachineEvent) (e : MachineEvent) (w : Waiting) (row : Row) → e.action ≡ Received → R p (Calling w) e.kind e row → Any (GetsResponse IsAnyCode) (es ++ e ∷ [])
   response-came es e w row was is_row = by (is.calling p w e.kind e row is_row)
     where
+      -- each of the three rows is of a code from 100 to 699
       any : (code : ℕ) → (IsProvisional code × (row ≡ (Proceeding w.reliable w.request None, keeps))) ⊎ (IsSuccess code × IsDone row.0)
           ⊎ (IsUnsuccessful code × (row ≡ (Completed w.reliable w.request e.moment, gains true e.text))) → IsAnyCode code
       any code (inl h) = (h.0.0, omega (arith, h.0.1))
       any code (inr (inl h)) = (omega (arith, h.0.0), omega (arith, h.0.1))
       any code (inr (inr h)) = (omega (arith, h.0.0), h.0.1)
 
-      -- the row is that of a provisional response, a 2xx, or one of 300 to 699
+      -- a response has come: the row is that of a provisional response, a 2xx, or one of 300 to 699
       by : Answers w.reliable w.request e.kind e row → Any (GetsResponse IsAnyCode) (es ++ e ∷ [])
       by (code, kind, leads) = any-last (GetsResponse IsAnyCode) es e (was, (code, kind, any code leads))
 
@@ -166,28 +174,32 @@ module _ (R : Receiving) (is : IsReceiving R) (p : Times) where
     -- a step leaves the client calling, or it need not wait any more
     calls-steps : (a : Action) (es : List MachineEvent) (e : MachineEvent) (x : InviteClientPhase) (owes : List Owed) (y : Owing InviteClientPhase) → e.action ≡ a → CallsFrom invite x
         → Steps f p a e (record { phase = x; owes = owes }) y → Calls (es ++ e ∷ []) e.moment y
+    -- a response has come; without a row the client stays calling
     calls-steps Received es e (Calling w) owes y was calls (inl (row, is_row, to)) = inr (inl (response-came es e w row was is_row))
     calls-steps Received es e x owes y was calls (inl row) = absurd calls
     calls-steps Received es e x owes y was calls (inr (none, same)) = inl (rw same calls)
+    -- a repeat of the INVITE leaves it calling; a refused send, and a restart, end the wait
     calls-steps Sent es e x owes y was calls emits = inl (calls-emits es e x owes y calls emits).1
     calls-steps Failed es e x owes y was calls fails = inr (inr (inl (any-last (λ g. IsRefused g ⊎ IsRestart g) es e (inl was))))
     calls-steps Mark es e x owes y was calls h = absurd h
     calls-steps Restart es e x owes y was calls h = inr (inr (inl (any-last (λ g. IsRefused g ⊎ IsRestart g) es e (inr was))))
 
-    -- a run keeps that the client calls, or need not wait any more
+    -- along a run the client goes on to call, or need not wait any more
     calls-kept : IsKept f p Calls
     calls-kept = record { as_it_waits = as_it_waits; as_it_ends = as_it_ends; as_it_takes = as_it_takes }
       where
+        -- Calls stays true as time passes
+        -- the run stands in x from the moment h until the moment m
         as_it_waits : (es : List MachineEvent) (h m : ℕ) (x : Owing InviteClientPhase) → Calls es h x → h ≤ m → Lasts f p x m → Calls es m x
         as_it_waits es h m x (inl calls) low lasts = inl calls
         as_it_waits es h m x (inr over) low lasts = inr (subst (λ fs. Over fs m) (append-nil es) (over-later es [] h m low over))
 
-        -- an end keeps Calls
+        -- Calls stays true where the transaction ends
         as_it_ends : (es : List MachineEvent) (h : ℕ) (x : Owing InviteClientPhase) → Calls es h x → MayEnd f p x h → Calls es h (quiet Ended)
         as_it_ends es h x (inl calls) may = inr (calls-ends es h x.phase x.owes calls may)
         as_it_ends es h x (inr over) may = inr over
 
-        -- an event keeps Calls
+        -- Calls stays true after an event
         as_it_takes : (es : List MachineEvent) (e : MachineEvent) (x y : Owing InviteClientPhase) → Calls es e.moment x → Takes f p x e y → Calls (es ++ e ∷ []) e.moment y
         as_it_takes es e x y (inl calls) take = calls-steps e.action es e x.phase (left_at e x) y refl calls take
         as_it_takes es e x y (inr over) take = inr (over-later es (e ∷ []) e.moment e.moment (omega arith) over)
@@ -200,7 +212,7 @@ module _ (R : Receiving) (is : IsReceiving R) (p : Times) where
         no-invite : ¬ (Request Cancel ≡ Request Invite)
         no-invite is = cc
 
-        -- a client that calls sends no CANCEL, so it need not wait any more
+        -- the client need not wait any more, since a client that calls sends no CANCEL
         by : CallsFrom invite x.phase ⊎ Over after e.moment → Over after e.moment
         by (inl calls) = absurd (no-invite (sym cancels.1 ∙ (calls-emits after e x.phase (left_at e x) y calls (step-of f p Sent e x y cancels.0 take)).0))
         by (inr over) = over
@@ -217,6 +229,7 @@ module _ (R : Receiving) (is : IsReceiving R) (p : Times) where
   BeganBy m x = Unit {0}
 
   -- what began by a moment began by every later one
+  -- x is the phase, and h and m are the two moments
   began-later : (x : InviteClientPhase) (h m : ℕ) → h ≤ m → BeganBy h x → BeganBy m x
   began-later (Calling w) h m low began = omega (arith, low, began)
   began-later Idle h m low began = tt
@@ -239,6 +252,7 @@ module _ (R : Receiving) (is : IsReceiving R) (p : Times) where
 
   -- the row of a received message leads to a phase of which BeganBy holds
   received-began : (x : InviteClientPhase) (k : Kind) (e : MachineEvent) (row : Row) → R p x k e row → BeganBy e.moment row.0
+  -- in idle, in ended and in accepted no message has a row; elsewhere a response leads to where BeganBy holds
   received-began Idle k e row h = absurd (is.idle p k e row h)
   received-began Ended k e row h = absurd (is.ended p k e row h)
   received-began (Accepted set) k e row h = absurd (is.accepted p set k e row h)
@@ -250,6 +264,7 @@ module _ (R : Receiving) (is : IsReceiving R) (p : Times) where
   sent-began : (x : InviteClientPhase) (k : Kind) (e : MachineEvent) (row : Row) → BeganBy e.moment x → Sends p x k e row → BeganBy e.moment row.0
   sent-began Idle k e row began h = by (sends-idle p k e row h)
     where
+      -- what the row leads to has begun by this moment
       by : ((k ≡ Request Invite) × (row ≡ (Calling (record { reliable = e.reliable; request = e.text; start = e.moment; set = e.moment; interval = p.t1 }), keeps)))
           ⊎ (¬ (k ≡ Request Invite) × (row ≡ (Idle, keeps))) → BeganBy e.moment row.0
       by (inl leads) = rw leads.1 (omega arith)
@@ -257,7 +272,7 @@ module _ (R : Receiving) (is : IsReceiving R) (p : Times) where
   sent-began (Calling w) k e row began h = rw (sends-calling p w k e row h).2 began
   sent-began (Proceeding reliable request cancel) k e row began h = by (sends-proceeding p reliable request cancel k e row h).1
     where
-      -- a CANCEL is the first one or not
+      -- what the row leads to has begun by this moment, whether or not the CANCEL counts as the first one
       by : (row ≡ (Proceeding reliable request (Some e.moment), keeps)) ⊎ (row ≡ (Proceeding reliable request cancel, keeps)) → BeganBy e.moment row.0
       by (inl leads) = rw leads tt
       by (inr leads) = rw leads tt
@@ -276,17 +291,19 @@ module _ (R : Receiving) (is : IsReceiving R) (p : Times) where
   began-fails true e x y began fails = rw fails.1 tt
   began-fails false e x y began emits = began-emits e x y began emits
 
-  -- a step keeps BeganBy
+  -- BeganBy stays true after a step
   began-steps : (a : Action) (e : MachineEvent) (x y : Owing InviteClientPhase) → BeganBy e.moment x.phase → Steps f p a e x y → BeganBy e.moment y.phase
+  -- a received message leads along a row, or leaves all as it is; what is sent or refused keeps BeganBy
   began-steps Received e x y began (inl (row, is_row, to)) = rw to (received-began x.phase e.kind e row is_row)
   began-steps Received e x y began (inr (none, same)) = rw same began
   began-steps Sent e x y began emits = began-emits e x y began emits
   began-steps Failed e x y began fails = began-fails (ends_refused x.phase e.kind) e x y began fails
+  -- a mark is no step, and a restart leads to idle or to the end
   began-steps Mark e x y began h = absurd h
   began-steps Restart e x y began (inl (idle, to)) = rw to tt
   began-steps Restart e x y began (inr (other, to)) = rw to tt
 
-  -- a run keeps BeganBy
+  -- BeganBy stays true throughout a run
   began-kept : IsKept f p (λ es m y. BeganBy m y.phase)
   began-kept = record {
     as_it_waits = λ es h m x began low lasts. began-later x.phase h m low began;
@@ -307,12 +324,15 @@ module _ (R : Receiving) (is : IsReceiving R) (p : Times) where
       no-ack : ¬ (Request Invite ≡ Request Ack)
       no-ack is = cc
   invite-calls e x owes y invite began (inr (inr (stays, same))) = absurd stays
+  -- in idle the INVITE begins calling at its moment
   invite-calls e Idle owes y invite began (inl (row, is_row, to)) = by (sends-idle p e.kind e row is_row)
     where
+      -- in idle the message is the INVITE, so the client calls from this moment on
       by : ((e.kind ≡ Request Invite) × (row ≡ (Calling (record { reliable = e.reliable; request = e.text; start = e.moment; set = e.moment; interval = p.t1 }), keeps)))
           ⊎ (¬ (e.kind ≡ Request Invite) × (row ≡ (Idle, keeps))) → CallsBy e.moment y.phase
       by (inl leads) = rw (to, leads.1) (omega arith)
       by (inr leads) = absurd (leads.0 invite)
+  -- in calling it is sent again, and in no other phase is an INVITE sent
   invite-calls e (Calling w) owes y invite began (inl (row, is_row, to)) = rw (to, (sends-calling p w e.kind e row is_row).2) began
   invite-calls e (Proceeding reliable request cancel) owes y invite began (inl (row, is_row, to)) = absurd (no-cancel (sym invite ∙ (sends-proceeding p reliable request cancel e.kind e row is_row).0))
   invite-calls e (Accepted set) owes y invite began (inl (row, is_row, to)) = absurd (no-cancel (sym invite ∙ (sends-accepted p set e.kind e row is_row).0))
@@ -344,6 +364,7 @@ module _ (R : Receiving) (is : IsReceiving R) (p : Times) where
     waits-steps Received es e (Calling w) owes y was calls (inl (row, is_row, to)) = inr (inr (response-came es e w row was is_row))
     waits-steps Received es e x owes y was calls (inl row) = absurd calls
     waits-steps Received es e x owes y was calls (inr (none, same)) = inl (rw same calls)
+    -- what is sent leaves the client calling, and a refusal or a restart ends it
     waits-steps Sent es e x owes y was calls emits = inl (waits-emits e x owes y calls emits)
     waits-steps Failed es e x owes y was calls fails = waits-fails (ends_refused x e.kind) (es ++ e ∷ []) e x owes y calls fails
     waits-steps Mark es e x owes y was calls h = absurd h
@@ -351,19 +372,22 @@ module _ (R : Receiving) (is : IsReceiving R) (p : Times) where
     waits-steps Restart es e x owes y was calls (inl (idle, to)) = absurd (subst (CallsBy moment) idle calls)
     waits-steps Restart es e x owes y was calls (inr (other, to)) = inr (inl to)
 
-    -- a run keeps that the client calls, or has ended, or has got a response
+    -- along a run the client goes on to call, or has ended, or has got a response
     waits-kept : IsKept f p Waits
     waits-kept = record { as_it_waits = as_it_waits; as_it_ends = λ es h x holds may. inr (inl refl); as_it_takes = as_it_takes }
       where
+        -- Waits stays true as time passes
+        -- the run stands in x from the moment h until the moment m
         as_it_waits : (es : List MachineEvent) (h m : ℕ) (x : Owing InviteClientPhase) → Waits es h x → h ≤ m → Lasts f p x m → Waits es m x
         as_it_waits es h m x holds low lasts = holds
 
+        -- Waits stays true after an event
         as_it_takes : (es : List MachineEvent) (e : MachineEvent) (x y : Owing InviteClientPhase) → Waits es e.moment x → Takes f p x e y → Waits (es ++ e ∷ []) e.moment y
         as_it_takes es e x y (inl calls) take = waits-steps e.action es e x.phase (left_at e x) y refl calls take
         as_it_takes es e x y (inr (inl ended)) take = inr (inl (over-steps f p IsInvited (λ k. k ≡ Request Invite) (λ k. k ≡ Request Cancel) (invites-once R is p) e.action e y (subst (λ z. Takes f p z e y) ended take)))
         as_it_takes es e x y (inr (inr came)) take = inr (inr (any-earlier (GetsResponse IsAnyCode) es (e ∷ []) came))
 
-  -- the transaction of an INVITE without a response ends by timer B (section 17.1.1.2), where what stands lasts
+  -- the transaction of an INVITE without a response ends by timer B (section 17.1.1.2), where each state in which a run can stand can wait until then
   module _ (lasts : (events : List MachineEvent) (m : ℕ) (x : Owing InviteClientPhase) → Stands f p events m x → Lasts f p x m) where
     -- the transaction of an INVITE that has no response has ended once timer B has to have fired
     pub over-by-timer-b : (before after : List MachineEvent) (invite : MachineEvent) (m : ℕ) (y : Owing InviteClientPhase) → SendsRequest Invite invite →
@@ -371,11 +395,12 @@ module _ (R : Receiving) (is : IsReceiving R) (p : Times) where
     over-by-timer-b before after invite m y sent unanswered stands late =
         by-cut (cut f p (quiet Idle) 0 before invite after m y (stands-run f p (before ++ invite ∷ after) m y stands))
       where
+        -- a client that calls since the INVITE does not last until m, which is after timer B
         too-late : (x : InviteClientPhase) (owes : List Owed) → CallsBy invite.moment x → ¬ (Lasts f p (record { phase = x; owes = owes }) m)
         too-late (Calling w) owes calls lasting = absurd (omega (arith, calls, lasting.0, late))
         too-late x owes calls lasting = absurd calls
 
-        -- the client would call too late, or has ended, or has a response
+        -- the client has ended: it would call too late, or it has a response
         by : Waits invite.moment after m y → y ≡ quiet Ended
         by (inl calls) = absurd (too-late y.phase y.owes calls (lasts (before ++ invite ∷ after) m y stands))
         by (inr (inl ended)) = ended

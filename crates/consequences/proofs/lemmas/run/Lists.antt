@@ -31,15 +31,17 @@ pub contains-here : {X : Type 0} (xs ys : List X) (x : X) → Contains (xs ++ x 
 contains-here xs ys x = Contains-append_right xs (x ∷ ys) x (0, omega arith, refl)
 
 -- an element of a list is the one between its two parts, or is in one of the parts
+-- y is the element between the parts xs and ys, and x any element of the list
 pub contains-cases : {X : Type 0} (xs ys : List X) (y x : X) → Contains (xs ++ y ∷ ys) x → Contains (xs ++ ys) x ⊎ (y ≡ x)
 contains-cases xs ys y x c = by (Contains-append_cases xs (y ∷ ys) x c)
   where
+    -- after the front x is y itself, or one of the elements after y
     by_rest : Contains (y ∷ []) x ⊎ Contains ys x → Contains (xs ++ ys) x ⊎ (y ≡ x)
     by_rest (inl (zero, low, at)) = inr at
     by_rest (inl (suc k, low, at)) = absurd (omega (arith, low))
     by_rest (inr later) = inl (Contains-append_right xs ys x later)
 
-    -- the element is in the first part, or from y on
+    -- x is in the two parts together, or it is y: it is in the first part, or from y on
     by : Contains xs x ⊎ Contains (y ∷ ys) x → Contains (xs ++ ys) x ⊎ (y ≡ x)
     by (inl front) = inl (Contains-append_left xs ys x front)
     by (inr rest) = by_rest (Contains-append_cases (y ∷ []) ys x rest)
@@ -49,6 +51,7 @@ pub contains-filter : {X : Type 0} (p : X → Bool) (xs : List X) (x : X) → p 
 contains-filter p [] x passes c = absurd (Contains-none x c)
 contains-filter {X} p (y ∷ ys) x passes c = by (p y) refl (contains-filter p ys x passes) (contains-cases [] ys y x c)
   where
+    -- x is y, or among the elements that pass, whether or not y passes the test
     by : (b : Bool) → p y ≡ b → (Contains ys x → Contains (filter p ys) x) → Contains ys x ⊎ (y ≡ x) → Contains (if b then y ∷ filter p ys else filter p ys) x
     by true is among (inl later) = Contains-there y (filter p ys) x (among later)
     by true is among (inr here) = subst (λ z. Contains (z ∷ filter p ys) x) (sym here) (contains-here [] (filter p ys) x)

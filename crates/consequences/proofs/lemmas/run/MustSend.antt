@@ -10,7 +10,7 @@ use Rattle.sip_standard.specs.Figure.{Figure, Owing, Lasts, MayEnd}
 use Rattle.consequences.proofs.lemmas.run.Lists.{contains-cases, contains-filter}
 use Rattle.consequences.proofs.lemmas.run.Running.{left_at}
 
--- What follows is of a debt that must be sent.
+-- What follows is of `debt`, a debt that must be sent.
 module _ (debt : Owed) (must : debt.must ≡ true) where
   -- the debt is still owed when an event comes
   pub still-owed : {X : Type 0} (e : MachineEvent) (x : Owing X) → Contains x.owes debt → Contains (left_at e x) debt
@@ -20,6 +20,7 @@ module _ (debt : Owed) (must : debt.must ≡ true) where
   pub other-paid : (P : Owed → Type 0) (owes left : List Owed) → IsWithoutFirst P owes left → Contains owes debt → Contains left debt ⊎ P debt
   other-paid P owes left pays owed = by (contains-cases pays.before pays.after pays.first debt (subst (λ os. Contains os debt) pays.whole owed))
     where
+      -- a debt of the list is owed still, or it is the one that was paid
       by : Contains (pays.before ++ pays.after) debt ⊎ (pays.first ≡ debt) → Contains left debt ⊎ P debt
       by (inl other) = inl (subst (λ os. Contains os debt) (sym pays.rest) other)
       by (inr this) = inr (subst P this pays.holds)

@@ -1,4 +1,7 @@
 -- A run, cut at one of its events: what leads to it, its step, and what leads on from there. Then what a run keeps.
+-- In each lemma a run goes from the state x at the moment h over events to the state y at the moment m; k is a moment between, a the state that takes the
+-- first event, and b the state after it.
+-- f is the figure of the machine, es are the events of a run, and z is the state to which one event more leads.
 use Rattle.std.proofs.Common.{◌≡◌, ◌≤◌, ◌||◌, ℕ, List, [], ◌∷◌, ◌++◌, filter, subst, sym, append_assoc}
 use Rattle.std.specs.Prelude.{nat_le}
 use Rattle.std.proofs.lemmas.List.{append-nil}
@@ -74,7 +77,7 @@ module _ {X : Type 0} (f : Figure X) (p : Times) where
       let later = cut b g.moment before e after m y run in
       record { from = later.from; to = later.to; leads = (a, b, rest, take, later.leads); step = later.step; goes = later.goes }
 
-  -- What follows is of a fact that a run keeps.
+  -- What follows is of a fact P that a run keeps: it speaks of the events so far, the moment, and the state.
   module _ (P : List MachineEvent → ℕ → Owing X → Type 0) (kept : IsKept f p P) where
     -- a run keeps the fact while it waits and ends
     rest-keeps : (es : List MachineEvent) (x : Owing X) (h m : ℕ) (y : Owing X) → P es h x → Rests f p x h m y → P es m y

@@ -1,4 +1,5 @@
 -- A server that has got no request sleeps: it sends nothing, and has no timer.
+-- In the lemmas k is the kind of the message of the event e, and y what follows the step of e.
 use Rattle.std.proofs.Common.{◌≡◌, ◌≤◌, ◌⊎◌, inl, inr, ℕ, Bool, true, false, Option, None, List, [], ◌∷◌, ◌++◌, All, refl, ap, subst, IsSomeAnd}
 use Rattle.sip_standard.specs.declared.action.Action.{Action}
 use Rattle.sip_standard.specs.declared.action.Action.TheVariants.{Sent, Received, Failed, Mark, Restart}
@@ -30,6 +31,7 @@ pub record IsAsleep {X : Type 0} (f : Figure X) (p : Times) (Wakes : Kind → Ty
 pub nothing-to-pay : (P : Owed → Type 0) (left : List Owed) → ¬ (IsWithoutFirst P [] left)
 nothing-to-pay P left pays = by pays.before pays.whole
   where
+    -- the empty list has no debt that could be the first
     by : (before : List Owed) → ¬ ([] ≡ before ++ pays.first ∷ pays.after)
     by [] is = cc
     by (o ∷ os) is = cc
@@ -49,6 +51,7 @@ module _ {X : Type 0} (f : Figure X) (p : Times) (Wakes : Kind → Type 0) (asle
 
   -- a step of a server that sleeps leaves it asleep, or is that of a request that wakes it
   pub asleep-steps : (a : Action) (e : MachineEvent) (y : Owing X) → e.action ≡ a → Steps f p a e (quiet f.idle) y → (y ≡ quiet f.idle) ⊎ ((e.action ≡ Received) × Wakes e.kind)
+  -- only a received message with a row wakes it: it has nothing to send, and a restart leaves an idle server idle
   asleep-steps Received e y was (inl (row, is_row, to)) = inr (was, asleep.woken e.kind e row is_row)
   asleep-steps Received e y was (inr (none, same)) = inl same
   asleep-steps Sent e y was emits = absurd (asleep-emits e y emits)
@@ -69,19 +72,22 @@ module _ {X : Type 0} (f : Figure X) (p : Times) (Wakes : Kind → Type 0) (asle
   sleeps-kept : IsKept f p Sleeps
   sleeps-kept = record { as_it_waits = λ es h m x holds low lasts. holds; as_it_ends = as_it_ends; as_it_takes = as_it_takes }
     where
+      -- an end keeps Sleeps, since the ended phase is the idle one
       as_it_ends : (es : List MachineEvent) (h : ℕ) (x : Owing X) → Sleeps es h x → MayEnd f p x h → Sleeps es h (quiet f.ended)
       as_it_ends es h x holds may all = ap quiet asleep.ended_is
 
+      -- Sleeps stays true after an event
       as_it_takes : (es : List MachineEvent) (e : MachineEvent) (x y : Owing X) → Sleeps es e.moment x → Takes f p x e y → Sleeps (es ++ e ∷ []) e.moment y
       as_it_takes es e x y holds take all =
           by (asleep-steps e.action e y refl (subst (λ z. Takes f p z e y) (holds (All-front (λ g. ¬ ((g.action ≡ Received) × Wakes g.kind)) es (e ∷ []) all)) take))
         where
-          -- the server sleeps on, or a request that wakes it has come, and none has
+          -- the server sleeps on: else a request that wakes it has come, and none has
           by : (y ≡ quiet f.idle) ⊎ ((e.action ≡ Received) × Wakes e.kind) → y ≡ quiet f.idle
           by (inl same) = same
           by (inr wakes) = absurd (All-last (λ g. ¬ ((g.action ≡ Received) × Wakes g.kind)) es e all wakes)
 
   -- a run that begins asleep, and has no request that wakes the server, ends asleep
+  -- the run goes from the state x at the moment h to the state y at the moment m; g is one of its events
   pub sleeps-on : (es : List MachineEvent) (x : Owing X) (h m : ℕ) (y : Owing X) → x ≡ quiet f.idle → All (λ g. ¬ ((g.action ≡ Received) × Wakes g.kind)) es → Runs f p x h es m y → y ≡ quiet f.idle
   sleeps-on es x h m y is all run = run-keeps f p Sleeps sleeps-kept es x h m y (λ none. is) run all
 
@@ -89,6 +95,7 @@ module _ {X : Type 0} (f : Figure X) (p : Times) (Wakes : Kind → Type 0) (asle
   pub restart-sleeps : (e : MachineEvent) (x y : Owing X) → IsRestart e → Takes f p x e y → y ≡ quiet f.idle
   restart-sleeps e x y restart take = by (step-of f p Restart e x y restart take)
     where
+      -- a restart leads to idle, for the ended phase is idle too
       by : ((x.phase ≡ f.idle) × (y ≡ quiet f.idle)) ⊎ (¬ (x.phase ≡ f.idle) × (y ≡ quiet f.ended)) → y ≡ quiet f.idle
       by (inl idle) = idle.1
       by (inr other) = rw (other.1, asleep.ended_is)

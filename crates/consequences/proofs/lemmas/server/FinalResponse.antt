@@ -1,4 +1,6 @@
 -- An INVITE server before its first final response, and after it.
+-- In the lemmas x is the phase or the state before a step and y the state after it, k is the kind of a message, row is where a row leads, m is a moment, and
+-- h is a moment or what is known of a row. Of events es are those before e.
 use Rattle.std.proofs.Common.{◌≡◌, ◌≤◌, ◌<◌, ◌*◌, ◌⊎◌, inl, inr, ℕ, Bool, true, false, Option, Some, IsSomeAnd, List, [], ◌∷◌, ◌++◌, All, refl, sym, ap, subst, ◌∙◌, arith}
 use Rattle.std.specs.List.{Any}
 use Rattle.std.proofs.lemmas.List.Elements.{All-nil, All-filter, All-push, All-weaker, All-map}
@@ -30,7 +32,7 @@ use Rattle.consequences.proofs.lemmas.server.InviteServers.{Row, IsServer, Recei
 pub one-code : (e : MachineEvent) → IsResponse IsUnsuccessful e → ¬ (IsResponse IsSuccess e)
 one-code e (code, told, refused) (other, told_too, accepted) = absurd (omega (arith, codes-are-one code other (sym told ∙ told_too), refused.0, accepted.1))
 
--- What follows is of a server whose figure f holds the phases of the corrected INVITE server, with the times p.
+-- What follows is of a server with the figure f and the times p: `held` tells which of its phases is which phase of the corrected INVITE server.
 module _ {X : Type 0} (f : Figure X) (p : Times) (held : InviteServerPhase → X) (is : IsServer f p held) where
   -- the state has a phase of the corrected machine, as this server holds it, and K holds of that phase and the debts
   abbrev pub HoldsIn : (InviteServerPhase → List Owed → Type 0) → Owing X → Type 0
@@ -60,12 +62,14 @@ module _ {X : Type 0} (f : Figure X) (p : Times) (held : InviteServerPhase → X
   Opens es m x owes = ⊥
 
   -- Opens stays true after more events and later
+  -- x is the phase, es are the events up to the moment h, and `more` those after it up to m
   opens-later : (es more : List MachineEvent) (h m : ℕ) (x : InviteServerPhase) (owes : List Owed) → h ≤ m → Opens es h x owes → Opens (es ++ more) m x owes
   opens-later es more h m Idle owes low opens = opens
   opens-later es more h m (Proceeding reliable set last) owes low opens = (said-last-later es more last opens.0, are-said-later es more h m owes low opens.1)
   opens-later es more h m x owes low opens = absurd opens
 
   -- Opens stays true where only what is still owed is left when an event comes
+  -- x is the phase, and y the state whose debts were owed when the event e came
   pub opens-left : (es : List MachineEvent) (e : MachineEvent) (m : ℕ) (x : InviteServerPhase) (y : Owing X) → Opens es m x y.owes → Opens es m x (left_at e y)
   opens-left es e m Idle y opens = rw opens refl
   opens-left es e m (Proceeding reliable set last) y opens = (opens.0, All-filter _ (λ o. (o.deadline ≤ close_at p m 0) × IsSaid es o.message) y.owes opens.1)
@@ -79,6 +83,7 @@ module _ {X : Type 0} (f : Figure X) (p : Times) (held : InviteServerPhase → X
 
     -- the row of a received message keeps Opens
     opens-received : (x : InviteServerPhase) (k : Kind) (row : Row) (owes : List Owed) → Opens es e.moment x owes → ReceivedRow x k e row → Opens Now e.moment row.0 (changed p e.moment row.1 owes)
+    -- an INVITE that begins or comes again: the last response is owed once more, until the close of the moment of e
     opens-received _ _ _ owes opens (comes _) = (tt, rw opens (All-nil (λ o. (o.deadline ≤ close_at p e.moment 0) × IsSaid Now o.message)))
     opens-received _ _ _ owes opens (again _ reliable set last must) =
         let later = opens-later es (e ∷ []) e.moment e.moment (Proceeding reliable set (Some last)) owes (omega arith) opens in
@@ -109,6 +114,7 @@ module _ {X : Type 0} (f : Figure X) (p : Times) (held : InviteServerPhase → X
         → HoldsIn (Opens Now e.moment) y
     opens-emits x owes y out never opens (inl (row, is_row, to)) = by (is.sent x e.kind e row is_row)
       where
+        -- Opens holds after the event: the row is one of the corrected server, for the other case is a 2xx, which is a final response
         by : ((r : Row) × corrected.Sends p x e.kind e r × (row ≡ (held r.0, r.1)))
             ⊎ ((reliable : Bool) × (set : ℕ) × (last : Option (List ℕ)) × (x ≡ Proceeding reliable set last) × ((code : ℕ) × (e.kind ≡ Response code) × IsSuccess code)) → HoldsIn (Opens Now e.moment) y
         by (inl (r, is_r, leads)) = (r.0, changed p e.moment r.1 owes, led e owes row r y leads to, opens-sent x e.kind r owes out refl never opens (sent-row p x e.kind e r is_r))
@@ -132,9 +138,11 @@ module _ {X : Type 0} (f : Figure X) (p : Times) (held : InviteServerPhase → X
         let (r, is_r, leads) = is.received x e.kind e row is_row in
         (r.0, changed p e.moment r.1 owes, led e owes row r y leads to, opens-received x e.kind r owes opens (received-row p x e.kind e r is_r))
     opens-steps Received x owes y was never opens (inr (none, same)) = (x, owes, same, opens-later es (e ∷ []) e.moment e.moment x owes (omega arith) opens)
+    -- what is sent or refused is no final response, and keeps Opens
     opens-steps Sent x owes y was never opens emits = opens-emits x owes y (inl was) never opens emits
     opens-steps Failed x owes y was never opens fails = opens-fails (f.ends_refused (held x) e.kind) x owes y refl (inr was) never opens fails
     opens-steps Mark x owes y was never opens h = absurd h
+    -- a restart leads to idle, where Opens holds
     opens-steps Restart x owes y was never opens (inl (idle, to)) = (Idle, [], rw (to, is.idle), refl)
     opens-steps Restart x owes y was never opens (inr (other, to)) = (Idle, [], rw (to, is.ended), refl)
 
@@ -146,15 +154,17 @@ module _ {X : Type 0} (f : Figure X) (p : Times) (held : InviteServerPhase → X
   pub before-final-kept : IsKept f p BeforeFinal
   before-final-kept = record { as_it_waits = as_it_waits; as_it_ends = as_it_ends; as_it_takes = as_it_takes }
     where
+      -- BeforeFinal stays true as time passes
+      -- the run stands in x from the moment h until the moment m
       as_it_waits : (es : List MachineEvent) (h m : ℕ) (x : Owing X) → BeforeFinal es h x → h ≤ m → Lasts f p x m → BeforeFinal es m x
       as_it_waits es h m x holds low lasts all =
           let (phase, owes, same, opens) = holds all in (phase, owes, same, subst (λ fs. Opens fs m phase owes) (append-nil es) (opens-later es [] h m phase owes low opens))
 
-      -- an end keeps BeforeFinal
+      -- BeforeFinal stays true where the transaction ends
       as_it_ends : (es : List MachineEvent) (h : ℕ) (x : Owing X) → BeforeFinal es h x → MayEnd f p x h → BeforeFinal es h (quiet f.ended)
       as_it_ends es h x holds may all = (Idle, [], ap quiet is.ended, refl)
 
-      -- an event keeps BeforeFinal
+      -- BeforeFinal stays true after an event
       as_it_takes : (es : List MachineEvent) (e : MachineEvent) (x y : Owing X) → BeforeFinal es e.moment x → Takes f p x e y → BeforeFinal (es ++ e ∷ []) e.moment y
       as_it_takes es e x y holds take all =
           let (phase, owes, same, opens) = holds (All-front (λ g. ¬ (SendsResponse IsFinal g)) es (e ∷ []) all) in
@@ -162,7 +172,7 @@ module _ {X : Type 0} (f : Figure X) (p : Times) (held : InviteServerPhase → X
           opens-steps es e e.action phase (left_at e z) y refl (All-last (λ g. ¬ (SendsResponse IsFinal g)) es e all) (opens-left es e e.moment phase z opens)
           (subst (λ w. Takes f p w e y) same take)
 
-  -- What follows is of the time after the final response.
+  -- What follows is of the time after the final response: `before` are the events before it, and `final` is the event with which it is sent.
 
   module _ (before : List MachineEvent) (final : MachineEvent) where
     -- the final response is a 2xx
@@ -197,6 +207,7 @@ module _ {X : Type 0} (f : Figure X) (p : Times) (held : InviteServerPhase → X
     Closes es m (Confirmed reliable set) owes = IsBad × Any (GetsRequest Ack) es × AreOld owes
 
     -- Closes stays true after more events and later
+    -- x is the phase, es are the events up to the moment h, and `more` those after it up to m
     closes-later : (es more : List MachineEvent) (h m : ℕ) (x : InviteServerPhase) (owes : List Owed) → h ≤ m → Closes es h x owes → Closes (es ++ more) m x owes
     closes-later es more h m Idle owes low closes = (closes.0, past-later es more h m low closes.1)
     closes-later es more h m (Proceeding reliable set last) owes low closes = absurd closes
@@ -254,9 +265,11 @@ module _ {X : Type 0} (f : Figure X) (p : Times) (held : InviteServerPhase → X
           → IsAllowed e × HoldsIn (Closes (es ++ e ∷ []) e.moment) y
       closes-emits x owes y closes (inl (row, is_row, to)) = by (is.sent x e.kind e row is_row)
         where
+          -- what is sent is allowed, and keeps Closes
           by : ((r : Row) × corrected.Sends p x e.kind e r × (row ≡ (held r.0, r.1)))
               ⊎ ((reliable : Bool) × (set : ℕ) × (last : Option (List ℕ)) × (x ≡ Proceeding reliable set last) × ((code : ℕ) × (e.kind ≡ Response code) × IsSuccess code))
               → IsAllowed e × HoldsIn (Closes (es ++ e ∷ []) e.moment) y
+          -- a row of the corrected machine leads on; the other case is one before the final response
           by (inl (r, is_r, leads)) =
               let sends = closes-sent x e.kind r owes refl closes (sent-row p x e.kind e r is_r) in (sends.0, (r.0, changed p e.moment r.1 owes, led e owes row r y leads to, sends.1))
           by (inr (reliable, set, last, here, response)) = absurd (subst (λ z. Closes es e.moment z owes) here closes)
@@ -265,7 +278,9 @@ module _ {X : Type 0} (f : Figure X) (p : Times) (held : InviteServerPhase → X
         (x, left, to, closes-pays _ x owes left pays closes),
       )
         where
+          -- the debt that is paid is the message that was sent
           bytes : pays.first.message ≡ e.text
+          -- without a row a debt is paid, and all debts are allowed
           bytes = is.paid x e.kind e pays.first.message pays.holds.0
 
           -- the debt that is paid is the final response, or a provisional one that was owed before it
@@ -288,6 +303,7 @@ module _ {X : Type 0} (f : Figure X) (p : Times) (held : InviteServerPhase → X
           → Closes (es ++ e ∷ []) e.moment row.0 (changed p e.moment row.1 owes)
       closes-received _ _ _ owes was kind never closes (comes _) = absurd (never (was, kind) closes.1)
       closes-received _ _ _ owes was kind never closes (again _ reliable set last must) = absurd closes
+      -- an INVITE that comes again is owed the final response, which is allowed
       closes-received _ _ _ owes was kind never closes (again_after _ reliable message set repeat interval) = (
         closes.0,
         closes.1,
@@ -304,9 +320,11 @@ module _ {X : Type 0} (f : Figure X) (p : Times) (held : InviteServerPhase → X
           let (r, is_r, leads) = is.received x e.kind e row is_row in
           (r.0, changed p e.moment r.1 owes, led e owes row r y leads to, closes-received x e.kind r owes was refl never closes (received-row p x e.kind e r is_r))
       closes-steps Received x owes y was never closes (inr (none, same)) = (x, owes, same, closes-later es (e ∷ []) e.moment e.moment x owes (omega arith) closes)
+      -- what is sent or refused keeps Closes
       closes-steps Sent x owes y was never closes emits = (closes-emits x owes y closes emits).1
       closes-steps Failed x owes y was never closes fails = closes-fails (f.ends_refused (held x) e.kind) x owes y refl closes fails
       closes-steps Mark x owes y was never closes h = absurd h
+      -- after a restart Closes holds, since a restart has come
       closes-steps Restart x owes y was never closes (inl (idle, to)) = (Idle, [], rw (to, is.idle), (refl, inr (inr (any-last IsRestart es e was))))
       closes-steps Restart x owes y was never closes (inr (other, to)) = (Idle, [], rw (to, is.ended), (refl, inr (inr (any-last IsRestart es e was))))
 
@@ -323,10 +341,12 @@ module _ {X : Type 0} (f : Figure X) (p : Times) (held : InviteServerPhase → X
     no-new es e (inl none) invite past = All-last (λ g. ¬ (GetsRequest Invite g)) es e none invite
     no-new es e (inr lasting) invite past = by past
       where
+        -- the transaction cannot be over: neither timer H nor timer L has fired, and neither an ACK nor a restart came
         by : Past es e.moment → ⊥
         by (inl late) =
             let last = All-last (λ g. ¬ (GetsRequest Ack g) × ¬ (IsRestart g) × (g.moment < open_at p final.moment (64 * p.t1))) es e lasting in
             absurd (omega (arith, late, last.2))
+        -- no ACK has come, and no restart
         by (inr (inl came)) =
             any-none (GetsRequest Ack) es (All-weaker (λ g. ¬ (GetsRequest Ack g) × ¬ (IsRestart g) × (g.moment < open_at p final.moment (64 * p.t1))) (λ g. ¬ (GetsRequest Ack g)) (λ g all. all.0) es
             (All-front (λ g. ¬ (GetsRequest Ack g) × ¬ (IsRestart g) × (g.moment < open_at p final.moment (64 * p.t1))) es (e ∷ []) lasting)) came
@@ -343,18 +363,20 @@ module _ {X : Type 0} (f : Figure X) (p : Times) (held : InviteServerPhase → X
     after-final-kept : IsKept f p (λ es m y. BeginNoneAnew p final es → HoldsIn (Closes es m) y)
     after-final-kept = record { as_it_waits = as_it_waits; as_it_ends = as_it_ends; as_it_takes = as_it_takes }
       where
+        -- Closes stays true as time passes
+        -- the run stands in x from the moment h until the moment m
         as_it_waits : (es : List MachineEvent) (h m : ℕ) (x : Owing X) → (BeginNoneAnew p final es → HoldsIn (Closes es h) x) → h ≤ m → Lasts f p x m → BeginNoneAnew p final es → HoldsIn (Closes es m) x
         as_it_waits es h m x holds low lasts anew =
             let (phase, owes, same, closes) = holds anew in (phase, owes, same, subst (λ fs. Closes fs m phase owes) (append-nil es) (closes-later es [] h m phase owes low closes))
 
-        -- an end keeps Closes
+        -- Closes stays true where the transaction ends
         as_it_ends : (es : List MachineEvent) (h : ℕ) (x : Owing X) → (BeginNoneAnew p final es → HoldsIn (Closes es h) x) → MayEnd f p x h → BeginNoneAnew p final es → HoldsIn (Closes es h) (quiet f.ended)
         as_it_ends es h x holds may anew =
             let (phase, owes, same, closes) = holds anew in
             let opening = subst (λ window. IsSomeAnd window (λ w. w.0 ≤ h)) (is.window phase) (subst (λ z. MayEnd f p z h) same may).0 in
             (Idle, [], ap quiet is.ended, (refl, closes-ends es h phase owes closes opening))
 
-        -- an event keeps Closes
+        -- Closes stays true after an event
         as_it_takes : (es : List MachineEvent) (e : MachineEvent) (x y : Owing X) → (BeginNoneAnew p final es → HoldsIn (Closes es e.moment) x) → Takes f p x e y → BeginNoneAnew p final (es ++ e ∷ [])
             → HoldsIn (Closes (es ++ e ∷ []) e.moment) y
         as_it_takes es e x y holds take anew =
@@ -368,7 +390,7 @@ module _ {X : Type 0} (f : Figure X) (p : Times) (held : InviteServerPhase → X
                 closes-fewer es m x owes (left_at e (record { phase = held x; owes = owes })) (λ none. rw none refl)
                 (λ old. All-filter _ (λ o. (IsBad × (o.message ≡ final.text)) ⊎ ((o.deadline ≤ close_at p final.moment 0) × IsSaid before o.message)) owes old) closes
 
-    -- What follows is of the final response itself.
+    -- What follows is of the final response itself: an event before it that has its bytes has its kind too.
     module _ (is_final : SendsResponse IsFinal final) (one_kind : All (λ g. g.text ≡ final.text → g.kind ≡ final.kind) before) where
       -- the final response pays no debt of a server that proceeds
       pub final-paid : (P : Owed → Type 0) (x : InviteServerPhase) (owes left : List Owed) → Opens before final.moment x owes → (pays : IsWithoutFirst P owes left) → ¬ (pays.first.message ≡ final.text)
@@ -409,7 +431,9 @@ module _ {X : Type 0} (f : Figure X) (p : Times) (held : InviteServerPhase → X
         final-steps : (x y : Owing X) → HoldsIn (Opens before final.moment) x → Takes f p x final y → HoldsIn (Closes [] final.moment) y
         final-steps x y (phase, owes, same, opens) take = by is_final.0
           where
+            -- the final response leads to a phase of which Closes holds
             by : IsOut final → HoldsIn (Closes [] final.moment) y
+            -- the final response is sent, or refused
             by (inl sent) =
                 final-emits phase (left_at final (record { phase = held phase; owes = owes })) y (opens-left before final final.moment phase (record { phase = held phase; owes = owes }) opens)
                 (step-of f p Sent final (record { phase = held phase; owes = owes }) y sent (subst (λ w. Takes f p w final y) same take))
@@ -424,7 +448,9 @@ module _ {X : Type 0} (f : Figure X) (p : Times) (held : InviteServerPhase → X
         sent-after-final after e y first anew sent (x, stands, take) =
             by-cut (cut f p (quiet f.idle) 0 before final after e.moment x (stands-run f p (before ++ final ∷ after) e.moment x stands))
           where
+            -- where Closes holds, what is sent is allowed
             by : HoldsIn (Closes after e.moment) x → IsAllowed e
+            -- after the final response no event was one that begins anew, so Closes still holds at this event
             by (phase, owes, same, closes) =
                 let z : Owing X = record { phase = held phase; owes = owes } in
                 (closes-emits after e phase (left_at e z) y

@@ -1,4 +1,6 @@
 -- An INVITE server that has just got its INVITE answers it within 200 ms.
+-- In the lemmas x is the phase or the state before a step and y the state after it, k is the kind of a message, row is where a row leads, m is a moment, and
+-- h is a moment or what is known of a row.
 use Rattle.std.proofs.Common.{◌≡◌, ◌≤◌, ◌<◌, ◌⊎◌, inl, inr, ℕ, Bool, true, false, Option, None, IsSomeAnd, List, [], ◌∷◌, ◌++◌, All, refl, sym, ap, subst, ◌∙◌, arith}
 use Rattle.std.specs.List.{Any}
 use Rattle.std.proofs.lemmas.List.Elements.{All-head}
@@ -21,7 +23,8 @@ use Rattle.consequences.proofs.lemmas.run.Lists.{any-last, any-earlier}
 use Rattle.consequences.proofs.lemmas.run.Running.{IsKept, step-of, stands-run, Cut, cut, run-keeps}
 use Rattle.consequences.proofs.lemmas.server.InviteServers.{Row, IsServer, ReceivedRow, comes, again, again_after, acknowledged, received-row, SentRow, provisional, success, unsuccessful, success_again, repeats, sent-row}
 
--- What follows is of an INVITE server, whose figure f holds the corrected phases, and the INVITE with which its transaction begins.
+-- What follows is of an INVITE server with the figure f and the times p, whose transaction begins with `invite`.
+-- `held` tells which of its phases is which phase of the corrected INVITE server.
 module _ {X : Type 0} (f : Figure X) (p : Times) (held : InviteServerPhase → X) (is : IsServer f p held) (invite : MachineEvent) where
   -- the event has the property P, and comes within 200 ms of the INVITE and as much as an element may be late
   abbrev InTime : (MachineEvent → Type 0) → MachineEvent → Type 0
@@ -45,12 +48,15 @@ module _ {X : Type 0} (f : Figure X) (p : Times) (held : InviteServerPhase → X
   is-response _ _ _ _ (provisional _ r s last code is_provisional) reliable set here = (code, refl, (is_provisional.0, omega (arith, is_provisional.1)))
   is-response _ _ _ _ (success _ r s last code is_success) reliable set here = (code, refl, (omega (arith, is_success.0), omega (arith, is_success.1)))
   is-response _ _ _ _ (unsuccessful _ r s last code is_unsuccessful) reliable set here = (code, refl, (omega (arith, is_unsuccessful.0), is_unsuccessful.1))
+  -- in accepted and completed a response was sent before
   is-response _ _ _ _ (success_again _ s code is_success) reliable set here = absurd (other here)
     where
+      -- accepted is not proceeding
       other : ¬ (Accepted s ≡ Proceeding reliable set None)
       other same = cc
   is-response _ _ _ _ (repeats _ r final s repeat interval k same) reliable set here = absurd (other here)
     where
+      -- completed is not proceeding
       other : ¬ (Completed r final s repeat interval ≡ Proceeding reliable set None)
       other same = cc
 
@@ -59,14 +65,17 @@ module _ {X : Type 0} (f : Figure X) (p : Times) (held : InviteServerPhase → X
       → Emits f p e (quiet (held (Proceeding reliable invite.moment None))) y → Any (InTime (SendsResponse IsAnyCode)) (es ++ e ∷ [])
   sends reliable es e y low out (inl (row, is_row, to)) = by (is.sent (Proceeding reliable invite.moment None) e.kind e row is_row)
     where
+      -- each row of proceeding sends a response in time
       by : ((r : Row) × corrected.Sends p (Proceeding reliable invite.moment None) e.kind e r × (row ≡ (held r.0, r.1)))
           ⊎ ((r : Bool) × (set : ℕ) × (last : Option (List ℕ)) × (Proceeding reliable invite.moment None ≡ Proceeding r set last) × ((code : ℕ) × (e.kind ≡ Response code) × IsSuccess code))
           → Any (InTime (SendsResponse IsAnyCode)) (es ++ e ∷ [])
+      -- the row is one of proceeding, so what it sends is a response
       by (inl (r, is_r, leads)) =
           any-last (InTime (SendsResponse IsAnyCode)) es e
           ((out, is-response (Proceeding reliable invite.moment None) e.kind e r (sent-row p (Proceeding reliable invite.moment None) e.kind e r is_r) reliable invite.moment refl), low)
       by (inr (r, set, last, here, (code, kind, is_success))) =
           any-last (InTime (SendsResponse IsAnyCode)) es e ((out, (code, kind, (omega (arith, is_success.0), omega (arith, is_success.1)))), low)
+  -- nothing is owed that could be paid, and nothing stays by itself
   sends reliable es e y low out (inr (inl (left, pays, to))) = absurd (nothing-to-pay _ left pays)
   sends reliable es e y low out (inr (inr (stays, same))) = absurd (is.unmoved (Proceeding reliable invite.moment None) e.kind stays)
 
@@ -79,12 +88,15 @@ module _ {X : Type 0} (f : Figure X) (p : Times) (held : InviteServerPhase → X
   -- a step within 200 ms leaves the server as it waits, or is a response or a restart in time
   steps : (a : Action) (reliable : Bool) (es : List MachineEvent) (e : MachineEvent) (y : Owing X) → e.moment ≤ close_at p invite.moment 200 → e.action ≡ a
       → Steps f p a e (quiet (held (Proceeding reliable invite.moment None))) y → Waits (es ++ e ∷ []) e.moment y
+  -- no row of a received message leads from proceeding; where there is none, the server waits as before
   steps Received reliable es e y low was (inl (row, is_row, to)) =
       let (r, is_r, leads) = is.received (Proceeding reliable invite.moment None) e.kind e row is_row in
       absurd (no-row reliable invite.moment (Proceeding reliable invite.moment None) e.kind e r refl (received-row p (Proceeding reliable invite.moment None) e.kind e r is_r))
   steps Received reliable es e y low was (inr (none, same)) = inl (reliable, same, low)
+  -- what is sent or refused is the response, and it comes in time
   steps Sent reliable es e y low was h = inr (inl (sends reliable es e y low (inl was) h))
   steps Failed reliable es e y low was h = inr (inl (fails (f.ends_refused (held (Proceeding reliable invite.moment None)) e.kind) reliable es e y low was h))
+  -- a mark is no step of a transaction, and a restart comes in time
   steps Mark reliable es e y low was h = absurd h
   steps Restart reliable es e y low was h = inr (inr (any-last (InTime IsRestart) es e (was, low)))
 
@@ -93,21 +105,23 @@ module _ {X : Type 0} (f : Figure X) (p : Times) (held : InviteServerPhase → X
   in-time reliable x m same lasts =
       All-head (λ last. m ≤ last) (close_at p invite.moment 200) [] (subst (All (λ last. m ≤ last)) (is.sends_by (Proceeding reliable invite.moment None)) (subst (λ z. Lasts f p z m) same lasts).1)
 
-  -- a run keeps that the server waits within its time, or that a response or a restart came in time
+  -- along a run the server goes on to wait within its time, unless a response or a restart came in time
   waits-kept : IsKept f p Waits
   waits-kept = record { as_it_waits = as_it_waits; as_it_ends = as_it_ends; as_it_takes = as_it_takes }
     where
+      -- Waits stays true as time passes
+      -- the run stands in x from the moment h until the moment m
       as_it_waits : (es : List MachineEvent) (h m : ℕ) (x : Owing X) → Waits es h x → h ≤ m → Lasts f p x m → Waits es m x
       as_it_waits es h m x (inl (reliable, same, low)) later lasts = inl (reliable, same, in-time reliable x m same lasts)
       as_it_waits es h m x (inr found) later lasts = inr found
 
-      -- an end keeps Waits
+      -- Waits stays true where the transaction ends
       as_it_ends : (es : List MachineEvent) (h : ℕ) (x : Owing X) → Waits es h x → MayEnd f p x h → Waits es h (quiet f.ended)
       as_it_ends es h x (inl (reliable, same, low)) may =
           absurd (subst (λ window. IsSomeAnd window (λ w. w.0 ≤ h)) (is.window (Proceeding reliable invite.moment None)) (subst (λ z. MayEnd f p z h) same may).0)
       as_it_ends es h x (inr later) may = inr later
 
-      -- an event keeps Waits
+      -- Waits stays true after an event
       as_it_takes : (es : List MachineEvent) (e : MachineEvent) (x y : Owing X) → Waits es e.moment x → Takes f p x e y → Waits (es ++ e ∷ []) e.moment y
       as_it_takes es e x y (inl (reliable, same, low)) take = steps e.action reliable es e y low refl (subst (λ z. Takes f p z e y) same take)
       as_it_takes es e x y (inr (inl sent)) take = inr (inl (any-earlier (InTime (SendsResponse IsAnyCode)) es (e ∷ []) sent))
@@ -119,13 +133,15 @@ module _ {X : Type 0} (f : Figure X) (p : Times) (held : InviteServerPhase → X
     opens : (x y : Owing X) → x ≡ quiet f.idle → GetsRequest Invite invite → Takes f p x invite y → y ≡ quiet (held (Proceeding invite.reliable invite.moment None))
     opens x y same gets take = by (step-of f p Received invite (quiet (held Idle)) y gets.0 (subst (λ z. Takes f p z invite y) (same ∙ ap quiet is.idle) take))
       where
+        -- the row of an INVITE in idle leads to proceeding
         row-of : (k : Kind) (r : Row) → k ≡ Request Invite → ReceivedRow Idle k invite r → r ≡ (Proceeding invite.reliable invite.moment None, keeps)
         row-of _ _ kind (comes _) = refl
 
+        -- the server has this row for the INVITE
         opening : f.Receives p (held Idle) invite.kind invite (held (Proceeding invite.reliable invite.moment None), keeps)
         opening = subst (λ k. f.Receives p (held Idle) k invite (held (Proceeding invite.reliable invite.moment None), keeps)) (sym gets.1) (is.opened invite)
 
-        -- the INVITE has a row in idle, so the state does not stay as it is
+        -- the INVITE leads to proceeding: it has a row in idle, so the state does not stay as it is
         by : Follows (f.Receives p (held Idle) invite.kind invite) p invite (quiet (held Idle)) y ⊎ (((z : Owing X) → ¬ (Follows (f.Receives p (held Idle) invite.kind invite) p invite (quiet (held Idle)) z)) × (y ≡ quiet (held Idle)))
             → y ≡ quiet (held (Proceeding invite.reliable invite.moment None))
         by (inl (row, is_row, to)) =
@@ -139,6 +155,7 @@ module _ {X : Type 0} (f : Figure X) (p : Times) (held : InviteServerPhase → X
         Stands f p (before ++ invite ∷ after) m y → close_at p invite.moment 200 < m → Any (InTime (SendsResponse IsAnyCode)) after ⊎ Any (InTime IsRestart) after
     answered-in-time before after m y none gets stands late = by-cut (cut f p (quiet f.idle) 0 before invite after m y (stands-run f p (before ++ invite ∷ after) m y stands))
       where
+        -- m is after 200 ms, so the server waits no more: a response or a restart came in time
         by : Waits after m y → Any (InTime (SendsResponse IsAnyCode)) after ⊎ Any (InTime IsRestart) after
         by (inl (reliable, same, low)) = absurd (omega (arith, low, late))
         by (inr found) = found

@@ -1,4 +1,5 @@
 -- An INVITE server by RFC 3261 alone after a 2xx: it sends nothing but 2xx until an INVITE comes.
+-- In the lemmas x is the phase or the state before a step and y the state after it, and k is the kind of a message.
 use Rattle.std.proofs.Common.{◌≡◌, ◌⊎◌, inl, inr, ℕ, Bool, true, false, List, [], ◌∷◌, ◌++◌, All, refl, sym, subst, ◌∙◌, arith}
 use Rattle.sip_standard.specs.declared.action.Action.{Action}
 use Rattle.sip_standard.specs.declared.action.Action.TheVariants.{Sent, Received, Failed, Mark, Restart}
@@ -26,12 +27,13 @@ use Rattle.consequences.proofs.lemmas.server.Said.{codes-are-one}
 abbrev f : Figure InviteServer3261Phase
 f = invite_server_3261
 
--- What follows is of the phase `Passed`, after a 2xx.
+-- What follows is of the phase `Passed`, in which the server is after a 2xx; p are its times.
 module _ (p : Times) where
   -- what is sent after a 2xx is a 2xx, and changes nothing
   passed-emits : (e : MachineEvent) (y : Owing InviteServer3261Phase) → Emits f p e (quiet Passed) y → IsResponse IsSuccess e × (y ≡ quiet Passed)
   passed-emits e y (inl (row, is_row, to)) = by e.kind refl is_row
     where
+      -- what is sent after a 2xx is a 2xx, and the phase stays: a response has a row, and a request has none
       by : (k : Kind) → e.kind ≡ k → Sends p Passed k e row → IsResponse IsSuccess e × (y ≡ quiet Passed)
       by (Response code) kind is_row = ((code, kind, is_row.0), rw (to, is_row.1))
       by (Request method) kind is_row = absurd is_row
@@ -54,6 +56,7 @@ module _ (p : Times) where
 
   -- a step after a 2xx, unless an INVITE comes, keeps the server there, or is a restart
   passed-steps : (a : Action) (e : MachineEvent) (y : Owing InviteServer3261Phase) → e.action ≡ a → ¬ (GetsRequest Invite e) → Steps f p a e (quiet Passed) y → Sits y
+  -- only an INVITE has a row of a received message there; a sent 2xx keeps the phase, and a restart leads to idle
   passed-steps Received e y was never (inl (row, is_row, to)) = absurd (never (was, passed-received e.kind e row is_row))
   passed-steps Received e y was never (inr (none, same)) = inl same
   passed-steps Sent e y was never emits = inl (passed-emits e y emits).1
@@ -70,9 +73,11 @@ module _ (p : Times) where
   stays-so-kept : IsKept f p Stays-so
   stays-so-kept = record { as_it_waits = λ es h m x holds low lasts. holds; as_it_ends = λ es h x holds may all. inr refl; as_it_takes = as_it_takes }
     where
+      -- Stays-so stays true after an event
       as_it_takes : (es : List MachineEvent) (e : MachineEvent) (x y : Owing InviteServer3261Phase) → Stays-so es e.moment x → Takes f p x e y → Stays-so (es ++ e ∷ []) e.moment y
       as_it_takes es e x y holds take all = by (holds (All-front (λ g. ¬ (GetsRequest Invite g)) es (e ∷ []) all))
         where
+          -- the event is no INVITE
           never : ¬ (GetsRequest Invite e)
           never = All-last (λ g. ¬ (GetsRequest Invite g)) es e all
 
@@ -81,12 +86,13 @@ module _ (p : Times) where
           by-sleep (inl same) = inr same
           by-sleep (inr wakes) = absurd (never wakes)
 
-          -- the server was after its 2xx, or idle
+          -- the server stays after its 2xx or idle, whichever it was
           by : Sits x → Sits y
           by (inl passed) = passed-steps e.action e y refl never (subst (λ z. Takes f p z e y) passed take)
           by (inr idle) = by-sleep (asleep-steps f p IsInvite (without-asleep p) e.action e y refl (subst (λ z. Takes f p z e y) idle take))
 
-  -- What follows is of the first final response of the server, which is a 2xx.
+  -- What follows is of `final`, the first final response of the server, which is a 2xx; `before` are the events before it, and those with its bytes have its
+  -- kind.
   module _ (before : List MachineEvent) (final : MachineEvent) (sends : SendsResponse IsSuccess final) (one_kind : All (λ g. g.text ≡ final.text → g.kind ≡ final.kind) before) where
     -- a 2xx is a final response
     is_final : SendsResponse IsFinal final
@@ -113,6 +119,7 @@ module _ (p : Times) where
     final-steps : (x y : Owing InviteServer3261Phase) → HoldsIn f p first_in (is-server-3261 p) (Opens f p first_in (is-server-3261 p) before final.moment) x → Takes f p x final y → Sits y
     final-steps x y (phase, owes, same, opens) take = by sends.0
       where
+        -- the 2xx leads to `Passed`, sent or refused
         by : (final.action ≡ Sent) ⊎ (final.action ≡ Failed) → Sits y
         by (inl sent) =
             final-emits phase (left_at final (record { phase = first_in phase; owes = owes })) y (opens-left f p first_in (is-server-3261 p) before final final.moment phase (record { phase = first_in phase; owes = owes }) opens)
@@ -127,6 +134,7 @@ module _ (p : Times) where
     successes-alone after e y first none sent (x, stands, take) =
         by-cut (cut f p (quiet f.idle) 0 before final after e.moment x (stands-run f p (before ++ final ∷ after) e.moment x stands))
       where
+        -- the event is a 2xx: the server that has passed a 2xx sends only those, and an idle one sends nothing
         by : Sits x → IsResponse IsSuccess e
         by (inl passed) = (passed-emits e y (step-of f p Sent e (quiet Passed) y sent (subst (λ z. Takes f p z e y) passed take))).0
         by (inr idle) = absurd (asleep-emits f p IsInvite (without-asleep p) e y (step-of f p Sent e (quiet (In Idle false)) y sent (subst (λ z. Takes f p z e y) idle take)))

@@ -1,4 +1,6 @@
 -- The non-INVITE server answers a request that comes again after its final response by that response.
+-- In the lemmas x is the phase or the state before a step and y the state after it, k is the kind of a message, row is where a row leads, m is a moment, and
+-- h is a moment or what is known of a row.
 use Rattle.std.proofs.Common.{◌≡◌, ◌≤◌, ◌<◌, ◌*◌, ◌⊎◌, inl, inr, ℕ, Bool, true, false, List, [], ◌∷◌, ◌++◌, All, Contains, refl, sym, subst, arith}
 use Rattle.std.specs.List.{Any}
 use Rattle.std.proofs.lemmas.List.Elements.{All-nil, All-filter, All-push, All-weaker, Contains-push}
@@ -29,7 +31,7 @@ use Rattle.consequences.proofs.lemmas.run.Running.{IsKept, left_at, step-of, sta
 abbrev Row : Type 0
 Row = PlainServerPhase × Change
 
--- the non-INVITE server
+-- the figure of the non-INVITE server
 abbrev f : Figure PlainServerPhase
 f = plain_server
 
@@ -37,7 +39,7 @@ f = plain_server
 true-false : ¬ (true ≡ false)
 true-false same = cc
 
--- What follows is of a non-INVITE server whose requests came over an unreliable transport.
+-- What follows is of a non-INVITE server with the times p whose requests came over an unreliable transport.
 module _ (p : Times) where
   -- What follows is of the time before the final response.
 
@@ -89,6 +91,7 @@ module _ (p : Times) where
     opens-received Idle (Request method) row owes unreliable opens h = rw h (unreliable, rw opens (All-nil (λ o. IsSaid Now o.message)))
     opens-received (Proceeding reliable last) (Request method) row owes unreliable opens h = by h
       where
+        -- at this event Opens still holds of what was owed
         later : Opens Now (Proceeding reliable last) owes
         later = opens-later es (e ∷ []) (Proceeding reliable last) owes opens
 
@@ -96,7 +99,7 @@ module _ (p : Times) where
         push : (must : Bool) → AreSaid Now (owes ++ record { message = last; deadline = close_at p e.moment 0; must = must } ∷ [])
         push must = All-push (λ o. IsSaid Now o.message) owes (record { message = last; deadline = close_at p e.moment 0; must = must }) later.2 later.1
 
-        -- whether the last response is a 100 or not
+        -- Opens holds after the row, whether the last response is a 100 or not
         by : Replies (Proceeding reliable last) last row → Opens Now row.0 (changed p e.moment row.1 owes)
         by (inl h) = rw h.1 (later.0, later.1, push true)
         by (inr h) = rw h.1 (later.0, later.1, push false)
@@ -105,6 +108,7 @@ module _ (p : Times) where
 
     -- the row of a message that is no final response keeps Opens
     opens-sent : (x : PlainServerPhase) (k : Kind) (row : Row) (owes : List Owed) → IsOut e → e.kind ≡ k → ¬ (SendsResponse IsFinal e) → Opens es x owes → Sends p x k e row → Opens Now row.0 (changed p e.moment row.1 owes)
+    -- a provisional response becomes the last one, and was said by now; a final one is ruled out
     opens-sent (Trying reliable) (Response code) row owes out kind never opens (inl h) =
         rw h.1 (opens.0, any-last (λ g. SendsResponse IsProvisional g × (g.text ≡ e.text)) es e ((out, (code, kind, h.0)), refl), are-said-later es (e ∷ []) owes opens.1)
     opens-sent (Trying reliable) (Response code) row owes out kind never opens (inr h) = absurd (never (out, (code, kind, h.0)))
@@ -129,10 +133,12 @@ module _ (p : Times) where
     -- a step without a final response, over an unreliable transport, keeps Opens
     opens-steps : (a : Action) (x : PlainServerPhase) (owes : List Owed) (y : Owing PlainServerPhase) → e.action ≡ a → e.reliable ≡ false → ¬ (SendsResponse IsFinal e) → Opens es x owes
         → Steps f p a e (record { phase = x; owes = owes }) y → Is (Opens Now) y
+    -- a received message leads along a row, or leaves all as it is; what is sent or refused is provisional
     opens-steps Received x owes y was unreliable never opens (inl (row, is_row, to)) = rw to (opens-received x e.kind row owes unreliable opens is_row)
     opens-steps Received x owes y was unreliable never opens (inr (none, same)) = rw same (opens-later es (e ∷ []) x owes opens)
     opens-steps Sent x owes y was unreliable never opens emits = opens-emits x owes y (inl was) never opens emits
     opens-steps Failed x owes y was unreliable never opens emits = opens-emits x owes y (inr was) never opens emits
+    -- a mark is no step, and after a restart nothing is owed
     opens-steps Mark x owes y was unreliable never opens h = absurd h
     opens-steps Restart x owes y was unreliable never opens (inl (idle, to)) = rw to refl
     opens-steps Restart x owes y was unreliable never opens (inr (other, to)) = rw to refl
@@ -149,6 +155,7 @@ module _ (p : Times) where
   before-final-kept : IsKept f p BeforeFinal
   before-final-kept = record { as_it_waits = λ es h m x holds low lasts. holds; as_it_ends = λ es h x holds may all. refl; as_it_takes = as_it_takes }
     where
+      -- BeforeFinal stays true after an event
       as_it_takes : (es : List MachineEvent) (e : MachineEvent) (x y : Owing PlainServerPhase) → BeforeFinal es e.moment x → Takes f p x e y → BeforeFinal (es ++ e ∷ []) e.moment y
       as_it_takes es e x y holds take all =
           let last = All-last IsBefore es e all in
@@ -156,7 +163,7 @@ module _ (p : Times) where
 
   -- What follows is of the time after the final response.
 
-  -- What follows is of a final response, whose bytes no message of another kind had before.
+  -- What follows is of `final`, with which the server sends a final response after the events `before`: those of them with its bytes have its kind.
   module _ (before : List MachineEvent) (final : MachineEvent) (is_final : SendsResponse IsFinal final) (one_kind : All (λ g. g.text ≡ final.text → g.kind ≡ final.kind) before) where
     -- the phase is completed by that response, over an unreliable transport
     abbrev IsCompleted : PlainServerPhase → Type 0
@@ -192,6 +199,7 @@ module _ (p : Times) where
     final-steps : (x y : Owing PlainServerPhase) → Opens before x.phase x.owes → Takes f p x final y → IsCompleted y.phase
     final-steps x y opens take = by is_final.0
       where
+        -- the server is completed after the final response, sent or refused
         by : IsOut final → IsCompleted y.phase
         by (inl sent) = final-emits x.phase (left_at final x) y (opens-left before final x opens) (step-of f p Sent final x y sent take)
         by (inr refused) = final-emits x.phase (left_at final x) y (opens-left before final x opens) (step-of f p Failed final x y refused take)
@@ -212,10 +220,12 @@ module _ (p : Times) where
     -- a step leaves the server completed by the final response, unless the element starts again
     completed-steps : (a : Action) (es : List MachineEvent) (x : PlainServerPhase) (owes : List Owed) (e : MachineEvent) (y : Owing PlainServerPhase) → e.action ≡ a → IsCompleted x → Steps f p a e (record { phase = x; owes = owes }) y
         → IsCompleted y.phase ⊎ Past (es ++ e ∷ []) e.moment
+    -- a received message leads along a row, or leaves all as it is; what is sent or refused leaves the server completed
     completed-steps Received es x owes e y was done (inl (row, is_row, to)) = inl (rw to (completed-received x e.kind e row done is_row))
     completed-steps Received es x owes e y was done (inr (none, same)) = inl (rw same done)
     completed-steps Sent es x owes e y was done emits = inl (completed-emits x owes e y done emits)
     completed-steps Failed es x owes e y was done emits = inl (completed-emits x owes e y done emits)
+    -- a mark is no step, and a restart is one of the ends
     completed-steps Mark es x owes e y was done h = absurd h
     completed-steps Restart es x owes e y was done h = inr (inr (any-last IsRestart es e was))
 
@@ -234,21 +244,23 @@ module _ (p : Times) where
     completed-kept : IsKept f p (λ es m y. IsCompleted y.phase ⊎ Past es m)
     completed-kept = record { as_it_waits = as_it_waits; as_it_ends = as_it_ends; as_it_takes = as_it_takes }
       where
+        -- time keeps what is known: the server is completed, or its transaction may be over
+        -- the run stands in x from the moment h until the moment m
         as_it_waits : (es : List MachineEvent) (h m : ℕ) (x : Owing PlainServerPhase) → IsCompleted x.phase ⊎ Past es h → h ≤ m → Lasts f p x m → IsCompleted x.phase ⊎ Past es m
         as_it_waits es h m x (inl done) low lasts = inl done
         as_it_waits es h m x (inr past) low lasts = inr (subst (λ fs. Past fs m) (append-nil es) (past-later es [] h m low past))
 
-        -- an end keeps it
+        -- after an end the server is completed still, or the deadline is past
         as_it_ends : (es : List MachineEvent) (h : ℕ) (x : Owing PlainServerPhase) → IsCompleted x.phase ⊎ Past es h → MayEnd f p x h → IsCompleted Idle ⊎ Past es h
         as_it_ends es h x (inl done) may = inr (inl (completed-ends x.phase x.owes h done may))
         as_it_ends es h x (inr past) may = inr past
 
-        -- an event keeps it
+        -- after an event the server is completed still, or the deadline is past
         as_it_takes : (es : List MachineEvent) (e : MachineEvent) (x y : Owing PlainServerPhase) → IsCompleted x.phase ⊎ Past es e.moment → Takes f p x e y → IsCompleted y.phase ⊎ Past (es ++ e ∷ []) e.moment
         as_it_takes es e x y (inl done) take = completed-steps e.action es x.phase (left_at e x) e y refl done take
         as_it_takes es e x y (inr past) take = inr (past-later es (e ∷ []) e.moment e.moment (omega arith) past)
 
-    -- What follows is of a request that comes again: the final response is owed to it.
+    -- What follows is of `again`, with which the request comes again: the final response is owed to it.
 
     module _ (again : MachineEvent) where
       -- the final response, which must be sent again as late as an element may be
@@ -262,6 +274,7 @@ module _ (p : Times) where
       -- the row of a request that comes again leaves the server completed, and owes the final response
       again-received : (x : PlainServerPhase) (owes : List Owed) (k : Kind) (row : Row) → (method : Method) × (k ≡ Request method) → IsCompleted x → Receives p x k again row
           → IsCompleted row.0 × Contains (changed p again.moment row.1 owes) debt
+      -- only a completed server is asked: the final response is put behind its debts, and has the bytes of that of the phase
       again-received (Completed reliable message set) owes (Request method) row asks done h =
           rw h (
             done,
@@ -276,6 +289,7 @@ module _ (p : Times) where
       again-opens (Completed reliable message set) (Request method) asks done = ((Completed reliable message set, gains true message), refl)
       again-opens (Completed reliable message set) (Response code) (method, kind) done = absurd (no-request kind)
         where
+          -- a response is no request
           no-request : ¬ (Response code ≡ Request method)
           no-request same = cc
       again-opens x k asks done = absurd done
@@ -297,37 +311,41 @@ module _ (p : Times) where
       owes-received (Completed reliable message set) owes (Response code) e row done owed h = absurd h
       owes-received x owes k e row done owed h = absurd done
 
-      -- what is sent keeps that the final response is owed, or sends it in time
+      -- where the final response is owed, it is still owed after a send, or was sent in time
       owes-emits : (es : List MachineEvent) (x : PlainServerPhase) (owes : List Owed) (e : MachineEvent) (y : Owing PlainServerPhase) → IsOut e → IsCompleted x → Contains owes debt
           → Emits f p e (record { phase = x; owes = owes }) y → Owes (es ++ e ∷ []) e.moment y
       owes-emits es (Completed reliable message set) owes e y out done owed (inl (row, is_row, to)) = absurd is_row
       owes-emits es x owes e y out done owed (inl row) = absurd done
       owes-emits es x owes e y out done owed (inr (inl (left, pays, to))) = by (other-paid debt refl _ owes left pays owed)
         where
+          -- Owes holds after the event: the response is owed still, or this event has paid it
           by : Contains left debt ⊎ ((final.text ≡ e.text) × (e.moment ≤ close_at p again.moment 0)) → Owes (es ++ e ∷ []) e.moment y
           by (inl still) = inl (rw to (done, still))
           by (inr paid) = inr (inl (any-last IsPaid es e ((out, sym paid.0), paid.1)))
       owes-emits es x owes e y out done owed (inr (inr (stays, same))) = absurd stays
 
-      -- a step keeps that the final response is owed, or sends it in time, or is a restart
+      -- where the final response is owed, it is still owed after a step, or the step sent it in time, or was a restart
       owes-steps : (a : Action) (es : List MachineEvent) (x : PlainServerPhase) (owes : List Owed) (e : MachineEvent) (y : Owing PlainServerPhase) → e.action ≡ a → IsCompleted x → Contains owes debt
           → Steps f p a e (record { phase = x; owes = owes }) y → Owes (es ++ e ∷ []) e.moment y
+      -- a received message keeps the debt; what is sent or refused pays it in time, or keeps it
       owes-steps Received es x owes e y was done owed (inl (row, is_row, to)) = inl (rw to (completed-received x e.kind e row done is_row, owes-received x owes e.kind e row done owed is_row))
       owes-steps Received es x owes e y was done owed (inr (none, same)) = inl (rw same (done, owed))
       owes-steps Sent es x owes e y was done owed emits = owes-emits es x owes e y (inl was) done owed emits
       owes-steps Failed es x owes e y was done owed emits = owes-emits es x owes e y (inr was) done owed emits
+      -- a mark is no step, and a restart is one of the ends
       owes-steps Mark es x owes e y was done owed h = absurd h
       owes-steps Restart es x owes e y was done owed h = inr (inr (any-last IsRestart es e was))
 
-      -- a run keeps that the final response is owed, or that it was sent in time, or that the element started again
+      -- along a run the final response stays owed, unless it was sent in time or the element started again
       owes-kept : IsKept f p Owes
       owes-kept = record { as_it_waits = λ es h m x holds low lasts. holds; as_it_ends = as_it_ends; as_it_takes = as_it_takes }
         where
+          -- an end keeps Owes, since nothing ends while the response is owed
           as_it_ends : (es : List MachineEvent) (h : ℕ) (x : Owing PlainServerPhase) → Owes es h x → MayEnd f p x h → Owes es h (quiet Idle)
           as_it_ends es h x (inl owed) may = absurd (no-end debt refl f p x h owed.1 may)
           as_it_ends es h x (inr paid) may = inr paid
 
-          -- an event keeps Owes
+          -- Owes stays true after an event
           as_it_takes : (es : List MachineEvent) (e : MachineEvent) (x y : Owing PlainServerPhase) → Owes es e.moment x → Takes f p x e y → Owes (es ++ e ∷ []) e.moment y
           as_it_takes es e x y (inl owed) take = owes-steps e.action es x.phase (left_at e x) e y refl owed.0 (still-owed debt refl e x owed.1) take
           as_it_takes es e x y (inr (inl paid)) take = inr (inl (any-earlier IsPaid es (e ∷ []) paid))
@@ -335,12 +353,14 @@ module _ (p : Times) where
 
       -- a request that comes again before timer J may fire is answered with the final response, by the end of a run that goes on longer
       -- than an element may be late
+      -- `lasts` says that each state in which a run can stand can wait; y is the state in which the run stands at the moment m, and g an event
       pub answered-again : (lasts : (events : List MachineEvent) (m : ℕ) (x : Owing PlainServerPhase) → Stands f p events m x → Lasts f p x m) (between after : List MachineEvent) (m : ℕ) (y : Owing PlainServerPhase) →
           All (λ g. g.reliable ≡ false) before → All (λ g. ¬ (SendsResponse IsFinal g)) before → All (λ g. ¬ (IsRestart g)) between → GetsAnyRequest again → again.moment < open_at p final.moment (64 * p.t1) →
           Stands f p (before ++ final ∷ (between ++ again ∷ after)) m y → close_at p again.moment 0 < m → Any IsPaid after ⊎ Any IsRestart after
       answered-again lasts between after m y unreliable first unbroken asks early stands late =
           by-final (cut f p (quiet Idle) 0 before final (between ++ again ∷ after) m y (stands-run f p (before ++ final ∷ (between ++ again ∷ after)) m y stands))
         where
+          -- where no event is reliable and none sends a final response, each is as IsBefore says
           both : (es : List MachineEvent) → All (λ g. g.reliable ≡ false) es → All (λ g. ¬ (SendsResponse IsFinal g)) es → All IsBefore es
           both es one other k g low = (one k g low, other k g low)
 
@@ -353,7 +373,7 @@ module _ (p : Times) where
           by-again : (x : Owing PlainServerPhase) → IsCompleted x.phase → Cut f p x final.moment between again after m y → Any IsPaid after ⊎ Any IsRestart after
           by-again x done found = by (run-keeps f p (λ es h z. IsCompleted z.phase ⊎ Past es h) completed-kept between x final.moment again.moment found.from (inl done) found.leads)
             where
-              -- the server is completed when the request comes again, since timer J may not have fired
+              -- the response is sent again, or a restart comes: the server is completed when the request comes again, since timer J may not have fired
               by : IsCompleted found.from.phase ⊎ Past between again.moment → Any IsPaid after ⊎ Any IsRestart after
               by (inl still) =
                   let owed = again-steps found.from.phase (left_at again found.from) found.to (asks.0, asks.1.1) still (step-of f p Received again found.from found.to asks.1.0 found.step) in

@@ -42,12 +42,13 @@ said-last-later es more (Some last) said = said-later es more last said
 pub codes-are-one : (a b : ℕ) → Response a ≡ Response b → a ≡ b
 codes-are-one a b same = cc
 
--- What follows is of a final response, where the same bytes are the same message.
+-- What follows is of `final`, with which a server sends a final response after the events `before`: those of them with its bytes have its kind.
 module _ (before : List MachineEvent) (final : MachineEvent) (is_final : SendsResponse IsFinal final) (one_kind : All (λ g. g.text ≡ final.text → g.kind ≡ final.kind) before) where
   -- a final response is no provisional one
   pub not-provisional : (code : ℕ) → final.kind ≡ Response code → ¬ (IsProvisional code)
   not-provisional code kind is_provisional = by is_final.1
     where
+      -- a provisional code would not be that of a final response
       by : ¬ (IsResponse IsFinal final)
       by (other, is_other, (low, high)) =
           let same : other ≡ code = codes-are-one other code (sym is_other ∙ kind) in
@@ -60,5 +61,6 @@ module _ (before : List MachineEvent) (final : MachineEvent) (is_final : SendsRe
       let kinds = any-one (λ h. h.text ≡ final.text → h.kind ≡ final.kind) before one_kind k g low at in
       not-provisional sends.1.0 (sym (kinds same) ∙ sends.1.1) sends.1.2
     where
+      -- what holds of all elements holds of the one at place k
       any-one : (P : MachineEvent → Type 0) (es : List MachineEvent) → All P es → (k : ℕ) (g : MachineEvent) → k < length es → slice_index_or es k g ≡ g → P g
       any-one P es all k g low at = All-contains P es g all (k, low, at)

@@ -18,7 +18,7 @@ use Rattle.consequences.proofs.lemmas.tolerance.SortedPlainServer.{May, plain-se
 use Rattle.consequences.proofs.lemmas.tolerance.Steady.{client-steady, client-3261-steady, plain-client-steady, server-steady, server-3261-steady, plain-server-steady}
 use Rattle.consequences.proofs.lemmas.tolerance.Wider.{wider-keeps}
 
--- What follows is of a tolerance that is at least as early and as late.
+-- What follows is of the times p, and of a wider tolerance: how early and how late an element may act.
 module _ (p : Times) (early late : ℕ) where
   -- the times with the wider tolerance
   abbrev q : Times
@@ -31,10 +31,12 @@ module _ (p : Times) (early late : ℕ) where
       wider-keeps invite_client p early late later (client-steady p early late earlier later) (λ es phase message. ⊥) (client-sorted q) (what_stands_lasts OfInviteClient p) (what_stands_lasts OfInviteClient q) events m x one stands
   all-wider OfPlainClient events m x earlier later one stands =
       wider-keeps plain_client p early late later (plain-client-steady p early late earlier later) (λ es phase message. ⊥) (plain-client-sorted q) (what_stands_lasts OfPlainClient p) (what_stands_lasts OfPlainClient q) events m x one stands
+  -- a server may owe debts that only may be sent; `MayIn` and `May` say of which messages
   all-wider OfInviteServer events m x earlier later one stands =
       wider-keeps invite_server p early late later (server-steady p early late earlier later) (λ es phase message. MayIn phase message) (server-sorted q) (what_stands_lasts OfInviteServer p) (what_stands_lasts OfInviteServer q) events m x one stands
   all-wider OfPlainServer events m x earlier later one stands =
       wider-keeps plain_server p early late later (plain-server-steady p early late earlier later) May (plain-server-sorted q) (what_stands_lasts OfPlainServer p) (what_stands_lasts OfPlainServer q) events m x one stands
+  -- the machines by RFC 3261 alone keep a run as those by RFC 6026 do
   all-wider OfInviteClient3261 events m x earlier later one stands =
       wider-keeps invite_client_3261 p early late later (client-3261-steady p early late earlier later) (λ es phase message. ⊥) (client-3261-sorted q) (what_stands_lasts OfInviteClient3261 p) (what_stands_lasts OfInviteClient3261 q)
       events m x one stands

@@ -63,11 +63,12 @@ events-known : (key : KeyParts) (es : List (Observation KeyParts)) → All IsKno
 events-known key [] known = All-nil HasItsKind
 events-known key (e ∷ es) known = by (list_any (same_key key) e.keys) refl (events-known key es (All-tail IsKnown e es known))
   where
+    -- where the entry concerns the key, its event has the kind that its bytes say
     its : list_any (same_key key) e.keys ≡ true → IsKnown e → HasItsKind e.event
     its concerns (inl none) = absurd (no-keys key e.keys none concerns)
     its concerns (inr has) = has
 
-    -- whether the first entry concerns the key
+    -- each event of the key has its kind, whether or not the first entry concerns the key
     by : (b : Bool) → list_any (same_key key) e.keys ≡ b → All HasItsKind (events_for key es) → All HasItsKind (map (λ f. f.event) (if b then e ∷ filter (λ f. list_any (same_key key) f.keys) es else filter (λ f. list_any (same_key key) f.keys) es))
     by true is later = All-cons HasItsKind e.event (events_for key es) (its is (All-head IsKnown e es known)) later
     by false is later = later

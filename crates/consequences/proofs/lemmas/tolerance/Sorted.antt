@@ -1,4 +1,5 @@
 -- What may be sent and what must be sent are not paid by one send, for five of the six machines.
+-- In the lemmas x is the phase or the state before a step and y the state after it, k is the kind of a message, t a moment, c a change of debts and o a debt.
 use Rattle.std.proofs.Common.{◌≡◌, ◌≤◌, inl, inr, ℕ, Bool, true, false, Some, None, List, [], ◌∷◌, All, filter, refl, sym, subst, ◌∙◌, Decides, bytes_eq}
 use Rattle.std.proofs.Math.Decide.{dec_le}
 use Rattle.std.proofs.lemmas.Slice.Eq.{bytes_eq-Decides}
@@ -31,6 +32,7 @@ same-bytes a b = by (bytes_eq a b) (bytes_eq-Decides a b)
     false-true : ¬ (false ≡ true)
     false-true same = cc
 
+    -- it can be decided whether a is b, whichever the test of the texts answers
     by : (r : Bool) → Decides r (a ≡ b) → Dec (a ≡ b)
     by true is = yes (is.0 refl)
     by false is = no (λ same. false-true (is.1 same))
@@ -56,7 +58,7 @@ module _ {X : Type 0} (f : Figure X) (p : Times) (firm : AreFirm f p) where
   abbrev AllMust : List Owed → Type 0
   AllMust owes = All (λ o. o.must ≡ true) owes
 
-  -- a change that makes nothing owed that only may be sent keeps that all debts must be sent
+  -- where all debts must be sent, and a change makes none that only may be sent, all debts still must be sent after it
   must-changed : (t : ℕ) (c : Change) (owes : List Owed) → IsFirm c → AllMust owes → AllMust (changed p t c owes)
   must-changed t keeps owes is_firm all = all
   must-changed t softens owes is_firm all = absurd is_firm
@@ -64,28 +66,30 @@ module _ {X : Type 0} (f : Figure X) (p : Times) (firm : AreFirm f p) where
   must-changed t (gains true message) owes is_firm all = All-push (λ o. o.must ≡ true) owes _ all refl
   must-changed t (gains false message) owes is_firm all = absurd is_firm
 
-  -- a message that is sent keeps that all debts must be sent
+  -- where all debts must be sent, they still must after a message was sent
   must-emits : (e : MachineEvent) (x y : Owing X) → AllMust x.owes → Emits f p e x y → AllMust y.owes
   must-emits e x y all (inl (row, is_row, to)) = rw to (must-changed e.moment row.1 x.owes (firm.sent x.phase e.kind e row is_row) all)
   must-emits e x y all (inr (inl (left, pays, to))) = rw to (All-without {X = Owed} _ (λ o. o.must ≡ true) x.owes left pays all)
   must-emits e x y all (inr (inr (stays, same))) = rw same all
 
-  -- a message that the transport refused keeps that all debts must be sent
+  -- where all debts must be sent, they still must after the transport refused a message
   must-fails : (ends : Bool) (e : MachineEvent) (x y : Owing X) → AllMust x.owes → Fails ends f p e x y → AllMust y.owes
   must-fails true e x y all fails = rw fails.1 (All-nil (λ o. o.must ≡ true))
   must-fails false e x y all emits = must-emits e x y all emits
 
-  -- a step keeps that all debts must be sent
+  -- where all debts must be sent, they still must after a step
   must-steps : (a : Action) (e : MachineEvent) (x y : Owing X) → AllMust x.owes → Steps f p a e x y → AllMust y.owes
+  -- a received message changes the debts as its row says, or leaves them; what is sent or refused pays one
   must-steps Received e x y all (inl (row, is_row, to)) = rw to (must-changed e.moment row.1 x.owes (firm.received x.phase e.kind e row is_row) all)
   must-steps Received e x y all (inr (none, same)) = rw same all
   must-steps Sent e x y all emits = must-emits e x y all emits
   must-steps Failed e x y all fails = must-fails (f.ends_refused x.phase e.kind) e x y all fails
+  -- a mark is no step, and after a restart nothing is owed
   must-steps Mark e x y all h = absurd h
   must-steps Restart e x y all (inl (idle, to)) = rw to (All-nil (λ o. o.must ≡ true))
   must-steps Restart e x y all (inr (other, to)) = rw to (All-nil (λ o. o.must ≡ true))
 
-  -- a run keeps that all debts must be sent
+  -- where all debts must be sent, they still must as a run goes on
   must-kept : IsKept f p (λ es m y. AllMust y.owes)
   must-kept = record {
     as_it_waits = λ es h m x all low lasts. all;
@@ -111,6 +115,7 @@ module _ {X : Type 0} (f : Figure X) (p : Times) (firm : AreFirm f p) where
 
 -- no row of a message that the INVITE client by RFC 6026 receives makes owed what only may be sent
 client-received : (p : Times) (x : client.InviteClientPhase) (k : Kind) (e : MachineEvent) (row : client.InviteClientPhase × Change) → client.Receives p x k e row → IsFirm row.1
+-- in calling, in proceeding and in completed a row owes an ACK, which must be sent, or nothing; no other phase receives
 client-received p (client.Calling w) (Response code) e row (inl h) = rw h.1 tt
 client-received p (client.Calling w) (Response code) e row (inr (inl h)) = rw h.1 tt
 client-received p (client.Calling w) (Response code) e row (inr (inr h)) = rw h.1 tt
@@ -121,6 +126,7 @@ client-received p x k e row h = absurd h
 
 -- no row of a message that the INVITE client by RFC 3261 receives makes owed what only may be sent
 client-3261-received : (p : Times) (x : client.InviteClientPhase) (k : Kind) (e : MachineEvent) (row : client.InviteClientPhase × Change) → client_3261.Receives p x k e row → IsFirm row.1
+-- in calling, in proceeding and in completed a row owes an ACK, which must be sent, or nothing; no other phase receives
 client-3261-received p (client.Calling w) (Response code) e row (inl h) = rw h.1 tt
 client-3261-received p (client.Calling w) (Response code) e row (inr (inl h)) = rw h.1 tt
 client-3261-received p (client.Calling w) (Response code) e row (inr (inr h)) = rw h.1 tt
@@ -135,6 +141,7 @@ client-sent p client.Idle (Request Invite) e row h = rw h tt
 client-sent p client.Idle (Request Ack) e row h = rw h tt
 client-sent p client.Idle (Request Cancel) e row h = rw h tt
 client-sent p (client.Calling w) (Request Invite) e row h = rw h.1 tt
+-- a CANCEL makes nothing owed, whatever the phase
 client-sent p (client.Proceeding reliable request None) (Request Cancel) e row h = rw h tt
 client-sent p (client.Proceeding reliable request (Some first)) (Request Cancel) e row h = rw h tt
 client-sent p (client.Accepted set) (Request Cancel) e row h = rw h tt
@@ -198,10 +205,11 @@ soft : (owes : List Owed) → All (λ o. o.must ≡ false) (softened owes)
 soft [] = All-nil (λ o. o.must ≡ false)
 soft (o ∷ os) = All-push-front o os (soft os)
   where
+    -- a softened debt in front of softened ones only may be sent, too
     All-push-front : (o : Owed) (os : List Owed) → All (λ k. k.must ≡ false) (softened os) → All (λ k. k.must ≡ false) (softened (o ∷ os))
     All-push-front o os all = All-cons (λ k. k.must ≡ false) (record { message = o.message; deadline = o.deadline; must = false }) (softened os) refl all
 
--- What follows is of the INVITE server by RFC 6026.
+-- What follows is of the INVITE server by RFC 6026, with the times p.
 module _ (p : Times) where
   -- debts stay sorted where some are left out
   sorted-left : (x : server.InviteServerPhase) (e : MachineEvent) (owes : List Owed) (test : Owed → Bool) → AreSorted x owes → AreSorted x (filter test owes)
@@ -221,10 +229,12 @@ module _ (p : Times) where
 
   -- the row of a received message keeps the debts sorted
   sorted-received : (x : server.InviteServerPhase) (k : Kind) (e : MachineEvent) (row : server.InviteServerPhase × Change) (owes : List Owed) → AreSorted x owes → server.Receives p x k e row → AreSorted row.0 (changed p e.moment row.1 owes)
+  -- the INVITE begins the transaction; in proceeding it asks for the last response, which must be sent again unless it is a 100
   sorted-received server.Idle (Request Invite) e row owes sorted h = rw (h, sorted) (All-nil IsTold)
   sorted-received (server.Proceeding reliable set (Some last)) (Request Invite) e row owes sorted (inl h) = rw h.1 (All-push IsTold owes _ sorted (λ must. h.0, λ may. absurd (yes-must may)))
   sorted-received (server.Proceeding reliable set (Some last)) (Request Invite) e row owes sorted (inr h) = rw h.1 (All-push IsTold owes _ sorted (λ must. absurd (no-must must), λ may. h.0))
   sorted-received (server.Proceeding reliable set None) k e row owes sorted h = absurd h
+  -- in completed it asks for the final response, which may be sent again; an ACK changes no debt
   sorted-received (server.Completed reliable final set repeat interval) (Request Invite) e row owes sorted h = rw h (All-push (λ o. o.must ≡ false) owes _ sorted refl)
   sorted-received (server.Completed reliable final set repeat interval) (Request Ack) e row owes sorted h = rw h sorted
   sorted-received x k e row owes sorted h = absurd h
@@ -240,6 +250,7 @@ module _ (p : Times) where
 
   -- the bytes of a debt tell whether it must be sent, where the debts are sorted
   told : (x : server.InviteServerPhase) (owes : List Owed) → AreSorted x owes → All (λ o. (o.must ≡ true → ¬ (MayIn x o.message)) × (o.must ≡ false → MayIn x o.message)) owes
+  -- in idle nothing is owed; in proceeding this is what sorted means; in the other phases sorted debts are all ones that only may be sent
   told server.Idle owes sorted = rw sorted (All-nil (λ o. (o.must ≡ true → ¬ (Unit {0})) × (o.must ≡ false → Unit {0})))
   told (server.Proceeding reliable set last) owes sorted = sorted
   told (server.Accepted set) owes sorted = All-weaker (λ o. o.must ≡ false) (λ o. (o.must ≡ true → ¬ (Unit {0})) × (o.must ≡ false → Unit {0})) (λ o may. (λ must. absurd (yes-must (sym must ∙ may)), λ is. tt)) owes sorted
@@ -256,10 +267,12 @@ module _ (p : Times) where
 
   -- a step keeps the debts sorted
   steps : (a : Action) (e : MachineEvent) (x y : Owing server.InviteServerPhase) → AreSorted x.phase x.owes → Steps server.invite_server p a e x y → AreSorted y.phase y.owes
+  -- a received message leads along a row, or leaves all as it is; what is sent or refused pays or leads along a row
   steps Received e x y sorted (inl (row, is_row, to)) = rw to (sorted-received x.phase e.kind e row x.owes sorted is_row)
   steps Received e x y sorted (inr (none, same)) = rw same sorted
   steps Sent e x y sorted h = emits e x y sorted h
   steps Failed e x y sorted h = emits e x y sorted h
+  -- a mark is no step, and after a restart nothing is owed
   steps Mark e x y sorted h = absurd h
   steps Restart e x y sorted (inl (idle, to)) = rw to refl
   steps Restart e x y sorted (inr (other, to)) = rw to refl
@@ -278,6 +291,7 @@ module _ (p : Times) where
   pays x (Response code) e message = same-bytes message e.text
 
   -- two messages for which one send pays are the same
+  -- x is the phase, e the event of kind k that is sent, and a and b are the messages
   both-pay : (x : server.InviteServerPhase) (k : Kind) (e : MachineEvent) (a b : List ℕ) → server.Satisfies x k e a → server.Satisfies x k e b → b ≡ a
   both-pay x (Request method) e a b one other = absurd one
   both-pay x (Response code) e a b one other = other ∙ sym one
@@ -285,6 +299,7 @@ module _ (p : Times) where
   -- the INVITE server by RFC 6026 is sorted
   pub server-sorted : IsSorted server.invite_server p (λ es x message. MayIn x message)
   server-sorted = record {
+    -- a run keeps the debts sorted; the bytes of a send decide which debts it pays; and two debts that one send pays have the same bytes
     sorted = λ es m y one stands. told y.phase y.owes
         (run-keeps server.invite_server p (λ es h x. AreSorted x.phase x.owes) server-kept es (quiet server.Idle) 0 m y refl (stands-run server.invite_server p es m y stands));
     decides = λ es x k e message may. pays x k e message;
@@ -313,6 +328,7 @@ module _ (p : Times) where
   -- the row of a sent message keeps the debts sorted
   sent-3261 : (x : server_3261.InviteServer3261Phase) (k : Kind) (e : MachineEvent) (row : server_3261.InviteServer3261Phase × Change) (owes : List Owed) → AreSorted3261 x owes → server_3261.Sends p x k e row
       → AreSorted3261 row.0 (changed p e.moment row.1 owes)
+  -- a 2xx of the older server leads to passed, where nothing is owed, and any other response is a row of the corrected server
   sent-3261 server_3261.Passed (Response code) e row owes sorted h = rw h.1 sorted
   sent-3261 (server_3261.In (server.Proceeding reliable set last) again) (Response code) e row owes sorted (inl h) = rw h.1 refl
   sent-3261 (server_3261.In (server.Proceeding reliable set last) again) (Response code) e row owes sorted (inr (other, (after, is_row, to))) =
@@ -334,10 +350,12 @@ module _ (p : Times) where
 
   -- a step keeps the debts sorted
   steps-3261 : (a : Action) (e : MachineEvent) (x y : Owing server_3261.InviteServer3261Phase) → AreSorted3261 x.phase x.owes → Steps server_3261.invite_server_3261 p a e x y → AreSorted3261 y.phase y.owes
+  -- a received message leads along a row, or leaves all as it is; what is sent or refused pays or leads along a row
   steps-3261 Received e x y sorted (inl (row, is_row, to)) = rw to (received-3261 x.phase e.kind e row x.owes sorted is_row)
   steps-3261 Received e x y sorted (inr (none, same)) = rw same sorted
   steps-3261 Sent e x y sorted h = emits-3261 e x y sorted h
   steps-3261 Failed e x y sorted h = emits-3261 e x y sorted h
+  -- a mark is no step, and after a restart nothing is owed
   steps-3261 Mark e x y sorted h = absurd h
   steps-3261 Restart e x y sorted (inl (idle, to)) = rw to refl
   steps-3261 Restart e x y sorted (inr (other, to)) = rw to refl
@@ -364,6 +382,7 @@ module _ (p : Times) where
   is-success : (code : ℕ) → Dec (IsSuccess code)
   is-success code = by (dec_le 200 code) (dec_le code 299)
     where
+      -- it can be decided whether a code is from 200 to 299, by its two limits
       by : Dec (200 ≤ code) → Dec (code ≤ 299) → Dec (IsSuccess code)
       by (yes low) (yes high) = yes (low, high)
       by (no never) high = no (λ h. never h.0)
@@ -374,12 +393,14 @@ module _ (p : Times) where
   pays-3261 x (Request method) e message = no (λ h. h)
   pays-3261 x (Response code) e message = by (is-success code) (same-bytes message e.text)
     where
+      -- it can be decided whether a code is no success and the message is the text of e
       by : Dec (IsSuccess code) → Dec (message ≡ e.text) → Dec (¬ (IsSuccess code) × (message ≡ e.text))
       by (yes success) same = no (λ h. h.0 success)
       by (no other) (yes same) = yes (other, same)
       by (no other) (no never) = no (λ h. never h.1)
 
   -- two messages for which one send of the server by RFC 3261 alone pays are the same
+  -- x is the phase, e the event of kind k that is sent, and a and b are the messages
   both-pay-3261 : (x : server_3261.InviteServer3261Phase) (k : Kind) (e : MachineEvent) (a b : List ℕ) → server_3261.Satisfies x k e a → server_3261.Satisfies x k e b → b ≡ a
   both-pay-3261 x (Request method) e a b one other = absurd one
   both-pay-3261 x (Response code) e a b one other = other.1 ∙ sym one.1
@@ -387,6 +408,7 @@ module _ (p : Times) where
   -- the INVITE server by RFC 3261 alone is sorted
   pub server-3261-sorted : IsSorted server_3261.invite_server_3261 p (λ es x message. MayIn3261 x message)
   server-3261-sorted = record {
+    -- a run keeps the debts sorted; the bytes of a send decide which debts it pays; and two debts that one send pays have the same bytes
     sorted = λ es m y one stands. told-3261 y.phase y.owes
         (run-keeps server_3261.invite_server_3261 p (λ es h x. AreSorted3261 x.phase x.owes) kept-3261 es (quiet (server_3261.In server.Idle false)) 0 m y refl (stands-run server_3261.invite_server_3261 p es m y stands));
     decides = λ es x k e message may. pays-3261 x k e message;

@@ -1,4 +1,5 @@
 -- What the non-INVITE server may send and must send are not paid by one send, where the same bytes are the same message.
+-- In the lemmas x is the phase or the state before a step and y the state after it, and k is the kind of a message.
 use Rattle.std.proofs.Common.{◌≡◌, inl, inr, ℕ, Bool, true, false, List, [], ◌∷◌, ◌++◌, All, filter, refl, sym, subst, ◌∙◌, arith}
 use Rattle.std.specs.List.{Any}
 use Rattle.std.proofs.lemmas.List.Elements.{All-nil, All-cons, All-head, All-tail, All-filter, All-push, All-weaker}
@@ -88,7 +89,7 @@ soft es final (o ∷ os) all =
     All-cons (IsFinalOr es final) (record { message = o.message; deadline = o.deadline; must = false }) (softened os) (λ must. absurd (no-must must), λ may. All-head (λ o. IsSaid es o.message) o os all)
     (soft es final os (All-tail (λ o. IsSaid es o.message) o os all))
 
--- What follows is of the non-INVITE server.
+-- What follows is of the non-INVITE server with the times p.
 module _ (p : Times) where
   -- What follows is of one event e that comes after the events es.
   module _ (es : List MachineEvent) (e : MachineEvent) where
@@ -102,6 +103,7 @@ module _ (p : Times) where
     received (Proceeding reliable last) (Request method) row owes sorted (inl h) =
         let later = sorted-later es (e ∷ []) (Proceeding reliable last) owes sorted in
         rw h.1 (later.0, All-push (IsTold Now) owes _ later.1 (λ must. h.0, λ may. absurd (yes-must may), later.0))
+    -- a 100 need not be sent again, and the final response must
     received (Proceeding reliable last) (Request method) row owes sorted (inr h) =
         let later = sorted-later es (e ∷ []) (Proceeding reliable last) owes sorted in
         rw h.1 (later.0, All-push (IsTold Now) owes _ later.1 (λ must. absurd (no-must must), λ may. h.0, later.0))
@@ -120,6 +122,7 @@ module _ (p : Times) where
 
     -- the row of a sent message keeps the debts sorted
     sent : (x : PlainServerPhase) (k : Kind) (row : PlainServerPhase × Change) (owes : List Owed) → IsOut e → e.kind ≡ k → AreSorted es x owes → Sends p x k e row → AreSorted Now row.0 (changed p e.moment row.1 owes)
+    -- in trying nothing was owed; in proceeding what was owed stays sorted at a provisional response, and only may be sent after a final one
     sent (Trying reliable) (Response code) row owes out kind sorted (inl h) = rw (h.1, sorted) (said-now code out kind h.0, All-nil (IsTold Now))
     sent (Trying reliable) (Response code) row owes out kind sorted (inr h) = rw (h.1, sorted) (final-now code kind h.0, All-nil (IsFinalOr Now e.text))
     sent (Proceeding reliable last) (Response code) row owes out kind sorted (inl h) =
@@ -154,13 +157,15 @@ module _ (p : Times) where
 
   -- the final response is not also a provisional one that was sent, where the same bytes are the same message
   not-said : (es : List MachineEvent) (final : List ℕ) → AreOneKind es → IsFinalSaid es final → ¬ (IsSaid es final)
+  -- g, at the place i, is the event in which the final response was sent, and h, at the place j, would be that of a provisional one with the same bytes
   not-said es final one (i, g, i-low, i-at, (is_final, g-text)) (j, h, j-low, j-at, (sends, h-text)) =
       by is_final.0 sends.1.0 is_final.1 sends.1.1 is_final.2 sends.1.2
     where
+      -- events with the same bytes have the same kind
       same : g.kind ≡ h.kind
       same = one g h (i, i-low, i-at) (j, j-low, j-at) (g-text ∙ sym h-text)
 
-      -- one event has one code, which is not both final and provisional
+      -- where the two events have one code, it is not both final and provisional
       by : (a b : ℕ) → g.kind ≡ Response a → h.kind ≡ Response b → IsFinal a → ¬ (IsProvisional b)
       by a b g-kind h-kind final_code provisional_code =
           let codes : a ≡ b = codes-are-one a b (sym g-kind ∙ same ∙ h-kind) in absurd (omega (arith, codes, final_code.0, provisional_code.1))

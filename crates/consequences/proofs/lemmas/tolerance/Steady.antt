@@ -1,4 +1,5 @@
 -- The figures by a wider tolerance: their rows stay, and their windows open earlier and close later.
+-- In the lemmas x is a phase, k the kind of a message, and h a moment or what is known of a row.
 use Rattle.std.proofs.Common.{◌≤◌, ◌*◌, ℕ, Bool, true, false, Some, None, IsSomeAnd, IfSome, List, [], ◌∷◌, All, arith, if◌then◌else◌}
 use Rattle.std.proofs.lemmas.List.Elements.{All-nil, All-cons, All-head}
 use Rattle.sip_standard.specs.declared.kind.Kind.{Kind}
@@ -18,7 +19,7 @@ use Rattle.sip_standard.specs.PlainServer as plain_server
 use Rattle.consequences.specs.Tolerance.{tolerant}
 use Rattle.consequences.proofs.lemmas.tolerance.Wider.{IsSteady}
 
--- What follows is of the times p, and of q, the same with a wider tolerance.
+-- What follows is of the times p, and of q, the same with a wider tolerance: `early` and `late` are how early and how late an element may act by q.
 module _ (p : Times) (early late : ℕ) (earlier : p.early ≤ early) (later : p.late ≤ late) where
   -- the times with the wider tolerance
   abbrev q : Times
@@ -50,6 +51,7 @@ module _ (p : Times) (early late : ℕ) (earlier : p.early ≤ early) (later : p
   client-sent client.Idle (Request Ack) e row h = h
   client-sent client.Idle (Request Cancel) e row h = h
   client-sent (client.Calling w) (Request Invite) e row h = (retransmits w.reliable w.request w.set w.interval e h.0, h.1)
+  -- the rows of a CANCEL do not speak of times
   client-sent (client.Proceeding reliable request None) (Request Cancel) e row h = h
   client-sent (client.Proceeding reliable request (Some first)) (Request Cancel) e row h = h
   client-sent (client.Accepted set) (Request Cancel) e row h = h

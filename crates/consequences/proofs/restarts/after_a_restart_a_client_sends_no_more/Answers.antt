@@ -21,6 +21,7 @@ use Rattle.consequences.proofs.restarts.after_a_restart_a_client_sends_no_more.G
 invited : (p : Times) (rules : Rules) (before between after : List MachineEvent) (invite restart e : MachineEvent) (y : StateOf rules Client true) →
     SendsRequest Invite invite → IsRestart restart → e.action ≡ Sent →
     StandsAfter (figure_of rules Client true) p (before ++ invite ∷ (between ++ restart ∷ after)) e y → e.kind ≡ Request Cancel
+-- by RFC 6026, and then by RFC 3261 alone: each INVITE client sends its request once
 invited p R6026 before between after invite restart e y sends restarts sent stands =
     restart-silences (client corrected.Receives) p IsInvited (λ k. k ≡ Request Invite) (λ k. k ≡ Request Cancel) (invites-once corrected.Receives receives_6026 p)
     before between after invite restart e y sends.0 sends.1 restarts sent stands
@@ -28,9 +29,11 @@ invited p R3261 before between after invite restart e y sends restarts sent stan
     restart-silences (client without.Receives) p IsInvited (λ k. k ≡ Request Invite) (λ k. k ≡ Request Cancel) (invites-once without.Receives receives_3261 p)
     before between after invite restart e y sends.0 sends.1 restarts sent stands
 
+-- an INVITE client sends only a CANCEL after the restart, as was shown above
 pub returns-clause-invite : goal.returns-clause-invite
 returns-clause-invite c = invited
 
+-- a client of another method sends nothing after the restart
 pub returns-clause-plain : goal.returns-clause-plain
 returns-clause-plain c = λ p rules before between after request restart e y sends restarts sent stands.
     restart-silences plain_client p IsAsked IsAnyRequest (λ k. ⊥) (asks-once p) before between after request restart e y sends.1.0 (sends.0, sends.1.1) restarts sent stands

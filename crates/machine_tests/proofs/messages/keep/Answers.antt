@@ -16,5 +16,6 @@ returns-clause-ok c = λ n keeps.
           ]
     ]
 
+-- where memory is refused, the book has no new number
 pub returns-in_err-add-clause-err : goal.returns-in_err-add-clause-err
 returns-in_err-add-clause-err c = always_err c.from_residual.result (λ n keeps. c.requires n (rw c.in_err-add.ensures.err at keeps))

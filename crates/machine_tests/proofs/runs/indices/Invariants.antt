@@ -1,6 +1,7 @@
 use Rattle.std.specs.Prelude.{◌<◌, All, AllPairs}
 use Rattle.machine_tests.proofs.runs.indices.Given as goal
 
+-- the rows rise, and are below `row` and below `to`
 abbrev pub invariant-loop-row : goal.invariant-loop-row
 invariant-loop-row l =
     record {

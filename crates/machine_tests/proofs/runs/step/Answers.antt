@@ -12,6 +12,7 @@ loop-at-preserved g c =
     let is = c.loop-at.invariant in
     rw ok.1
     (record {
+      -- what was appended has the same properties as what was there
       within = let long = length-append before ok.0 in omega (arith, is.within);
       known = All-append (Knows g.M.Machine.names c.args.book.now) before ok.0 is.known ok.2.known;
       in_range = All-append g.M.Machine.in_range before ok.0 is.in_range ok.2.in_range;

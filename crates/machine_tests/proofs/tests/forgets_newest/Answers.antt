@@ -3,9 +3,11 @@ use Rattle.std.proofs.Common.{inl, inr, arith}
 use Rattle.sip_machine.proofs.texts.TextLaws.{Keeps-grow_cases}
 use Rattle.machine_tests.proofs.tests.forgets_newest.Goals as goal
 
+-- the numbers of the book are at most 3, so the next one is above them
 pub keep-requires-2 : goal.keep-requires-2
 keep-requires-2 g c = λ n keeps. let low : n ≤ 3 = c.in_ok-keep.ensures.ok n keeps in omega (arith, low)
 
+-- the numbers of the book are at most 5, so the next one is above them
 pub add-requires : goal.add-requires
 add-requires g c = λ n keeps. let low : n ≤ 5 = c.forget-3.ensures n keeps in omega (arith, low)
 

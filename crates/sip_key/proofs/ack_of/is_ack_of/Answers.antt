@@ -4,7 +4,7 @@ use Rattle.sip_standard.specs.AckOf.{SameSolid}
 use Rattle.sip_message.specs.SaidOf.{said_of}
 use Rattle.sip_key.proofs.ack_of.is_ack_of.Goals as goal
 
--- the To of the ACK is that of the response, and the rest is looked at next
+-- where the To of the ACK is that of the response, the fields that the ACK shares with the INVITE decide
 pub returns-then-same_solid : goal.returns-then-same_solid
 returns-then-same_solid c =
     let to : SameSolid c.args.ack.now.parts.to.0 c.args.response.now.parts.to.0 =

@@ -17,6 +17,7 @@ key_with-requires c =
 -- the role, the branch, the sent-by and the method are those of the message, so the key is that of its own transaction
 pub returns : goal.returns
 returns c =
+    -- d is the direction; the code has read the start line and the top Via of the message
     let d = c.args.direction in
     let start = c.start-start.ensures in
     let via = c.top_via-via.ensures in

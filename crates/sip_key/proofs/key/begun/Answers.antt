@@ -9,6 +9,7 @@ returns c =
     let branch = c.args.branch.now in
     let method = c.args.method.now in
     let head = key_head c.args.role (length branch) (length method) in
+    -- the role comes first, then the two lengths, then the branch
     let side : c.push.new.self.items ≡ role_byte c.args.role ∷ [] =
     c.in_ok-push.ensures.items ∙ ap₂ (λ text byte. text ++ byte ∷ []) c.in_ok-text.ensures.items c.role_byte.ensures in
     let lengths : c.push_length-2.new.text.items ≡ head =

@@ -20,7 +20,7 @@ overflow_add-number c =
     let more = reads-more c.args.digits.now c.loop-digit.digit-index c.loop-digit.number c.requires c.loop-digit-test.true c.loop-digit.invariant in
     omega (arith, more.value, c.from.ensures)
 
--- one digit more makes the number ten times as much and the digit
+-- with one digit more the number is ten times as large, plus the digit
 pub loop-digit-preserved : goal.loop-digit-preserved
 loop-digit-preserved c =
     let more = reads-more c.args.digits.now c.loop-digit.digit-index c.loop-digit.number c.requires c.loop-digit-test.true c.loop-digit.invariant in

@@ -1,5 +1,4 @@
-use Rattle.sip_ledger.proofs.Words.{◌≡◌, length, arith}
-use Rattle.sip_ledger.proofs.debts.RunLemmas.{widened-run}
+use Rattle.sip_ledger.proofs.Lemmas.{arith, length, widened-run, ◌≡◌}
 use Rattle.sip_ledger.proofs.run.append.Goals as goal
 
 -- where the last run is of such debts, it becomes longer by this one

@@ -1,7 +1,7 @@
-use Rattle.sip_ledger.proofs.Words.{false, take_more, Debt}
+use Rattle.sip_ledger.proofs.Lemmas.{Debt, false, take_more}
 use Rattle.sip_ledger.proofs.run.runs_of.Goals as goal
 
--- any debt, for places past the end of a list
+-- the debt that is read past the end of a list, where any one will do
 abbrev no_debt : Debt
 no_debt = record { message = 0; deadline = 0; must = false }
 

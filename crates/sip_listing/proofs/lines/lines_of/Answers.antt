@@ -13,6 +13,7 @@ returns c =
     let states = c.args.states.now in
     let unsorted = c.loop-state.lines.items in
     let sorted = c.sort.new.self.items in
+    -- all states were pushed, and sorting keeps which lines there are
     let all_passed : length states ≤ c.loop-state.state-index = c.loop-state-test.false in
     let pushed : map string_bytes unsorted ≡ map state_line states = c.loop-state.invariant ∙ ap (λ xs. map state_line xs) (take_all c.loop-state.state-index states all_passed) in
     record {

@@ -11,6 +11,7 @@ use Rattle.sip_log.proofs.entry.next_entry.Goals as goal
 pub returns-in-Ok-clause-says : goal.returns-in-Ok-clause-says
 returns-in-Ok-clause-says g c =
     let hold = c.in_ok-hold.ensures in
+    -- held are the bytes that are held for the line: there is one, and fewer entries were read than a log may have
     let held = items c.hold.new.self in
     let some : 1 ≤ length held = omega (arith, hold.some c.if-not-branch.false) in
     let few : c.args.count < most_entries = omega arith in
@@ -21,6 +22,7 @@ returns-in-Ok-clause-says g c =
 -- where a byte is there, and the log is not too long, an entry comes, and its fault is told
 pub returns-in-Err-clause-says : goal.returns-in-Err-clause-says
 returns-in-Err-clause-says g c =
+    -- held are the bytes that are held for the line: there is one, and fewer entries were read than a log may have
     let hold = c.in_ok-hold.ensures in
     let held = items c.hold.new.self in
     let some : 1 ≤ length held = omega (arith, hold.some c.if-not-branch.false) in

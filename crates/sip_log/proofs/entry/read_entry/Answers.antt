@@ -11,6 +11,7 @@ use Rattle.sip_log.proofs.entry.read_entry.Goals as goal
 -- where no line feed came up to the end, the log is cut off within the line
 pub returns-then-as_slice-lt-LONGEST_LINE-clause-says : goal.returns-then-as_slice-lt-LONGEST_LINE-clause-says
 returns-then-as_slice-lt-LONGEST_LINE-clause-says g c =
+    -- held are the bytes that are held, which are fewer than a line may have, and none of them is a line feed
     let line = c.in_ok-len.ensures in
     let held = items c.line_len.new.self in
     let none = rw c.in_default.is at line.first in
@@ -28,7 +29,7 @@ returns-in_default-clause-says g c =
     Says-fault line.reads (LineComes c.args.format c.args.last) faults.EntryLine
     (λ ys left. AtLine-long c.args.format c.args.last held ys (rw c.in_default.is at line.first) many)
 
--- where the line is of no form, the fault is that of an entry's line
+-- where the line has the form of no entry, the fault is that of an entry's line
 pub returns-in_default-read_head-clause-says : goal.returns-in_default-read_head-clause-says
 returns-in_default-read_head-clause-says g c =
     let line = c.in_ok-len.ensures in
@@ -41,6 +42,7 @@ returns-in_default-read_head-clause-says g c =
 -- where the line is read, what comes is what comes after this line
 pub returns-clause-says : goal.returns-clause-says
 returns-clause-says g c =
+    -- `held` is what the window holds: the line ends within it, and is read as `head`
     let line = c.in_ok-len.ensures in
     let held = items c.line_len.new.self in
     let within = rw c.in-Some.is at line.within in

@@ -7,10 +7,11 @@ use Rattle.sip_log.proofs.answers.SaysLemmas.{Says-value, Says-fault}
 use Rattle.sip_log.proofs.lines.MessageLemmas.{AtMessage-open, AtMessage-gives}
 use Rattle.sip_log.proofs.entry.read_message.Goals as goal
 
--- no line feed stands after the message
+-- where no line feed stands after the message, the fault is that of an entry's line
 pub returns-then-held-len-ne10-clause-says : goal.returns-then-held-len-ne10-clause-says
 returns-then-held-len-ne10-clause-says g c =
     let hold = c.in_ok-hold.ensures in
+    -- held are the bytes that are held, of which the message takes len, and one more is there, which is no line feed
     let len = c.args.len in
     let held = items c.hold.new.self in
     let inside : len < length held = omega (arith, hold.some) in
@@ -25,6 +26,7 @@ returns-clause-says g c =
     let len = c.args.len in
     let held = items c.hold.new.self in
     let inside : len < length held = omega (arith, hold.some) in
+    -- the byte after the message is looked at
     let byte = ap (λ (t : List ℕ). get_or t len 0) c.as_slice-held.ensures.value in
     let text = (rw c.requires.empty at c.in_ok-extend_from_slice.ensures.items) ∙ ap (take len) c.as_slice-held.ensures.value in
     rw c.consume.ensures

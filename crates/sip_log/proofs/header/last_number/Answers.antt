@@ -5,7 +5,7 @@ use Rattle.sip_log.specs.inner.Header.{NumberAfter}
 use Rattle.sip_log.proofs.headers.HeaderLemmas.{NumberAfter-one}
 use Rattle.sip_log.proofs.header.last_number.Goals as goal
 
--- no number stands after the word
+-- where no number stands after the word, the text is not the word and a number
 pub returns-in_err-value : goal.returns-in_err-value
 returns-in_err-value c = rw c.from_residual.ensures (λ n is. c.in_err-value.ensures n [] is)
 

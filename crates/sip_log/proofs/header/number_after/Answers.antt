@@ -7,7 +7,7 @@ use Rattle.sip_log.proofs.lines.SplitLemmas.{part-found}
 use Rattle.sip_log.proofs.headers.HeaderLemmas.{NumberAfter-part, NumberAfter-of}
 use Rattle.sip_log.proofs.header.number_after.Goals as goal
 
--- the text does not begin with the word
+-- where the text does not begin with the word, no number follows the word
 pub returns-in_err-text : goal.returns-in_err-text
 returns-in_err-text c =
     let none = strip_prefix_is Decides-eqb c.args.text.now c.args.word.now None c.in_err-text.ensures.cases in
@@ -20,6 +20,7 @@ returns-in_err-value c =
     let text = c.args.text.now in
     let rest = c.in_ok-text.text.now in
     let len = c.unwrap_or-len.result in
+    -- the text is the word, what stands before the first blank, and the rest
     let after = strip_prefix_is Decides-eqb text word (Some c.in_ok-text.text) c.in_ok-text.ensures.cases
     ∙ ap (λ (t : List ℕ). word ++ t) (sym (take-append-drop len rest)) in
     let found = rw (← c.unwrap_or-len.ensures) at (part-found space rest c.memchr.result c.memchr.ensures) in
@@ -33,6 +34,7 @@ returns c =
     let text = c.args.text.now in
     let rest = c.in_ok-text.text.now in
     let len = c.unwrap_or-len.result in
+    -- the text is the word, what stands before the first blank, and the rest
     let after = strip_prefix_is Decides-eqb text word (Some c.in_ok-text.text) c.in_ok-text.ensures.cases
     ∙ ap (λ (t : List ℕ). word ++ t) (sym (take-append-drop len rest)) in
     let found = rw (← c.unwrap_or-len.ensures) at (part-found space rest c.memchr.result c.memchr.ensures) in

@@ -7,7 +7,7 @@ use Rattle.sip_log.proofs.answers.SaysLemmas.{Says-step, Says-fault}
 use Rattle.sip_log.proofs.headers.HeaderLemmas.{ComesFirst-other, ComesFirst-second}
 use Rattle.sip_log.proofs.header.read_header.Goals as goal
 
--- the first line is the title of no format
+-- where the first line is not the title of a format, the fault is that of the header
 pub returns-in_default : goal.returns-in_default
 returns-in_default g c =
     let hold = c.in_ok-hold.ensures in

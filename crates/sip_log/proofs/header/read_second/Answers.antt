@@ -8,7 +8,7 @@ use Rattle.sip_log.proofs.answers.ToldLemmas.{none_left}
 use Rattle.sip_log.proofs.headers.HeaderLemmas.{ComesSecond-none, ComesSecond-other, ComesSecond-times}
 use Rattle.sip_log.proofs.header.read_second.Goals as goal
 
--- the second line does not end within the longest there may be
+-- where the second line does not end within the most bytes that it can have, the fault is that of the header
 pub returns-in_default : goal.returns-in_default
 returns-in_default g c =
     let line = c.in_ok-len.ensures in

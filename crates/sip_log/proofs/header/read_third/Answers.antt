@@ -12,6 +12,7 @@ use Rattle.sip_log.proofs.header.read_third.Goals as goal
 -- where the log ends after its second line, the header ends there
 pub returns-then-not-branch : goal.returns-then-not-branch
 returns-then-not-branch g c =
+    -- p is the times, and `held` what the window holds of the input, which ends there
     let p = c.args.times in
     let hold = c.in_ok-hold.ensures in
     let held = items c.hold.new.self in
@@ -24,6 +25,7 @@ returns-then-not-branch g c =
 -- where the next line does not begin with `r`, it is no line of rules, and the header ends before it
 pub returns-then-as_slice-ne114 : goal.returns-then-as_slice-ne114
 returns-then-as_slice-ne114 g c =
+    -- p are the times of the header, and held the bytes that are held for the line, of which the first is no `r`
     let p = c.args.times in
     let hold = c.in_ok-hold.ensures in
     let held = items c.hold.new.self in
@@ -35,6 +37,7 @@ returns-then-as_slice-ne114 g c =
 -- where the log ends before a line of rules would, the header ends after its second line
 pub returns-then-not-branch-2 : goal.returns-then-not-branch-2
 returns-then-not-branch-2 g c =
+    -- p is the times, and `held` what the window holds of the input, which ends there
     let p = c.args.times in
     let hold = c.in_ok-hold-2.ensures in
     let held = items c.hold-2.new.self in
@@ -57,6 +60,7 @@ returns-in_default g c =
 -- where the next line is one of rules, the header ends after it and has these rules
 pub returns : goal.returns
 returns g c =
+    -- p is the times, and `held` what the window holds: its line has the rules, and ends after 11 bytes
     let p = c.args.times in
     let hold = c.in_ok-hold-2.ensures in
     let held = items c.hold-2.new.self in

@@ -5,11 +5,11 @@ use Rattle.sip_log.specs.inner.Header.{TimesLine}
 use Rattle.sip_log.proofs.headers.HeaderLemmas.{t2-after, t4-after, tolerances-after, times-after, times-read}
 use Rattle.sip_log.proofs.header.read_times.Goals as goal
 
--- the line does not begin with T1
+-- where the line does not begin with `t1 ` and a number, it tells no times
 pub returns-in_err-t1 : goal.returns-in_err-t1
 returns-in_err-t1 c = rw c.from_residual.ensures (λ p is within. c.in_err-t1.ensures _ _ is.t1_is)
 
--- no T2 stands after T1
+-- where ` t2 ` and a number do not follow, the line tells no times
 pub returns-in_err-t2 : goal.returns-in_err-t2
 returns-in_err-t2 c =
     let t1 = c.in_ok-t1.ensures in
@@ -26,6 +26,7 @@ returns-in_err-t4 c =
 -- where no tolerances follow, the line tells no times
 pub returns-in_err-early : goal.returns-in_err-early
 returns-in_err-early c =
+    -- the three times before them were read, each as what follows the one before, so the tolerances follow t4
     let t1 = c.in_ok-t1.ensures in
     let t2 = c.in_ok-t2.ensures in
     let t4 = c.in_ok-t4.ensures in
@@ -42,10 +43,12 @@ returns c =
     let t2 = c.in_ok-t2.ensures in
     let t4 = c.in_ok-t4.ensures in
     let both = c.in_ok-early.ensures in
+    -- the times are those of the line, with the rules of RFC 6026
     let n : Times = record { t1 = t1.0; t2 = t2.0; t4 = t4.0; early = both.0; late = both.1; rules = R6026 } in
     let is : TimesLine format line n = record {
       rest1 = c.in_ok-t1.rest.now;
       rest2 = c.in_ok-t2.rest.now;
+      -- the numbers are those that were read
       rest3 = c.in_ok-t4.rest.now;
       t1_is = t1.1;
       t2_is = t2.1;
@@ -53,6 +56,7 @@ returns c =
       tolerances = both.2;
       rules = refl;
     } in
+    -- where the times are within their limits they are read, and where they are not, the line tells no times within them
     times-read format line n _ c.with_tolerances.result is
     (λ p other. times-after format line p other t1.0 _ t1.1 t2.0 _ t2.1 t4.0 _ t4.1 both.0 both.1 both.2)
     (λ i. record { t1 = t1.2 i; t2 = t2.2 i; t4 = t4.2 i; early = both.3 i; late = both.4 i; rules = R6026 })

@@ -4,7 +4,7 @@ use Rattle.sip_log.specs.inner.Header.{NumberAfter, Tolerances}
 use Rattle.sip_log.proofs.headers.HeaderLemmas.{NumberAfter-one}
 use Rattle.sip_log.proofs.header.read_tolerances.Goals as goal
 
--- in format 1 no tolerance stands there
+-- where no number follows ` tolerance ` in format 1, the line tells no tolerance
 pub returns-in_err-tolerance-in-One : goal.returns-in_err-tolerance-in-One
 returns-in_err-tolerance-in-One c =
     let text = c.args.text.now in
@@ -26,6 +26,7 @@ returns-in_err-early-in-Two c =
 pub returns-in_err-late-in-Two : goal.returns-in_err-late-in-Two
 returns-in_err-late-in-Two c =
     let text = c.args.text.now in
+    -- `first` is how early the element may be, by the first number, and what follows that number is the rest
     let first = c.in_ok-early-in-Two.ensures in
     rw c.from_residual-in_err-late-in-Two.ensures
     (λ early late is.

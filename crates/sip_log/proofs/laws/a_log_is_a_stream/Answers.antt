@@ -5,6 +5,6 @@ use Rattle.sip_log.proofs.laws.a_log_is_a_stream.Goals as goal
 pub returns-clause-few : goal.returns-clause-few
 returns-clause-few c = log_stream
 
--- a log that is read to its end is the same in both ways
+-- a log that is read to its end is the same log with a limit on the number of its entries and without
 pub returns-clause-whole : goal.returns-clause-whole
 returns-clause-whole c = clean_stream

@@ -6,11 +6,11 @@ use Rattle.sip_log.specs.inner.Line.{message, plain}
 use Rattle.sip_log.proofs.lines.LineLemmas.{HeadLine-plain, HeadLine-message, HeadLine-unlettered, HeadLine-no_numbers, HeadLine-no_number}
 use Rattle.sip_log.proofs.line.read_head.Goals as goal
 
--- the line does not begin with the letter of an entry
+-- where the line does not begin with the letter of an action, it is no entry's line
 pub returns-in_err-action : goal.returns-in_err-action
 returns-in_err-action c = rw c.from_residual.ensures (HeadLine-unlettered c.args.format c.args.line.now c.in_err-action.ensures)
 
--- the line of an entry with a message lacks a moment and a length
+-- where a moment and a length do not follow the letter of a message, the line is no entry's line
 pub returns-in_err-moment : goal.returns-in_err-moment
 returns-in_err-moment c =
     let line = c.args.line.now in

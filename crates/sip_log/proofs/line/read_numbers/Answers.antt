@@ -7,7 +7,7 @@ use Rattle.sip_log.specs.inner.Spelling.{space}
 use Rattle.sip_log.proofs.numbers.DigitLemmas.{digits-front}
 use Rattle.sip_log.proofs.line.read_numbers.Goals as goal
 
--- the moment is not written as a number is
+-- where the moment is not written as a number is, the line tells no two numbers
 pub returns-then-not-is_plain : goal.returns-then-not-is_plain
 returns-then-not-is_plain c = λ moment len is.
     let read = c.digits-moment.ensures in
@@ -31,6 +31,7 @@ returns-in_err-len c =
     let rest : drop at text ≡ space ∷ c.in_ok-rest.rest.now = rw (take_rest text at) at c.in_ok-rest.ensures in
     rw c.from_residual-in_err-len.ensures
     (λ moment len is.
+    -- the digits before the blank are the moment, and what follows it is no number
     let read = c.digits-moment.ensures in
     let parts = digits-front text is.moment_text is.len_text at is.whole is.moment_is.digits.1 read.within read.run read.end in
     let same : is.len_text ≡ c.in_ok-rest.rest.now = cc in
@@ -44,9 +45,11 @@ returns c =
     let rest : drop at text ≡ space ∷ c.in_ok-rest.rest.now = rw (take_rest text at) at c.in_ok-rest.ensures in
     let plain = c.if-not-is_plain.ensures.0 refl in
     let len = c.in_ok-len.ensures in
+    -- the digits before the blank are the moment, and what follows it is the length
     let moment_is : IsNumber (take at text) (digits_value 10 (take at text)) = record { digits = (plain.0, c.digits-moment.ensures.run); plain = plain.1; value = refl } in (
       digits_value 10 (take at text),
       len.0,
+      -- the line is the two texts with the blank between them
       record {
         moment_text = take at text;
         len_text = c.in_ok-rest.rest.now;

@@ -10,6 +10,7 @@ loop-at-preserved c =
     let text = c.args.text.now in
     let inside = c.loop-at-test.true in
     let digit = c.if-not-is_ascii_digit.ensures in
+    -- the value so far times ten, and the digit, is the value of one digit more
     let more = digits_value_more 10 text i inside in
     record {
       digits = digits_more 10 text i inside c.loop-at.invariant.digits digit.bound;

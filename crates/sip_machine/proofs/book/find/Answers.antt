@@ -10,6 +10,7 @@ use Rattle.sip_machine.proofs.book.find.Goals as goal
 pub returns-in-Ok-clause-found : goal.returns-in-Ok-clause-found
 returns-in-Ok-clause-found c =
     let r = c.saturating_sub-run.result in
+    -- r is the last run that begins by the key, and the place that is equal to the key within it is that of the message
     let low : r < length c.args.runs.now = search rules in
     let within = rw c.deref.ensures.value at c.in-Ok.ensures.within in
     let equal = rw c.deref.ensures.value at (c.in-Ok.ensures.found c.index.result.now) in
@@ -25,10 +26,12 @@ returns-in-Err-clause-gap c =
     let r = c.saturating_sub-run.result in
     let begun = c.partition_point-begun.result in
     let low : r < length runs = search rules in
+    -- the run that is searched is the last one that begins by the message, or the first
     let chosen : (r ≡ 0) ⊎ (r < begun) = elim (cases_lt 0 begun) [ inl some ↦ inr (search rules) | inr none ↦ inl (search rules) ] in
     let next : begun ≤ r + 1 = search rules in
     let parts = c.partition_point-begun.ensures.partitioned (begins_by texts key)
     (always_returns_same _ _ _ (λ a r g called. search rules)) (partitioned texts runs key c.requires) in
+    -- within the run the search parts the lesser messages from the greater ones
     let within = rw c.deref.ensures.value at c.in-Err.ensures.within in
     let parted = (rw c.deref.ensures.value at c.in-Err.ensures.found) (run_rises texts runs key c.requires r c.index-runs-run.result low) in
     gap_in_runs texts runs key c.requires begun r c.in-Err.place c.index-runs-run.result low chosen next parts within parted

@@ -10,6 +10,7 @@ returns-then-gap-clause-places c =
     let runs = c.args.runs.now.items in
     let run = c.index_mut.result.now in
     let is : run ≡ get_or runs c.args.gap.run run = rw c.in_ok-reserve.ensures.items at c.index_mut.ensures.value in
+    -- `head` has the first 64 places of the run, and `tail` the others
     let head : PlaceRun = record { first = run.first; places = c.split_off.new.self } in
     let tail : PlaceRun = record { first = c.index-first.result.now; places = c.in_ok-places.places } in
     rw (c.in_ok-insert.ensures.items, c.in_ok-reserve.ensures.items)
@@ -22,6 +23,7 @@ returns-then-gap-clause-led c =
     let runs = c.args.runs.now.items in
     let run = c.index_mut.result.now in
     let is : run ≡ get_or runs c.args.gap.run run = rw c.in_ok-reserve.ensures.items at c.index_mut.ensures.value in
+    -- the run becomes a first half and a second half, each with its first message told
     let head : PlaceRun = record { first = run.first; places = c.split_off.new.self } in
     let tail : PlaceRun = record { first = c.index-first.result.now; places = c.in_ok-places.places } in
     let same : c.index.result.now ≡ get_or runs c.args.gap.run run = c.index.ensures ∙ get_or_default runs c.args.gap.run c.index.result.now run c.requires.inside.run in
@@ -36,6 +38,7 @@ returns-clause-places c =
     let runs = c.args.runs.now.items in
     let run = c.index_mut.result.now in
     let is : run ≡ get_or runs c.args.gap.run run = rw c.in_ok-reserve.ensures.items at c.index_mut.ensures.value in
+    -- `head` has the first 64 places of the run, and `tail` the others
     let head : PlaceRun = record { first = run.first; places = c.split_off.new.self } in
     let tail : PlaceRun = record { first = c.index-first.result.now; places = c.in_ok-places.places } in
     rw (c.in_ok-insert.ensures.items, c.in_ok-reserve.ensures.items)
@@ -48,6 +51,7 @@ returns-clause-led c =
     let runs = c.args.runs.now.items in
     let run = c.index_mut.result.now in
     let is : run ≡ get_or runs c.args.gap.run run = rw c.in_ok-reserve.ensures.items at c.index_mut.ensures.value in
+    -- the run becomes a first half and a second half, each with its first message told
     let head : PlaceRun = record { first = run.first; places = c.split_off.new.self } in
     let tail : PlaceRun = record { first = c.index-first.result.now; places = c.in_ok-places.places } in
     let same : c.index.result.now ≡ get_or runs c.args.gap.run run = c.index.ensures ∙ get_or_default runs c.args.gap.run c.index.result.now run c.requires.inside.run in

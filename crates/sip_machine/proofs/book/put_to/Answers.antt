@@ -9,6 +9,7 @@ use Rattle.sip_machine.proofs.book.put_to.Goals as goal
 -- the To of the message stands after the others, or all are as they were where memory is refused
 pub returns : goal.returns
 returns c texts kept reads are =
+    -- the code has made the To of the message, without its blanks, under the message's number
     let to : To = record { number = c.args.number; text = c.of.result } in
     let is : IsTo texts to = record {
       kept = kept;

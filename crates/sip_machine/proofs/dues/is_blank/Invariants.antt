@@ -1,5 +1,4 @@
-use Rattle.std.specs.Prelude.{◌≡◌, ◌<◌, ℕ, []}
-use Rattle.sip_machine.specs.Owes.{owed_in}
+use Rattle.sip_machine.proofs.Words.{◌≡◌, ◌<◌, ℕ, [], owed_in}
 use Rattle.sip_machine.proofs.dues.is_blank.Given as goal
 
 -- the rows before `row` owe nothing

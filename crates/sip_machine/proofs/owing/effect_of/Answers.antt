@@ -23,6 +23,7 @@ returns-in-Received-clause-gives g c =
     let texts = c.args.book.now in
     let e = event_in texts c.args.event.now in
     let x = (state_in c.args.phase.now c.args.dues.now c.args.row) in
+    -- the state can wait until the moment, so it takes what the row gives
     let within : IsWithin e.moment (until_of m.figure p (owing_seen m.seen texts x)) = rw (c.moment.ensures, c.until.ensures texts) at c.if-is_past.ensures in
     IfOk-weaker c.receives.result _ _
     (λ effect gives. taken m.figure p m.seen m.names m.in_range texts Received e x effect (sym c.in-Received.ensures) within gives)
@@ -36,6 +37,7 @@ returns-in-Sent-clause-gives g c =
     let texts = c.args.book.now in
     let e = event_in texts c.args.event.now in
     let x = (state_in c.args.phase.now c.args.dues.now c.args.row) in
+    -- the state can wait until the moment, so it takes what the send gives
     let within : IsWithin e.moment (until_of m.figure p (owing_seen m.seen texts x)) = rw (c.moment.ensures, c.until.ensures texts) at c.if-is_past.ensures in
     IfOk-weaker c.emits.result _ _
     (λ effect gives. taken m.figure p m.seen m.names m.in_range texts Sent e x effect (sym c.in-Sent.ensures) within gives)
@@ -49,6 +51,7 @@ returns-in-Failed-clause-gives g c =
     let texts = c.args.book.now in
     let e = event_in texts c.args.event.now in
     let x = (state_in c.args.phase.now c.args.dues.now c.args.row) in
+    -- the state can wait until the moment, so it takes what the refusal gives
     let within : IsWithin e.moment (until_of m.figure p (owing_seen m.seen texts x)) = rw (c.moment.ensures, c.until.ensures texts) at c.if-is_past.ensures in
     IfOk-weaker c.fails.result _ _
     (λ effect gives. taken m.figure p m.seen m.names m.in_range texts Failed e x effect (sym c.in-Failed.ensures) within gives)
@@ -61,6 +64,7 @@ returns-in-Restart-clause-gives g c =
     let p = m.times c.args.machine.now in
     let texts = c.args.book.now in
     let e = event_in texts c.args.event.now in
+    -- x is the state of the row, and e the restart; the state lasts until the moment of e
     let x = (state_in c.args.phase.now c.args.dues.now c.args.row) in
     let within : IsWithin e.moment (until_of m.figure p (owing_seen m.seen texts x)) = rw (c.moment.ensures, c.until.ensures texts) at c.if-is_past.ensures in
     taken m.figure p m.seen m.names m.in_range texts Restart e x c.restarts.result (sym c.in-Restart.ensures) within (c.restarts.ensures e.moment x.owes)

@@ -15,6 +15,7 @@ loop-at-preserved g c =
     let order = c.run_end-at.ensures.order in
     let low = order.0 in
     let high : end ≤ length xs = omega (arith, order.1) in
+    -- the states of the run have one phase, whose message is appended if it names one
     let d = some-at xs at (omega (arith, low, high)) in
     let phase = (get_or xs at d).phase in
     let named : option_to_list c.message.result ≡ g.M.Phases.names phase = c.message.ensures ∙ ap g.M.Phases.names (c.phase-phase.ensures d) in (

@@ -13,10 +13,12 @@ returns g c =
     let m = g.M.Phases in
     let machine = c.args.machine.now in
     let texts = c.args.book.now in
+    -- the state has this phase and these debts, and is not idle
     let state = state_in c.args.phase.now (owes ∷ []) 0 in
     let idle = m.idle machine in
     let fits = g.met.M.Phases.idle_fits machine in
     let differ = rw c.idle.ensures at c.if-eq.ensures in
+    -- the state is not idle, since its phase is not
     let other = λ (is : m.seen texts state.phase ≡ m.figure.idle).
     let same : state.phase ≡ idle = g.met.M.Phases.apart texts state.phase idle c.known.ensures c.requires (rw fits.0 (All-nil (Keeps texts))) (is ∙ sym (g.met.M.Phases.idle_stands machine texts)) in
     true≢false (sym (rw same at differ ∙ (g.met.M.Phase.Eq.laws).refl idle)) in

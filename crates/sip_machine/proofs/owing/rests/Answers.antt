@@ -31,6 +31,7 @@ pub returns-clause-gives : goal.returns-clause-gives
 returns-clause-gives g c =
     let m = g.M.Phases in
     let texts = c.args.book.now in
+    -- the answer of `stays` is whether the phase stays by itself, and it is false here
     let stays = rw c.kind.ensures at c.stays.ensures texts in
     rw c.paying.ensures
     (rested-pays m.figure (m.times c.args.machine.now) m.seen m.names m.in_range texts (event_in texts c.args.event.now) (state_in c.args.phase.now c.args.dues.now c.args.row)

@@ -1,5 +1,4 @@
-use Rattle.std.specs.Prelude.{◌≤◌}
-use Rattle.sip_machine.specs.inner.Pools.{AreMixedWith}
+use Rattle.sip_machine.proofs.Words.{◌≤◌, AreMixedWith}
 use Rattle.sip_machine.proofs.pool.mix.Given as goal
 
 -- the prints from `from` up to the index are mixed with the hash, and the others are as they were

@@ -4,7 +4,8 @@ use Rattle.std.proofs.lemmas.List.Elements.{All-more}
 use Rattle.sip_machine.specs.declared.tos.To.{To}
 use Rattle.sip_machine.specs.inner.Order.{full_hash}
 use Rattle.sip_machine.specs.inner.Tos.{AreUnder, IsUnder}
-use Rattle.sip_machine.proofs.acks.ToLemmas.{on_ok, put-here, put-keeps}
+use Rattle.sip_ledger.proofs.lists.EachLemmas.{on_ok}
+use Rattle.sip_machine.proofs.acks.ToLemmas.{put-here, put-keeps}
 use Rattle.sip_machine.proofs.tos.hashes_of.Goals as goal
 
 -- after one To more, each To up to it stands under its hash

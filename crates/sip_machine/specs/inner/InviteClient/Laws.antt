@@ -1,3 +1,4 @@
+-- Laws of the INVITE client's phases.
 use Rattle.std.specs.Prelude.{◌≡◌, ◌≤◌, ◌*◌, ℕ, Bool, true, false, None, Some, [], ◌++◌, All, if◌then◌else◌}
 use Rattle.std.proofs.Common.{refl, ap, inl, inr, arith}
 use Rattle.std.proofs.lemmas.Bool.Decides.{nat_tests}
@@ -18,8 +19,6 @@ use Rattle.sip_machine.specs.inner.FigureLaws.{keeps_them}
 use Rattle.sip_machine.specs.inner.MessageLaws.{option_exact, message_apart}
 use Rattle.sip_machine.specs.inner.WaitingLaws.{waiting_exact, waiting_apart, waiting_by_names, timer_starts, repeat_starts, patience_lasts}
 
--- Laws of the INVITE client's phases.
-
 -- phases of the code that the test finds equal are the same one
 pub invite_client_exact : (x y : CodePhase) → derived.ghosts.eq x y ≡ true → x ≡ y
 invite_client_exact code.Idle code.Idle e = refl
@@ -33,6 +32,7 @@ invite_client_exact x y e = cc
 
 -- phases that stand for the same beside one book are the same
 pub invite_client_apart : AreApart invite_client_seen invite_client_names
+-- phases of one name stand for the same exactly if their messages do, which the book tells apart; phases of two names never do
 invite_client_apart texts code.Idle code.Idle book x_known y_known e = refl
 invite_client_apart texts (code.Calling w) (code.Calling w') book x_known y_known e = ap code.Calling (waiting_apart texts w w' book x_known y_known cc)
 invite_client_apart texts (code.Proceeding reliable request cancel) (code.Proceeding reliable' request' cancel') book x_known y_known e =
@@ -67,9 +67,11 @@ timer_d_starts p false t = All-nil (λ m. t ≤ m)
 
 -- the row of a received message leads to a phase whose timers are not past
 received : LeadOn invite_client Receives
+-- in calling a provisional response starts no timer, a 2xx starts timer M, and any other final one timer D
 received p (Calling w) (Response code) e y running (inl provisional) = rw provisional.1 (All-nil (λ m. e.moment ≤ m))
 received p (Calling w) (Response code) e y running (inr (inl success)) = rw success.1 (timer_starts p e.moment (64 * p.t1))
 received p (Calling w) (Response code) e y running (inr (inr unsuccessful)) = rw unsuccessful.1 (timer_d_starts p w.reliable e.moment)
+-- in proceeding it is the same; in completed timer D goes on
 received p (Proceeding reliable request cancel) (Response code) e y running (inl success) = rw success.1 (timer_starts p e.moment (64 * p.t1))
 received p (Proceeding reliable request cancel) (Response code) e y running (inr unsuccessful) = rw unsuccessful.1 (timer_d_starts p reliable e.moment)
 received p (Completed reliable request set) (Response code) e y running h = rw h.1 running
@@ -77,10 +79,13 @@ received p x k e y running h = absurd h
 
 -- the row of a sent message leads to a phase whose timers are not past
 sent : LeadOn invite_client Sends
+-- the first INVITE starts timer B and the timer of its repeats; an ACK starts none
 sent p Idle (Request Invite) e y running h = rw h (repeat_starts p e.moment (close_at p e.moment (64 * p.t1)) p.t1 e.reliable (omega arith))
 sent p Idle (Request Ack) e y running h = rw h running
+-- a repeat of the INVITE leaves timer B as it is, and its interval doubles
 sent p (Calling w) (Request Invite) e y running h =
     rw h.1 (repeat_starts p e.moment (close_at p w.start (64 * p.t1)) (2 * w.interval) w.reliable (patience_lasts p w e.moment (64 * p.t1) running))
+-- in calling no CANCEL is sent; in proceeding a CANCEL starts no timer of a phase
 sent p (Calling w) (Request Cancel) e y running h = absurd h
 sent p (Proceeding reliable request None) (Request Cancel) e y running h = rw h running
 sent p x (Request Cancel) e y running h = rw h running
@@ -88,6 +93,7 @@ sent p x k e y running h = absurd h
 
 -- a sent message whose row drops the debts, or that may leave the state as it is, leads to another phase; here there is no such message
 leaves : LeadAway invite_client
+-- each row of a message that is sent keeps the debts, and so none drops them
 leaves p Idle (Request Invite) e y h (inl drop) = absurd (keeps_them h drop)
 leaves p Idle (Request Ack) e y h (inl drop) = absurd (keeps_them h drop)
 leaves p (Calling w) (Request Invite) e y h (inl drop) = absurd (keeps_them h.1 drop)
@@ -95,6 +101,7 @@ leaves p (Calling w) (Request Cancel) e y h (inl drop) = absurd h
 leaves p (Proceeding reliable request None) (Request Cancel) e y h (inl drop) = absurd (keeps_them h drop)
 leaves p x (Request Cancel) e y h (inl drop) = absurd (keeps_them h drop)
 leaves p x k e y h (inl drop) = absurd h
+-- no message that is sent may leave the state as it is
 leaves p x k e y h (inr stays) = absurd stays
 
 -- the INVITE client keeps what a figure keeps
@@ -105,8 +112,10 @@ invite_client_is_figure =
       idle_stays = λ p. refl;
       ended_has_no_end = λ p. refl;
       ended_stays = λ p. refl;
+      -- a row leads to a phase whose timers are not past
       received_waits = received;
       sent_waits = sent;
+      -- a send that drops the debts, or that may leave the state as it is, leads to another phase; the latter pays nothing
       sent_leaves = leaves;
       stays_unpaid = λ x k e message stays. absurd stays;
     }
@@ -126,8 +135,10 @@ invite_client_is_coded =
       window_same = invite_client_window_same;
       closes_same = invite_client_closes_same;
       named = invite_client_named;
+      -- idle and ended are those of the figure, name no message and are in range
       idle_is = λ texts. refl;
       ended_is = λ texts. refl;
+      -- ended is another phase than idle
       ended_decided = inr (λ same. cc);
       idle_fits = (refl, tt);
       ended_fits = (refl, tt);

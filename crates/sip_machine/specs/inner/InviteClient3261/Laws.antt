@@ -1,3 +1,4 @@
+-- Laws of the phases of the INVITE client of RFC 3261.
 use Rattle.std.specs.Prelude.{◌≤◌}
 use Rattle.std.proofs.Common.{inl, inr}
 use Rattle.std.proofs.lemmas.List.Elements.{All-nil}
@@ -12,8 +13,6 @@ use Rattle.sip_machine.specs.inner.InviteClient3261.{invite_client_3261_coded}
 use Rattle.sip_machine.specs.inner.Coded.{IsCoded, LeadOn}
 use Rattle.sip_machine.specs.inner.InviteClient.Laws.{timer_d_starts, invite_client_is_figure, invite_client_is_coded}
 
--- Laws of the INVITE client of RFC 3261.
-
 -- the phase waits for a final response, and the message is a 2xx, which ends it
 abbrev pub IsEndedBy : InviteClientPhase → Kind → Type 0
 IsEndedBy (Calling w) (Response code) = IsSuccess code
@@ -22,6 +21,7 @@ IsEndedBy x k = ⊥
 
 -- the row of a received message leads to a phase whose timers are not past
 received : LeadOn invite_client_3261 Receives
+-- a provisional response, and a 2xx, which ends the transaction, start no timer; any other final one starts timer D, which goes on in completed
 received p (Calling w) (Response code) e y running (inl provisional) = rw provisional.1 (All-nil (λ m. e.moment ≤ m))
 received p (Calling w) (Response code) e y running (inr (inl success)) = rw success.1 (All-nil (λ m. e.moment ≤ m))
 received p (Calling w) (Response code) e y running (inr (inr unsuccessful)) = rw unsuccessful.1 (timer_d_starts p w.reliable e.moment)
@@ -38,8 +38,10 @@ invite_client_3261_is_figure =
       idle_stays = invite_client_is_figure.idle_stays;
       ended_has_no_end = invite_client_is_figure.ended_has_no_end;
       ended_stays = invite_client_is_figure.ended_stays;
+      -- a row leads to a phase whose timers are not past
       received_waits = received;
       sent_waits = invite_client_is_figure.sent_waits;
+      -- a send that drops the debts, or that may leave the state as it is, leads to another phase; the latter pays nothing
       sent_leaves = invite_client_is_figure.sent_leaves;
       stays_unpaid = invite_client_is_figure.stays_unpaid;
     }
@@ -54,6 +56,7 @@ invite_client_3261_is_coded =
       window_same = invite_client_is_coded.window_same;
       closes_same = invite_client_is_coded.closes_same;
       named = invite_client_is_coded.named;
+      -- idle and ended are those of the figure, name no message and are in range
       idle_is = invite_client_is_coded.idle_is;
       ended_is = invite_client_is_coded.ended_is;
       ended_decided = invite_client_is_coded.ended_decided;

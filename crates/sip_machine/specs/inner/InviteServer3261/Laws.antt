@@ -1,3 +1,5 @@
+-- Laws of the phases of the INVITE server of RFC 3261.
+-- In the lemmas x is a phase, k the kind of a message, and a and b are two phases, or two flags, of which it is told whether they are the same.
 use Rattle.std.specs.Prelude.{◌≡◌, ◌≤◌, ℕ, Bool, true, false, None, List}
 use Rattle.std.specs.Bool.{beq}
 use Rattle.std.proofs.Common.{refl, ap, sym, ◌∙◌, inl, inr}
@@ -27,8 +29,6 @@ use Rattle.sip_machine.specs.inner.FigureLaws.{keeps_them}
 use Rattle.sip_machine.specs.inner.WaitingLaws.{timer_starts}
 use Rattle.sip_machine.specs.inner.InviteServer.Laws.{invite_server_exact, invite_server_apart, invite_server_by_names, invite_server_window_same, invite_server_closes_same, invite_server_is_figure}
 
--- Laws of the phases of the INVITE server of RFC 3261.
-
 -- a turn of `InviteServer` as one of the INVITE server of RFC 3261
 abbrev pub turn_within : Bool → Turn CodeCorrected → Turn CodePhase
 turn_within again turn = record { phase = code.In turn.phase again; change = turn.change }
@@ -49,7 +49,7 @@ invite_server_3261_exact (code.In phase again) (code.In phase' again') e =
     same_flag true false e = sym e
     same_flag false true e = e
 
-    -- the same phase with the same flag is the same
+    -- phases that are the same with flags that are the same are the same
     same_within : (a b : CodeCorrected) (again again' : Bool) → a ≡ b → again ≡ again' → code.In a again ≡ code.In b again'
     same_within a b again again' phase flag = rw (phase, flag) refl
 
@@ -84,6 +84,7 @@ received p (In x again) k e y running (after, row, is) = rw is (invite_server_is
 
 -- the row of a sent message leads to a phase whose timers are not past
 sent : LeadOn invite_server_3261 Sends
+-- a 2xx starts no timer, and any other response is a row of the corrected server
 sent p Passed (Response code) e y running h = rw h.1 (All-nil (λ m. e.moment ≤ m))
 sent p (In (Proceeding reliable set last) again) (Response code) e y running (inl success) = rw success.1 (All-nil (λ m. e.moment ≤ m))
 sent p (In (Proceeding reliable set last) again) (Response code) e y running (inr (other, within)) =
@@ -104,11 +105,13 @@ in_same a b again same = cc
 leaves : LeadAway invite_server_3261
 leaves p Passed (Response code) e y h (inl drop) = absurd (keeps_them h.1 drop)
 leaves p Passed (Response code) e y h (inr stays) = absurd stays
+-- a 2xx leads to passed, which is another phase than proceeding; any other response is a row of the corrected server, which leads away there
 leaves p (In (Proceeding reliable set last) again) (Response code) e y (inl success) other = λ same. let e : Passed ≡ In (Proceeding reliable set last) again = sym (ap (λ z. z.0) success.1) ∙ same in cc
 leaves p (In (Proceeding reliable set last) again) (Response code) e y (inr (other, within)) (inl drop) =
     λ same. within_keeps p (Proceeding reliable set last) (Response code) e within.0 within.1 (sym (ap (λ z. z.1) within.2) ∙ drop)
     (in_same (within.0).0 (Proceeding reliable set last) again (sym (ap (λ z. z.0) within.2) ∙ same))
 leaves p (In (Proceeding reliable set last) again) (Response code) e y (inr (other, within)) (inr stays) = absurd (other stays.2)
+-- in completed a row of the corrected machine keeps the debts and the phase
 leaves p (In (Completed reliable final set repeat interval) again) (Response code) e y (other, within) (inl drop) =
     λ same. within_keeps p (Completed reliable final set repeat interval) (Response code) e within.0 within.1 (sym (ap (λ z. z.1) within.2) ∙ drop)
     (in_same (within.0).0 (Completed reliable final set repeat interval) again (sym (ap (λ z. z.0) within.2) ∙ same))
@@ -128,8 +131,10 @@ invite_server_3261_is_figure =
       idle_stays = λ p. refl;
       ended_has_no_end = λ p. refl;
       ended_stays = λ p. refl;
+      -- a row leads to a phase whose timers are not past
       received_waits = received;
       sent_waits = sent;
+      -- a send that drops the debts, or that may leave the state as it is, leads to another phase; the latter pays nothing
       sent_leaves = leaves;
       stays_unpaid = unpaid;
     }
@@ -150,8 +155,10 @@ invite_server_3261_is_coded =
       window_same = invite_server_3261_window_same;
       closes_same = invite_server_3261_closes_same;
       named = invite_server_3261_named;
+      -- idle and ended are those of the figure, name no message and are in range
       idle_is = λ texts. refl;
       ended_is = λ texts. refl;
+      -- ended is idle
       ended_decided = inl refl;
       idle_fits = (refl, tt);
       ended_fits = (refl, tt);

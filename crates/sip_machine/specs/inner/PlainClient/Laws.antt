@@ -1,3 +1,4 @@
+-- Laws of the non-INVITE client's phases.
 use Rattle.std.specs.Prelude.{◌≡◌, ◌*◌, true, min, if◌then◌else◌}
 use Rattle.std.proofs.Common.{refl, ap, inl, inr, arith}
 use Rattle.std.proofs.lemmas.Bool.Decides.{nat_tests}
@@ -13,8 +14,6 @@ use Rattle.sip_standard.specs.PhaseWords.{plain_client_told}
 use Rattle.sip_machine.specs.inner.Coded.{IsCoded, AreApart, StandByNames, TellNames, SameWindow, SameCloses, LeadOn, LeadAway}
 use Rattle.sip_machine.specs.inner.FigureLaws.{keeps_them}
 use Rattle.sip_machine.specs.inner.WaitingLaws.{waiting_exact, waiting_apart, waiting_by_names, timer_starts, repeat_starts, patience_lasts}
-
--- Laws of the non-INVITE client's phases.
 
 -- phases of the code that the test finds equal are the same one
 pub plain_client_exact : (x y : CodePhase) → derived.ghosts.eq x y ≡ true → x ≡ y
@@ -59,11 +58,14 @@ received p x k e y running h = absurd h
 
 -- the row of a sent message leads to a phase whose timers are not past
 sent : LeadOn plain_client Sends
+-- the first request starts timer F and the timer of its repeats
 sent p Idle (Request method) e y running h = rw h (repeat_starts p e.moment (close_at p e.moment (64 * p.t1)) p.t1 e.reliable (omega arith))
+-- a repeat leaves timer F as it is, and its interval doubles up to T2; in proceeding it is T2
 sent p (Trying w) (Request method) e y running h =
     rw h.1 (repeat_starts p e.moment (close_at p w.start (64 * p.t1)) (min (2 * w.interval) p.t2) w.reliable (patience_lasts p w e.moment (64 * p.t1) running))
 sent p (Proceeding w) (Request method) e y running h =
     rw h.1 (repeat_starts p e.moment (close_at p w.start (64 * p.t1)) p.t2 w.reliable (patience_lasts p w e.moment (64 * p.t1) running))
+-- no other phase sends anything
 sent p x k e y running h = absurd h
 
 -- a sent message whose row drops the debts, or that may leave the state as it is, leads to another phase; here there is no such message
@@ -82,8 +84,10 @@ plain_client_is_figure =
       idle_stays = λ p. refl;
       ended_has_no_end = λ p. refl;
       ended_stays = λ p. refl;
+      -- a row leads to a phase whose timers are not past
       received_waits = received;
       sent_waits = sent;
+      -- a send that drops the debts, or that may leave the state as it is, leads to another phase; the latter pays nothing
       sent_leaves = leaves;
       stays_unpaid = λ x k e message stays. absurd stays;
     }
@@ -103,8 +107,10 @@ plain_client_is_coded =
       window_same = plain_client_window_same;
       closes_same = plain_client_closes_same;
       named = plain_client_named;
+      -- idle and ended are those of the figure, name no message and are in range
       idle_is = λ texts. refl;
       ended_is = λ texts. refl;
+      -- ended is another phase than idle
       ended_decided = inr (λ same. cc);
       idle_fits = (refl, tt);
       ended_fits = (refl, tt);

@@ -5,7 +5,7 @@ use Rattle.sip_masks.specs.inner.Strange.{is_beyond}
 use Rattle.sip_masks.proofs.LaneLemmas.{splatted, from_byte, classified}
 use Rattle.sip_masks.proofs.block.beyond.Goals as goal
 
--- a without b, as a byte: below 0 it goes on from 255
+-- a less b, as a byte: what is below 0 goes on from 255
 abbrev less : ℕ → ℕ → ℕ
 less a b = (a + (256 - b)) % 256
 

@@ -23,10 +23,12 @@ is_neither byte = is_other byte && not (is_control byte)
 -- each bit says whether its byte is neither kind of plain byte, or a control
 pub returns : goal.returns
 returns c i h =
+    -- v is the block of 64 bytes; by one comparison of masks `neither` is so for the byte i, and by another `control` is
     let v = c.args.v in
     let long = c.fits-v.0 in
     let all = kinds v c.fits-v in
     let neither = classified _ is_neither 64 v _ c.fits-v (omega arith) (equal kind 64 0 v long all) refl i h in
     let control = classified _ is_control 64 v _ c.fits-v (omega arith) (from_byte _ 64 128 v long (raised v c.fits-v)) refl i h in
+    -- the bit of the OR is the OR of both, and for each of the 256 bytes this is whether it is other, by computing
     test-or _ _ i ∙ ap₂ (λ a b. a || b) neither control
     ∙ agree_below_at (λ x. is_neither x || is_control x) is_other 256 (get_or v i 0) refl (Each1-get_or (Fits w8) v i 0 (omega (arith, long, h)) c.fits-v.1).fits

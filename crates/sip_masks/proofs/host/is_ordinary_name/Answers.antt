@@ -15,8 +15,10 @@ use Rattle.sip_masks.proofs.host.is_ordinary_name.Goals as goal
 -- the name is not empty, so at least its first byte begins a label
 pub highest-requires : goal.highest-requires
 highest-requires c =
+    -- w is the window of bytes in which the name lies, and the byte i of its first 32 is that of the window itself (`same`)
     let w = c.args.window.now in
     let same = λ (i : ℕ) (h : i < 32). get_or-chunk 0 32 w i 0 h ∙ ap (λ n. get_or w n 0) (zero-add i) in
+    -- the masks of the code say of each byte i whether it is beyond the plain ones, a dot or a hyphen
     begins-some w c.args.len c.beyond.result c.equal_to.result c.equal_to-2.result (omega (arith, c.if-window-lt-LONGEST.false)) (omega (arith, c.if-len-eq0.false)) (omega (arith, c.if-len-gt-LONGEST.false))
     (λ i. (c.type_inv.window i).fits) (λ i h. prefix_len_passes is_plain w i 0 (omega (arith, h, c.requires)))
     (λ i h. c.beyond.ensures i h ∙ ap is_beyond (same i h)) (λ i h. c.equal_to.ensures i h ∙ ap (λ x. x == dot) (same i h)) (λ i h. c.equal_to-2.ensures i h ∙ ap (λ x. x == hyphen) (same i h))
@@ -24,8 +26,10 @@ highest-requires c =
 -- the highest bit lies within the window
 pub bounds-window-highest : goal.bounds-window-highest
 bounds-window-highest c =
+    -- w is the window of bytes in which the name lies, and the byte i of its first 32 is that of the window itself (`same`)
     let w = c.args.window.now in
     let same = λ (i : ℕ) (h : i < 32). get_or-chunk 0 32 w i 0 h ∙ ap (λ n. get_or w n 0) (zero-add i) in
+    -- the highest bit of the label's first bytes is below the length of the name, by the same three masks
     let within = top-within w c.args.len c.beyond.result c.equal_to.result c.equal_to-2.result (omega (arith, c.if-window-lt-LONGEST.false)) (omega (arith, c.if-len-eq0.false)) (omega (arith, c.if-len-gt-LONGEST.false))
     (λ i. (c.type_inv.window i).fits) (λ i h. prefix_len_passes is_plain w i 0 (omega (arith, h, c.requires)))
     (λ i h. c.beyond.ensures i h ∙ ap is_beyond (same i h)) (λ i h. c.equal_to.ensures i h ∙ ap (λ x. x == dot) (same i h)) (λ i h. c.equal_to-2.ensures i h ∙ ap (λ x. x == hyphen) (same i h))
@@ -40,8 +44,10 @@ returns-then-bad-eq0 c =
     let room : 32 ≤ length w = omega (arith, c.if-window-lt-LONGEST.false) in
     let small : len ≤ 32 = omega (arith, c.if-len-gt-LONGEST.false) in
     let same = λ (i : ℕ) (h : i < 32). get_or-chunk 0 32 w i 0 h ∙ ap (λ n. get_or w n 0) (zero-add i) in
+    -- a letter begins the last label exactly if the name is good
     let letter =
     name-from w len c.beyond.result c.equal_to.result c.equal_to-2.result room (omega (arith, c.if-len-eq0.false)) small
+    -- the marks that the three masks have for the bytes of the window are those of the bytes of the name
     (λ i. (c.type_inv.window i).fits) (λ i h. prefix_len_passes is_plain w i 0 (omega (arith, h, c.requires)))
     (λ i h. c.beyond.ensures i h ∙ ap is_beyond (same i h)) (λ i h. c.equal_to.ensures i h ∙ ap (λ x. x == dot) (same i h)) (λ i h. c.equal_to-2.ensures i h ∙ ap (λ x. x == hyphen) (same i h))
     c.highest.result (omega (arith, c.if-bad-eq0.true)) c.highest.ensures.set c.highest.ensures.above ∙ sym c.is_ascii_alphabetic.ensures.value in
@@ -56,6 +62,7 @@ returns-else-bad-eq0 c =
     let room : 32 ≤ length w = omega (arith, c.if-window-lt-LONGEST.false) in
     let small : len ≤ 32 = omega (arith, c.if-len-gt-LONGEST.false) in
     let same = λ (i : ℕ) (h : i < 32). get_or-chunk 0 32 w i 0 h ∙ ap (λ n. get_or w n 0) (zero-add i) in
+    -- a good name would have no bad bit
     let none =
     none-bad w len c.beyond.result c.equal_to.result c.equal_to-2.result room (omega (arith, c.if-len-eq0.false)) small
     (λ i. (c.type_inv.window i).fits) (λ i h. prefix_len_passes is_plain w i 0 (omega (arith, h, c.requires)))
@@ -71,6 +78,7 @@ returns-then-len-eq0 c = (
   λ is.
       let w = c.args.window.now in
       let len = c.args.len in
+      -- the name is empty, longer than a window has, or at the end of the text
       elim c.then-len-eq0.branch [
         | then-len-eq0-via-then-len-eq0 e ↦
             let none : len ≡ 0 = omega (arith, e.if-len-eq0.true) in

@@ -19,6 +19,7 @@ loop-word-preserved c =
     let text = c.args.text.now in
     let l = c.loop-word in
     let room : 64 * (l.word + 1) ≤ length text = omega (arith, c.loop-word-test.true, l.invariant.2) in (
+      -- each mask is right with the new word, and as long as it was
       marks-more is_other text l.other l.word c.others.result (omega (arith, l.invariant.3, c.requires.0, room)) l.invariant.0 (λ i h. c.others.ensures i h ∙ ap is_other (get_or-chunk (64 * l.word) 64 text i 0 h)),
       marks-more is_control text l.control l.word c.controls-ends.result (omega (arith, l.invariant.4, c.requires.1, room)) l.invariant.1 (λ i h. c.controls-ends.ensures i h ∙ ap is_control (get_or-chunk (64 * l.word) 64 text i 0 h)),
       room,
@@ -31,6 +32,7 @@ pub returns-clause-other : goal.returns-clause-other
 returns-clause-other c =
     let text = c.args.text.now in
     let l = c.loop-word in
+    -- the last word that the loop did not reach is set here, and one word more has all places marked
     subst (λ t. BitsTell is_other t (set (set l.other l.word c.others-2.result) (l.word + 1) 18446744073709551615) (64 * words_for (length text))) (sym (take_all (length text) text (omega arith)))
     (last-two is_other text l.other l.word c.others-2.result refl (omega (arith, l.invariant.3, c.requires.0, l.invariant.2)) (omega (arith, c.loop-word-test.false)) l.invariant.2 l.invariant.0
     (λ i h. c.others-2.ensures i h ∙ ap is_other (c.tail-v.ensures i h)))
@@ -40,6 +42,7 @@ pub returns-clause-control : goal.returns-clause-control
 returns-clause-control c =
     let text = c.args.text.now in
     let l = c.loop-word in
+    -- the last word that the loop did not reach is set here, and one word more has all places marked
     subst (λ t. BitsTell is_control t (set (set l.control l.word c.controls.result) (l.word + 1) 18446744073709551615) (64 * words_for (length text))) (sym (take_all (length text) text (omega arith)))
     (last-two is_control text l.control l.word c.controls.result refl (omega (arith, l.invariant.4, c.requires.1, l.invariant.2)) (omega (arith, c.loop-word-test.false)) l.invariant.2 l.invariant.1
     (λ i h. c.controls.ensures i h ∙ ap is_control (c.tail-v.ensures i h)))
@@ -49,6 +52,7 @@ pub returns-then-holds_empty_line-clause-other : goal.returns-then-holds_empty_l
 returns-then-holds_empty_line-clause-other c =
     let text = c.args.text.now in
     let l = c.loop-word in
+    -- the block lies within the text; the words tell the bytes up to its end (`more`), where the text is cut
     let room : 64 * (l.word + 1) ≤ length text = omega (arith, c.loop-word-test.true, l.invariant.2) in
     let more = marks-more is_other text l.other l.word c.others.result (omega (arith, l.invariant.3, c.requires.0, room)) l.invariant.0 (λ i h. c.others.ensures i h ∙ ap is_other (get_or-chunk (64 * l.word) 64 text i 0 h)) in
     front-ends is_other text (set l.other l.word c.others.result) (l.word + 1) refl room (omega (arith, length-set l.other l.word c.others.result, l.invariant.3, c.requires.0, room)) more
@@ -58,6 +62,7 @@ pub returns-then-holds_empty_line-clause-control : goal.returns-then-holds_empty
 returns-then-holds_empty_line-clause-control c =
     let text = c.args.text.now in
     let l = c.loop-word in
+    -- the block lies within the text; the words tell the bytes up to its end (`more`), where the text is cut
     let room : 64 * (l.word + 1) ≤ length text = omega (arith, c.loop-word-test.true, l.invariant.2) in
     let more = marks-more is_control text l.control l.word c.controls-ends.result (omega (arith, l.invariant.4, c.requires.1, room)) l.invariant.1 (λ i h. c.controls-ends.ensures i h ∙ ap is_control (get_or-chunk (64 * l.word) 64 text i 0 h)) in
     front-ends is_control text (set l.control l.word c.controls-ends.result) (l.word + 1) refl room (omega (arith, length-set l.control l.word c.controls-ends.result, l.invariant.4, c.requires.1, room)) more

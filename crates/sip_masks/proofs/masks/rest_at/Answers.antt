@@ -3,7 +3,7 @@ use Rattle.sip_masks.specs.Bits.{test}
 use Rattle.sip_masks.proofs.WordLemmas.{test-shr, test-above}
 use Rattle.sip_masks.proofs.masks.rest_at.Goals as goal
 
--- bit j of the answer is a bit of the same word
+-- bit j of the answer is the bit of the place p + j, where that place lies in the same word as p
 pub returns-clause-bits : goal.returns-clause-bits
 returns-clause-bits c j h =
     let words = c.args.words.now in

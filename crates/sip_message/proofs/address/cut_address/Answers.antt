@@ -11,7 +11,7 @@ pub returns-then-has_scheme : goal.returns-then-has_scheme
 returns-then-has_scheme c =
     cut-plain c.args.text.now _ c.plain_len-len.result (c.has_scheme.ensures.0 c.if-has_scheme.true) c.plain_len-len.ensures.run (take_rest c.args.text.now c.plain_len-len.result)
 
--- the text has neither a scheme nor a display name before a `<`
+-- where the text has neither a scheme nor a display name before a "<", it is not cut
 pub returns-in_err-display : goal.returns-in_err-display
 returns-in_err-display c =
     subst (IsOnlyValue AddressCut cut_parts c.args.text.now) (sym c.from_residual.ensures)
@@ -24,7 +24,7 @@ returns-in_err-rest c =
     (cut-open c.args.text.now c.in_ok-display.inner.now _ (λ has. both_ways c.has_scheme.result c.if-has_scheme.false (c.has_scheme.ensures.1 has)) c.in_ok-display.ensures
     (sym (ap option_copied c.in_err-rest.was) ∙ c.cut.ensures.rest))
 
--- a display name and a URI in angles are cut
+-- a display name and a URI in angles are cut, and what follows the ">" is left
 pub returns : goal.returns
 returns c =
     cut-named c.args.text.now c.in_ok-display.inner.now c.cut.result.0.now c.in_ok-rest.rest.now _ c.in_ok-display.ensures c.cut.ensures.front

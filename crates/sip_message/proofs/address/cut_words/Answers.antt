@@ -4,11 +4,11 @@ use Rattle.sip_message.proofs.WordLemmas.{words-first, words-more, words-all, no
 use Rattle.sip_message.proofs.address.cut_words.Goals as goal
 use Rattle.sip_message.proofs.address.cut_words.Goals.{then-blanks-eq0-via-then-blanks-eq0, then-blanks-eq0-via-else-blanks-eq0+then-word-eq0}
 
--- no word stands at the front
+-- where no word stands at the front, nothing is cut off
 pub returns-then-at-eq0 : goal.returns-then-at-eq0
 returns-then-at-eq0 c = no-words c.args.text.now c.token_len-at.result c.token_len-at.ensures.reads c.if-at-eq0.true
 
--- the first token is one word
+-- the first token at the front is a word, so words stand there
 pub words-init : goal.words-init
 words-init c = words-first c.args.text.now c.token_len-at.result c.token_len-at.ensures.within c.token_len-at.ensures.reads c.if-at-eq0.false
 

@@ -6,5 +6,6 @@ use Rattle.sip_message.proofs.address.cut_words.Given as goal
 abbrev pub invariant-words : goal.invariant-words
 invariant-words l = WordsSoFar l.text l.at
 
+-- each turn of the loop goes on in the text, and the text ends
 abbrev pub decreases-words : goal.decreases-words
 decreases-words l = length l.text - l.at

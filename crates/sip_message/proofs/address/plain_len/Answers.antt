@@ -3,13 +3,13 @@ use Rattle.std.proofs.lemmas.List.Sums.{prefix_len_is}
 use Rattle.sip_message.specs.inner.AddressFronts.{is_unmarked_byte}
 use Rattle.sip_message.proofs.address.plain_len.Goals as goal
 
--- the run ends before a byte that such a URI may not hold
+-- the run ends before a byte that a URI without "<" may not hold
 pub returns-then-not-is_plain-clause-run : goal.returns-then-not-is_plain-clause-run
 returns-then-not-is_plain-clause-run c =
     sym (prefix_len_is is_unmarked_byte c.args.text.now c.loop-at.at 0 (omega arith) c.loop-at.invariant
     (λ _. sym c.is_plain.ensures ∙ c.if-not-is_plain.true))
 
--- such a URI may hold all bytes
+-- where no byte of the text ends the run, a URI without "<" may hold all of them
 pub returns-clause-run : goal.returns-clause-run
 returns-clause-run c =
     sym (prefix_len_is is_unmarked_byte c.args.text.now (length c.args.text.now) 0 (omega arith)

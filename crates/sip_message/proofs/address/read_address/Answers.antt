@@ -6,13 +6,13 @@ use Rattle.sip_message.proofs.lemmas.front.Cuts.{stop, go-stop, go, last}
 use Rattle.sip_message.proofs.lemmas.address.Reading.{read-address, no-address}
 use Rattle.sip_message.proofs.address.read_address.Goals as goal
 
--- the text cannot be cut into the parts of an address
+-- where the text cannot be cut into the parts of an address, it is no address
 pub returns-in_err-cuts : goal.returns-in_err-cuts
 returns-in_err-cuts c =
     subst (IsOnlyValue AddressValue address_parts c.args.text.now) (sym c.from_residual.ensures)
     (no-address c.args.text.now (stop c.in_err-cuts.ensures))
 
--- the URI is none
+-- where what was cut off as the URI is no URI, the text is no address
 pub returns-in_err-uri : goal.returns-in_err-uri
 returns-in_err-uri c =
     subst (IsOnlyValue AddressValue address_parts c.args.text.now) (sym c.from_residual-in_err-uri.ensures)

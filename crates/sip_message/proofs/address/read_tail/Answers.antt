@@ -14,6 +14,7 @@ returns-then-is_empty-2 c = elim c.then-is_empty-2.branch [
       (λ part. both_ways w.are_params.result w.if-not-are_params.true (w.are_params.ensures.1 part))
 ]
 
+-- blanks and parameters after them are a tail with these parameters
 pub returns : goal.returns
 returns c =
     tail-is c.args.text.now c.skip_blanks-params.result.now c.skip_blanks-params.ensures (sym c.is_empty-2.ensures ∙ c.if-is_empty-2.false) (c.are_params.ensures.0 c.if-not-are_params.false)

@@ -7,10 +7,11 @@ use Rattle.sip_message.specs.inner.Fronts.{LineFront, pair_parts}
 use Rattle.sip_message.proofs.lemmas.lines.Scan.{scan-nothing, cut-none, line-found, line-on, lf-within}
 use Rattle.sip_message.proofs.cursor.cut_line.Goals as goal
 
+-- no line feed was looked at yet
 pub ends-init : goal.ends-init
 ends-init c = record { within = omega arith; scanned = scan-nothing c.args.text.now }
 
--- no line feed is left
+-- where no line feed is left, no line is read
 pub returns-in_err-rest : goal.returns-in_err-rest
 returns-in_err-rest c =
     subst (IsOnlyValue LineFront pair_parts c.args.text.now) (sym c.from_residual.ensures)
@@ -26,7 +27,7 @@ slice_bounds-result-length c =
     (c.cut.ensures.front ∙ ap (before line_feed) same) (sym (ap option_copied c.in_ok-rest.was) ∙ c.cut.ensures.rest ∙ ap (behind line_feed) same) in
     sym (length-take-le (c.ends.at + length c.cut.result.0.now - 1) text (omega (arith, within)))
 
--- the line feed that was found ends the line
+-- where the line feed that was found ends the line, the text is cut there
 pub returns-then-is_line : goal.returns-then-is_line
 returns-then-is_line c =
     let text = c.args.text.now in

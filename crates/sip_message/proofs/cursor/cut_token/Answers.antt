@@ -6,6 +6,7 @@ use Rattle.sip_message.specs.inner.Fronts.{TokenFront}
 use Rattle.sip_message.proofs.lemmas.front.Cuts.{token-cut, no-token, same-token}
 use Rattle.sip_message.proofs.cursor.cut_token.Goals as goal
 
+-- the longest front of token bytes is empty, so no token stands there
 pub returns-then-len-eq0 : goal.returns-then-len-eq0
 returns-then-len-eq0 c (t, r) =
     no-token c.args.text.now (subst (IsLongestFront Token c.args.text.now) c.if-len-eq0.true c.token_len-len.ensures.reads) t r
@@ -18,6 +19,7 @@ returns c =
     let front = token-cut text n c.token_len-len.ensures.reads c.if-len-eq0.false in
     subst (λ t. TokenFront text (take n text, t) × ((x : List ℕ × List ℕ) → TokenFront text x → x ≡ (take n text, t))) (sym (take_rest text n)) (
       front,
+      -- another token at the front, after which no token byte comes, is the same
       (λ x is.
           let same = same-token text x.0 x.1 (take n text) (drop n text) is front in
           ap (λ t. (t, x.1)) same.0 ∙ ap (λ t. (take n text, t)) same.1),

@@ -3,7 +3,7 @@ use Rattle.std.proofs.lemmas.Bool.{both_ways, not-true}
 use Rattle.sip_message.proofs.lemmas.lines.HeadEnd.{clean-each, clean-opens, each-clean, is_not}
 use Rattle.sip_message.proofs.ends.is_clean.Goals as goal
 
--- a line end of one byte alone stands in the head
+-- where a CR stands without its LF, or a LF without its CR, the head is not clean
 pub returns-then-not-is_paired : goal.returns-then-not-is_paired
 returns-then-not-is_paired c = (
   (λ is. absurd (both_ways false refl is)),

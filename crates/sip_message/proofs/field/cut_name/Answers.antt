@@ -8,10 +8,11 @@ use Rattle.sip_message.proofs.lemmas.front.Cuts.{ReadAs}
 use Rattle.sip_message.proofs.lemmas.field.Name.{named-no_token, named-no_colon, named-read}
 use Rattle.sip_message.proofs.field.cut_name.Goals as goal
 
+-- no token stands at the front, so the line has no name
 pub returns-in_err-name : goal.returns-in_err-name
 returns-in_err-name c = subst (IsOnlyValue HasName named_parts c.args.line.now) (sym c.from_residual.ensures) (named-no_token c.args.line.now c.in_err-name.ensures)
 
--- no colon follows the name
+-- where no colon follows the name, the line has no name
 pub returns-in_err-rest : goal.returns-in_err-rest
 returns-in_err-rest c =
     subst (IsOnlyValue HasName named_parts c.args.line.now) (sym c.from_residual-in_err-rest.ensures)

@@ -11,5 +11,6 @@ invariant-loop-at l = record {
   found : found_from (l.fn.from + 1) l.name (drop l.fn.from (map field_parts l.fields)) ≡ found_from (l.at + 1) l.name (drop l.at (map field_parts l.fields));
 }
 
+-- each turn of the loop goes on by a field
 abbrev pub decreases-loop-at : goal.decreases-loop-at
 decreases-loop-at l = length l.fields - l.at

@@ -14,6 +14,7 @@ use Rattle.sip_message.proofs.field.read_fields.Goals as goal
 -- where one line is no field, its fault is the fault of the fields
 pub returns-in_err-field-clause-fields : goal.returns-in_err-field-clause-fields
 returns-in_err-field-clause-fields c lines are =
+    -- `line` is the line that is no field, by this fault, and `fields` are those before it
     let fault = c.in_err-field.field-0.0 in
     let line = c.in-Some.line.now in
     let fields = fields_parts c.lines.fields in
@@ -25,6 +26,7 @@ returns-in_err-field-clause-fields c lines are =
 -- after one line more, the fields are those of the lines up to it
 pub lines-preserved : goal.lines-preserved
 lines-preserved c =
+    -- field is the field that was read, and `more` says that the fields now are those before and this one
     let field = field_parts c.in_ok-field.field in
     let more = sym (ap (map field_parts) c.in_default-push.ensures.items ∙ map-append field_parts c.lines.fields.items (c.in_ok-field.field ∷ [])) in (
       (λ lines are.
@@ -33,5 +35,6 @@ lines-preserved c =
       subst (λ fs. KeptOf fs c.read_field.new.kept) more (c.in_ok-field.ensures.kept (fields_parts c.lines.fields) c.lines.invariant.1),
     )
 
+-- all lines were read, so the fields are those of all lines
 pub returns-clause-fields : goal.returns-clause-fields
 returns-clause-fields c lines are = so_far-all lines c.lines.rest.now (fields_parts c.lines.fields) (c.lines.invariant.0 lines are) c.in_default.ensures

@@ -5,10 +5,12 @@ use Rattle.sip_message.specs.inner.Views.{fields_parts}
 use Rattle.sip_message.proofs.lemmas.lines.Reading.{SoFar}
 use Rattle.sip_message.proofs.field.read_fields.Given as goal
 
+-- the fields are those of the lines that were read, and what is kept of them is what is asked for
 abbrev pub invariant-lines : goal.invariant-lines
 invariant-lines l =
     ((lines : List (List ℕ)) → AreLines l.fn.text lines → SoFar lines l.rest (fields_parts l.fields))
     × KeptOf (fields_parts l.fields) l.kept
 
+-- what is left gets shorter in each turn of the loop
 abbrev pub decreases-lines : goal.decreases-lines
 decreases-lines l = length l.rest

@@ -1,7 +1,7 @@
 use Rattle.sip_message.proofs.lemmas.says.Canonical.{canonical-tells, same-canonical}
 use Rattle.sip_message.proofs.laws.the_canonical_form_tells_its_message.Goals as goal
 
--- the canonical form tells the same
+-- the canonical form of what bytes tell tells the same, each name in full and each value in one line
 pub returns-clause-told : goal.returns-clause-told
 returns-clause-told c bytes (start, fields, body) = canonical-tells bytes start fields body
 

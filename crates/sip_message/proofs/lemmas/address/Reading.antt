@@ -1,4 +1,7 @@
 -- An address is read step by step, and what is read is what the grammar has.
+-- The first step is a cut of the text (`AddressCut`): `named`, with the URI in "<" and ">", or `plain`, without them. `make d u r` is the cut into the
+-- display name d, the URI u and the rest r. In a row of two steps, `both v one other` is what the first step gives, v, that it gives it, and the next step.
+-- In the lemmas u and w are the URI and what follows it, c and d two cuts, a and b two addresses, ps parameters by their names and values.
 use Rattle.std.proofs.Common.{◌≡◌, ℕ, zero, suc, ◌<◌, ◌≤◌, Bool, true, false, ◌||◌, not, nat_eq, nat_lt, List, [], ◌∷◌, ◌++◌, Option, Some, None, IfSome, length, take, drop, get_or, slice_index, refl, sym, ap, ◌∙◌, subst, inl, inr, arith}
 use Rattle.std.specs.Bool.{Decides}
 use Rattle.std.specs.List.{prefix_len}
@@ -48,8 +51,10 @@ scheme-behind text n longest (scheme, rest, all, whole) =
 -- a text begins with a scheme exactly if a colon stands after its longest token
 pub decides-scheme : (text : List ℕ) (n : ℕ) → IsLongestFront Token text n → n < length text → Decides (nat_eq (get_or text n 0) colon) (HasScheme text)
 decides-scheme text n longest within = (
+  -- if: the token and the colon after it are a scheme, up to the rest
   λ same.
       (take n text, drop (suc n) text, token-all text n longest, sym (take-append-drop n text) ∙ ap (λ t. take n text ++ t) (drop-cons text n 0 within ∙ ap (λ b. b ∷ drop (suc n) text) (eqb-true (get_or text n 0) colon same))),
+  -- only if: what stands after the scheme's token is its colon
   λ has.
       let behind = scheme-behind text n longest has in
       let heads : get_or text n 0 ∷ drop (suc n) text ≡ colon ∷ behind.0 = sym (drop-cons text n 0 within) ∙ behind.1 in
@@ -88,7 +93,7 @@ after-word more rest inner many (stops, (k, y, sws, y_is, r_is)) = elim (some-ma
       (fails-append is_scheme_front (some.0 ++ some.1) rest (fails-append is_scheme_front some.0 some.1 (fail-then is_scheme_front Blanks Token (fail-blanks is_scheme_front blank-front) some.0 some.2)))
 ]
   where
-    -- "<" follows the blanks, or there are none
+    -- what follows the word begins with no byte of a token and no colon, whether blanks stand before the "<" or not
     at : Sws k → Fails is_scheme_front (k ++ (left_angle ∷ inner))
     at (inl none) = subst (λ t. Fails is_scheme_front (t ++ (left_angle ∷ inner))) (sym none) refl
     at (inr blanks) = fails-append is_scheme_front k (left_angle ∷ inner) (fail-blanks is_scheme_front blank-front k blanks)
@@ -116,6 +121,7 @@ no-display text has (Some name, inner) (rest, inr (words, no_word, whole), behin
 
 -- where words are read at the front of a text, its first byte is of a token
 words-first_byte : (text : List ℕ) (x : List ℕ × List ℕ) → WordsFront text x → is_token_byte (slice_index text 0) ≡ true
+-- w is the words, t their first token, and r what is left
 words-first_byte text (w, r) ((t, more, token, many, w_is), no_word, whole) =
     ap (λ x. is_token_byte (slice_index x 0)) (whole ∙ ap (λ x. x ++ r) w_is ∙ append_assoc t more r)
     ∙ first-all is_token_byte t (more ++ r) (each-token t token) (some-run is_token_byte t token)
@@ -134,12 +140,14 @@ name-angle text x (inr is) angle = first-fails is_token_byte (slice_index text 0
 
 -- the display name, if there is one, and "<" at the front of a text are read in one way
 pub one-display : (text : List ℕ) → AtMostOne (DisplayFront text)
+-- i and j are what follows "<" by the two readings; m and n are the names, and r and s what is left after them
 one-display text (None, i) (None, j) a b =
     let wholes : left_angle ∷ i ≡ left_angle ∷ j = sym a ∙ b in
     let same : i ≡ j = cc in
     ap (λ x. (None, x)) same
 one-display text (None, i) (Some n, j) a (s, name, behind) = absurd (name-angle text (n, s) name (ap (λ t. slice_index t 0) a))
 one-display text (Some m, i) (None, j) (r, name, behind) b = absurd (name-angle text (m, r) name (ap (λ t. slice_index t 0) b))
+-- both have a display name, which is the same, and so is what follows it
 one-display text (Some m, i) (Some n, j) (r, name, behind) (s, name_too, behind_too) =
     let same : ◌≡◌ {A = List ℕ × List ℕ} (m, r) (n, s) = one-name text (m, r) (n, s) name name_too in
     let angles : left_angle ∷ i ≡ left_angle ∷ j = same-behind s (left_angle ∷ i) (left_angle ∷ j) (subst (λ t. Behind t (left_angle ∷ i)) (ap (λ x. x.1) same) behind) behind_too in
@@ -182,8 +190,10 @@ one-cut text c d (named i display uri rest) (named j display_too uri_too rest_to
     let rests : Some c.rest ≡ Some d.rest = sym rest ∙ ap (behind right_angle) inner ∙ rest_too in
     let one : c.rest ≡ d.rest = cc in
     cut_same c d (ap (λ x. x.0) same) (uri ∙ ap (before right_angle) inner ∙ sym uri_too) one
+-- a URI in angles and one without them cannot both stand there
 one-cut text c d (named i display uri rest) (plain has none all stops whole) = absurd (no-display text has (c.display, i) display)
 one-cut text c d (plain has none all stops whole) (named j display uri rest) = absurd (no-display text has (d.display, j) display)
+-- both have no angles, and end at the same byte
 one-cut text c d (plain has none all stops whole) (plain has_too none_too all_too stops_too whole_too) =
     let same = same_front is_unmarked_byte c.uri c.rest d.uri d.rest all all_too stops stops_too (sym whole ∙ whole_too) in
     cut_same c d (none ∙ sym none_too) same.0 same.1
@@ -226,6 +236,7 @@ one-tail text p q a b = same-behind text p q (tail-behind text p a) (tail-behind
 pub tail-is : (text params : List ℕ) → IsOnlyBehind text params → nat_eq (length params) 0 ≡ false → ((ps : List (List ℕ × Option (List ℕ))) × ParamsPart params ps) → ReadAs (TailText text) params
 tail-is text params behind some part = read-one (TailText text) params (one-tail text) (at params behind.0 some, part)
   where
+    -- the parameters are not empty, so they are what is left after the blanks
     at : (p : List ℕ) → Behind text p → nat_eq (length p) 0 ≡ false → BehindBlanks p text
     at [] is full = absurd (both_ways true full refl)
     at (b ∷ p) is full = is.1
@@ -237,6 +248,7 @@ tail-empty text params behind some none p is =
     let empty : length params ≡ 0 = eqb-true (length params) 0 none in
     at p (ap length p_is ∙ empty) is.0
   where
+    -- only of an empty text nothing is left after the blanks, and this text is not empty
     at : (q : List ℕ) → length q ≡ 0 → BehindBlanks q text → ⊥
     at [] e whole = both_ways (nat_eq (length text) 0) some (ap (λ t. nat_eq (length t) 0) whole)
     at (b ∷ q) e whole = absurd (omega (arith, e))
@@ -249,21 +261,25 @@ tail-no_params text params behind none p is =
 -- where the grammar has a display name, or none, before a URI in angles, the reader cuts it off there
 before-display : (display : Option (List ℕ)) (d text inner : List ℕ) → IfSome display DisplayName → BeforeUri display d → text ≡ d ++ inner → DisplayFront text (display, inner)
 before-display None d text inner fits is whole = whole ∙ ap (λ t. t ++ inner) is
+-- the name, blanks and "<" stand at the front
+-- e is the name and t what stands before the URI after it: blanks s and the "<", l
 before-display (Some name) d text inner fits (e, t, e_is, (s, l, sws, l_is, t_is), d_is) whole = (
   s ++ (left_angle ∷ inner),
   at fits,
   behind_is,
 )
   where
+    -- the text is the name, blanks, "<" and what is inside
     flat : text ≡ name ++ (s ++ (left_angle ∷ inner))
     flat =
         whole ∙ ap (λ x. x ++ inner) (d_is ∙ ap (λ x. x ++ t) e_is ∙ ap (λ x. name ++ x) (t_is ∙ ap (λ x. s ++ x) l_is))
         ∙ append_assoc name (s ++ (left_angle ∷ [])) inner ∙ ap (λ x. name ++ x) (append_assoc s (left_angle ∷ []) inner)
 
+    -- after the name only blanks stand before "<"
     behind_is : Behind (s ++ (left_angle ∷ inner)) (left_angle ∷ inner)
     behind_is = (stops-byte left_angle inner refl, (s, left_angle ∷ inner, sws, refl, refl))
 
-    -- the name is a quoted string, or words
+    -- whether the name is a quoted string or words, it is read at the front of the text
     at : DisplayName name → NameFront text (name, s ++ (left_angle ∷ inner))
     at (inl quoted) = inl (quoted, flat)
     at (inr words) = inr (words, (left_angle ∷ inner, behind_is, refl), flat)
@@ -310,20 +326,23 @@ fails-plain (b ∷ u) fails = fails
 -- the parameters after an address, or their blanks, begin with a byte that may not stand in a URI without "<"
 tail-stops : (text params : List ℕ) → TailText text params → Stops is_unmarked_byte text
 tail-stops text [] (is, part) = subst (Stops is_unmarked_byte) (sym is) tt
+-- k is the blanks and y what follows; p is the first parameter
 tail-stops text (b ∷ params) ((k, y, sws, y_is, whole), ([], (opens, part))) = absurd (omega (arith, ap length part))
 tail-stops text (b ∷ params) ((k, y, sws, y_is, whole), (p ∷ ps, (opens, part))) =
     fails-plain text (subst (Fails is_unmarked_byte) (sym (whole ∙ ap (λ t. k ++ t) y_is)) (at sws))
   where
+    -- the parameters begin with no byte of a URI without "<"
     begins : Fails is_unmarked_byte (b ∷ params)
     begins = fail-then is_unmarked_byte (Mark semicolon) _ (fail-mark is_unmarked_byte semicolon not-plain refl) (b ∷ params) part
 
-    -- the ";" follows the blanks, or there are none
+    -- what follows begins with no byte of a URI without "<", whether blanks stand before the ";" or not
     at : Sws k → Fails is_unmarked_byte (k ++ (b ∷ params))
     at (inl none) = subst (λ t. Fails is_unmarked_byte (t ++ (b ∷ params))) (sym none) begins
     at (inr blanks) = fails-append is_unmarked_byte k (b ∷ params) (fail-blanks is_unmarked_byte not-plain k blanks)
 
 -- an address of the grammar is what the steps of the reader read
 pub address-steps : (text : List ℕ) (a : AddressParts) → AddressText text a → AddressSteps text (text, a)
+-- d is the display name with what stands before the URI, u the URI, g the ">" and w3 the parameters; w1 to w3 are what follows each part
 address-steps text a (name_addr fits (d, w1, before_is, (u, w2, u_is, (g, w3, g_is, tail, w2_is), w1_is), whole)) =
     both (make a.display a.uri_text w3)
     (named w1 (before-display a.display d text w1 fits.display before_is whole)
@@ -331,11 +350,14 @@ address-steps text a (name_addr fits (d, w1, before_is, (u, w2, u_is, (g, w3, g_
     (ap (behind right_angle) inner ∙ behind-led right_angle a.uri_text (Some w3) lacks))
     (both a.uri fits.uri (both a.params (tail, fits.params) refl))
   where
+    -- inside the angles stand the URI, ">" and what follows
     inner : w1 ≡ a.uri_text ++ (right_angle ∷ w3)
     inner = w1_is ∙ ap (λ t. t ++ w2) u_is ∙ ap (λ t. a.uri_text ++ t) (w2_is ∙ ap (λ t. t ++ w3) g_is)
 
+    -- no ">" stands in the URI
     lacks : Lacks right_angle a.uri_text
     lacks = uri-lacks a.uri_text a.uri fits.uri
+-- a URI without angles ends before a byte that may not stand in it, and has parameters after it
 address-steps text a (addr_spec fits none plain_is (u, w, u_is, tail, whole)) =
     both (make a.display a.uri_text w)
     (plain (has.0, has.1 ++ w, has.2, flat ∙ ap (λ t. t ++ w) has.3 ∙ append_assoc has.0 (colon ∷ has.1) w) none
@@ -343,9 +365,11 @@ address-steps text a (addr_spec fits none plain_is (u, w, u_is, tail, whole)) =
     (tail-stops w a.params (tail, fits.params)) flat)
     (both a.uri fits.uri (both a.params (tail, fits.params) refl))
   where
+    -- the text is the URI and what follows
     flat : text ≡ a.uri_text ++ w
     flat = whole ∙ ap (λ t. t ++ w) u_is
 
+    -- the URI has a scheme
     has : HasScheme a.uri_text
     has = uri-scheme a.uri_text a.uri fits.uri
 
@@ -358,9 +382,11 @@ steps-address text x (both c (named inner display uri_is rest_is) (both uri is_u
       refl,
     )
   where
+    -- the text begins with what may stand before a URI in angles: the display name, or nothing, and "<"
     front : (d : List ℕ) × BeforeUri c.display d × (text ≡ d ++ inner)
     front = display-before c.display text inner display
 
+    -- inside the angles stand the URI, ">" and the rest
     inner_is : inner ≡ c.uri ++ (right_angle ∷ c.rest)
     inner_is = cut-whole right_angle inner ∙ ap (λ t. t ++ led right_angle (behind right_angle inner)) (sym uri_is) ∙ ap (λ o. c.uri ++ led right_angle o) rest_is
 steps-address text x (both c (plain has none all stops whole) (both uri is_uri (both params tail is))) =
@@ -386,6 +412,7 @@ one-address text a b one other = ap (λ x. x.1) (one-steps text (text, a) (text,
 pub read-address : (text : List ℕ) (x : List ℕ × AddressParts) → ReadAs (AddressSteps text) x → ReadAs (AddressValue text) x
 read-address text x is = (steps-address text x is.0, (λ y value. is.1 y (value-steps y value)))
   where
+    -- an address of the grammar is one that the steps read
     value-steps : (y : List ℕ × AddressParts) → AddressValue text y → AddressSteps text y
     value-steps (whole, a) (value, whole_is) = subst (λ w. AddressSteps text (w, a)) (sym whole_is) (address-steps text a value)
 

@@ -1,4 +1,5 @@
 -- A URI is read in one way, begins with a token and a colon, and holds no ">".
+-- In the lemmas p and q are the parts of a URI, and `sip p` those of a SIP or SIPS URI; s is the scheme.
 use Rattle.std.proofs.Common.{◌≡◌, ℕ, ◌+◌, ◌⊎◌, Bool, true, false, ◌||◌, nat_eq, nat_le, nat_lt, cond, List, [], ◌∷◌, ◌++◌, Option, Some, None, IfSome, length, drop, refl, sym, ap, ◌∙◌, subst, inl, inr, arith}
 use Rattle.std.specs.Char.{is_ascii_alphabetic, is_ascii_alphanumeric, is_ascii_digit, to_ascii_lowercase}
 use Rattle.std.specs.Int.{is_in_range}
@@ -37,9 +38,11 @@ use Rattle.sip_message.proofs.lemmas.front.OneWay.{AtMostOne, all-lacks, same-ho
 lower-token : (b : ℕ) → is_token_byte (to_ascii_lowercase b) ≡ true → is_token_byte b ≡ true
 lower-token b is = at (nat_lt b 65) (nat_lt b 91) refl refl is
   where
+    -- the claim holds whether b is below the capital letters, is one, or is above them
     at : (x y : Bool) → nat_lt b 65 ≡ x → nat_lt b 91 ≡ y → is_token_byte (cond x b (cond y (b + 32) b)) ≡ true → is_token_byte b ≡ true
     at true y x_is y_is pass = pass
     at false false x_is y_is pass = pass
+    -- b is a capital letter, so its lower case is a letter
     at false true x_is y_is pass =
         let high = ltb-true b 91 y_is in
         let low = ltb-false b 65 x_is in
@@ -65,6 +68,7 @@ scheme-token b is = elim (or_cases (is_ascii_alphanumeric b) (is_among "+-." b) 
     | inl e ↦ subst (λ x. is_token_byte x ≡ true) (eqb-true 43 b e) refl
     | inr two ↦ elim (or_cases (nat_eq 45 b) _ two) [
       | inl e ↦ subst (λ x. is_token_byte x ≡ true) (eqb-true 45 b e) refl
+      -- of `+`, `-` and `.` each is a byte of a token
       | inr three ↦ elim (or_cases (nat_eq 46 b) false three) [
         | inl e ↦ subst (λ x. is_token_byte x ≡ true) (eqb-true 46 b e) refl
         | inr none ↦ absurd (both_ways false refl none)
@@ -88,6 +92,7 @@ uri-scheme text (other scheme rest) (is_scheme, neither, some, whole) = (scheme,
 
 -- a text begins with one scheme alone
 scheme-one : (text : List ℕ) (a b : HasScheme text) → (a.0 ≡ b.0) × (a.1 ≡ b.1)
+-- s and t are the schemes, and r and q what follows the colon
 scheme-one text (s, r, s_all, whole) (t, q, t_all, whole_too) =
     let same = same_front is_token_byte s (colon ∷ r) t (colon ∷ q) s_all t_all refl refl (sym whole ∙ whole_too) in
     let tails : colon ∷ r ≡ colon ∷ q = same.1 in
@@ -134,6 +139,7 @@ userinfo-lacks (Some user) password u p =
 -- a SIP URI lacks ">"
 sip-lacks : (p : SipParts) → SipFits p → Lacks right_angle (sip_text p)
 sip-lacks p fits =
+    -- each part lacks it: the userinfo, the host, the port, the parameters and the headers
     lacks-append right_angle (userinfo_text p.user p.password) (hostport_text p.host p.port ++ p.params ++ led question p.headers) (userinfo-lacks p.user p.password fits.user fits.password)
     (lacks-append right_angle (hostport_text p.host p.port ++ p.params) (led question p.headers)
     (lacks-append right_angle (hostport_text p.host p.port) p.params
@@ -145,22 +151,27 @@ sip-lacks p fits =
 pub uri-lacks : (text : List ℕ) (u : UriParts) → UriText text u → Lacks right_angle text
 uri-lacks text u is = subst (Lacks right_angle) (sym has.3) (lacks-append right_angle has.0 (colon ∷ has.1) (all-lacks is_token_byte right_angle has.0 refl has.2) (refl, rest u is))
   where
+    -- a URI has a scheme
     has : HasScheme text
     has = uri-scheme text u is
 
+    -- no ">" stands after the scheme
     rest : (v : UriParts) → (w : UriText text v) → Lacks right_angle ((uri-scheme text v w).1)
     rest (sip p) w = sip-lacks p w.2
     rest (other scheme more) w = lack-some right_angle _ (lack-char right_angle is_reserved refl) more w.2
 
--- a text is a port, or not
+-- a text is a port, or it is no port
 decide-port : (v : List ℕ) → Port v ⊎ (Port v → ⊥)
 decide-port v = at (nat_le 1 (length v)) (nat_le (length v) 5) (list_all is_ascii_digit v) (nat_le (digits_value 10 v) 65535) refl refl refl refl
   where
+    -- the claim holds whatever each of the four tests of a port says
+    -- a and b say that v has one byte and at most five, c that it has digits alone, and d that its number is a port's
     at : (a b c d : Bool) → nat_le 1 (length v) ≡ a → nat_le (length v) 5 ≡ b → list_all is_ascii_digit v ≡ c → nat_le (digits_value 10 v) 65535 ≡ d → Port v ⊎ (Port v → ⊥)
     at false b c d low high all small = inr (λ port. both_ways (nat_le 1 (length v)) low (le-leb 1 (length v) (port-length v port).0))
     at true false c d low high all small = inr (λ port. both_ways (nat_le (length v) 5) high (le-leb (length v) 5 (port-length v port).1))
     at true true false d low high all small = inr (λ port. both_ways (list_all is_ascii_digit v) all (run-list_all is_ascii_digit v (port.0.0, port.0.1, port.0.2)))
     at true true true false low high all small = inr (λ port. both_ways (nat_le (digits_value 10 v) 65535) small (le-leb (digits_value 10 v) 65535 port.1))
+    -- all tests pass, so the text is a port
     at true true true true low high all small =
         let whole = take_all (length v) v (omega arith) in
         inl (port-end v (length v) (digits_value 10 v) (leb-true 1 (length v) low) (leb-true (length v) 5 high) (omega arith)
@@ -170,11 +181,14 @@ decide-port v = at (nat_le 1 (length v)) (nat_le (length v) 5) (list_all is_asci
 port-cut : (text : List ℕ) → (host : List ℕ) × (port : Option (List ℕ)) × IsPortCut text host port
 port-cut text = at (before_last colon text) refl
   where
+    -- the claim holds whether or not the text has a colon
     at : (o : Option (List ℕ)) → before_last colon text ≡ o → (host : List ℕ) × (port : Option (List ℕ)) × IsPortCut text host port
     at None is = (text, None, no-port text (λ u some port. none-some_is (sym is ∙ some)))
       where
+        -- None is no value
         none-some_is : {u : List ℕ} → None ≡ Some u → ⊥
         none-some_is e = cc
+    -- the text after the last colon is a port, or it is no port
     at (Some u) is = elim (decide-port (behind_last colon text)) [
       | inl port ↦ (u, Some (behind_last colon text), port-there text u (behind_last colon text) is refl port)
       | inr none ↦ (text, None, no-port text (λ v some port. none port))
@@ -184,6 +198,7 @@ port-cut text = at (before_last colon text) refl
 info-cut : (text : List ℕ) → (user : Option (List ℕ)) × (password : Option (List ℕ)) × (rest : List ℕ) × IsInfoCut text user password rest
 info-cut text = at (behind at_sign text) refl
   where
+    -- the claim holds whether or not the text has an at sign
     at : (o : Option (List ℕ)) → behind at_sign text ≡ o → (user : Option (List ℕ)) × (password : Option (List ℕ)) × (rest : List ℕ) × IsInfoCut text user password rest
     at None is = (None, None, text, (is, refl, refl))
     at (Some rest) is = (Some (before colon (before at_sign text)), behind colon (before at_sign text), rest, (is, refl, refl))
@@ -220,12 +235,14 @@ one-uri text (sip p) (sip q) a b =
     let same = scheme-one text (uri-scheme text (sip p) a) (uri-scheme text (sip q) b) in
     let secure = same-name b.0 p.secure q.secure (subst (λ s. SameText s (scheme_name p.secure)) same.0 a.1) b.1 in
     same-sip (sip_text p) p q secure a.2 b.2 refl same.1
+-- a SIP URI and another URI have different schemes
 one-uri text (sip p) (other scheme rest) a b =
     let same = scheme-one text (uri-scheme text (sip p) a) (uri-scheme text (other scheme rest) b) in
     absurd (b.1 p.secure (subst (λ s. SameText s (scheme_name p.secure)) same.0 a.1))
 one-uri text (other scheme rest) (sip q) a b =
     let same = scheme-one text (uri-scheme text (other scheme rest) a) (uri-scheme text (sip q) b) in
     absurd (a.1 q.secure (subst (λ s. SameText s (scheme_name q.secure)) (sym same.0) b.1))
+-- both are other URIs, with the same scheme and the same rest
 one-uri text (other s r) (other t q) a b =
     let same = scheme-one text (uri-scheme text (other s r) a) (uri-scheme text (other t q) b) in
     ap (λ x. other x r) same.0 ∙ ap (other t) same.1

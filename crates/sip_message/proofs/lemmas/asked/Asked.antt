@@ -1,4 +1,5 @@
 -- What is kept of the fields that are asked for, one field after another.
+-- In the lemmas f is the further field, g the first of the fields before it, and n the number of a line.
 use Rattle.std.proofs.Common.{◌≡◌, ℕ, ◌+◌, Bool, true, false, List, [], ◌∷◌, ◌++◌, cond, Option, None, Some, option_copied, refl, sym, ap, ◌∙◌, subst}
 use Rattle.std.specs.Prelude.{IsTrue, IsSome, IfSome, is_some}
 use Rattle.std.specs.Borrow.{Bor}
@@ -26,16 +27,18 @@ use Rattle.sip_message.specs.inner.Asked.{OnceSays, FirstSays, Itself, AsksMore}
 use Rattle.sip_message.proofs.lemmas.asked.Parts.{row-of, first-value}
 use Rattle.sip_message.proofs.lemmas.asked.Kept.{map-or}
 
--- the fields of a name that are found among some fields and a further one are those among the former, and the further one if it has the name
+-- the fields of a name among some fields and a further one are those among the first, and then the further one, if it has the name
 found-more : (n : ℕ) (k : Known) (fields : List Field) (f : Field) → (line : ℕ) × (found_from n k (fields ++ f ∷ []) ≡ found_from n k fields ++ found_from line k (f ∷ []))
 found-more n k [] f = (n, refl)
 found-more n k (g ∷ fields) f = let later = found-more (n + 1) k fields f in (later.0, at (is_name_of k g.name) _ _ _ later.1)
   where
+    -- the claim holds whether or not the first field has the name
+    -- b is whether it has the name; xs are what is found of the other fields, which are ys and then zs
     at : (b : Bool) (xs ys zs : List (ℕ × List ℕ)) → xs ≡ ys ++ zs → cond b ((n, g.value) ∷ xs) xs ≡ cond b ((n, g.value) ∷ ys) ys ++ zs
     at true xs ys zs is = ap (λ t. (n, g.value) ∷ t) is
     at false xs ys zs is = is
 
--- What follows is of the fields of one name, and one field f more.
+-- What follows is of some fields and one field f more, and of what the fields of the name k say; R relates a value to what it says.
 module _ {X : Type 0} (R : List ℕ → X → Type 0) (k : Known) (fields : List Field) (f : Field) where
   -- a further field of another name adds nothing to the fields of the name that are found
   found-passed : is_name_of k f.name ≡ false → found k (fields ++ f ∷ []) ≡ found k fields
@@ -68,6 +71,7 @@ module _ {X : Type 0} (R : List ℕ → X → Type 0) (k : Known) (fields : List
   first-also : (old new : Option X) (x : X) → is_name_of k f.name ≡ true → R f.value x → new ≡ option_or old (Some x) → FirstSays R k fields old → FirstSays R k (fields ++ f ∷ []) new
   first-also old new x named says is so = subst (FirstSays R k (fields ++ f ∷ [])) (sym is) (at old so)
     where
+      -- the claim holds whether or not a former field has the name
       at : (o : Option X) → FirstSays R k fields o → FirstSays R k (fields ++ f ∷ []) (option_or o (Some x))
       at None none = let also = found-also named in ((also.0, f.value), ([], also.1 ∙ ap (λ t. t ++ (also.0, f.value) ∷ []) none), says)
       at (Some y) (one, (more, found_is), says_y) = let also = found-also named in (one, (more ++ (also.0, f.value) ∷ [], also.1 ∙ ap (λ t. t ++ (also.0, f.value) ∷ []) found_is), says_y)
@@ -76,6 +80,7 @@ module _ {X : Type 0} (R : List ℕ → X → Type 0) (k : Known) (fields : List
 pub asks-other : (f : Field) (a : Asked) → (is_name_of known_name.Via f.name ≡ false) × (is_name_of known_name.From f.name ≡ false) × (is_name_of known_name.To f.name ≡ false)
     × (is_name_of known_name.CallId f.name ≡ false) × (is_name_of known_name.CSeq f.name ≡ false) × (is_name_of known_name.ContentLength f.name ≡ false) → AsksMore f a a
 asks-other f a (via, from, to, call_id, cseq, content_length) fields of = record {
+  -- each kept part is as before, since the field does not have its name
   via = first-passed FirstVia known_name.Via fields f (option_map element a.via) via of.via;
   from = once-passed Itself known_name.From fields f (option_copied a.from) from of.from;
   to = once-passed Itself known_name.To fields f (option_copied a.to) to of.to;
@@ -84,17 +89,18 @@ asks-other f a (via, from, to, call_id, cseq, content_length) fields of = record
   content_length = once-passed Itself known_name.ContentLength fields f (option_copied a.content_length) content_length of.content_length;
 }
 
--- where nothing is kept, the new one is the first
+-- where o has no value, the first of o and p is p
 pub or-none : {X : Type 0} (o p : Option X) → is_some o ≡ false → p ≡ option_or o p
 or-none None p none = refl
 or-none (Some x) p none = absurd (false≢true (sym none))
 
--- where a Via says something, what the first Via says is kept with it
+-- where the value of a Via says something, what the first Via says is kept with that Via
 pub asks-via : (f : Field) (a : Asked) (r via : Option Via) (b : Bool) → f.name ≡ known known_name.Via → b ≡ is_some r → IsOnlyValue FirstVia element f.value r → via ≡ option_or a.via r → IsTrue b
     → AsksMore f a (record { via = via; from = a.from; to = a.to; call_id = a.call_id; cseq = a.cseq; content_length = a.content_length })
 asks-via f a None via b named is none via_is so fields of = absurd (false≢true (sym is ∙ so))
 asks-via f a (Some v) via b named is read via_is so fields of = record {
   via = first-also FirstVia known_name.Via fields f (option_map element a.via) (option_map element via) (element v) (ap (is_name_of known_name.Via) named) read.0 (ap (option_map element) via_is ∙ map-or element a.via (Some v)) of.via;
+  -- for the other names nothing changes
   from = once-passed Itself known_name.From fields f (option_copied a.from) (ap (is_name_of known_name.From) named) of.from;
   to = once-passed Itself known_name.To fields f (option_copied a.to) (ap (is_name_of known_name.To) named) of.to;
   call_id = once-passed Itself known_name.CallId fields f (option_copied a.call_id) (ap (is_name_of known_name.CallId) named) of.call_id;
@@ -111,11 +117,12 @@ asks-cseq f a (Some c) cseq named some read (none, is) fields of = record {
   from = once-passed Itself known_name.From fields f (option_copied a.from) (ap (is_name_of known_name.From) named) of.from;
   to = once-passed Itself known_name.To fields f (option_copied a.to) (ap (is_name_of known_name.To) named) of.to;
   call_id = once-passed Itself known_name.CallId fields f (option_copied a.call_id) (ap (is_name_of known_name.CallId) named) of.call_id;
+  -- the CSeq is kept, and for the other names nothing changes
   cseq = once-also CSeqValue known_name.CSeq fields f (option_map cseq_parts a.cseq) (option_map cseq_parts cseq) (cseq_parts c) (ap (is_name_of known_name.CSeq) named) read.0 (ap (option_map cseq_parts) none) (ap (option_map cseq_parts) is) of.cseq;
   content_length = once-passed Itself known_name.ContentLength fields f (option_copied a.content_length) (ap (is_name_of known_name.ContentLength) named) of.content_length;
 }
 
--- What follows is of one more field f, and what is kept of the fields that are asked for.
+-- What follows is of one more field f, whose value is kept, and of what was kept before it, which is a.
 module _ (f : Field) (a : Asked) (value : Bor (List ℕ)) (kept : Option (Bor (List ℕ))) (value_is : value.now ≡ f.value) (is : kept ≡ Some value) where
   -- the value of a From is kept where none is kept yet
   pub asks-from : f.name ≡ known known_name.From → a.from ≡ None → AsksMore f a (record { via = a.via; from = kept; to = a.to; call_id = a.call_id; cseq = a.cseq; content_length = a.content_length })
@@ -162,6 +169,7 @@ module _ (f : Field) (a : Asked) (value : Bor (List ℕ)) (kept : Option (Bor (L
   }
 
 -- where something is kept of a name that stands once, it is what the one field of the name says
+-- k is the name, R what a value says, o what is kept, if anything, and a this
 pub once-one : {A X : Type 0} (R : List ℕ → X → Type 0) (k : Known) (fields : List Field) (parts : A → X) (o : Option A) (a : A) → o ≡ Some a → OnceSays R k fields (option_map parts o)
     → (one : ℕ × List ℕ) × (found k fields ≡ one ∷ []) × R (one.1) (parts a)
 once-one R k fields parts o a is so = subst (λ p. OnceSays R k fields (option_map parts p)) is so
@@ -172,6 +180,7 @@ pub copied-one : (k : Known) (fields : List Field) (o : Option (Bor (List ℕ)))
 copied-one k fields o text is so = subst (λ p. OnceSays Itself k fields (option_copied p)) is so
 
 -- the first field of a name that was found says its parts
+-- k is the name, R what a value says, o what is kept, if anything, and a this
 pub first-one : {A X : Type 0} (R : List ℕ → X → Type 0) (k : Known) (fields : List Field) (parts : A → X) (o : Option A) (a : A) → o ≡ Some a → FirstSays R k fields (option_map parts o)
     → (one : ℕ × List ℕ) × IsFirstFound k fields one × R (one.1) (parts a)
 first-one R k fields parts o a is so = subst (λ p. FirstSays R k fields (option_map parts p)) is so

@@ -1,4 +1,5 @@
 -- What the first Via and the first CSeq say, with a further field.
+-- In the lemmas k is a known name and f a field; r is what was read of a value, if anything, and b whether something was.
 use Rattle.std.proofs.Common.{◌≡◌, ◌↔◌, ℕ, List, [], ◌∷◌, ◌++◌, Bool, true, false, cond, Option, None, Some, refl, sym, ap, ◌∙◌, subst}
 use Rattle.std.specs.Prelude.{IsTrue, IsSome, is_some}
 use Rattle.std.specs.Option.{option_map, option_or}
@@ -23,11 +24,12 @@ use Rattle.sip_message.proofs.lemmas.via.Value.{first-none}
 use Rattle.sip_standard.specs.Says.{IsFirstOf}
 use Rattle.std.proofs.lemmas.Option.{same_Some}
 
--- the values of a name in some fields and a further one are those in the former, and the value of the further one if it has the name
+-- the values of a name in some fields and a further one are those in the first, and then the value of the further one, if it has the name
 values-more : (k : Known) (fields : List Field) (f : Field) → values k (fields ++ f ∷ []) ≡ values k fields ++ values k (f ∷ [])
 values-more k [] f = refl
 values-more k (g ∷ fields) f = at (is_name_of k g.name) (values-more k fields f)
   where
+    -- the claim holds whether or not the first field has the name
     at : (b : Bool) → values k (fields ++ f ∷ []) ≡ values k fields ++ values k (f ∷ []) → cond b (g.value ∷ values k (fields ++ f ∷ [])) (values k (fields ++ f ∷ [])) ≡ cond b (g.value ∷ values k fields) (values k fields) ++ values k (f ∷ [])
     at true later = ap (λ t. g.value ∷ t) later
     at false later = later
@@ -39,10 +41,12 @@ says-passed R k fields f old new other same says =
     (subst (λ vs. SaysFirst R vs old) (sym (values-more k fields f ∙ ap (λ b. values k fields ++ cond b (f.value ∷ []) []) other ∙ append-nil (values k fields))) says)
 
 -- with a further field of the name, what the first field of the name says stays, and is what the further one says where there was none
+-- k is the name, f the further field, and x what its value says by R
 says-found : {X : Type 0} (R : List ℕ → X → Type 0) (k : Known) (fields : List Field) (f : Field) (old new : Option X) (x : X) → is_name_of k f.name ≡ true → R f.value x → new ≡ option_or old (Some x) → SaysFirst R (values k fields) old → SaysFirst R (values k (fields ++ f ∷ [])) new
 says-found {X = X} R k fields f old new x named said is says =
     subst (λ vs. SaysFirst R vs new) (sym (values-more k fields f ∙ ap (λ b. values k fields ++ cond b (f.value ∷ []) []) named)) (at (values k fields) old says is)
   where
+    -- the claim holds whether or not a former field has the name
     at : (vs : List (List ℕ)) (o : Option X) → SaysFirst R vs o → new ≡ option_or o (Some x) → SaysFirst R (vs ++ f.value ∷ []) new
     at [] o none new_is = (x, said, new_is ∙ ap (λ p. option_or p (Some x)) none)
     at (v ∷ vs) o (y, says_y, o_is) new_is = (y, says_y, new_is ∙ ap (λ p. option_or p (Some x)) o_is)
@@ -90,15 +94,16 @@ pub named-keeps : (k : Known) (f : Field) (kept : Kept) → f.name ≡ known k �
 named-keeps k f kept named other = other-keeps f kept (ap (is_name_of known_name.Via) named ∙ other.0, ap (is_name_of known_name.CSeq) named ∙ other.1)
 
 -- where a name has a first value, what it says is there
+-- vs are the values of the name, of which `text` is the first; o is what is kept of it, R relates a text to what it says, and x is what this one says
 says-some : {A X : Type 0} (R : List ℕ → X → Type 0) (parts : A → X) (vs more : List (List ℕ)) (text : List ℕ) (o : Option A) → SaysFirst R vs (option_map parts o) → vs ≡ text ∷ more → (x : X) × R text x × (option_map parts o ≡ Some x)
 says-some R parts vs more text o says is = subst (λ l. SaysFirst R l (option_map parts o)) is says
 
--- where there are parts, there is what they are of
+-- where the parts of what o holds are x, o holds something
 is-some : {A X : Type 0} (parts : A → X) (o : Option A) (x : X) → option_map parts o ≡ Some x → IsSome o
 is-some parts None x is = absurd (false≢true (ap is_some is))
 is-some parts (Some a) x is = refl
 
--- where o is the value a, and is seen as x of which R holds, R holds of what a is seen as
+-- where o holds a, and parts makes of it an x of which R holds, R holds of what parts makes of a
 some-is : {A X : Type 0} (R : X → Type 0) (parts : A → X) (o : Option A) (a : A) (x : X) → o ≡ Some a → option_map parts o ≡ Some x → R x → R (parts a)
 some-is R parts o a x o_is is said =
     let same : Some x ≡ Some (parts a) = sym is ∙ ap (option_map parts) o_is in

@@ -1,4 +1,5 @@
 -- A message has the parts of its named fields, since each field has a value that its name may have.
+-- In the lemmas k is a known name, n the name of a field, and fs are fields.
 use Rattle.std.proofs.Common.{◌≡◌, ℕ, ◌+◌, Bool, true, false, List, [], ◌∷◌, ◌++◌, map, cond, refl, sym, ap, ◌∙◌, subst}
 use Rattle.std.specs.List.{AllByRecursion}
 use Rattle.std.proofs.lemmas.Slice.Eq.{bytes_eq-Decides}
@@ -18,7 +19,7 @@ use Rattle.sip_message.proofs.lemmas.canon.Law.{fields-rows, name-known}
 use Rattle.sip_message.proofs.lemmas.says.Values.{cseq-said}
 use Rattle.sip_standard.specs.Says.{IsFirstOf}
 
--- a field name that is this known one is it
+-- a field name that passes the test of a known name is that known name
 pub named-known : (k : Known) (n : FieldName) → is_name_of k n ≡ true → n ≡ known k
 named-known k (known j) is = sym (name-known j) ∙ ap name_of (sym ((bytes_eq-Decides (long_name k) (long_name j)).0 is)) ∙ name-known k
 named-known k (other text) is = absurd (both_ways false refl is)
@@ -28,15 +29,18 @@ pub row-values : (k : Known) (fs : List Field) → AllByRecursion (λ f. Row f.n
 row-values k [] rows = tt
 row-values k (f ∷ fs) rows = at (is_name_of k f.name) refl (row-values k fs rows.1)
   where
+    -- the claim holds whether or not the first field has the name
     at : (b : Bool) → is_name_of k f.name ≡ b → AllByRecursion (Row (known k)) (values k fs) → AllByRecursion (Row (known k)) (cond b (f.value ∷ values k fs) (values k fs))
     at true is later = (subst (λ n. Row n f.value) (named-known k f.name is) rows.0, later)
     at false is later = later
 
 -- the values of a name are those of the fields of the name that are found
+-- k is the name, fs are the fields, and n is the number of the first one's line
 pub found-values : (n : ℕ) (k : Known) (fs : List Field) → values k fs ≡ map (λ x. x.1) (found_from n k fs)
 found-values n k [] = refl
 found-values n k (f ∷ fs) = at (is_name_of k f.name) (found-values (n + 1) k fs)
   where
+    -- the claim holds whether or not the first field has the name
     at : (b : Bool) → values k fs ≡ map (λ x. x.1) (found_from (n + 1) k fs) → cond b (f.value ∷ values k fs) (values k fs) ≡ map (λ x. x.1) (cond b ((n, f.value) ∷ found_from (n + 1) k fs) (found_from (n + 1) k fs))
     at true later = ap (λ t. f.value ∷ t) later
     at false later = later
@@ -48,12 +52,14 @@ first-value k fs one first = (map (λ x. x.1) first.0, found-values 1 k fs ∙ a
 -- further elements of Via by their parts are further elements with their texts
 pub more-elements : (vias : List ViaParts) (text : List ℕ) → MoreVias vias text → (es : List Element) × MoreElements es text
 more-elements [] text is = ([], is)
+-- u is the comma and w what follows: x the text of v, and y that of the other elements
 more-elements (v ∷ vias) text (u, w, mark, (x, y, via, more, w_is), text_is) =
     let later = more-elements vias y more in
     ((x, v) ∷ later.0, (via, (u, w, mark, (x, y, refl, later.1, w_is), text_is)))
 
 -- a value of Via is elements, at least one
 via-elements : (text : List ℕ) → Row (known known_name.Via) text → (e : Element) × (es : List Element) × ElementsText text (e ∷ es)
+-- x is the text of the first element, v, and y that of the others
 via-elements text (v, vias, (x, y, via, more, text_is)) =
     let later = more-elements vias y more in
     ((x, v), later.0, (via, (x, y, refl, later.1, text_is)))
@@ -86,10 +92,12 @@ has-parts bytes m text =
     let to = first-value known_name.To m.fields text.fits.to.0 text.fits.to.1 in
     let call_id = first-value known_name.CallId m.fields text.fits.call_id.0 text.fits.call_id.1 in
     let cseq = first-value known_name.CSeq m.fields text.fits.cseq.0 text.fits.cseq.1 in
+    -- each of these values is of its row
     let vias = first-elements _ via.0 (subst (AllByRecursion (Row (known known_name.Via))) via.1 (row-values known_name.Via m.fields rows)) in
     let from_row = row-of known_name.From m.fields _ rows from in
     let to_row = row-of known_name.To m.fields _ rows to in
     let cseq_row = row-of known_name.CSeq m.fields _ rows cseq in (
+      -- the parts are those that the values say
       record { via = vias.0; others = vias.1; from = (text.fits.from.0.1, from_row.0); to = (text.fits.to.0.1, to_row.0); call_id = text.fits.call_id.0.1; cseq = (cseq_row.0, cseq_row.1) },
       record {
         vias = subst (λ t. AreElements t (vias.0 ∷ vias.1)) (sym via.1) vias.2;

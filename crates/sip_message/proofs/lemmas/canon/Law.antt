@@ -1,4 +1,5 @@
 -- The law of the canonical form.
+-- In the lemmas fs are fields, and n is the number of the first of them; as Bools, x and y are what two tests of a byte say.
 use Rattle.std.proofs.Common.{◌≡◌, ℕ, ◌+◌, ◌≤◌, ◌<◌, Bool, true, false, not, ◌&&◌, List, [], ◌∷◌, ◌++◌, length, take, map, cond, nat_eq, Option, Some, None, refl, sym, ap, ◌∙◌, subst, inl, inr, arith}
 use Rattle.std.specs.Prelude.{is_some, get_or, ◌^◌, codes, decimal, IsTrue, bytes_eq}
 use Rattle.std.specs.Char.{is_ascii_digit}
@@ -60,6 +61,7 @@ Trimmed text = OpensSolid text × EndsSolid text
 
 -- the set of texts that neither begin nor end with a blank is closed under making one SP of a blank run
 closed-trimmed : Closed Trimmed
+-- an empty front would end with the blanks b and w, and an empty back would be ended by them: neither text is trimmed
 closed-trimmed [] v b w ends opens blanks is = absurd (both_ways (is_lws_byte b) is.0 blanks.0)
 closed-trimmed (a ∷ u) [] b w ends opens blanks is =
     absurd (ends_blank (a ∷ u) b w (subst EndsSolid (ap (λ t. a ∷ (u ++ t)) (append-nil (b ∷ w))) is.1) blanks)
@@ -72,6 +74,7 @@ closed-trimmed (a ∷ u) (c ∷ v) b w ends opens blanks is =
 
 -- the long form of a known name spells that name
 pub name-known : (k : Known) → name_of (long_name k) ≡ known k
+-- each name is tried, by computing
 name-known known_name.Via = refl
 name-known known_name.From = refl
 name-known known_name.To = refl
@@ -89,6 +92,7 @@ name-known known_name.Route = refl
 name-other : (xs : List (List ℕ × Known)) (text t : List ℕ) → name_by xs text ≡ other t → text ≡ t
 name-other [] text t is = ap text_in is
   where
+    -- the text of a name that is no known one
     text_in : FieldName → List ℕ
     text_in (known k) = []
     text_in (other u) = u
@@ -99,7 +103,7 @@ name-other (x ∷ xs) text t is = at (name-other xs text t) (bytes_eq (folded te
     is_other (known k) = false
     is_other (other u) = true
 
-    -- whether the text is the first spelling
+    -- the claim holds whether or not the text is the first spelling
     at : (name_by xs text ≡ other t → text ≡ t) → (same : Bool) → cond same (known x.1) (name_by xs text) ≡ other t → text ≡ t
     at later true e = absurd (both_ways false refl (ap is_other e))
     at later false e = later e
@@ -112,6 +116,7 @@ token_text b text all =
 
 -- the long form of a known name is a token
 long-token : (k : Known) → Token (long_name k)
+-- each name is tried, by computing
 long-token known_name.Via = token_text _ _ refl
 long-token known_name.From = token_text _ _ refl
 long-token known_name.To = token_text _ _ refl
@@ -139,6 +144,7 @@ code-decimal text code is =
     ∙ decimal-digits_value (numerals_by_value (λ ds. all_ascii_digits ds ≡ true) tells_all_ascii_digits) text digits
     (omega (arith, len)) (λ zero_first. absurd (first text digits len zero_first (omega (arith, is.low, is.code_is)))) (omega (arith, is.high, is.code_is))
   where
+    -- a status code has three bytes
     len : length text ≡ 3
     len = length-code text code is
 
@@ -147,15 +153,18 @@ code-decimal text code is =
     each [] all = refl
     each (u ∷ us) all = ap (λ t. all_ascii_digits (t ++ concat us)) all.0.2 ∙ and_from _ _ all.0.1 (each us all.1)
 
+    -- each byte of a status code is a digit
     digits : all_ascii_digits text ≡ true
     digits = ap all_ascii_digits is.digits.2 ∙ each is.digits.0 is.digits.1
 
     -- a number from 100 on in three digits does not begin with 0
     first : (ds : List ℕ) → all_ascii_digits ds ≡ true → length ds ≡ 3 → get_or ds 0 0 ≡ 48 → 100 ≤ digits_value 10 ds → ⊥
+    -- the number has three digits, a, b and c
     first [] all three zero_first low = omega (arith, three)
     first (a ∷ []) all three zero_first low = omega (arith, three)
     first (a ∷ b ∷ []) all three zero_first low = omega (arith, three)
     first (a ∷ b ∷ c ∷ d ∷ ds) all three zero_first low = omega (arith, three)
+    -- where a is 0, the number is that of b and c, and so below 100
     first (a ∷ b ∷ c ∷ []) all three zero_first low =
         let told = (numerals_by_value (λ ds. all_ascii_digits ds ≡ true) tells_all_ascii_digits).to (a ∷ b ∷ c ∷ []) all in
         let small : digits_value 10 (b ∷ c ∷ []) < 10 ^ 2 = digits_value-lt 10 (b ∷ c ∷ []) told.1 in
@@ -167,6 +176,7 @@ start-canon : (line : List ℕ) (s : StartLine) → StartText line s → StartTe
 start-canon line (request method uri) (token, is_uri, whole) =
     (token, is_uri, (method, space ∷ (uri ++ space ∷ codes "SIP/2.0"), refl, (space ∷ [], uri ++ space ∷ codes "SIP/2.0", refl, (uri, space ∷ codes "SIP/2.0", refl, (space ∷ [], codes "SIP/2.0", refl, refl, refl), refl), refl), refl))
 start-canon line (status code reason) (bytes, whole) =
+    -- the version, the code as it was spelled, and the reason stand in the line
     let parts = status_parts line code reason (bytes, whole) in (
       bytes,
       (
@@ -177,6 +187,7 @@ start-canon line (status code reason) (bytes, whole) =
           space ∷ [],
           decimal code ++ space ∷ reason,
           refl,
+          -- the code in decimal is the three digits
           (decimal code, space ∷ reason, subst (λ t. CodeText t code) (sym (code-decimal parts.digits code parts.is_code)) parts.is_code, (space ∷ [], reason, refl, refl, refl), refl),
           refl,
         ),
@@ -188,6 +199,7 @@ start-canon line (status code reason) (bytes, whole) =
 inner_class : (class : ℕ → Bool) → class carriage_return ≡ false → class line_feed ≡ false → (b : ℕ) → class b ≡ true → is_inner_byte b ≡ true
 inner_class class cr lf b is = at (nat_eq b carriage_return) (nat_eq b line_feed) refl refl
   where
+    -- the claim holds whether or not the byte is CR or LF, which it cannot be
     at : (x y : Bool) → nat_eq b carriage_return ≡ x → nat_eq b line_feed ≡ y → (not x && not y) ≡ true
     at true y x_is y_is = absurd (both_ways (class b) (ap class (eqb-true b carriage_return x_is) ∙ cr) is)
     at false true x_is y_is = absurd (both_ways (class b) (ap class (eqb-true b line_feed y_is) ∙ lf) is)
@@ -207,6 +219,7 @@ start-inner line (request method uri) (token, is_uri, whole) = (
 start-inner line (status code reason) (bytes, whole) =
     let parts = status_parts line code reason (bytes, whole) in
     let digits = subst Inner (sym (code-decimal parts.digits code parts.is_code)) (solid-inners parts.digits (each-between is_solid 3 3 (One is_ascii_digit) (each-one is_solid is_ascii_digit (solid_class is_ascii_digit refl refl refl refl)) parts.digits parts.is_code.digits)) in (
+      -- neither the version nor the digits nor the reason has CR or LF
       all_both is_inner_byte (codes "SIP/2.0") (space ∷ (decimal code ++ space ∷ reason)) version-inner
           (refl, all_both is_inner_byte (decimal code) (space ∷ reason) digits (refl, each-many is_inner_byte (One is_reason_byte) (each-one is_inner_byte is_reason_byte (inner_class is_reason_byte refl refl)) reason bytes)),
       (λ none. absurd (omega (arith, ap length none))),
@@ -219,12 +232,14 @@ field-canon line f is =
     let trimmed = closed-unfolded Trimmed closed-trimmed f.value (is.valued.opens, is.valued.ends) in
     record {
       rest = space ∷ unfolded f.value;
+      -- the name is that of the field, and one SP stands before the value
       named = record {
         spelled = name_text f.name;
         is_token = spelled.0;
         name_is = spelled.1;
         whole = (name_text f.name, colon ∷ space ∷ unfolded f.value, refl, ([], colon ∷ space ∷ unfolded f.value, many-nil (One is_wsp), (colon ∷ [], space ∷ unfolded f.value, refl, refl, refl), refl), refl);
       };
+      -- the value, unfolded, neither begins nor ends with a blank
       valued = record {
         opens = trimmed.0;
         ends = trimmed.1;
@@ -246,6 +261,7 @@ field-cut : (line : List ℕ) (f : Field) → FieldText line f → OpensBlank (f
 field-cut line f is =
     at (name_text f.name) (name-text f.name is.named.spelled is.named.is_token is.named.name_is).0
   where
+    -- a name begins with no blank, whatever follows it
     at : (name : List ℕ) → Token name → OpensBlank (name ++ colon ∷ space ∷ unfolded f.value) → ⊥
     at [] token begins = absurd (some-run is_token_byte [] token refl)
     at (b ∷ name) token begins =
@@ -285,6 +301,7 @@ found-unfolded : (n : ℕ) (name : Known) (fs : List Field) → found_from n nam
 found-unfolded n name [] = refl
 found-unfolded n name (f ∷ fs) = at (is_name_of name f.name) (found-unfolded (n + 1) name fs)
   where
+    -- the claim holds whether or not the first field has the name
     at : (b : Bool) → found_from (n + 1) name (map unfolded_field fs) ≡ map unfolded_found (found_from (n + 1) name fs) → cond b ((n, unfolded f.value) ∷ found_from (n + 1) name (map unfolded_field fs)) (found_from (n + 1) name (map unfolded_field fs)) ≡ map unfolded_found (cond b ((n, f.value) ∷ found_from (n + 1) name fs) (found_from (n + 1) name fs))
     at true later = ap (λ t. (n, unfolded f.value) ∷ t) later
     at false later = later
@@ -300,6 +317,7 @@ once-unfolded name fs few =
 
 -- a field name that is Content-Length is the known name
 named-length : (n : FieldName) → is_name_of known_name.ContentLength n ≡ true → n ≡ known known_name.ContentLength
+-- each name is tried, by computing
 named-length (known known_name.Via) is = absurd (both_ways false refl is)
 named-length (known known_name.From) is = absurd (both_ways false refl is)
 named-length (known known_name.To) is = absurd (both_ways false refl is)
@@ -319,6 +337,7 @@ found-digits : (n : ℕ) (fs : List Field) → AllByRecursion (λ f. Row f.name 
 found-digits n [] rows = tt
 found-digits n (f ∷ fs) rows = at (is_name_of known_name.ContentLength f.name) refl (found-digits (n + 1) fs rows.1)
   where
+    -- the claim holds whether or not the first field is Content-Length
     at : (b : Bool) → is_name_of known_name.ContentLength f.name ≡ b → AllByRecursion (λ x. Digits (x.1)) (found_from (n + 1) known_name.ContentLength fs) → AllByRecursion (λ x. Digits (x.1)) (cond b ((n, f.value) ∷ found_from (n + 1) known_name.ContentLength fs) (found_from (n + 1) known_name.ContentLength fs))
     at true is later = (subst (λ m. Row m f.value) (named-length f.name is) rows.0, later)
     at false is later = later
@@ -328,12 +347,14 @@ length-unfolded : (fs : List Field) → AllByRecursion (λ f. Row f.name f.value
 length-unfolded fs rows =
     ap length_in (found-unfolded 1 known_name.ContentLength fs) ∙ at (found known_name.ContentLength fs) (found-digits 1 fs rows)
   where
+    -- the claim holds whether or not there is a Content-Length
     at : (xs : List (ℕ × List ℕ)) → AllByRecursion (λ x. Digits (x.1)) xs → length_in (map unfolded_found xs) ≡ length_in xs
     at [] all = refl
     at (x ∷ xs) all = ap (λ t. Some (digits_value 10 t)) (unfolded-solid x.1 (solid-digits x.1 all.0))
 
 -- a field name that is Via is the known name
 named-via : (n : FieldName) → is_name_of known_name.Via n ≡ true → n ≡ known known_name.Via
+-- each name is tried, by computing
 named-via (known known_name.Via) is = refl
 named-via (known known_name.From) is = absurd (both_ways false refl is)
 named-via (known known_name.To) is = absurd (both_ways false refl is)
@@ -353,6 +374,7 @@ found-vias : (n : ℕ) (fs : List Field) → AllByRecursion (λ f. Row f.name f.
 found-vias n [] rows = tt
 found-vias n (f ∷ fs) rows = at (is_name_of known_name.Via f.name) refl (found-vias (n + 1) fs rows.1)
   where
+    -- the claim holds whether or not the first field is a Via
     at : (b : Bool) → is_name_of known_name.Via f.name ≡ b → AllByRecursion (λ x. Row (known known_name.Via) (x.1)) (found_from (n + 1) known_name.Via fs) → AllByRecursion (λ x. Row (known known_name.Via) (x.1)) (cond b ((n, f.value) ∷ found_from (n + 1) known_name.Via fs) (found_from (n + 1) known_name.Via fs))
     at true is later = (subst (λ m. Row m f.value) (named-via f.name is) rows.0, later)
     at false is later = later
@@ -378,7 +400,7 @@ body-twice None rest enough = refl
 body-twice (Some n) rest enough =
     sym (ap (λ m. take m (take n rest)) (sym (length-take-le n rest enough)) ∙ take-length (take n rest))
 
--- what a message demands of its fields and its body holds of the unfolded fields and the cut body where it holds of the former
+-- where fields and a body meet what a message demands, so do the unfolded fields and the body that is cut to its length
 fits-unfolded : (start : StartLine) (fs : List Field) (rest : List ℕ) → AllByRecursion (λ f. Row f.name f.value) fs → MessageFits start fs rest → MessageFits start (map unfolded_field fs) (cut_body (content_length fs) rest)
 fits-unfolded start fs rest rows fits = record {
   via = stands-unfolded known_name.Via fs fits.via;
@@ -388,18 +410,22 @@ fits-unfolded start fs rest rows fits = record {
   to = stands-unfolded known_name.To fs fits.to;
   call_id_once = once-unfolded known_name.CallId fs fits.call_id_once;
   call_id = stands-unfolded known_name.CallId fs fits.call_id;
+  -- Call-ID and CSeq stand once, and so do their unfolded values
   cseq_once = once-unfolded known_name.CSeq fs fits.cseq_once;
   cseq = stands-unfolded known_name.CSeq fs fits.cseq;
   length_once = once-unfolded known_name.ContentLength fs fits.length_once;
+  -- the length is the same, and so is what it asks of the body
   method = method start fits.method;
   has_length = λ streams. subst (λ l. is_some l ≡ true) len (fits.has_length (stream streams));
   enough = subst (λ l. IsEnough l (cut_body (content_length fs) rest)) len (body-enough (content_length fs) rest fits.enough);
   no_more = subst (λ l. IsNoMore (unfolded fits.via.0.1) l (cut_body (content_length fs) rest)) len (body-no_more (unfolded fits.via.0.1) (content_length fs) rest fits.enough);
 }
   where
+    -- the number of Content-Length stays as it is
     len : content_length fs ≡ content_length (map unfolded_field fs)
     len = sym (length-unfolded fs rows)
 
+    -- the first Via is of its row
     via_row : Row (known known_name.Via) fits.via.0.1
     via_row = first-via 1 fs rows fits.via.0 fits.via.1.0 fits.via.1.1
 
@@ -414,9 +440,10 @@ fits-unfolded start fs rest rows fits = record {
     method (request m uri) is = (is.0, unfolded-cseq fits.cseq.0.1 is.0 m is.1)
     method (status code reason) is = tt
 
--- the canonical form of a message is its bytes, with its values unfolded
+-- where bytes are the text of a message, its canonical form is the text of the message with its values unfolded
 pub canon-text : (bytes : List ℕ) (s : Message) → MessageText bytes s → MessageText (canon (message_of s)) (message_of s)
 canon-text bytes s text =
+    -- the start line, and the fields with their values unfolded, have no line ends within them
     let start = start-inner text.first s.start text.is_start in
     let inner : AreInner (start_text s.start ∷ map field_text (map unfolded_field s.fields)) = (start, fields-inner text.others s.fields text.are_fields) in
     let rows = fields-rows text.others s.fields text.are_fields in
@@ -425,10 +452,12 @@ canon-text bytes s text =
       rest = s.body;
       first = start_text s.start;
       others = map field_text (map unfolded_field s.fields);
+      -- the lines have no line end within them, so they are read as they were written
       is_head = lines-head (start_text s.start) (map field_text (map unfolded_field s.fields)) s.body inner;
       no_bare = inner-no_bare (start_text s.start ∷ map field_text (map unfolded_field s.fields)) inner;
       are_lines = record { whole = refl; folded = inner-folds (start_text s.start ∷ map field_text (map unfolded_field s.fields)) inner; cut = fields-cut text.others s.fields text.are_fields };
       is_start = start-canon text.first s.start text.is_start;
+      -- the unfolded fields fit, and the body is cut to its length as before
       are_fields = fields-canon text.others s.fields text.are_fields;
       fits = subst (MessageFits s.start (map unfolded_field s.fields)) (sym text.body_is) (fits-unfolded s.start s.fields text.rest rows text.fits);
       body_is = text.body_is ∙ body-twice (content_length s.fields) text.rest text.fits.enough ∙ ap (λ l. cut_body l (cut_body (content_length s.fields) text.rest)) (sym (length-unfolded s.fields rows))
@@ -449,6 +478,7 @@ canon-spells bytes m (s, text, is) =
     (message_of s, canon-text bytes s text, ap (λ fs. record { start = s.start; fields = fs; body = s.body }) (sym (message-twice s.fields)))
 
 -- messages that bytes spell, and that have the same canonical form, are the same
+-- the bytes b spell the message m, and the bytes c the message n
 pub same_canon : (b c : List ℕ) (m n : Message) → Spells b m → Spells c n → canon m ≡ canon n → m ≡ n
 same_canon b c m n one two same =
     same_message (canon n) m n (subst (λ t. Spells t m) same (canon-spells b m one)) (canon-spells c n two)

@@ -1,4 +1,5 @@
 -- The canonical form of a message spells it.
+-- In the lemmas l and ls are the first line and the others, or m and ms are; as Bools, x and y are what two tests of a byte say.
 use Rattle.std.proofs.Common.{◌≡◌, ℕ, ◌+◌, ◌≤◌, Bool, true, false, not, ◌&&◌, ◌||◌, List, [], ◌∷◌, ◌++◌, length, cond, nat_eq, refl, sym, ap, ◌∙◌, subst, inl, inr, arith}
 use Rattle.std.specs.List.{AllByRecursion, flat_map, list_any}
 use Rattle.std.proofs.lemmas.Bool.{both_ways}
@@ -20,6 +21,7 @@ Inner = All is_inner_byte
 run-inner : (run : List ℕ) → Inner (unfolded_run run)
 run-inner run = at (list_any is_end_byte run) refl
   where
+    -- a byte that is no line end is neither CR nor LF
     inner : (x y : Bool) → (x || y) ≡ false → (not x && not y) ≡ true
     inner true y is = absurd (both_ways true is refl)
     inner false true is = absurd (both_ways true is refl)
@@ -41,7 +43,7 @@ run-inner run = at (list_any is_end_byte run) refl
     each (b ∷ text) is =
         (inner (nat_eq b carriage_return) (nat_eq b line_feed) (left (is_end_byte b) (list_any is_end_byte text) is), each text (right (is_end_byte b) (list_any is_end_byte text) is))
 
-    -- whether the run has a fold: then it becomes one SP
+    -- the claim holds whether or not the run has a fold, which becomes one SP
     at : (folds : Bool) → list_any is_end_byte run ≡ folds → Inner (cond folds (space ∷ []) run)
     at true is = (refl, tt)
     at false is = each run is
@@ -50,6 +52,8 @@ run-inner run = at (list_any is_end_byte run) refl
 pub solid-inner : (b : ℕ) → is_lws_byte b ≡ false → is_inner_byte b ≡ true
 solid-inner b is = at (is_wsp b) (nat_eq b carriage_return) (nat_eq b line_feed) is
   where
+    -- a byte that is no blank is neither CR nor LF
+    -- x, y and z say whether the byte is a SP or HTAB, a CR and a LF
     at : (x y z : Bool) → (x || (y || z)) ≡ false → (not y && not z) ≡ true
     at true y z e = absurd (both_ways true e refl)
     at false true z e = absurd (both_ways true e refl)
@@ -61,6 +65,7 @@ from-inner : (text run : List ℕ) → Inner (unfolded_from run text)
 from-inner [] run = run-inner run
 from-inner (b ∷ text) run = at (is_lws_byte b) refl (from-inner text (run ++ b ∷ [])) (from-inner text [])
   where
+    -- the claim holds whether or not b is a blank
     at : (blank : Bool) → is_lws_byte b ≡ blank → Inner (unfolded_from (run ++ b ∷ []) text) → Inner (unfolded_from [] text) → Inner (cond blank (unfolded_from (run ++ b ∷ []) text) (unfolded_run run ++ b ∷ unfolded_from [] text))
     at true is left right = left
     at false is left right = all_both is_inner_byte (unfolded_run run) (b ∷ unfolded_from [] text) (run-inner run) (solid-inner b is, right)
@@ -73,6 +78,7 @@ unfolded-inner text = from-inner text []
 inner-run : (run : List ℕ) → Inner run → unfolded_run run ≡ run
 inner-run run inner = ap (λ folds. cond folds (space ∷ []) run) (none run inner)
   where
+    -- a byte that is neither CR nor LF is no line end
     no_end : (x y : Bool) → (not x && not y) ≡ true → (x || y) ≡ false
     no_end true y is = absurd (both_ways false refl is)
     no_end false true is = absurd (both_ways false refl is)
@@ -88,6 +94,7 @@ from-same : (text run : List ℕ) → Inner run → Inner text → unfolded_from
 from-same [] run inner all = inner-run run inner ∙ sym (append-nil run)
 from-same (b ∷ text) run inner all = at (is_lws_byte b) (from-same text (run ++ b ∷ []) (all_both is_inner_byte run (b ∷ []) inner (all.0, tt)) all.1) (from-same text [] tt all.1)
   where
+    -- the claim holds whether or not b is a blank
     at : (blank : Bool) → unfolded_from (run ++ b ∷ []) text ≡ (run ++ b ∷ []) ++ text → unfolded_from [] text ≡ text → cond blank (unfolded_from (run ++ b ∷ []) text) (unfolded_run run ++ b ∷ unfolded_from [] text) ≡ run ++ b ∷ text
     at true left right = left ∙ append_assoc run (b ∷ []) text
     at false left right = ap (λ t. t ++ b ∷ unfolded_from [] text) (inner-run run inner) ∙ ap (λ t. run ++ b ∷ t) right
@@ -109,10 +116,12 @@ no_empty : (lines : List (List ℕ)) (u v body : List ℕ) → AreInner lines �
 no_empty [] u v body inner is = omega arith
 no_empty (l ∷ ls) u v body inner is = at (λ z z_is. no_empty ls z v body inner.1 z_is) (two_cuts l (crlf ++ (flat_map with_end ls ++ (crlf ++ body))) u (crlf ++ (crlf ++ v)) whole)
   where
+    -- the text begins with the first line and its end
     whole : l ++ (crlf ++ (flat_map with_end ls ++ (crlf ++ body))) ≡ u ++ (crlf ++ (crlf ++ v))
     whole =
         sym (ap (λ t. t ++ (crlf ++ body)) (append_assoc l crlf (flat_map with_end ls)) ∙ append_assoc l (crlf ++ flat_map with_end ls) (crlf ++ body)) ∙ is
 
+    -- the lines are as long as the first line, its end and the others
     size : length (flat_map with_end (l ∷ ls)) ≡ length l + 2 + length (flat_map with_end ls)
     size = omega (arith, length-append (with_end l) (flat_map with_end ls), length-append l crlf)
 
@@ -124,7 +133,7 @@ no_empty (l ∷ ls) u v body inner is = at (λ z z_is. no_empty ls z v body inne
         let head : b ≡ carriage_return = cc in
         absurd (both_ways (is_inner_byte carriage_return) refl (subst (λ x. is_inner_byte x ≡ true) head all.0.0.0))
 
-    -- the empty line begins in the first line, which has no CR, or after it
+    -- the lines are no longer than u and 2 bytes, whether the empty line begins in the first line, which has no CR, or after it
     at : ((z : List ℕ) → flat_map with_end ls ++ (crlf ++ body) ≡ z ++ (crlf ++ (crlf ++ v)) → length (flat_map with_end ls) ≤ length z + 2) → Cuts l (crlf ++ (flat_map with_end ls ++ (crlf ++ body))) u (crlf ++ (crlf ++ v)) → length (flat_map with_end (l ∷ ls)) ≤ length u + 2
     at later (same_length front back) =
         let tails : carriage_return ∷ line_feed ∷ (flat_map with_end ls ++ (crlf ++ body)) ≡ carriage_return ∷ line_feed ∷ (crlf ++ v) = back in
@@ -132,10 +141,12 @@ no_empty (l ∷ ls) u v body inner is = at (λ z z_is. no_empty ls z v body inne
     at later (first_longer c z longer back) =
         let head : carriage_return ≡ c = cc in
         absurd (both_ways (is_inner_byte carriage_return) refl (subst (λ x. is_inner_byte x ≡ true) (sym head) (all_right is_inner_byte u (c ∷ z) (subst Inner longer inner.0.0)).0))
+    -- the first line would be one byte longer, a CR
     at later (second_longer c [] longer back) =
         let tails : carriage_return ∷ line_feed ∷ (flat_map with_end ls ++ (crlf ++ body)) ≡ c ∷ (carriage_return ∷ (line_feed ∷ (crlf ++ v))) = back in
         let heads : line_feed ≡ carriage_return = cc in
         absurd (omega (arith, heads))
+    -- the first line would be longer by a CR and more, so the empty line begins after it
     at later (second_longer c (d ∷ z) longer back) =
         let tails : carriage_return ∷ line_feed ∷ (flat_map with_end ls ++ (crlf ++ body)) ≡ c ∷ d ∷ (z ++ (crlf ++ (crlf ++ v))) = back in
         omega (arith, size, later z (cc), ap length longer, length-append l (c ∷ d ∷ z))

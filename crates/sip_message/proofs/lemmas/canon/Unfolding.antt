@@ -33,9 +33,11 @@ unfold-blank old text out from at below blank u = record {
   rest = ap (λ r. u.done ++ unfolded_from r (drop (at + 1) text)) (run-more text from at u.within below) ∙ ap (λ x. u.done ++ x) (sym step) ∙ u.rest;
 }
   where
+    -- the run of blanks so far
     run : List ℕ
     run = take (at - from) (drop from text)
 
+    -- the blank at the index is one more of the run
     step : unfolded_from run (drop at text) ≡ unfolded_from (run ++ get_or text at 0 ∷ []) (drop (at + 1) text)
     step =
         ap (unfolded_from run) (drop_more text at 0 below)
@@ -49,24 +51,29 @@ unfold-solid old text out mid new from at below solid u mid_is new_is = record {
       new_is ∙ ap (λ x. x ++ get_or text at 0 ∷ []) (mid_is ∙ ap (λ x. x ++ unfolded_run run) u.appended ∙ append_assoc old u.done (unfolded_run run))
       ∙ append_assoc old (u.done ++ unfolded_run run) (get_or text at 0 ∷ []) ∙ ap (λ x. old ++ x) (append_assoc u.done (unfolded_run run) (get_or text at 0 ∷ []));
   within = omega arith;
+  -- what was written and the rest, unfolded, are the text unfolded
   rest =
       ap (λ n. (u.done ++ (unfolded_run run ++ get_or text at 0 ∷ [])) ++ unfolded_from (take n (drop (at + 1) text)) (drop (at + 1) text)) none
       ∙ append_assoc u.done (unfolded_run run ++ get_or text at 0 ∷ []) (unfolded_from [] (drop (at + 1) text))
       ∙ ap (λ x. u.done ++ x) (append_assoc (unfolded_run run) (get_or text at 0 ∷ []) (unfolded_from [] (drop (at + 1) text)) ∙ sym step) ∙ u.rest;
 }
   where
+    -- the run of blanks so far
     run : List ℕ
     run = take (at - from) (drop from text)
 
+    -- after the byte a new run begins, with nothing in it
     none : at + 1 - (at + 1) ≡ 0
     none = omega arith
 
+    -- the run is written, unfolded, and then the byte
     step : unfolded_from run (drop at text) ≡ unfolded_run run ++ get_or text at 0 ∷ unfolded_from [] (drop (at + 1) text)
     step =
         ap (unfolded_from run) (drop_more text at 0 below)
         ∙ ap (λ b. cond b (unfolded_from (run ++ get_or text at 0 ∷ []) (drop (at + 1) text)) (unfolded_run run ++ get_or text at 0 ∷ unfolded_from [] (drop (at + 1) text))) solid
 
 -- where memory is refused, some part of the text was appended
+-- `from` and `at` are where the loop began and how far it has come, and r is the result of the call that was refused memory
 pub unfold-part : {A E : Type 0} (old text out new goal : List ℕ) (from at : ℕ) (r : Result A E) → IsErr r → Unfolding old text from at out → (part : List ℕ) × (new ≡ out ++ part) → Appends old new goal r
 unfold-part old text out new goal from at (Ok a) err u is = absurd (both_ways false refl err)
 unfold-part old text out new goal from at (Err e) err u is = (u.done ++ is.0, is.1 ∙ ap (λ x. x ++ is.0) u.appended ∙ append_assoc old u.done is.0)
@@ -83,15 +90,19 @@ digit-is a small = and_from _ _ (le-leb 48 (48 + a) (omega arith)) (le-leb (48 +
 pub three-digits : (code : ℕ) → 100 ≤ code → code < 700 → ◌≡◌ {A = List ℕ} ((48 + code / 100) ∷ (48 + code / 10 % 10) ∷ (48 + code % 10) ∷ []) (decimal code)
 three-digits code low high = sym (code-decimal ((48 + code / 100) ∷ (48 + code / 10 % 10) ∷ (48 + code % 10) ∷ []) code is)
   where
+    -- the first digit is below 10
     x : code / 100 < 10
     x = omega (arith, high)
 
+    -- the second digit is below 10
     y : code / 10 % 10 < 10
     y = omega arith
 
+    -- the third digit is below 10
     z : code % 10 < 10
     z = omega arith
 
+    -- the three digits are the text of the code
     is : CodeText ((48 + code / 100) ∷ (48 + code / 10 % 10) ∷ (48 + code % 10) ∷ []) code
     is = record {
       digits = (((48 + code / 100) ∷ []) ∷ ((48 + code / 10 % 10) ∷ []) ∷ ((48 + code % 10) ∷ []) ∷ [], ((48 + code / 100, digit-is (code / 100) x, refl), ((48 + code / 10 % 10, digit-is (code / 10 % 10) y, refl), ((48 + code % 10, digit-is (code % 10) z, refl), tt))), refl, omega arith, omega arith);

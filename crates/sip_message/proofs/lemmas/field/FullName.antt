@@ -19,11 +19,13 @@ other-by : (list : List (List ℕ × Known)) (text : List ℕ) (n : ℕ) → len
 other-by [] text n len none = refl
 other-by ((s, k) ∷ more) text n len none = at (nat_eq (length s) n) (bytes_eq (folded text) s) refl refl none (other-by more text n len)
   where
+    -- the claim holds whether or not the spelling has n bytes, and whether or not the text has this spelling
     at : (same equal : Bool) → nat_eq (length s) n ≡ same → bytes_eq (folded text) s ≡ equal → AllByRecursion (λ x. folded text ≡ x.0 → ⊥) (cond same ((s, k) ∷ of_length n more) (of_length n more))
         → (AllByRecursion (λ x. folded text ≡ x.0 → ⊥) (of_length n more) → name_by more text ≡ other text) → cond equal (known k) (name_by more text) ≡ other text
     at true true long is none later = absurd (none.0 ((bytes_eq-Decides (folded text) s).0 is))
     at true false long is none later = later none.1
     at false false long is none later = later none
+    -- equal texts have one length
     at false true long is none later =
         let same : length s ≡ n = sym (ap length ((bytes_eq-Decides (folded text) s).0 is)) ∙ length-folded text ∙ len in
         absurd (both_ways (nat_eq (length s) n) long (eq-eqb (length s) n same))

@@ -20,6 +20,7 @@ wsp-front : (t : List ℕ) → (u : List ℕ) × Many (One is_wsp) u × (t ≡ u
 wsp-front [] = ([], many-nil (One is_wsp), refl)
 wsp-front (b ∷ t) = at (is_wsp b) refl (wsp-front t)
   where
+    -- the claim holds whether or not b is SP or HTAB
     at : (wsp : Bool) → is_wsp b ≡ wsp → (u : List ℕ) × Many (One is_wsp) u × (t ≡ u ++ past_wsp t) → (u : List ℕ) × Many (One is_wsp) u × (b ∷ t ≡ u ++ cond wsp (past_wsp t) (b ∷ t))
     at false is later = ([], many-nil (One is_wsp), refl)
     at true is (u, many, whole) = (b ∷ u, many-cons (One is_wsp) (b ∷ []) u (b, is, refl) many, ap (λ x. b ∷ x) whole)
@@ -48,14 +49,17 @@ named-no_colon line token rest read none (name, more) n =
 pub named-read : (line token rest more : List ℕ) → ReadAs (TokenFront line) (token, rest) → past colon (past_wsp rest) ≡ Some more → ReadAs (HasName line) (name_of token, more)
 named-read line token rest more read found = (is, (λ x other. let same = same_name line x.1 more x.0 (name_of token) other is in ap (λ n. (n, x.1)) same.0 ∙ ap (λ r. (name_of token, r)) same.1))
   where
+    -- SP and HTAB stand before the colon
     front : (u : List ℕ) × Many (One is_wsp) u × (rest ≡ u ++ past_wsp rest)
     front = wsp-front rest
 
+    -- the line has the name and the colon, with what follows it
     is : NameText line (name_of token) more
     is = record {
       spelled = token;
       is_token = read.0.0;
       name_is = refl;
+      -- the token, the blanks, the colon and the rest stand in a row
       whole = (
         token,
         rest,

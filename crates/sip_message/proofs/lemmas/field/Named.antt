@@ -51,6 +51,7 @@ stops-there parts S (Err e) fault err same is = subst (λ f. S (stops f)) (sym s
 pub once-absent : (name : Known) (fields : List Field) (fault : Fault) → FirstOf (found name fields) (stops fault) → OneOf (found name fields) (stops fault)
 once-absent name fields fault none = passes tt (few (found name fields) none.0) none
   where
+    -- a list without a first element is empty
     few : (fs : List (ℕ × List ℕ)) → ((x : ℕ × List ℕ) → (more : List (ℕ × List ℕ)) × (fs ≡ x ∷ more) → ⊥) → length fs ≤ 1
     few [] none_is = omega arith
     few (f ∷ fs) none_is = absurd (none_is f (fs, refl))

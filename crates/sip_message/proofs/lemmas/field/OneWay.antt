@@ -36,30 +36,35 @@ pub name_stops : (blanks rest : List ℕ) → All is_wsp blanks → Stops is_tok
 name_stops [] rest all = refl
 name_stops (b ∷ blanks) rest all = blank-token b (wsp-blank b all.0)
 
--- a line has one name
+-- a line has at most one name, and one rest after it
+-- the line has the name n with the rest r, and the name m with the rest s
 pub same_name : (line r s : List ℕ) (n m : FieldName) → NameText line n r → NameText line m s → (n ≡ m) × (r ≡ s)
 same_name line r s n m one other =
     let blanks = one.whole.3.0 in
     let spaces = other.whole.3.0 in
     let wsp = each-wsp blanks one.whole.3.2 in
     let wsp_too = each-wsp spaces other.whole.3.2 in
+    -- both names end at the first byte that no token has
     let names = same_front is_token_byte one.spelled _ other.spelled _ (each-token _ one.is_token) (each-token _ other.is_token)
     (name_stops blanks r wsp) (name_stops spaces s wsp_too) (sym (name_whole line r n one) ∙ name_whole line s m other) in
+    -- both runs of blanks end at the colon
     let rests = same_front is_wsp blanks (colon ∷ r) spaces (colon ∷ s) wsp wsp_too refl refl names.1 in
     let tails : colon ∷ r ≡ colon ∷ s = rests.1 in
     (one.name_is ∙ ap name_of names.0 ∙ sym other.name_is, cc)
 
 -- a text that does not end with a blank does not end with blanks
+-- b and z are the blanks, and u is the text before them
 pub ends_blank : (u : List ℕ) (b : ℕ) (z : List ℕ) → EndsSolid (u ++ b ∷ z) → All is_lws_byte (b ∷ z) → ⊥
 ends_blank [] b [] ends all = both_ways (is_lws_byte b) ends all.0
 ends_blank [] b (c ∷ z) ends all = ends_blank [] c z ends all.1
 ends_blank (a ∷ []) b z ends all = ends_blank [] b z ends all
 ends_blank (a ∷ c ∷ u) b z ends all = ends_blank (c ∷ u) b z ends all
 
--- where two texts that do not end with blanks make the same text with blanks after them, they are the same
+-- where u and then blanks v are the same text as x and then blanks y, and neither u nor x ends with a blank, u is x
 pub same_solid : (u v x y : List ℕ) → EndsSolid u → EndsSolid x → All is_lws_byte v → All is_lws_byte y → u ++ v ≡ x ++ y → u ≡ x
 same_solid u v x y us xs vs ys same = at (two_cuts u v x y same)
   where
+    -- u and x are the same: neither is longer, since what follows would begin with a byte that is no blank
     at : Cuts u v x y → u ≡ x
     at (same_length left right) = left
     at (first_longer b z longer is) =
@@ -78,26 +83,32 @@ pub same_value : (rest value other : List ℕ) → ValueText rest value → Valu
 same_value rest value other one two =
     at value other one.opens one.ends two.opens two.ends (sym (value_whole rest value one) ∙ value_whole rest other two)
   where
+    -- only blanks stand before the one value
     front : All is_lws_byte one.whole.0
     front = each-sws _ one.whole.2
 
+    -- only blanks stand before the other value
     front_too : All is_lws_byte two.whole.0
     front_too = each-sws _ two.whole.2
 
+    -- only blanks stand after the one value
     back : All is_lws_byte one.whole.3.1
     back = each-sws _ one.whole.3.3
 
+    -- only blanks stand after the other value
     back_too : All is_lws_byte two.whole.3.1
     back_too = each-sws _ two.whole.3.3
 
     -- two values between blank runs at the ends of one text are the same
     at : (v w : List ℕ) → OpensSolid v → EndsSolid v → OpensSolid w → EndsSolid w → one.whole.0 ++ (v ++ one.whole.3.1) ≡ two.whole.0 ++ (w ++ two.whole.3.1) → v ≡ w
     at [] [] vo ve wo we same = refl
+    -- where the one value is empty the text has blanks alone, so that the other is empty
     at [] (b ∷ w) vo ve wo we same =
         let all : All is_lws_byte (two.whole.0 ++ (b ∷ w ++ two.whole.3.1)) = subst (All is_lws_byte) same (all_both is_lws_byte one.whole.0 one.whole.3.1 front back) in
         absurd (both_ways (is_lws_byte b) wo (all_right is_lws_byte two.whole.0 (b ∷ w ++ two.whole.3.1) all).0)
     at (b ∷ v) [] vo ve wo we same =
         let all : All is_lws_byte (one.whole.0 ++ (b ∷ v ++ one.whole.3.1)) = subst (All is_lws_byte) (sym same) (all_both is_lws_byte two.whole.0 two.whole.3.1 front_too back_too) in
         absurd (both_ways (is_lws_byte b) vo (all_right is_lws_byte one.whole.0 (b ∷ v ++ one.whole.3.1) all).0)
+    -- both values begin where the blanks end, and end before the last ones
     at (b ∷ v) (c ∷ w) vo ve wo we same =
         same_solid (b ∷ v) one.whole.3.1 (c ∷ w) two.whole.3.1 ve we back back_too (same_front is_lws_byte one.whole.0 _ two.whole.0 _ front front_too vo wo same).1

@@ -1,4 +1,5 @@
 -- What stands at the front of a text stands there in one way.
+-- In the lemmas r and s are what is left of a text by two readings.
 use Rattle.std.proofs.Common.{◌≡◌, ℕ, ◌≤◌, ◌⊎◌, Bool, true, false, nat_eq, ◌||◌, ◌&&◌, ◌==◌, slice_index, cond, List, [], ◌∷◌, ◌++◌, length, take, drop, Some, None, refl, sym, ap, ◌∙◌, subst, inl, inr, arith}
 use Rattle.std.proofs.lemmas.Bool.{both_ways, eq-eqb}
 use Rattle.std.proofs.lemmas.Option.{none-some}
@@ -29,24 +30,26 @@ front-take P text n front =
 pub token-cut : (text : List ℕ) (n : ℕ) → IsLongestFront Token text n → (n ≡ 0 → ⊥) → TokenFront text (take n text, drop n text)
 token-cut text n longest some = at longest.front
   where
+    -- after the longest token no byte of a token follows
     stops : (u v : List ℕ) → Token u → text ≡ u ++ v → n ≡ length u → Stops is_token_byte v
     stops u [] token whole len = tt
     stops u (b ∷ v) token whole len = go (is_token_byte b) refl
       where
-        -- whether the next byte is one of a token: then the token would be longer
+        -- the next byte is no byte of a token, since the token would else be longer
         go : (x : Bool) → is_token_byte b ≡ x → is_token_byte b ≡ false
         go false is = is
         go true is =
             let longer : HasFront Token text (length (u ++ b ∷ [])) = (
               u ++ b ∷ [],
               v,
+              -- the token with this byte would be longer
               (token.0, token.1 ++ b ∷ [], token.2, many-push (One is_token_byte) token.1 (b ∷ []) token.3 (b, is, refl), ap (λ t. t ++ b ∷ []) token.4 ∙ append_assoc token.0 token.1 (b ∷ [])),
               whole ∙ sym (append_assoc u (b ∷ []) v),
               refl,
             ) in
             absurd (omega (arith, longest.longest (length (u ++ b ∷ [])) longer, length-append u (b ∷ []), len))
 
-    -- the longest token is empty, or stands at the front
+    -- the text is read so, since the longest token is not empty and so stands at the front
     at : (n ≡ 0) ⊎ HasFront Token text n → TokenFront text (take n text, drop n text)
     at (inl none) = absurd (some none)
     at (inr front) =
@@ -71,6 +74,7 @@ no-token text longest t r front =
     at (b ∷ u) token short = absurd (omega (arith, short))
 
 -- the token at the front of a text, and what is left after it, are read in one way
+-- t and u are the token, and r and s what is left, by two readings
 pub same-token : (text : List ℕ) (t r u s : List ℕ) → TokenFront text (t, r) → TokenFront text (u, s) → (t ≡ u) × (r ≡ s)
 same-token text t r u s one other =
     same_front is_token_byte t r u s (each-token t one.0) (each-token u other.0) one.1 other.1
@@ -78,10 +82,12 @@ same-token text t r u s one other =
 
 -- what is left after the blanks at the front of a text is one text
 pub same-behind : (text r s : List ℕ) → Behind text r → Behind text s → r ≡ s
+-- u and x are the blanks, and v and y what follows them, by the two readings
 same-behind text r s (r_stops, (u, v, u_is, v_is, whole)) (s_stops, (x, y, x_is, y_is, whole_too)) =
     (same_many Blank blank_len u r x s blank-step (many u u_is) (many x x_is)
     (ap (λ t. u ++ t) (sym v_is) ∙ sym whole ∙ whole_too ∙ ap (λ t. x ++ t) y_is) r_stops s_stops).1
   where
+    -- optional blanks are any number of blanks
     many : (t : List ℕ) → Sws t → Many Blank t
     many t (inl none) = subst (Many Blank) (sym none) (many-nil Blank)
     many t (inr blanks) = units-blanks t blanks
@@ -105,6 +111,7 @@ stops-behind text stops =
 pub stops-byte : (b : ℕ) (text : List ℕ) → is_lws_byte b ≡ false → StopsBlank (b ∷ text)
 stops-byte b text solid = at (is_wsp b) (nat_eq b carriage_return) solid
   where
+    -- a byte that is neither SP, HTAB nor CR begins no blank
     at : (x y : Bool) → (x || (y || nat_eq b line_feed)) ≡ false → ◌≡◌ {A = ℕ} (cond x 1 (cond (y && slice_index text 0 == line_feed && is_wsp (slice_index text 1)) 3 0)) 0
     at true y is = absurd (both_ways true is refl)
     at false true is = absurd (both_ways true is refl)
@@ -112,9 +119,11 @@ stops-byte b text solid = at (is_wsp b) (nat_eq b carriage_return) solid
 
 -- where a mark is read at the front of a text, its byte stands after blanks, and what is left stands after further blanks
 pub mark-parts : (mark : ℕ) (text rest : List ℕ) → is_lws_byte mark ≡ false → MarkFront mark text rest → (inner : List ℕ) × Behind text (mark ∷ inner) × Behind inner rest
+-- m is the mark with its blanks and r what is left; s is the blanks before the byte, t the byte and the blanks after it
 mark-parts mark text rest solid (stops, (m, r, (s, t, sws, (byte, after, byte_is, after_is, t_is), m_is), r_is, whole)) =
     (after ++ rest, (stops-byte mark (after ++ rest) solid, (s, mark ∷ (after ++ rest), sws, refl, flat)), (stops, (after, rest, after_is, refl, refl)))
   where
+    -- the text is blanks, the mark, blanks and the rest
     flat : text ≡ s ++ mark ∷ (after ++ rest)
     flat =
         whole ∙ ap (λ x. m ++ x) r_is ∙ ap (λ x. x ++ rest) (m_is ∙ ap (λ x. s ++ x) (t_is ∙ ap (λ x. x ++ after) byte_is))
@@ -122,11 +131,13 @@ mark-parts mark text rest solid (stops, (m, r, (s, t, sws, (byte, after, byte_is
 
 -- where a byte stands after the blanks at the front of a text, its mark is read there, up to the end of the blanks after it
 pub parts-mark : (mark : ℕ) (text inner rest : List ℕ) → Behind text (mark ∷ inner) → Behind inner rest → MarkFront mark text rest
+-- s is the blanks before the byte and t what follows; r is what is left after the blanks after it
 parts-mark mark text inner rest (front_stops, (s, t, sws, t_is, whole)) (stops, (after, r, after_is, r_is, inner_is)) = (
   stops,
   (
     s ++ mark ∷ after,
     rest,
+    -- the blanks, the mark and the blanks after it stand before the rest
     (s, mark ∷ after, sws, (mark ∷ [], after, refl, after_is, refl), refl),
     refl,
     whole ∙ ap (λ x. s ++ x) (t_is ∙ ap (λ x. mark ∷ x) (inner_is ∙ ap (λ x. after ++ x) r_is)) ∙ sym (append_assoc s (mark ∷ after) rest),
@@ -176,10 +187,12 @@ pub go-stop : {X Y : Type 0} {R : X → Type 0} {S : X → Y → Type 0} {a : X}
 go-stop {S = S} one none y (both x r s) = none y (subst (λ z. S z y) (one.1 x r) s)
 
 -- where the first of two steps gives one value, and the second one after it, both together give no other value
+-- R is the first step, which gives a, and S the second, which gives b after it
 go-only : {X Y : Type 0} {R : X → Type 0} {S : X → Y → Type 0} {a : X} {b : Y} → ReadAs R a → ReadAs (S a) b → (y : Y) → Seq R S y → y ≡ b
 go-only {S = S} one two y (both x r s) = two.1 y (subst (λ z. S z y) (one.1 x r) s)
 
 -- where the first of two steps gives one value, and the second one after it, both together give that one
+-- R is the first step, which gives a, and S the second, which gives b after it
 pub go : {X Y : Type 0} {R : X → Type 0} {S : X → Y → Type 0} {a : X} {b : Y} → ReadAs R a → ReadAs (S a) b → ReadAs (Seq R S) b
 go {a = a} one two = (both a one.0 two.0, go-only one two)
 
@@ -192,6 +205,7 @@ pub no-blanks : (text : List ℕ) → IsLongestFront Blanks text 0 → NotRead (
 no-blanks text longest rest (stops, (u, v, blanks, rest_is, whole)) =
     at u (longest.longest (length u) (u, v, blanks, whole, refl)) blanks
   where
+    -- an empty text is no blank run
     at : (t : List ℕ) → length t ≤ 0 → Blanks t → ⊥
     at [] short is = some-blanks [] is refl
     at (b ∷ t) short is = absurd (omega (arith, short))
@@ -200,6 +214,7 @@ no-blanks text longest rest (stops, (u, v, blanks, rest_is, whole)) =
 pub longest-blanks_front : (text : List ℕ) (n : ℕ) → IsLongestFront Blanks text n → (n ≡ 0 → ⊥) → ReadAs (BlanksFront text) (drop n text)
 longest-blanks_front text n longest some = at longest.front
   where
+    -- the blank run is read, since the longest one is not empty and so stands at the front
     at : (n ≡ 0) ⊎ HasFront Blanks text n → ReadAs (BlanksFront text) (drop n text)
     at (inl none) = absurd (some none)
     at (inr front) =

@@ -31,9 +31,11 @@ Next these text = (text ≡ []) ⊎ ((b : ℕ) × (inner : List ℕ) × (these b
 -- where no byte of these passes the test, and no blank does, a text that begins with them after blanks begins with no byte that passes
 pub next-stops : (these test : ℕ → Bool) (text : List ℕ) → ((b : ℕ) → is_lws_byte b ≡ true → test b ≡ false) → ((b : ℕ) → these b ≡ true → test b ≡ false) → Next these text → Stops test text
 next-stops these test text blank other (inl none) = subst (Stops test) (sym none) tt
+-- u is the blanks, v what follows them, and b its first byte
 next-stops these test text blank other (inr (b, inner, is, (stops, (u, v, sws, v_is, whole)))) =
     subst (Stops test) (sym (whole ∙ ap (λ x. u ++ x) v_is)) (at u (each-sws u sws))
   where
+    -- a text of blanks and then the byte begins with no byte that passes the test
     at : (t : List ℕ) → All is_lws_byte t → Stops test (t ++ (b ∷ inner))
     at [] all = other b is
     at (c ∷ t) all = blank c all.0
@@ -52,6 +54,7 @@ pub mark-behind : (mark : ℕ) (m z : List ℕ) → is_lws_byte mark ≡ false �
 mark-behind mark m z solid (s, t, sws, (byte, after, byte_is, after_is, t_is), m_is) =
     (after ++ z, (stops-byte mark (after ++ z) solid, (s, mark ∷ (after ++ z), sws, refl, whole)))
   where
+    -- the text is blanks, the mark, blanks and what is left
     whole : m ++ z ≡ s ++ (mark ∷ (after ++ z))
     whole = ap (λ x. x ++ z) (m_is ∙ ap (λ x. s ++ x) (t_is ∙ ap (λ x. x ++ after) byte_is)) ∙ append_assoc s (mark ∷ after) z
 

@@ -1,4 +1,7 @@
 -- What is read from the front of a text is read in one way: a law for each step of the readers.
+-- In a pair of what is read and what is left, v and w, or t and u, are what two readings have read, and r and s what they have left.
+-- A bare byte is one of a value that is neither quoted nor in brackets: a byte of a token or a colon (B is its test, T that of a token's byte). Hexadecimal
+-- digits are among them, since such a value may be an IPv6 address. `Each T P` says that each byte of each text of P passes T.
 use Rattle.std.proofs.Common.{◌≡◌, ℕ, ◌≤◌, Bool, true, false, ◌||◌, nat_eq, nat_le, List, [], ◌∷◌, ◌++◌, Some, None, length, slice_index, refl, sym, ap, ◌∙◌, subst, inl, inr, arith}
 use Rattle.std.specs.Int.{is_in_range}
 use Rattle.std.specs.Char.{is_ascii_alphabetic, is_ascii_alphanumeric, is_ascii_digit, is_ascii_hexdigit}
@@ -41,6 +44,7 @@ pub read-one : {X : Type 0} (R : X → Type 0) (a : X) → AtMostOne R → R a �
 read-one R a one is = (is, (λ x r. one x a r is))
 
 -- where each of two steps gives one value at most, both together do
+-- R is what the first step gives, x, and S what the second one gives after x
 pub one-seq : {X Y : Type 0} (R : X → Type 0) (S : X → Y → Type 0) → AtMostOne R → ((x : X) → AtMostOne (S x)) → AtMostOne (Seq R S)
 one-seq R S one two a b (both x r s) (both y t u) = two y a b (subst (λ z. S z a) (one x y r t) s) u
 
@@ -69,9 +73,11 @@ one-blanks text r s one other = same-blanks text r s one other
 
 -- [ mark part ] at the front of a text is read in one way where the part is
 pub one-led : (mark : ℕ) (Part : List ℕ → List ℕ × List ℕ → Type 0) (text : List ℕ) → is_lws_byte mark ≡ false → ((t : List ℕ) → AtMostOne (Part t)) → AtMostOne (LedFront mark Part text)
+-- the mark stands at the front for both readings, or for none
 one-led mark Part text solid one (None, r) (None, s) a b = ap (λ x. (None, x)) (a.1 ∙ sym b.1)
 one-led mark Part text solid one (None, r) (Some w, s) a b = absurd (a.0 b.0 b.1)
 one-led mark Part text solid one (Some v, r) (None, s) a b = absurd (b.0 a.0 a.1)
+-- v and w are the parts after the mark, which is the same
 one-led mark Part text solid one (Some v, r) (Some w, s) a b =
     let inner = one-mark mark text solid a.0 b.0 a.1 b.1 in
     let same : ◌≡◌ {A = List ℕ × List ℕ} (v, r) (w, s) = one b.0 (v, r) (w, s) (subst (λ t. Part t (v, r)) inner a.2) b.2 in
@@ -140,12 +146,15 @@ each-hostname =
     each-then T _ _ (each-many T _ (each-then T _ _ (each-or T _ _ alnum (each-then T _ _ alnum (each-then T _ _ labels alnum))) (token-byte dot refl)))
     (each-then T _ _ (each-or T _ _ alpha (each-then T _ _ alpha (each-then T _ _ labels alnum))) (each-optional T _ (token-byte dot refl)))
   where
+    -- the byte of a letter or digit is a byte of a token
     alnum : Each T (One is_ascii_alphanumeric)
     alnum = each-one T is_ascii_alphanumeric token-alnum
 
+    -- the byte of a letter is a byte of a token
     alpha : Each T (One is_ascii_alphabetic)
     alpha = each-one T is_ascii_alphabetic token-alpha
 
+    -- the inner bytes of a label are bytes of tokens
     labels : Each T (Many (One is_label_byte))
     labels = each-many T _ (each-one T is_label_byte token-label)
 
@@ -155,6 +164,7 @@ each-v4 =
     each-then T _ _ group (each-then T _ _ (token-byte dot refl) (each-then T _ _ group (each-then T _ _ (token-byte dot refl)
     (each-then T _ _ group (each-then T _ _ (token-byte dot refl) group)))))
   where
+    -- all bytes of a group of digits are bytes of tokens
     group : Each T DecimalGroup
     group = each-between T 1 3 _ (each-one T is_ascii_digit token-digit)
 
@@ -169,18 +179,23 @@ each-v6 =
     each-or B _ _ (each-then B _ _ hexpart (each-optional B _ (each-then B _ _ (bare-byte colon refl) v4_bare)))
     (each-then B _ _ (each-or B _ _ (each-then B _ _ hexseq double) double) v4_bare)
   where
+    -- all bytes of an IPv4 address are bare
     v4_bare : Each B Ipv4
     v4_bare u is = bare-all u (each-v4 u is)
 
+    -- all bytes of a hex4 are bare
     hex : Each B Hex4
     hex = each-between B 1 4 _ (each-one B is_ascii_hexdigit bare-hex)
 
+    -- all bytes of a hexseq are bare
     hexseq : Each B Hexseq
     hexseq = each-then B _ _ hex (each-many B _ (each-then B _ _ (bare-byte colon refl) hex))
 
+    -- both bytes of "::" are bare
     double : Each B (Exactly (colon ∷ colon ∷ []))
     double = each-exactly B _ (refl, (refl, tt))
 
+    -- all bytes of a hexpart are bare
     hexpart : Each B Hexpart
     hexpart = each-or B _ _ hexseq (each-or B _ _ (each-then B _ _ hexseq (each-then B _ _ double (each-optional B _ hexseq))) (each-then B _ _ double (each-optional B _ hexseq)))
 
@@ -204,7 +219,7 @@ one-bare text (v, r) (w, s) a b =
     let same = same_front B v r w s (each-bare v a.0) (each-bare w b.0) a.1 b.1 (sym a.2 ∙ b.2) in
     ap (λ x. (x, r)) same.0 ∙ ap (λ x. (w, x)) same.1
 
--- two fronts of one text that leave the same rest are the same
+-- where a text is v and r, and also w and s, and r is s, both cuts of the text are the same
 same_pair : (v r w s text : List ℕ) → text ≡ v ++ r → text ≡ w ++ s → r ≡ s → ◌≡◌ {A = List ℕ × List ℕ} (v, r) (w, s)
 same_pair v r w s text v_is w_is rest =
     ap (λ x. (x, r)) (same_by_end v r w s (ap length rest) (sym v_is ∙ w_is)).0 ∙ ap (λ x. (w, x)) rest
@@ -213,6 +228,7 @@ same_pair v r w s text v_is w_is rest =
 pub items-contents : (text : List ℕ) → Many (Qdtext or QuotedPair) text → Many QuotedItem text
 items-contents text many = many-flat (Qdtext or QuotedPair) QuotedItem text each many
   where
+    -- blanks are pieces, and so is each other content
     each : (u : List ℕ) → (Qdtext or QuotedPair) u → Many QuotedItem u
     each u (inl (inl lws)) = many-map Blank QuotedItem u (λ w blank. inr (inr blank)) (blanks-lws u lws)
     each u (inl (inr byte)) = many-one QuotedItem u (inl byte)
@@ -226,11 +242,14 @@ quoted-whole value rest q =
 
 -- a quoted string at the front of a text is read in one way
 pub one-quoted : (text : List ℕ) → AtMostOne (QuotedFront text)
+-- q and p are the quoted strings of v and w
 one-quoted text (v, r) (w, s) (q, v_is) (p, w_is) = same_pair v r w s text v_is w_is (rests q.3.0 p.3.0 q.3.2 p.3.2 wholes)
   where
+    -- both readings are of the same text
     wholes : dquote ∷ (q.3.0 ++ dquote ∷ r) ≡ dquote ∷ (p.3.0 ++ dquote ∷ s)
     wholes = sym (quoted-whole v r q) ∙ sym v_is ∙ w_is ∙ quoted-whole w s p
 
+    -- two contents before the closing quote leave the same rest
     rests : (i j : List ℕ) → Many (Qdtext or QuotedPair) i → Many (Qdtext or QuotedPair) j → dquote ∷ (i ++ dquote ∷ r) ≡ dquote ∷ (j ++ dquote ∷ s) → r ≡ s
     rests i j is js both_whole =
         let inners : i ++ dquote ∷ r ≡ j ++ dquote ∷ s = cc in
@@ -239,11 +258,14 @@ one-quoted text (v, r) (w, s) (q, v_is) (p, w_is) = same_pair v r w s text v_is 
 
 -- what stands at the front of a text from "[" to the first "]" is read in one way
 pub one-bracket : (text : List ℕ) → AtMostOne (BracketFront text)
+-- i and j are the bytes within the brackets
 one-bracket text (v, r) (w, s) (i, i_lacks, v_is, v_whole) (j, j_lacks, w_is, w_whole) = same_pair v r w s text v_whole w_whole (rests both_whole)
   where
+    -- a text in brackets, with z after it, is "[", the text, "]" and z
     flat : (u t z : List ℕ) → u ≡ left_bracket ∷ (t ++ right_bracket ∷ []) → u ++ z ≡ left_bracket ∷ (t ++ right_bracket ∷ z)
     flat u t z is = ap (λ x. x ++ z) is ∙ ap (λ x. left_bracket ∷ x) (append_assoc t (right_bracket ∷ []) z)
 
+    -- both readings are of the same text
     both_whole : left_bracket ∷ (i ++ right_bracket ∷ r) ≡ left_bracket ∷ (j ++ right_bracket ∷ s)
     both_whole = sym (flat v i r v_is) ∙ sym v_whole ∙ w_whole ∙ flat w j s w_is
 
@@ -256,6 +278,7 @@ one-bracket text (v, r) (w, s) (i, i_lacks, v_is, v_whole) (j, j_lacks, w_is, w_
 
 -- an IPv6 address in brackets at the front of a text is what stands there from "[" to the first "]"
 pub reference-bracket : (text : List ℕ) (x : List ℕ × List ℕ) → ReferenceFront text x → BracketFront text x
+-- o is the "[", `inner` the address, and c the "]"
 reference-bracket text (v, r) ((o, t, o_is, (inner, c, address, c_is, t_is), v_is), whole) =
     (inner, all-lacks B right_bracket inner refl (each-v6 inner address), v_is ∙ ap (λ x. x ++ t) o_is ∙ ap (λ x. left_bracket ∷ x) (t_is ∙ ap (λ x. inner ++ x) c_is), whole)
 
@@ -292,12 +315,15 @@ first-fails test b c fails same pass = both_ways (test b) (ap test same ∙ fail
 
 -- a parameter's value at the front of a text is read in one way
 pub one-value : (text : List ℕ) → AtMostOne (ValueFront text)
+-- a value is quoted, an IPv6 reference or bare: values of one kind are the same, and those of two kinds begin with different bytes
 one-value text x y (inl a) (inl b) = one-quoted text x y a b
 one-value text x y (inl a) (inr (inl b)) = absurd (omega (arith, quoted-first text x a, bracket-first text y (reference-bracket text y b)))
 one-value text x y (inl a) (inr (inr b)) = absurd (first-fails B (slice_index text 0) dquote refl (quoted-first text x a) (bare-first text y b))
+-- the first value x is an IPv6 reference
 one-value text x y (inr (inl a)) (inl b) = absurd (omega (arith, quoted-first text y b, bracket-first text x (reference-bracket text x a)))
 one-value text x y (inr (inl a)) (inr (inl b)) = one-reference text x y a b
 one-value text x y (inr (inl a)) (inr (inr b)) = absurd (first-fails B (slice_index text 0) left_bracket refl (bracket-first text x (reference-bracket text x a)) (bare-first text y b))
+-- the first value x is bare
 one-value text x y (inr (inr a)) (inl b) = absurd (first-fails B (slice_index text 0) dquote refl (quoted-first text y b) (bare-first text x a))
 one-value text x y (inr (inr a)) (inr (inl b)) = absurd (first-fails B (slice_index text 0) left_bracket refl (bracket-first text y (reference-bracket text y b)) (bare-first text x a))
 one-value text x y (inr (inr a)) (inr (inr b)) = one-bare text x y a b
@@ -306,6 +332,8 @@ one-value text x y (inr (inr a)) (inr (inr b)) = one-bare text x y a b
 pub same-host : (text : List ℕ) → AtMostOne (HostText text)
 same-host text a b one other = at (is_v6_reference text) (is_v4 text) (is_hostname text) refl refl refl
   where
+    -- the claim holds whichever test of a host the text passes
+    -- x, y and z say whether the text is an IPv6 reference, an IPv4 address and a hostname
     at : (x y z : Bool) → is_v6_reference text ≡ x → is_v4 text ≡ y → is_hostname text ≡ z → a ≡ b
     at true y z is is_4 is_name = let only = only-v6 text is in only.1 a one ∙ sym (only.1 b other)
     at false true z is is_4 is_name = let only = only-v4 text is_4 in only.1 a one ∙ sym (only.1 b other)

@@ -10,6 +10,7 @@ pub prefix-cut : (test : ℕ → Bool) (text : List ℕ) → All test (take (pre
 prefix-cut test [] = (tt, tt)
 prefix-cut test (b ∷ text) = at (prefix-cut test text) (test b) refl
   where
+    -- the claim holds whether or not b passes the test
     at : All test (take (prefix_len test text) text) × Stops test (drop (prefix_len test text) text) → (x : Bool) → test b ≡ x → All test (take (cond x (1 + prefix_len test text) 0) (b ∷ text)) × Stops test (drop (cond x (1 + prefix_len test text) 0) (b ∷ text))
     at more false is = (tt, is)
     at more true is =

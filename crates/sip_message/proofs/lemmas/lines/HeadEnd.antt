@@ -1,4 +1,5 @@
 -- The head ends where the empty line is found, and its lines' ends are whole.
+-- In the lemmas t is a text, and j, k and n are places in it.
 use Rattle.std.proofs.Common.{◌≡◌, ℕ, zero, suc, ◌+◌, ◌-◌, ◌<◌, ◌≤◌, ◌⊎◌, Bool, true, false, nat_lt, nat_eq, not, ◌||◌, ◌&&◌, List, [], ◌∷◌, ◌++◌, length, take, drop, get_or, refl, sym, ap, ap₂, ◌∙◌, subst, inl, inr, arith}
 use Rattle.std.specs.List.{concat, flat_map}
 use Rattle.std.proofs.lemmas.Bool.{both_ways, cases_lt, and_parts, not-true, eqb-true, eq-eqb, ltb-true, ltb-false}
@@ -21,6 +22,7 @@ double_end = carriage_return ∷ line_feed ∷ carriage_return ∷ line_feed ∷
 
 -- a text whose first four bytes are a, b, c and d is these and what follows
 four : (t : List ℕ) (a b c d : ℕ) → 4 ≤ length t → get_or t 0 0 ≡ a → get_or t 1 0 ≡ b → get_or t 2 0 ≡ c → get_or t 3 0 ≡ d → t ≡ a ∷ b ∷ c ∷ d ∷ drop 4 t
+-- a text of fewer than four bytes is not so long; of a longer one the four bytes are put in one after another
 four [] a b c d long e f g h = absurd (omega (arith, long))
 four (x ∷ []) a b c d long e f g h = absurd (omega (arith, long))
 four (x ∷ y ∷ []) a b c d long e f g h = absurd (omega (arith, long))
@@ -32,6 +34,7 @@ four (x ∷ y ∷ z ∷ w ∷ t) a b c d long e f g h =
 occurs-cut : (t : List ℕ) (k : ℕ) → OccursAt t double_end k → t ≡ take k t ++ (crlf ++ (crlf ++ drop 4 (drop k t)))
 occurs-cut t k at = sym (take-append-drop k t) ∙ ap (λ x. take k t ++ x) (four (drop k t) 13 10 13 10 (omega (arith, at.fits, length-drop k t)) (byte 0 (omega arith)) (byte 1 (omega arith)) (byte 2 (omega arith)) (byte 3 (omega arith)))
   where
+    -- each of the four bytes from place k on is one of CRLF CRLF
     byte : (j : ℕ) → j < 4 → get_or (drop k t) j 0 ≡ get_or double_end j 0
     byte j below = get_or-drop k t j 0 ∙ at.reads j below
 
@@ -101,9 +104,11 @@ first-double t rest from k within is none first at some cr = (
     high = omega (arith, there.fits);
     before = λ j low high found. none-before t rest from k within is none first j (omega (arith, high, some)) found;
   },
+  -- all four bytes lie within the text
   record { fits = omega (arith, there.fits, some); reads = reads },
 )
   where
+    -- LF CR LF occurs in the text where it occurs in the rest
     there : OccursAt t inner_end (from + k)
     there = rest-inner t rest from k within is at
 
@@ -128,18 +133,23 @@ no-head t none (head, body) is = none (length is.front) (omega arith) (omega (ar
 pub one-head : (t : List ℕ) (k : ℕ) → NoneBefore (OccursAt t double_end) 0 (length t + 1) k → OccursAt t double_end k → ReadAs (CutSays t) (take (k + 2) t, drop (k + 4) t)
 one-head t k first at = (is, (λ x other. let same = same_head t x.0 x.1 (take (k + 2) t) (drop (k + 4) t) other is in ap (λ h. (h, x.1)) same.0 ∙ ap (λ b. (take (k + 2) t, b)) same.1))
   where
+    -- what follows CRLF CRLF
     rest : List ℕ
     rest = drop 4 (drop k t)
 
+    -- the text is its first k bytes, CRLF CRLF and the rest
     cut : t ≡ take k t ++ (crlf ++ (crlf ++ rest))
     cut = occurs-cut t k at
 
+    -- the front has k bytes
     len : length (take k t) ≡ k
     len = length-take-le k t (omega (arith, at.fits))
 
+    -- the head is the front and its CRLF
     head_is : take (k + 2) t ≡ take k t ++ crlf
     head_is = ap (λ n. take (n + 2) t) (sym len) ∙ ap (take (length (take k t) + 2)) cut ∙ take-append-add (take k t) (crlf ++ (crlf ++ rest)) 2
 
+    -- the body is what follows CRLF CRLF
     rest_is : drop (k + 4) t ≡ rest
     rest_is = ap (λ n. drop (n + 4) t) (sym len) ∙ ap (drop (length (take k t) + 4)) cut ∙ drop-append-add (take k t) (crlf ++ (crlf ++ rest)) 4
 
@@ -147,11 +157,12 @@ one-head t k first at = (is, (λ x other. let same = same_head t x.0 x.1 (take (
     least : (u v : List ℕ) → t ≡ u ++ (crlf ++ (crlf ++ v)) → length (take k t) ≤ length u
     least u v is = at_least (nat_lt (length u) k) refl
       where
-        -- whether one would begin before k
+        -- u is not shorter than k bytes, since no CRLF CRLF begins before the place k
         at_least : (b : Bool) → nat_lt (length u) k ≡ b → length (take k t) ≤ length u
         at_least true below = absurd (first.before (length u) (omega arith) (omega (arith, ltb-true (length u) k below)) (cut-occurs t u v is))
         at_least false above = omega (arith, len, ltb-false (length u) k above)
 
+    -- the text is cut into this head and this body
     is : CutSays t (take (k + 2) t, drop (k + 4) t)
     is = record { front = take k t; head_is = head_is; whole = cut ∙ ap (λ r. take k t ++ (crlf ++ (crlf ++ r))) (sym rest_is); first = least }
 
@@ -161,10 +172,11 @@ all-take test t zero within each = tt
 all-take test [] (suc k) within each = tt
 all-take test (b ∷ t) (suc k) within each = (each 0 (omega arith), all-take test t k (omega (arith, within)) (λ j below. each (suc j) (omega (arith, below))))
 
--- a byte that is not CR or LF is neither
+-- a byte for which it does not hold that it is CR or LF is neither CR nor LF
 inner-byte : (b : ℕ) → ((nat_eq b carriage_return || nat_eq b line_feed) ≡ true → ⊥) → is_inner_byte b ≡ true
 inner-byte b none = at (nat_eq b carriage_return) (nat_eq b line_feed) none
   where
+    -- the claim holds whether or not the byte is CR or LF, which it cannot be
     at : (x y : Bool) → ((x || y) ≡ true → ⊥) → (not x && not y) ≡ true
     at true y none = absurd (none refl)
     at false true none = absurd (none refl)
@@ -183,8 +195,10 @@ abbrev CleanPiece : List ℕ → Type 0
 CleanPiece = Exactly crlf or One is_inner_byte
 
 -- a text without a bare line end begins with a byte that is neither CR nor LF, or with CRLF, and its rest has none
+-- b is the first byte and t the rest; v is the text after a CRLF
 clean-first : (b : ℕ) (t : List ℕ) → HasNoBareEnd (b ∷ t) → ((is_inner_byte b ≡ true) × HasNoBareEnd t) ⊎ ((v : List ℕ) × (b ∷ t ≡ crlf ++ v) × HasNoBareEnd v)
 clean-first b t ([], all, whole) = absurd (omega (arith, ap length whole))
+-- u is the first piece, which is CRLF or one byte c, and us are the others
 clean-first b t (u ∷ us, (inl is, all), whole) = inr (concat us, whole ∙ ap (λ x. x ++ concat us) is, (us, all, refl))
 clean-first b t (u ∷ us, (inr (c, inner, is), all), whole) =
     let same : b ∷ t ≡ c ∷ concat us = whole ∙ ap (λ x. x ++ concat us) is in
@@ -236,20 +250,25 @@ clean-paired : (a : ℕ) (t : List ℕ) → nat_eq a carriage_return ≡ false �
 clean-paired a [] no_end clean = no_end
 clean-paired a (b ∷ []) no_end clean = at (clean-first b [] clean)
   where
+    -- the claim holds whether the byte stands within a line or begins a CRLF
     at : ((is_inner_byte b ≡ true) × HasNoBareEnd []) ⊎ ((v : List ℕ) × (b ∷ [] ≡ crlf ++ v) × HasNoBareEnd v) → Paired a (b ∷ [])
     at (inl (inner, _)) = (no_end ∙ sym (inner-parts b inner).1, (inner-parts b inner).0)
     at (inr (v, same, _)) = absurd (omega (arith, ap length same))
+-- the byte is one within a line, or CR and LF stand there
 clean-paired a (b ∷ c ∷ t) no_end clean = at (clean-first b (c ∷ t) clean) (clean-paired b (c ∷ t)) (clean-paired c t)
   where
+    -- the claim holds whether the byte stands within a line or begins a CRLF
     at : ((is_inner_byte b ≡ true) × HasNoBareEnd (c ∷ t)) ⊎ ((v : List ℕ) × (b ∷ c ∷ t ≡ crlf ++ v) × HasNoBareEnd v)
         → (nat_eq b carriage_return ≡ false → HasNoBareEnd (c ∷ t) → Paired b (c ∷ t))
         → (nat_eq c carriage_return ≡ false → HasNoBareEnd t → Paired c t) → Paired a (b ∷ c ∷ t)
     at (inl (inner, rest)) one two = (no_end ∙ sym (inner-parts b inner).1, one (inner-parts b inner).0 rest)
+    -- CR and LF stand there, one after the other
     at (inr (v, same, rest)) one two =
         let both : b ∷ c ∷ t ≡ carriage_return ∷ line_feed ∷ v = same in
         let b_is : b ≡ carriage_return = cc in
         let c_is : c ≡ line_feed = cc in
         let t_is : t ≡ v = cc in
+        -- b and c are CR and LF, so a line end begins at b exactly if one goes on at c
         let next : nat_eq b carriage_return ≡ nat_eq c line_feed =
         ap (λ x. nat_eq x carriage_return) b_is ∙ sym (ap (λ x. nat_eq x line_feed) c_is) in (
           no_end ∙ sym (ap (λ x. nat_eq x line_feed) b_is),
@@ -263,11 +282,14 @@ paired-clean a (b ∷ []) no_end paired =
     many-cons CleanPiece (b ∷ []) [] (inr (b, parts-inner b paired.1 (sym paired.0 ∙ no_end), refl)) (many-nil CleanPiece)
 paired-clean a (b ∷ c ∷ t) no_end paired = at (nat_eq b carriage_return) refl (paired-clean b (c ∷ t)) (paired-clean c t)
   where
+    -- the claim holds whether or not b is CR
     at : (end : Bool) → nat_eq b carriage_return ≡ end
         → (nat_eq b carriage_return ≡ false → Paired b (c ∷ t) → HasNoBareEnd (c ∷ t))
         → (nat_eq c carriage_return ≡ false → Paired c t → HasNoBareEnd t) → HasNoBareEnd (b ∷ c ∷ t)
+    -- the byte is no CR, so it is one within a line
     at false is one two =
         many-cons CleanPiece (b ∷ []) (c ∷ t) (inr (b, parts-inner b is (sym paired.0 ∙ no_end), refl)) (one is paired.1)
+    -- the byte is a CR, and the next one its LF
     at true is one two =
         let b_is : b ≡ carriage_return = eqb-true b carriage_return is in
         let c_is : c ≡ line_feed = eqb-true c line_feed (sym paired.1.0 ∙ is) in
@@ -295,6 +317,7 @@ each-clean [] each opens = many-nil CleanPiece
 each-clean (b ∷ t) each opens =
     paired-clean 0 (b ∷ t) refl (at (nat_eq b line_feed) refl, paired-each b t (λ k within. each k (omega arith) (omega (arith, within))))
   where
+    -- the byte is not LF, since the text does not begin with one
     at : (feed : Bool) → nat_eq b line_feed ≡ feed → false ≡ nat_eq b line_feed
     at true is = absurd (opens (eqb-true b line_feed is))
     at false is = sym is

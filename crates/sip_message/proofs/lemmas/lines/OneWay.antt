@@ -1,4 +1,5 @@
 -- Bytes have one head, and a head has its lines in one way.
+-- In the lemmas l and ls are the first line and the others by one reading of the bytes, and m and ms those by another.
 use Rattle.std.proofs.Common.{◌≡◌, ℕ, Bool, true, false, nat_eq, List, [], ◌∷◌, ◌++◌, length, refl, sym, ap, ◌∙◌, subst, arith}
 use Rattle.std.specs.List.{AllByRecursion, flat_map}
 use Rattle.std.proofs.lemmas.Bool.{both_ways, eqb-true, eq-eqb}
@@ -11,6 +12,7 @@ use Rattle.sip_message.proofs.lemmas.text.Cuts.{Cuts, first_longer, same_length,
 use Rattle.sip_text.proofs.texts.ManyLemmas.{append_cancel_both}
 
 -- bytes have at most one head
+-- the bytes are the head h with the body b, and the head i with the body c
 pub same_head : (bytes h b i c : List ℕ) → CutSays bytes (h, b) → CutSays bytes (i, c) → (h ≡ i) × (b ≡ c)
 same_head bytes h b i c one other =
     let fronts = append_cancel_both one.front _ other.front _
@@ -35,6 +37,7 @@ no_longer [] line other rest more b folded none longer is =
     let tails : line_feed ∷ more ≡ carriage_return ∷ (line_feed ∷ rest) = cc in
     let heads : line_feed ≡ carriage_return = cc in
     absurd (omega (arith, heads))
+-- the CR ends the second line, and a blank would follow it in the first
 no_longer (c ∷ z) line other rest more b folded none longer is =
     let b_is : carriage_return ≡ b = cc in
     let tails : line_feed ∷ more ≡ c ∷ (z ++ (crlf ++ rest)) = cc in
@@ -47,9 +50,11 @@ no_longer (c ∷ z) line other rest more b folded none longer is =
 pub same_first : (l m rest more : List ℕ) → IsFolded l → IsFolded m → (OpensBlank rest → ⊥) → (OpensBlank more → ⊥) → with_end l ++ rest ≡ with_end m ++ more → (l ≡ m) × (rest ≡ more)
 same_first l m rest more l_folded m_folded l_cut m_cut same = at (two_cuts l (crlf ++ rest) m (crlf ++ more) whole)
   where
+    -- both texts begin with a line and its end
     whole : l ++ (crlf ++ rest) ≡ m ++ (crlf ++ more)
     whole = sym (append_assoc l crlf rest) ∙ same ∙ append_assoc m crlf more
 
+    -- both lines are the same, and so are the rests: neither line is longer, since the CRLF in it would have a blank after it
     at : Cuts l (crlf ++ rest) m (crlf ++ more) → (l ≡ m) × (rest ≡ more)
     at (same_length left right) =
         let ends : carriage_return ∷ line_feed ∷ rest ≡ carriage_return ∷ line_feed ∷ more = right in
@@ -75,6 +80,7 @@ same_later (l ∷ ls) (m ∷ ms) lf mf lc mc same =
     ap (λ t. t ∷ ls) first.0 ∙ ap (λ ts. m ∷ ts) (same_later ls ms lf.1 mf.1 lc.1 mc.1 first.1)
 
 -- a head has its lines in one way
+-- the head has the first line l and the others ls, and the first line m and the others ms
 pub same_lines : (head l m : List ℕ) (ls ms : List (List ℕ)) → LinesSay head l ls → LinesSay head m ms → (l ≡ m) × (ls ≡ ms)
 same_lines head l m ls ms one other =
     let first = same_first l m _ _ one.folded.0 other.folded.0 (no_blank ls one.cut) (no_blank ms other.cut) (sym one.whole ∙ other.whole) in
@@ -85,16 +91,20 @@ folded-tail : (b : ℕ) (l : List ℕ) → IsFolded (b ∷ l) → IsFolded l
 folded-tail b l folded u v is = folded (b ∷ u) v (ap (λ t. b ∷ t) is)
 
 -- a byte before a line makes a line where the byte does not make a line end that no blank follows
+-- b is the byte and l the line; v is what would follow a line end that b makes
 folded-cons : (b : ℕ) (l : List ℕ) → IsFolded l → ((v : List ℕ) → b ∷ l ≡ carriage_return ∷ line_feed ∷ v → OpensBlank v) → IsFolded (b ∷ l)
 folded-cons b l folded first [] v is = first v is
 folded-cons b l folded first (a ∷ u) v is = let tails : l ≡ u ++ (crlf ++ v) = cc in folded u v tails
 
 -- where a text is lines, a byte before it makes lines, too
+-- the text is the first line l and the others ls; with the byte b before it, it is the first line m and the others ms
 lines-cons : (b : ℕ) (text l : List ℕ) (ls : List (List ℕ)) → LinesSay text l ls → (m : List ℕ) × (ms : List (List ℕ)) × LinesSay (b ∷ text) m ms
 lines-cons b text [] ls is =
     (b ∷ [], ls, record { whole = ap (λ t. b ∷ t) is.whole; folded = (folded-cons b [] is.folded.0 (λ v e. absurd (omega (arith, ap length e))), is.folded.1); cut = is.cut })
 lines-cons b text (a ∷ l) ls is = at l refl (nat_eq b carriage_return) (nat_eq a line_feed) refl refl
   where
+    -- the byte comes to the front of the first line, where a CRLF that it makes has a blank after it
+    -- m is the first line with the byte, and ms are the others
     longer : ((v : List ℕ) → b ∷ a ∷ l ≡ carriage_return ∷ line_feed ∷ v → OpensBlank v) → (m : List ℕ) × (ms : List (List ℕ)) × LinesSay (b ∷ text) m ms
     longer first = (b ∷ a ∷ l, ls, record { whole = ap (λ t. b ∷ t) is.whole; folded = (folded-cons b (a ∷ l) is.folded.0 first, is.folded.1); cut = is.cut })
 
@@ -110,14 +120,16 @@ lines-cons b text (a ∷ l) ls is = at l refl (nat_eq b carriage_return) (nat_eq
       },
     )
 
-    -- whether the byte and the next one are CR and LF
+    -- the claim holds whether or not the byte and the next one are CR and LF
+    -- x says whether the byte is CR, and y whether the next one is LF; t is the rest of the first line
     at : (t : List ℕ) → t ≡ l → (x y : Bool) → nat_eq b carriage_return ≡ x → nat_eq a line_feed ≡ y → (m : List ℕ) × (ms : List (List ℕ)) × LinesSay (b ∷ text) m ms
     at t same false y x_is y_is = longer (λ v e. let head : b ≡ carriage_return = cc in absurd (both_ways (nat_eq b carriage_return) x_is (eq-eqb b carriage_return head)))
     at t same true false x_is y_is = longer (λ v e. let head : a ≡ line_feed = cc in absurd (both_ways (nat_eq a line_feed) y_is (eq-eqb a line_feed head)))
     at [] same true true x_is y_is = ends (eqb-true b carriage_return x_is) (eqb-true a line_feed y_is) (λ begins. subst OpensBlank (sym same) begins)
     at (c ∷ t) same true true x_is y_is = blank (is_wsp c) refl
       where
-        -- whether a blank follows the CR and LF
+        -- the claim holds whether or not a blank follows the CR and LF
+        -- z is whether a blank follows; m is the first line with the byte, and ms are the others
         blank : (z : Bool) → is_wsp c ≡ z → (m : List ℕ) × (ms : List (List ℕ)) × LinesSay (b ∷ text) m ms
         blank true z_is = longer (λ v e. let rest : l ≡ v = cc in subst OpensBlank (same ∙ rest) z_is)
         blank false z_is = ends (eqb-true b carriage_return x_is) (eqb-true a line_feed y_is) (λ begins. both_ways (is_wsp c) z_is (subst OpensBlank (sym same) begins))
@@ -127,7 +139,7 @@ pub front-lines : (front : List ℕ) → (l : List ℕ) × (ls : List (List ℕ)
 front-lines [] = ([], [], record { whole = refl; folded = ((λ u v e. absurd (omega (arith, ap length e, length-append u (crlf ++ v)))), tt); cut = tt })
 front-lines (b ∷ front) = let more = front-lines front in lines-cons b (front ++ crlf) more.0 more.1 more.2
 
--- a head has lines
+-- each head is one line or more
 pub head-lines : (bytes head body : List ℕ) → CutSays bytes (head, body) → (l : List ℕ) × (ls : List (List ℕ)) × LinesSay head l ls
 head-lines bytes head body is =
     let lines = front-lines is.front in (lines.0, lines.1, subst (λ h. LinesSay h lines.0 lines.1) (sym is.head_is) lines.2)

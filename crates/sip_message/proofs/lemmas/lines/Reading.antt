@@ -1,4 +1,6 @@
 -- Lines are read one after another.
+-- In the lemmas line is the one that is read now and more what follows it; l and ls are the first line and the others, f and fs, or g and gs, the first field
+-- and the others; n and k are numbers of lines.
 use Rattle.std.proofs.Common.{◌≡◌, ℕ, ◌+◌, false, List, [], ◌∷◌, ◌++◌, length, refl, sym, ap, ◌∙◌, subst, arith}
 use Rattle.std.specs.List.{flat_map}
 use Rattle.std.proofs.lemmas.Bool.{both_ways}
@@ -40,6 +42,7 @@ lines-front rest line left are = ((are.folded.0, no_blank left are.cut.1, are.wh
 pub so_far-all : (lines : List (List ℕ)) (rest : List ℕ) (fields : List Field) → SoFar lines rest fields → NotRead (LineFront rest) → FieldsOf 1 lines (gives fields)
 so_far-all lines rest fields so none = at so.left so.whole so.lines_left
   where
+    -- the fields are those of all lines, since no line is left where none is read of the rest
     at : (left : List (List ℕ)) → lines ≡ so.done ++ left → AreLines rest left → FieldsOf 1 lines (gives fields)
     at [] whole are = subst (λ ls. FieldsOf 1 ls (gives fields)) (sym (whole ∙ append-nil so.done)) (fields-read 1 so.done fields so.are)
     at (line ∷ left) whole are = absurd (none (line, flat_map with_end left) (lines-front rest line left are).0)
@@ -67,6 +70,7 @@ so_far-more lines rest line more fields f n so read is =
     record {
       done = so.done ++ line ∷ [];
       left = next.0;
+      -- the lines so far have this one more, and so have the fields
       whole = so.whole ∙ ap (λ ls. so.done ++ ls) next.1 ∙ sym (append_assoc so.done (line ∷ []) next.0);
       lines_left = next.2;
       are = fields-push so.done fields line f so.are (first one);

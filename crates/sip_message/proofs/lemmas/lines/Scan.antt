@@ -1,4 +1,5 @@
 -- A text is cut at its first line end that no blank follows, LF by LF.
+-- In the lemmas u, v and w are parts of a text, l is a line, and m what is left after it.
 use Rattle.std.proofs.Common.{◌≡◌, ℕ, ◌+◌, ◌-◌, ◌≤◌, ◌⊎◌, Bool, true, false, not, cond, take, drop, Some, None, List, [], ◌∷◌, ◌++◌, length, refl, sym, ap, ◌∙◌, subst, inl, inr, arith}
 use Rattle.std.proofs.lemmas.Bool.{both_ways, and_parts, and_from}
 use Rattle.std.proofs.lemmas.Option.{none-some}
@@ -24,15 +25,18 @@ pub record Scanned (done rest : List ℕ) : Type 0 where
   pub folded : (u v : List ℕ) → done ≡ u ++ (crlf ++ v) → OpensBlank (v ++ rest)
 
 -- after what was scanned, each CRLF that no blank follows lies in the rest
+-- u and v are the texts before and after the CRLF, and w is the part of u that was not scanned
 pub unscanned : (done rest u v : List ℕ) → Scanned done rest → done ++ rest ≡ u ++ (crlf ++ v) → OpensBlank v ⊎ ((w : List ℕ) × (u ≡ done ++ w) × (rest ≡ w ++ (crlf ++ v)))
 unscanned done rest u v scanned same = at (two_cuts done rest u (crlf ++ v) same)
   where
+    -- the claim holds whether the CRLF begins in the rest or in what was scanned
     at : Cuts done rest u (crlf ++ v) → OpensBlank v ⊎ ((w : List ℕ) × (u ≡ done ++ w) × (rest ≡ w ++ (crlf ++ v)))
     at (same_length front back) = inr ([], sym front ∙ sym (append-nil done), back)
     at (second_longer c z longer back) = inr (c ∷ z, longer, back)
     at (first_longer c [] longer back) =
         let head : carriage_return ≡ c = cc in
         absurd (scanned.apart u (longer ∙ ap (λ x. u ++ x ∷ []) (sym head)))
+    -- the CRLF lies in what was scanned, so a blank follows it
     at (first_longer c (d ∷ z) longer back) =
         let both : carriage_return ∷ line_feed ∷ v ≡ c ∷ d ∷ (z ++ rest) = back in
         let c_is : carriage_return ≡ c = cc in
@@ -46,6 +50,7 @@ no_lf [] v lacks = both_ways true lacks.0 refl
 no_lf (b ∷ u) v lacks = no_lf u v lacks.1
 
 -- a text without LF has no CRLF
+-- u and v would be the texts before and after the CRLF
 no_crlf : (t u v : List ℕ) → Lacks line_feed t → t ≡ u ++ (crlf ++ v) → ⊥
 no_crlf t u v lacks is =
     no_lf (u ++ carriage_return ∷ []) v (subst (Lacks line_feed) (is ∙ sym (append_assoc u (carriage_return ∷ []) (line_feed ∷ v))) lacks)
@@ -67,6 +72,7 @@ begins-left (b ∷ u) v begins = begins
 pub scan-line : (done f more : List ℕ) → Scanned done (f ++ (crlf ++ more)) → Lacks line_feed f → (OpensBlank more → ⊥) → ReadAs (LineFront (done ++ (f ++ (crlf ++ more)))) (done ++ f, more)
 scan-line done f more scanned lacks cut = (is, (λ x other. only x.0 x.1 other))
   where
+    -- each CRLF within the line has a blank after it
     folded : IsFolded (done ++ f)
     folded u v line_is =
         elim (unscanned done (f ++ (crlf ++ more)) u (v ++ (crlf ++ more)) scanned (
@@ -75,6 +81,7 @@ scan-line done f more scanned lacks cut = (is, (λ x other. only x.0 x.1 other))
           | inr found ↦ absurd (no_crlf f found.0 v lacks (append_cancel_left done f (found.0 ++ (crlf ++ v)) (line_is ∙ ap (λ t. t ++ (crlf ++ v)) found.1 ∙ append_assoc done found.0 (crlf ++ v))))
         ]
 
+    -- the line ends at this CRLF
     is : LineFront (done ++ (f ++ (crlf ++ more))) (done ++ f, more)
     is = (folded, cut, sym (append_assoc done f (crlf ++ more)) ∙ sym (append_assoc (done ++ f) crlf more))
 
@@ -88,6 +95,7 @@ scan-line done f more scanned lacks cut = (is, (λ x other. only x.0 x.1 other))
 pub scan-more : (done front more : List ℕ) → Scanned done (front ++ line_feed ∷ more) → Lacks line_feed front → ((f : List ℕ) → front ≡ f ++ carriage_return ∷ [] → OpensBlank more) → Scanned (done ++ (front ++ line_feed ∷ [])) more
 scan-more done front more scanned lacks blank = record { apart = apart; folded = folded }
   where
+    -- the text up to the LF does not end with CR
     apart : (u : List ℕ) → done ++ (front ++ line_feed ∷ []) ≡ u ++ carriage_return ∷ [] → ⊥
     apart u same =
         let ends = same_by_end (done ++ front) (line_feed ∷ []) u (carriage_return ∷ []) refl (append_assoc done front (line_feed ∷ []) ∙ same) in
@@ -95,9 +103,10 @@ scan-more done front more scanned lacks blank = record { apart = apart; folded =
         let heads : line_feed ≡ carriage_return = cc in
         omega (arith, heads)
 
-    -- the CRLF ends with this LF, since no other stands before it
+    -- a blank follows this CRLF: it ends with this LF, since no other LF stands before it, so nothing is left of the line
     within : (w v : List ℕ) → Cuts front (line_feed ∷ []) (w ++ carriage_return ∷ []) (line_feed ∷ v) → OpensBlank (v ++ more)
     within w v (same_length f_is back) =
+        -- the front is of the same length as w and CR, so nothing is left; were it shorter, an LF would stand in w; it cannot be longer
         let none : [] ≡ v = cc in
         subst (λ t. OpensBlank (t ++ more)) none (blank w f_is)
     within w v (first_longer c z longer back) =
@@ -129,6 +138,7 @@ cut-none text at scanned none =
     subst (λ t. NotRead (LineFront t)) (take-append-drop at text)
     (scan-none (take at text) (drop at text) scanned (subst (Lacks line_feed) (sym whole) (lacks-before line_feed (drop at text))))
   where
+    -- no LF is left, so what stands before the first one is all that is left
     whole : drop at text ≡ before line_feed (drop at text)
     whole = cut-whole line_feed (drop at text) ∙ ap (λ o. before line_feed (drop at text) ++ led line_feed o) (sym none) ∙ append-nil _
 
@@ -142,6 +152,7 @@ ends-cr text is =
 cr-ends : (f : List ℕ) → ends_cr (f ++ carriage_return ∷ []) ≡ true
 cr-ends f = at (ends_cr (f ++ carriage_return ∷ [])) refl
   where
+    -- the test cannot say no, since the text ends with CR
     at : (x : Bool) → ends_cr (f ++ carriage_return ∷ []) ≡ x → ends_cr (f ++ carriage_return ∷ []) ≡ true
     at true is = is
     at false is =
@@ -164,18 +175,23 @@ line-found text front rest at within scanned front_is rest_is line =
     (subst (λ t. ReadAs (LineFront t) (take at text ++ f.0, rest)) (sym whole)
     (scan-line (take at text) f.0 rest (subst (Scanned (take at text)) inner scanned) lacks cut))
   where
+    -- what is left is cut at its first LF
     both : (drop at text ≡ front ++ line_feed ∷ rest) × Lacks line_feed front
     both = cut-lf (drop at text) front rest front_is rest_is
 
+    -- a CR stands before the LF, and no blank after it
     parts : (ends_cr front ≡ true) × (not (begins_wsp rest) ≡ true)
     parts = and_parts (ends_cr front) (not (begins_wsp rest)) line
 
+    -- the front is f and this CR
     f : (g : List ℕ) × (front ≡ g ++ carriage_return ∷ [])
     f = ends-cr front parts.0
 
+    -- what is left is f, CRLF and the rest
     inner : drop at text ≡ f.0 ++ (crlf ++ rest)
     inner = both.0 ∙ ap (λ t. t ++ line_feed ∷ rest) f.1 ∙ append_assoc f.0 (carriage_return ∷ []) (line_feed ∷ rest)
 
+    -- the text is what was scanned, f, CRLF and the rest
     whole : text ≡ take at text ++ (f.0 ++ (crlf ++ rest))
     whole = sym (take-append-drop at text) ∙ ap (λ t. take at text ++ t) inner
 
@@ -184,6 +200,7 @@ line-found text front rest at within scanned front_is rest_is line =
     left [] v all = tt
     left (b ∷ u) v all = (all.0, left u v all.1)
 
+    -- no LF stands in f
     lacks : Lacks line_feed f.0
     lacks = left f.0 (carriage_return ∷ []) (subst (Lacks line_feed) f.1 both.1)
 
@@ -191,6 +208,7 @@ line-found text front rest at within scanned front_is rest_is line =
     cut : OpensBlank rest → ⊥
     cut begins = both_ways false refl (sym (ap not (begins-wsp rest begins)) ∙ parts.1)
 
+    -- the line is the text up to the CR
     line_is : take at text ++ f.0 ≡ take (at + length front - 1) text
     line_is =
         sym (take-append_seam (take at text ++ f.0) (crlf ++ rest))
@@ -205,6 +223,7 @@ line-on text front rest at within scanned front_is rest_is line = (
       (scan-more (take at text) front rest (subst (Scanned (take at text)) both.0 scanned) both.1 blank)),
 )
   where
+    -- what is left is cut at its first LF
     both : (drop at text ≡ front ++ line_feed ∷ rest) × Lacks line_feed front
     both = cut-lf (drop at text) front rest front_is rest_is
 
@@ -212,23 +231,27 @@ line-on text front rest at within scanned front_is rest_is line = (
     blank : (f : List ℕ) → front ≡ f ++ carriage_return ∷ [] → OpensBlank rest
     blank f is = go (begins_wsp rest) refl
       where
-        -- whether a blank follows
+        -- a blank follows, since the LF would else end the line
         go : (x : Bool) → begins_wsp rest ≡ x → OpensBlank rest
         go true e = wsp-begins rest e
         go false e = absurd (both_ways (is_line front rest) line (and_from (ends_cr front) (not (begins_wsp rest)) (ap ends_cr is ∙ cr-ends f) (ap not e)))
 
+    -- what was scanned, with the front and the LF, has this length
     size : length (take at text ++ (front ++ line_feed ∷ [])) ≡ at + length front + 1
     size = omega (arith, length-append (take at text) (front ++ line_feed ∷ []), length-append front (line_feed ∷ []), length-take-le at text within)
 
+    -- the text is what was scanned, the front, the LF and the rest
     whole : text ≡ (take at text ++ (front ++ line_feed ∷ [])) ++ rest
     whole =
         sym (take-append-drop at text) ∙ ap (λ t. take at text ++ t) (both.0 ∙ sym (append_assoc front (line_feed ∷ []) rest))
         ∙ sym (append_assoc (take at text) (front ++ line_feed ∷ []) rest)
 
+    -- what was scanned, the front and the LF are the first bytes of the text
     take_is : (take at text ++ (front ++ line_feed ∷ [])) ≡ take (at + length front + 1) text
     take_is =
         sym (take-append_seam (take at text ++ (front ++ line_feed ∷ [])) rest) ∙ ap (take (length (take at text ++ (front ++ line_feed ∷ [])))) (sym whole) ∙ ap (λ n. take n text) size
 
+    -- the rest is the text after these bytes
     drop_is : rest ≡ drop (at + length front + 1) text
     drop_is =
         sym (drop-append_seam (take at text ++ (front ++ line_feed ∷ [])) rest) ∙ ap (drop (length (take at text ++ (front ++ line_feed ∷ [])))) (sym whole) ∙ ap (λ n. drop n text) size

@@ -28,12 +28,15 @@ use Rattle.sip_message.proofs.lemmas.via.Elements.{ends-more}
 use Rattle.sip_message.proofs.lemmas.via.Steps.{one-via}
 
 -- the method of a CSeq fits a request exactly if it is equal to the request's method
+-- the request has the method m and the URI u, the CSeq has the number n and the method k, and r is the answer
 pub method-some : (start : Code) (m u : Bor (List ℕ)) (cseq : List ℕ) (n : ℕ) (k : List ℕ) (r : Bool) → start ≡ variant.Request m u → ReadAs (CSeqValue cseq) (n, k) → r ≡ bytes_eq k m.now → IsTrue r ↔ MethodFits (start_parts start) cseq
 method-some start m u cseq n k r is read r_is = subst (λ s. IsTrue r ↔ MethodFits s cseq) (sym (ap start_parts is)) (to, from)
   where
+    -- where the answer is yes, the methods are equal
     to : IsTrue r → MethodFits (request m.now u.now) cseq
     to so = (n, subst (λ x. CSeqText cseq n x) ((bytes_eq-Decides k m.now).0 (sym r_is ∙ so)) read.0)
 
+    -- where the method fits, the answer is yes
     from : MethodFits (request m.now u.now) cseq → IsTrue r
     from (number, text) = r_is ∙ (bytes_eq-Decides k m.now).1 (sym (ap (λ x. x.1) (read.1 (number, m.now) text)))
 
@@ -45,9 +48,11 @@ vias-front text v vias (x, y, via, more, text_is) = let later = more-elements vi
 pub stream-first : (text : List ℕ) (e : Element) (r : Bool) → FirstVia text e → r ≡ is_stream e.1.transport → IsTrue r ↔ IsStream text
 stream-first text e r ((v, vias, is), (rest, front)) r_is = (to, from)
   where
+    -- each reading of the text has the same top Via
     top : (w : ViaParts) (others : List ViaParts) → ViasText text w others → e.1 ≡ w
     top w others are = let f = vias-front text w others are in ap (λ x. x.0.1) (one-via text (e, rest) ((f.0, w), f.1) front f.2)
 
+    -- where the answer is yes, the top Via has a stream
     to : IsTrue r → IsStream text
     to so = (v.transport, (v, vias, is, refl), ap (λ x. is_stream x.transport) (sym (top v vias is)) ∙ sym r_is ∙ so)
 
@@ -63,7 +68,7 @@ length-none fields is = ap length_in is
 pub length-some : (fields : List Field) (one : ℕ × List ℕ) (more : List (ℕ × List ℕ)) → found known_name.ContentLength fields ≡ one ∷ more → content_length fields ≡ Some (digits_value 10 (one.1))
 length-some fields one more is = ap length_in is
 
--- What follows is of one message, of which the start line, CSeq, Via and Content-Length are read, and the bytes after its head.
+-- What follows is of one message: its start line, its CSeq with the number of its line, its first Via, its length, if one is said, and what follows its head.
 module _ (start : StartLine) (cseq : ℕ × List ℕ) (via : List ℕ) (len : Option ℕ) (rest : List ℕ) where
   -- where the method does not fit, the reading stops with that fault at the line of CSeq
   pub body-method : (MethodFits start (cseq.1) → ⊥) → BodyOf start cseq via len rest (stops (fault_in_line (cseq.0) reason.MethodMismatch))

@@ -1,4 +1,5 @@
 -- Bytes are read as a message exactly if they are one, and as at most one message or one fault.
+-- In the lemmas f and fs are the first field and the others, z and zs the first element of a list and the others, and n is the number of a line.
 use Rattle.std.proofs.Common.{◌≡◌, ℕ, ◌+◌, List, [], ◌∷◌, Option, refl, sym, ap, ◌∙◌, subst}
 use Rattle.sip_message.specs.declared.name.Known.{Known}
 use Rattle.sip_message.specs.declared.name.Known.TheVariants as known_name
@@ -30,9 +31,11 @@ one-fields n [] = one-gives []
 one-fields n (line ∷ lines) = one-then (one-field n line) (λ f. one-then (one-fields (n + 1) lines) (λ fs. one-gives (f ∷ fs)))
 
 -- equal lists have the same first element
+-- x and y are the first elements, and xs and ys the rests
 same_cons : (x y : ℕ × List ℕ) (xs ys : List (ℕ × List ℕ)) → x ∷ xs ≡ y ∷ ys → x ≡ y
 same_cons x y xs ys is = ap head is
   where
+    -- the first element of a list, and x of an empty one
     head : List (ℕ × List ℕ) → ℕ × List ℕ
     head [] = x
     head (z ∷ zs) = z
@@ -83,6 +86,7 @@ read-fields n (line ∷ lines) fields is =
     let named = given-then one.1 in
     let valued = given-then named.2 in
     let more = given-then one.2 in
+    -- the line has a name, blanks, a colon and a value, and the others are fields
     let f = given valued.2 in (
       one.0,
       more.0,
@@ -100,23 +104,25 @@ fields-read n (line ∷ lines) fields (f, fs, is, are, whole) =
 -- where the names and the body are read, what a message demands of its fields and its body holds
 read-fits : (start : StartLine) (fields : List Field) (rest body : List ℕ) (names : (ℕ × List ℕ) × (ℕ × List ℕ)) → NamesOf fields (gives names) → BodyOf start (names.1) (names.0.1) (content_length fields) rest (gives body) → MessageFits start fields rest × (body ≡ cut_body (content_length fields) rest)
 read-fits start fields rest body names is read =
-    -- what each stage of the reading gave: the fields by their names, and then the demands on the body
+    -- each stage of the reading gave something: the fields of each name, and then the demands on the body hold
     let via = given-then is in
     let from = given-then via.2 in
     let to = given-then from.2 in
     let call_id = given-then to.2 in
     let cseq = given-then call_id.2 in
     let len = given-then cseq.2 in
+    -- each of these fields stands once
     let from_once = given-then from.1 in
     let to_once = given-then to.1 in
     let call_id_once = given-then call_id.1 in
     let cseq_once = given-then cseq.1 in
+    -- the method and the body are as demanded
     let method = given-then read in
     let has = given-then method.2 in
     let enough = given-then has.2 in
     let no_more = given-then enough.2 in
     let same = given len.2 in (
-      -- what a message demands
+      -- what a message demands is what the stages gave, one demand after another
       record {
         via = (via.0, via.1);
         from_once = from_once.1;
@@ -124,10 +130,12 @@ read-fits start fields rest body names is read =
         to_once = to_once.1;
         to = (to.0, to_once.2);
         call_id_once = call_id_once.1;
+        -- the body has a length where it needs one, has enough bytes, and has no more
         call_id = (call_id.0, call_id_once.2);
         cseq_once = cseq_once.1;
         cseq = (cseq.0, cseq_once.2);
         length_once = len.1;
+        -- the method and the length are those that were found
         method = subst (λ m. MethodFits start (m.1.1)) same method.1;
         has_length = subst (λ m. HasLength (m.0.1) (content_length fields)) same has.1;
         enough = enough.1;
@@ -144,6 +152,7 @@ read-text bytes m is =
     let lines = bare.2 in
     let start = given-then lines.3 in
     let fields = given-then start.2 in
+    -- the named fields were read, and then what the message demands holds
     let names = given-then fields.2 in
     let body = given-then names.2 in
     let fits = read-fits start.0 fields.0 cut.0.1 body.0 names.0 names.1 body.1 in
@@ -153,6 +162,7 @@ read-text bytes m is =
       first = lines.0;
       others = lines.1;
       is_head = cut.1;
+      -- each part of the text is what its stage read
       no_bare = bare.1;
       are_lines = lines.2;
       is_start = start.1;
@@ -169,9 +179,11 @@ text-read bytes m text =
       text.first,
       text.others,
       text.are_lines,
+      -- first the start line and the fields are read
       passes m.start text.is_start
           (passes m.fields (fields-read 1 text.others m.fields text.are_fields) (passes (fits.via.0, fits.cseq.0)
           (passes fits.via.0 fits.via.1 (passes fits.from.0 (passes tt fits.from_once fits.from.1) (passes fits.to.0 (passes tt fits.to_once fits.to.1)
+          -- after From and To come the Call-ID, the CSeq and the demands on the body
           (passes fits.call_id.0 (passes tt fits.call_id_once fits.call_id.1) (passes fits.cseq.0 (passes tt fits.cseq_once fits.cseq.1) (passes tt fits.length_once refl))))))
           (passes m.body (passes tt fits.method (passes tt fits.has_length (passes tt fits.enough (passes tt fits.no_more (ap (λ b. gives b) text.body_is)))))
           refl))),

@@ -28,6 +28,7 @@ use Rattle.sip_message.proofs.lemmas.message.Faults.{fields-read}
 use Rattle.sip_message.proofs.lemmas.message.Stages.{Found}
 
 -- the bytes are a message, and these are the first element of Via, the values of From, To and Call-ID, and the CSeq that are kept of it
+-- e is that element, f, t and i are these values, and s is the number and the method of the CSeq
 pub record IsWhole (bytes rest : List ℕ) (start : StartLine) (fields : List Field) (body : List ℕ) (e : Element) (f t i : List ℕ) (s : ℕ × List ℕ) : Type 0 where
   pub first : List ℕ
   pub via : ℕ × List ℕ
@@ -54,7 +55,7 @@ pub ordinary-whole : {bytes rest body : List ℕ} {fields : List Field} (start :
     → a.via ≡ Some via → a.from ≡ Some from → a.to ≡ Some to → a.call_id ≡ Some call_id → a.cseq ≡ Some cseq → HasBody start via cseq (option_copied a.content_length) rest body
     → IsWhole bytes rest (start_parts start) fields body (element via) from.now to.now call_id.now (cseq_parts cseq)
 ordinary-whole {rest = rest} {body = body} {fields = fields} start a via from to call_id cseq h of via_is from_is to_is call_id_is cseq_is has =
-    -- what was kept of each field that is asked for: Via, From, To, Call-ID and CSeq
+    -- v, f, t, i and c are what the fields Via, From, To, Call-ID and CSeq say, as it was kept
     let v = first-one FirstVia known_name.Via fields element a.via via via_is of.via in
     let f = copied-one known_name.From fields a.from from from_is of.from in
     let t = copied-one known_name.To fields a.to to to_is of.to in
@@ -67,6 +68,7 @@ ordinary-whole {rest = rest} {body = body} {fields = fields} start a via from to
       cseq = c.0;
       says_via = v.2;
       says_cseq = c.2;
+      -- the head, its lines, the start line and the fields were found as an ordinary head has them
       found = record {
         head = h.head;
         others = h.others;
@@ -76,6 +78,7 @@ ordinary-whole {rest = rest} {body = body} {fields = fields} start a via from to
         are_names =
             passes v.0 v.1 (passes f.0 (once-is known_name.From fields f.0 f.1) (passes t.0 (once-is known_name.To fields t.0 t.1) (passes i.0 (once-is known_name.CallId fields i.0 i.1) (passes c.0 (once-is known_name.CSeq fields c.0 c.1)
             (passes tt (not-twice known_name.ContentLength fields (option_copied a.content_length) of.content_length) refl)))));
+        -- the body has the length that is said, and the named fields stand where they were found
         is_body = subst (λ len. BodyOf (start_parts start) c.0 (v.0.1) len rest (gives body)) (said-length fields (option_copied a.content_length) of.content_length) (has v.0 c.0 v.2 c.2);
         stand = record {
           via = first-value known_name.Via fields v.0 v.1;

@@ -1,4 +1,5 @@
 -- The stages of reading, one after another.
+-- In the lemmas n is the named fields that were found, e the first element of Via, and s the CSeq by its number and method.
 use Rattle.std.proofs.Common.{◌≡◌, ℕ, List, false, refl, sym, ap, subst}
 use Rattle.std.specs.Prelude.{Result, Ok, Err, IsErr, IsErrAnd}
 use Rattle.std.proofs.lemmas.Bool.{both_ways}
@@ -55,6 +56,7 @@ pub settled : {A X : Type 0} (parts : A → X) (S : Outcome X → Type 0) (bytes
 settled parts S bytes e (Ok m) err same settles go = absurd (both_ways false refl err)
 settled parts S bytes e (Err x) err same settles go = at x (subst (λ y. Settles S parts (Err y)) (sym same) settles)
   where
+    -- the claim holds whether the stage has failed for want of memory or by a fault of the bytes
     at : (y : ReadError) → Settles S parts (Err y) → ReadsTo bytes (Err y)
     at error.Memory is = tt
     at (error.Fault fault) is = fault-says bytes fault (go fault is)
@@ -89,12 +91,14 @@ found-keeps {bytes = bytes} {n = n} e s f first said =
     let keeps : Keeps _ parts.0 (n.via.1) n.from n.to n.call_id (n.cseq.1) = record {
       parts = record { is = parts.1; only = (λ q is. parts-one _ q parts.0 is parts.1) };
       spelled = (bytes, text);
+      -- each named field stands where it was found
       via = f.stand.via;
       from = f.stand.from;
       to = f.stand.to;
       call_id = f.stand.call_id;
       cseq = f.stand.cseq;
     } in
+    -- the first Via and the CSeq say what was found of them
     let top = keeps-via keeps in (
       parts.0,
       record {

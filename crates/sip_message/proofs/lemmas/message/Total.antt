@@ -1,4 +1,4 @@
--- Each bytes have a reading or a fault: it cannot be that they have neither.
+-- Any bytes have a reading or a fault: it cannot be that they have neither.
 use Rattle.std.specs.Prelude.{ℕ, ◌+◌, List, [], ◌∷◌}
 use Rattle.std.proofs.Common.{refl}
 use Rattle.sip_standard.specs.declared.fault.Fault.{Fault}
@@ -26,14 +26,16 @@ Comes {X = X} S = ¬ ((out : Outcome X) → ¬ (S out))
 comes-demand : {X : Type 0} (R : X → Type 0) (fault : Fault) → Comes (Demand R fault)
 comes-demand R fault never = never (stops fault) ((λ x is. never (gives x) is), refl)
 
--- what only gives a value comes to that value
+-- a step that only gives a value comes to that value
 comes-gives : {X : Type 0} (x : X) → Comes (Gives x)
 comes-gives x never = never (gives x) refl
 
 -- two steps, one after the other, come to an outcome of the second, or to the fault of the first
+-- S is the first step, with a value x of X, and T the second one after x
 comes-then : {X Y : Type 0} (S : Outcome X → Type 0) (T : X → Outcome Y → Type 0) → Comes S → ((x : X) → S (gives x) → Comes (T x)) → Comes (Then S T)
 comes-then {X = X} S T first later never = first at
   where
+    -- the first step has no outcome: a value would lead to an outcome of the second step, and a fault is an outcome of both
     at : (out : Outcome X) → ¬ (S out)
     at (gives x) is = later x is (λ out then. never out (passes x is then))
     at (stops fault) is = never (stops fault) (stopped fault is refl)
@@ -71,6 +73,7 @@ comes-read bytes =
 pub reading-or-fault : (bytes : List ℕ) → ((r : Reading) → ¬ (Reads bytes r)) → ¬ ((fault : Fault) → ¬ (Says bytes (stops fault)))
 reading-or-fault bytes no_reading no_fault = comes-read bytes at
   where
+    -- the bytes have no outcome, neither a message nor a fault
     at : (out : Outcome Message) → ¬ (ReadOf bytes out)
     at (gives m) is =
         let text = read-text bytes m is in

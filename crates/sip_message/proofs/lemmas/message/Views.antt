@@ -1,4 +1,5 @@
 -- What the code keeps of a message is what its contracts see of it.
+-- In the lemmas m is a message with the parts p, and v, f, t, i and c are the values of its first Via, From, To, Call-ID and CSeq.
 use Rattle.std.proofs.Common.{◌≡◌, ℕ, List, [], ◌∷◌, ◌++◌, Option, None, Some, refl, sym, ap, ◌∙◌, subst}
 use Rattle.std.specs.Prelude.{IsSome}
 use Rattle.sip_text.specs.Parts.{IsOnlyValue}
@@ -40,6 +41,7 @@ same-value known fields {a = a} {b = b} one other =
     cc
 
 -- the value of the first From is an address, with the parts that the message has
+-- in what follows v, f, t, i and c are the values of the first Via, From, To, Call-ID and CSeq, as `Keeps` has them
 pub keeps-from : {m : Message} {p : Parts} {v f t i c : List ℕ} → Keeps m p v f t i c → AddressValue f p.from
 keeps-from {m = m} {p = p} k = subst (λ x. AddressValue x p.from) (same-value known_name.From m.fields k.parts.is.from.1 k.from) k.parts.is.from.2
 
@@ -55,18 +57,22 @@ keeps-cseq {m = m} {p = p} {c = c} k = said-value c p.cseq (subst (λ x. CSeqSay
 pub keeps-via : {m : Message} {p : Parts} {v f t i c : List ℕ} → Keeps m p v f t i c → (rest : List ℕ) × ViaFront v (p.via, rest)
 keeps-via {p = p} {v = v} k = first-front v k.via.0 p.via p.others (subst (λ x. AreElements x (p.via ∷ p.others)) k.via.1 k.parts.is.vias)
 
--- the elements of all values of Via are in one way what they are
+-- the values of Via are read as elements in one way only: as the first Via and the others
 pub only-elements : {m : Message} {p : Parts} {v f t i c : List ℕ} → Keeps m p v f t i c → (es : List Element) × IsOnly (AreElements (values known_name.Via m.fields)) es
 only-elements {m = m} {p = p} {v = v} k = (p.via ∷ p.others, record { is = k.parts.is.vias; only = same })
   where
+    -- each list of elements that the values are read as is the top Via and the others
     same : (es : List Element) → AreElements (values known_name.Via m.fields) es → es ≡ p.via ∷ p.others
     same es are = at es (subst (λ x. AreElements x es) k.via.1 are) are
       where
+        -- the list of elements is not empty
         at : (es : List Element) → AreElements (v ∷ k.via.0) es → AreElements (values known_name.Via m.fields) es → es ≡ p.via ∷ p.others
+        -- there is at least one element
         at [] ([], more, now_text, later, is) are = absurd now_text
         at [] (e ∷ now, more, now_text, later, is) are =
             let wrong : ◌≡◌ {A = List Element} [] (e ∷ (now ++ more)) = is in
             cc
+        -- with these elements the fields would have other parts, but they have only these
         at (e ∷ es) some are =
             let other : HasParts m.fields (record { via = e; others = es; from = p.from; to = p.to; call_id = p.call_id; cseq = p.cseq }) = record { vias = are; from = k.parts.is.from; to = k.parts.is.to; call_id = k.parts.is.call_id; cseq = k.parts.is.cseq } in
             let one = k.parts.only _ other in

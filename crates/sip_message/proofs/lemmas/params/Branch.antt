@@ -1,4 +1,5 @@
 -- The branch of parameters, which are read one after another.
+-- In the lemmas ps are parameters, qs those after the first, u their text, and a, b and c are branches, if there are any.
 use Rattle.std.proofs.Common.{◌≡◌, ◌↔◌, ℕ, ◌-◌, List, [], ◌∷◌, ◌++◌, Option, Some, None, Bor, option_copied, length, take, refl, sym, ap, ◌∙◌, subst, inl, inr}
 use Rattle.std.specs.Option.{option_or}
 use Rattle.sip_message.specs.Via.{IsBranch}
@@ -20,6 +21,7 @@ one-branch_of (name, value) (Some a) (Some b) x y = sym x.2 ∙ y.2
 
 -- the branch of a parameter and those after it is that of the parameter, or else that of the others
 branch-cons : (p : Param) (ps : List Param) (b : Option (List ℕ)) → IsBranch (p ∷ ps) b → (found : Option (List ℕ)) × BranchOf p found × (later : Option (List ℕ)) × IsBranch ps later × (b ≡ option_or found later)
+-- v is the value of the parameter, whose name is `branch`; ps are the others
 branch-cons (name, value) ps b (inl (same, v, token, value_is, b_is, later, more)) = (Some v, (same, token, value_is), later, more, b_is)
 branch-cons (name, value) ps b (inr (differs, more)) = (None, differs, b, more, refl)
 
@@ -38,6 +40,7 @@ one-is_branch (p ∷ ps) a b a_is b_is =
 
 -- the branch of parameters is read in one way
 pub one-branch : (text : List ℕ) → AtMostOne (BranchFront text)
+-- b and d are the branches of the parameters ps and qs, and r and s what is left, by the two readings
 one-branch text (b, r) (d, s) (ps, all, is) (qs, all_too, is_too) =
     let same : ◌≡◌ {A = List Param × List ℕ} (ps, r) (qs, s) = one-all_params text (ps, r) (qs, s) all all_too in
     let params : ps ≡ qs = ap (λ x. x.0) same in
@@ -67,6 +70,7 @@ behind-one rest more left p (q ∷ qs) read ((next, one, later), ends) =
 pub decides-more : (text rest more : List ℕ) (p : Param) (first found : Option (List ℕ)) → ReadAs (ParamFront rest) (p, more) → BranchOf p found → Decides text rest first → Decides text more (option_or first found)
 decides-more text rest more p first found read is so x = ((λ whole. to x ((so x).0 whole)), (λ after. (so x).1 (from x after)))
   where
+    -- what is read of the rest is read of the text, after the parameters so far
     to : (y : Option (List ℕ) × List ℕ) → After first rest y → After (option_or first found) more y
     to (b, left) (later, (ps, all, branch), b_is) =
         let others = behind-one rest more left p ps read all in
@@ -91,6 +95,7 @@ pub decides-all : (text rest : List ℕ) (first : Option (List ℕ)) → NotRead
 decides-all text rest first none so =
     read-one (BranchFront text) (first, rest) (one-branch text) ((so (first, rest)).1 (None, ([], (refl, none), refl), or-none first))
   where
+    -- an option is the same where nothing is found after it
     or-none : (o : Option (List ℕ)) → o ≡ option_or o None
     or-none None = refl
     or-none (Some v) = refl
@@ -106,6 +111,7 @@ branch-whole text b rest (ps, all, is) = let u = front-params ps text rest all.0
 
 -- the parameters of a Via, their branch and what is left are read in one way
 pub one-tail : (text : List ℕ) → AtMostOne (TailFront text)
+-- p and q are the parameters, b and d their branches, and r and s what is left; u and w are the texts of the parameters
 one-tail text ((p, b), r) ((q, d), s) (is, (u, u_is, behind)) (is_too, (w, w_is, behind_too)) =
     let same : ◌≡◌ {A = Option (List ℕ) × List ℕ} (b, r) (d, s) = one-branch text (b, r) (d, s) is is_too in
     let rest : r ≡ s = ap (λ x. x.1) same in

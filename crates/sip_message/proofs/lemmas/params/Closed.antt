@@ -59,6 +59,7 @@ closed-mark b is =
 pub firm-solid : (P : List ℕ → Type 0) → Each is_solid P → ((u : List ℕ) → P u → u ≡ [] → ⊥) → AllFirm P
 firm-solid P each some u is = at u (some u is) (ends-solid u (each u is))
   where
+    -- a text that ends with no blank, and is not empty, is firm
     at : (t : List ℕ) → (t ≡ [] → ⊥) → EndsSolid t → Firm t
     at [] none ends = none refl
     at (b ∷ t) none ends = ends
@@ -67,6 +68,7 @@ firm-solid P each some u is = at u (some u is) (ends-solid u (each u is))
 pub open-solid : (P : List ℕ → Type 0) → Each is_solid P → ((u : List ℕ) → P u → u ≡ [] → ⊥) → AllOpen P
 open-solid P each some u v is = at u (some u is) (each u is)
   where
+    -- a text without blanks, and not empty, begins with no blank
     at : (t : List ℕ) → (t ≡ [] → ⊥) → All is_solid t → OpensSolid (t ++ v)
     at [] none all = absurd (none refl)
     at (b ∷ t) none all = solid_is b all.0
@@ -92,11 +94,12 @@ some-between class low high u least run none =
 pub some-left : (P Q : List ℕ → Type 0) → ((u : List ℕ) → P u → u ≡ [] → ⊥) → (u : List ℕ) → (P then Q) u → u ≡ [] → ⊥
 some-left P Q some u both none = some both.0 both.2 (nil both.0 both.1 (sym both.4 ∙ none))
   where
+    -- the front of an empty text is empty
     nil : (p q : List ℕ) → p ++ q ≡ [] → p ≡ []
     nil [] q is = refl
     nil (b ∷ p) q is = absurd (omega (arith, ap length is))
 
--- a byte is not empty
+-- the text of one byte is not empty
 some-byte : (b : ℕ) (u : List ℕ) → Byte b u → u ≡ [] → ⊥
 some-byte b u is none = absurd (omega (arith, ap length is, ap length none))
 
@@ -119,6 +122,7 @@ some-v6 : (u : List ℕ) → Ipv6 u → u ≡ [] → ⊥
 some-v6 u (inl both) = some-left Hexpart _ some-hexpart u both
 some-v6 u (inr both) = some-left _ _ begins u both
   where
+    -- neither text of the two forms is empty
     begins : (t : List ℕ) → ((Hexseq then Exactly (colon ∷ colon ∷ [])) or Exactly (colon ∷ colon ∷ [])) t → t ≡ [] → ⊥
     begins t (inl seq) = some-left Hexseq _ some-hexseq t seq
     begins t (inr double) = some-double t double
@@ -172,10 +176,11 @@ closed-param Ok demand u v b w ends opens blanks (name, None, ok, (token, is)) =
     (name, None, ok, (token, closed-solid (Exactly name) (λ t same. subst (All is_solid) (sym same) (solid-token name token)) u v b w ends opens blanks is))
 closed-param Ok demand u v b w ends opens blanks (name, Some value, ok, (token, kind, whole)) = at kind
   where
+    -- where its value has no blanks, the parameter stays one
     same : All is_solid value → ParamSet Ok (u ++ space ∷ v)
     same solid = (name, Some value, ok, (token, kind, with_value (Exactly value) name (solid-token name token) (λ t is. subst OpensSolid (sym is) (opens-solid value solid)) (closed-solid (Exactly value) (λ t is. subst (All is_solid) (sym is) solid)) u v b w ends opens blanks whole))
 
-    -- the blanks lie in the value, if it is a quoted string
+    -- the text is still a parameter of which Ok holds, whether its value is a quoted string, in which the blanks lie, or not
     at : GenValue value → ParamSet Ok (u ++ space ∷ v)
     at (inl t) = same (solid-token value t)
     at (inr (inr (inl t))) = same (solid-v6 value t)
@@ -203,6 +208,7 @@ end-params Ok = end-many _ (end-firm _ (firm-then_right (Mark semicolon) (ParamS
 -- a parameter does not begin with a blank
 open-param : (Ok : List ℕ → Option (List ℕ) → Type 0) → (u : List ℕ) → ParamSet Ok u → OpensSolid u
 open-param Ok u (name, None, ok, (token, is)) = subst OpensSolid (sym is) (opens-solid name (solid-token name token))
+-- m is the name's text, and t the "=" and the value
 open-param Ok u (name, Some value, ok, (token, kind, (m, t, m_is, rest, whole))) =
     subst OpensSolid (sym (whole ∙ ap (λ x. x ++ t) m_is)) (open-token name t token)
 
@@ -219,6 +225,7 @@ AllOk Ok params = AllByRecursion (λ p. Ok (p.0) (p.1)) params
 -- where Ok holds of each parameter of a list, the text of the list is parameters of which Ok holds
 pub params-set : (Ok : List ℕ → Option (List ℕ) → Type 0) (ps : List (List ℕ × Option (List ℕ))) (text : List ℕ) → AllOk Ok ps → ParamsText text ps → ParamsSet Ok text
 params-set Ok [] text all is = subst (ParamsSet Ok) (sym is) (many-nil _)
+-- p is the first parameter: m is the ";" with its blanks, x its text, and y that of the others; t is x and y
 params-set Ok (p ∷ ps) text all (m, t, mark, (x, y, param, more, t_is), whole) =
     subst (ParamsSet Ok) (sym (whole ∙ ap (λ z. m ++ z) t_is ∙ sym (append_assoc m x y)))
     (many-cons _ (m ++ x) y (m, x, mark, (p.0, p.1, all.0, param), refl) (params-set Ok ps y all.1 more))
@@ -226,6 +233,7 @@ params-set Ok (p ∷ ps) text all (m, t, mark, (x, y, param, more, t_is), whole)
 -- texts that are each ";" and a parameter of which Ok holds are the text of a list of such parameters
 pub set-params : (Ok : List ℕ → Option (List ℕ) → Type 0) (us : List (List ℕ)) → AllByRecursion (Mark semicolon then ParamSet Ok) us → (ps : List (List ℕ × Option (List ℕ))) × AllOk Ok ps × ParamsText (concat us) ps
 set-params Ok [] all = ([], tt, refl)
+-- m is the ";" with its blanks, and x the parameter's text
 set-params Ok (u ∷ us) ((m, x, mark, (name, value, ok, param), u_is), all) =
     let more = set-params Ok us all in
     ((name, value) ∷ more.0, (ok, more.1), (m, x ++ concat us, mark, (x, concat us, param, more.2, refl), ap (λ z. z ++ concat us) u_is ∙ append_assoc m x (concat us)))
@@ -244,22 +252,27 @@ no_blanks (b ∷ u) v all opens = absurd (both_ways (is_lws_byte b) opens all.0)
 pub tail-set : (Ok : List ℕ → Option (List ℕ) → Type 0) (text : List ℕ) → TailSet Ok text → ParamsSet Ok text
 tail-set Ok text ([], ps, part, all, is) = subst (ParamsSet Ok) (sym is) (many-nil _)
 tail-set Ok text (b ∷ rest, [], part, all, is) = absurd (omega (arith, ap length part.1))
+-- b is the first byte of the parameters; m is the blanks and the ";", t what follows, and c the ";" with the blanks after it
 tail-set Ok text (b ∷ rest, p ∷ ps, (opens, (m, t, (blanks, c, is_blanks, mark, m_is), others, whole)), all, (sws, tail, is_sws, tail_is, text_is)) =
     params-set Ok (p ∷ ps) text all
     (sws ++ c, t, (sws, c, is_sws, mark, refl), others, text_is ∙ ap (λ x. sws ++ x) (tail_is ∙ flat ∙ ap (λ x. x ++ (c ++ t)) none) ∙ sym (append_assoc sws c t))
   where
+    -- the text is the blanks of the mark, its byte and what follows
     flat : b ∷ rest ≡ blanks ++ (c ++ t)
     flat = whole ∙ ap (λ x. x ++ t) m_is ∙ append_assoc blanks c t
 
+    -- the first mark has no blanks before it
     none : blanks ≡ []
     none = no_blanks blanks (c ++ t) (each-sws blanks is_blanks) (subst OpensSolid flat opens)
 
 -- parameters are optional blanks, and parameters that begin with no blank
 pub set-tail : (Ok : List ℕ → Option (List ℕ) → Type 0) (text : List ℕ) → ParamsSet Ok text → TailSet Ok text
 set-tail Ok text ([], all, is) = ([], [], (tt, refl), tt, is)
+-- u is the first ";" with its parameter, and us are the others; m is the ";" with its blanks, x the parameter, and c the ";" with the blanks after it
 set-tail Ok text (u ∷ us, ((m, x, (sws, c, is_sws, (byte, after, is_byte, is_after, c_is), m_is), (name, value, ok, param), u_is), all), is) =
     let more = set-params Ok us all in
     let part : List ℕ = semicolon ∷ (after ++ (x ++ concat us)) in
+    -- the list is the first parameter, without the blanks before its semicolon, and the others
     let c_whole : c ≡ semicolon ∷ after = c_is ∙ ap (λ t. t ++ after) is_byte in (
       part,
       (name, value) ∷ more.0,
@@ -267,6 +280,7 @@ set-tail Ok text (u ∷ us, ((m, x, (sws, c, is_sws, (byte, after, is_byte, is_a
       (ok, more.1),
       (
         sws,
+        -- the blanks before it stand at the front
         part,
         is_sws,
         refl,

@@ -1,4 +1,5 @@
 -- Parameters are read one after another, and what is read is what the grammar has.
+-- In the lemmas ps are the parameters that are read of the text u, and r, rest and more are what is left after them.
 use Rattle.std.proofs.Common.{◌≡◌, ◌↔◌, IsTrue, ℕ, ◌<◌, ◌≤◌, Bool, true, false, nat_eq, cond, ◌||◌, List, [], ◌∷◌, ◌++◌, Option, Some, None, length, refl, sym, ap, ◌∙◌, subst, inl, inr, arith}
 use Rattle.std.proofs.lemmas.Bool.{both_ways, or_cases, eqb-true, eq-eqb}
 use Rattle.std.proofs.lemmas.Option.{none-some}
@@ -42,6 +43,7 @@ param-shorter text p rest (both inner mark (both (name, r) token (both (value, s
     let same : rest ≡ s = ap (λ x. x.1) is in
     omega (arith, mark-shorter semicolon text inner refl mark, token-shorter inner name r token, at value led, ap length same)
   where
+    -- what is left after the value, if there is one, is not longer than r
     at : (v : Option (List ℕ)) → LedFront equals ValueFront r (v, s) → length s ≤ length r
     at None (none, s_is) = omega (arith, ap length s_is)
     at (Some w) (t, equal, of) =
@@ -53,10 +55,13 @@ params-more text [] r p more so is = (more, subst (λ t. ParamFront t (p, more))
 params-more text (q ∷ ps) r p more (next, one, so) is = (next, one, params-more next ps r p more so is)
 
 -- two readings of parameters at the front of a text, after which no parameter is read, are the same
+-- ps and qs are the parameters, and r and s what is left, by the two readings
 same-params : (ps qs : List Param) (text r s : List ℕ) → ParamsFront text ps r → NotRead (ParamFront r) → ParamsFront text qs s → NotRead (ParamFront s) → (ps ≡ qs) × (r ≡ s)
+-- where one reading has no parameter, the other has none, since none can be read where the first ends
 same-params [] [] text r s a a_ends b b_ends = (refl, a ∙ sym b)
 same-params [] (q ∷ qs) text r s a a_ends (more, is, b) b_ends = absurd (a_ends (q, more) (subst (λ t. ParamFront t (q, more)) (sym a) is))
 same-params (p ∷ ps) [] text r s (more, is, a) a_ends b b_ends = absurd (b_ends (p, more) (subst (λ t. ParamFront t (p, more)) (sym b) is))
+-- p and q are the first parameters: each is what is read of the text, and so they are the same with the same text after them
 same-params (p ∷ ps) (q ∷ qs) text r s (more, is, a) a_ends (next, is_too, b) b_ends =
     let same : ◌≡◌ {A = Param × List ℕ} (p, more) (q, next) = one-param text (p, more) (q, next) is is_too in
     let rests : more ≡ next = ap (λ x. x.1) same in
@@ -66,6 +71,7 @@ same-params (p ∷ ps) (q ∷ qs) text r s (more, is, a) a_ends (next, is_too, b
 
 -- all parameters at the front are read in one way
 pub one-all_params : (text : List ℕ) → AtMostOne (AllParamsFront text)
+-- ps and qs are the parameters by the two readings, and r and s what is left
 one-all_params text (ps, r) (qs, s) a b =
     let same = same-params ps qs text r s a.0 a.1 b.0 b.1 in
     ap (λ x. (x, r)) same.0 ∙ ap (λ x. (qs, x)) same.1
@@ -96,11 +102,12 @@ blank-bare = blank_is (λ b. is_bare_byte b ≡ false) refl refl refl refl
 bare-stops : (v rest : List ℕ) → (Token or Ipv6) v → StopsBlank (v ++ rest)
 bare-stops v rest kind = at v (some-bare v kind) (each-bare v kind)
   where
+    -- a bare byte is no blank
     solid : (b : ℕ) (x : Bool) → is_lws_byte b ≡ x → is_bare_byte b ≡ true → is_lws_byte b ≡ false
     solid b false is bare = is
     solid b true is bare = absurd (both_ways (is_bare_byte b) (blank-bare b is) bare)
 
-    -- the text is not empty, and its first byte is one of a bare value
+    -- a text of bare bytes that is not empty begins with no blank, whatever follows it
     at : (u : List ℕ) → (u ≡ [] → ⊥) → All is_bare_byte u → StopsBlank (u ++ rest)
     at [] some all = absurd (some refl)
     at (b ∷ u) some all = stops-byte b (u ++ rest) (solid b (is_lws_byte b) refl all.0)
@@ -142,11 +149,14 @@ param-front m x rest (name, None) mark (token, x_is) next =
     both (name ++ rest) (token-stops name rest token, (m, name ++ rest, mark, refl, append_assoc m x rest ∙ ap (λ t. m ++ (t ++ rest)) x_is))
     (both (name, rest) (token, next-stops is_separator is_token_byte rest blank-token separator-token next, (name, rest, refl, refl, refl))
     (both (None, rest) (next-other is_separator equals rest refl refl next, refl) refl))
+-- a parameter with a value: its name, `=` and the value are read one after the other
+-- u is the name's text and w what follows: e is the "=" and v the value
 param-front m x rest (name, Some value) mark (token, kind, (u, w, u_is, (e, v, equal, v_is, w_is), x_is)) next =
     both (name ++ (e ++ (value ++ rest))) (token-stops name (e ++ (value ++ rest)) token, (m, name ++ (e ++ (value ++ rest)), mark, refl, append_assoc m x rest ∙ ap (λ t. m ++ t) flat))
     (both (name, e ++ (value ++ rest)) (token, next-stops is_equals is_token_byte (e ++ (value ++ rest)) blank-token equals-token (mark-next is_equals equals e (value ++ rest) refl refl equal), (name, e ++ (value ++ rest), refl, refl, refl))
     (both (Some value, rest) (value ++ rest, (value-stops value rest kind, (e, value ++ rest, equal, refl, refl)), value-front value rest kind next) refl))
   where
+    -- the parameter is its name, "=" and its value
     flat : x ++ rest ≡ name ++ (e ++ (value ++ rest))
     flat =
         ap (λ t. t ++ rest) (x_is ∙ ap (λ t. t ++ w) u_is ∙ ap (λ t. name ++ t) (w_is ∙ ap (λ t. e ++ t) v_is))
@@ -161,9 +171,11 @@ params-next (p ∷ ps) u rest (m, t, mark, more, whole) next =
 -- where nothing or a separator follows parameters, they are read at the front of their text and what follows
 pub params-front : (ps : List Param) (u rest : List ℕ) → ParamsText u ps → Next is_separator rest → ParamsFront (u ++ rest) ps rest
 params-front [] u rest is next = sym (ap (λ t. t ++ rest) is)
+-- p is the first parameter: m is the ";" with its blanks, x its text, and y that of the others; t is x and y
 params-front (p ∷ ps) u rest (m, t, mark, (x, y, param, more, t_is), whole) next =
     (y ++ rest, subst (λ z. ParamFront z (p, y ++ rest)) (sym flat) (param-front m x (y ++ rest) p mark param (params-next ps y rest more next)), params-front ps y rest more next)
   where
+    -- the text with what follows is the first parameter, and then the others with what follows
     flat : u ++ rest ≡ (m ++ x) ++ (y ++ rest)
     flat = ap (λ z. z ++ rest) (whole ∙ ap (λ z. m ++ z) t_is ∙ sym (append_assoc m x y)) ∙ append_assoc (m ++ x) y rest
 
@@ -172,6 +184,7 @@ front-param : (text : List ℕ) (p : Param) (rest : List ℕ) → ParamFront tex
 front-param text p rest (both inner mark (both (name, r) token (both (value, s) led is))) =
     let last : rest ≡ s = ap (λ x. x.1) is in
     let param : p ≡ (name, value) = ap (λ x. x.0) is in
+    -- the text begins with the semicolon, and then with the name and its value
     let found = at value led in (
       mark.1.0,
       found.0,
@@ -180,11 +193,13 @@ front-param text p rest (both inner mark (both (name, r) token (both (value, s) 
       mark.1.4 ∙ ap (λ z. mark.1.0 ++ z) (mark.1.3 ∙ found.2 ∙ ap (λ z. found.0 ++ z) (sym last)),
     )
   where
+    -- what follows the mark is the name and what is left after it
     token_whole : inner ≡ name ++ r
     token_whole = token.2.4 ∙ ap (λ z. z ++ token.2.1) token.2.2 ∙ ap (λ z. name ++ z) token.2.3
 
-    -- the parameter has a value after "=", or none
+    -- what is left after the name is the text of the parameter's value and what follows, whether it has a value or none
     at : (v : Option (List ℕ)) → LedFront equals ValueFront r (v, s) → (x : List ℕ) × ParamText x (name, v) × (inner ≡ x ++ s)
+    -- without a value the text is the name; with one it is the name, the "=" with its blanks, equal.1.0, and the value w
     at None (none, s_is) = (name, (token.0, refl), token_whole ∙ ap (λ z. name ++ z) (sym s_is))
     at (Some w) (t, equal, of) = (
       name ++ (equal.1.0 ++ w),
@@ -225,8 +240,10 @@ params-is text ps qs rest all is =
 -- a text of parameters that is not empty, and begins with no blank, begins with ";"
 pub params-open : (b : ℕ) (text : List ℕ) (ps : List Param) → ParamsPart (b ∷ text) ps → b ≡ semicolon
 params-open b text [] (opens, is) = absurd (omega (arith, ap length is))
+-- m is the ";" with its blanks, of which s are those before it and c is the rest; t is what follows
 params-open b text (p ∷ ps) (opens, (m, t, (s, c, sws, (byte, after, byte_is, after_is, c_is), m_is), more, whole)) = at s (each-sws s sws) flat
   where
+    -- the text is blanks, ";", blanks and what follows
     flat : b ∷ text ≡ s ++ (semicolon ∷ (after ++ t))
     flat = whole ∙ ap (λ x. x ++ t) (m_is ∙ ap (λ x. s ++ x) (c_is ∙ ap (λ x. x ++ after) byte_is)) ∙ append_assoc s (semicolon ∷ after) t
 
@@ -255,6 +272,7 @@ AreParams text = (ps : List Param) × ParamsPart text ps
 pub params-some : (text inner rest : List ℕ) → past semicolon text ≡ Some inner → (ps : List Param) × AllParamsFront text (ps, rest) → IsTrue (nat_eq (length rest) 0) ↔ AreParams text
 params-some text inner rest found all = (to rest all.0 all.1, from)
   where
+    -- where nothing is left after the parameters that are read, the text is these parameters
     to : (r : List ℕ) (ps : List Param) → AllParamsFront text (ps, r) → IsTrue (nat_eq (length r) 0) → AreParams text
     to [] ps is none = (ps, (opens-semicolon text inner found, params-yes text ps is.0))
     to (b ∷ r) ps is none = absurd (omega (arith, eqb-true (length (b ∷ r)) 0 none))
@@ -267,6 +285,7 @@ params-some text inner rest found all = (to rest all.0 all.1, from)
 pub params-none : (text : List ℕ) → past semicolon text ≡ None → IsTrue (nat_eq (length text) 0) ↔ AreParams text
 params-none text none = (to text, (λ are. ap (λ t. nat_eq (length t) 0) (params-closed text are.0 none are.1)))
   where
+    -- an empty text is no parameters, which is allowed
     to : (t : List ℕ) → IsTrue (nat_eq (length t) 0) → AreParams t
     to [] is = ([], (tt, refl))
     to (b ∷ t) is = absurd (omega (arith, eqb-true (length (b ∷ t)) 0 is))
@@ -275,9 +294,11 @@ params-none text none = (to text, (λ are. ap (λ t. nat_eq (length t) 0) (param
 pub behind-params : (part : List ℕ) (ps : List Param) (q : List ℕ) → ParamsPart part ps → BehindBlanks part q → ParamsText q ps
 behind-params [] ps q is q_is = subst (λ t. ParamsText t ps) (sym q_is) is.1
 behind-params (b ∷ part) [] q is blanks = absurd (omega (arith, ap length is.1))
+-- m is the ";" with its blanks, of which s are those before it and c is the rest; t is what follows
 behind-params (b ∷ part) (p ∷ ps) q (opens, (m, t, (s, c, sws, mark, m_is), more, whole)) (before, tail, before_is, tail_is, q_is) =
     (before ++ c, t, (before, c, before_is, mark, refl), more, q_is ∙ ap (λ x. before ++ x) (tail_is ∙ flat ∙ ap (λ x. x ++ (c ++ t)) none) ∙ sym (append_assoc before c t))
   where
+    -- the part is the blanks of its mark, the mark and what follows
     flat : b ∷ part ≡ s ++ (c ++ t)
     flat = whole ∙ ap (λ x. x ++ t) m_is ∙ append_assoc s c t
 
@@ -288,5 +309,6 @@ behind-params (b ∷ part) (p ∷ ps) q (opens, (m, t, (s, c, sws, mark, m_is), 
         let first : b ≡ a = cc in
         absurd (both_ways (is_lws_byte b) opens (ap is_lws_byte first ∙ all.0))
 
+    -- the mark has no blanks before it, since the part begins with none
     none : s ≡ []
     none = empty s (each-sws s sws) flat

@@ -27,6 +27,7 @@ pub front-is : (text u r : List ℕ) → text ≡ u ++ r → take (length text -
 front-is text u r whole =
     ap (λ n. take n text) len ∙ ap (take (length u)) whole ∙ take-append_seam u r
   where
+    -- the text is longer than r by the length of u
     len : length text - length r ≡ length u
     len = omega (arith, ap length whole, length-append u r)
 
@@ -39,6 +40,7 @@ pub no-token-stops : (text : List ℕ) → IsLongestFront Token text 0 → Stops
 no-token-stops [] longest = tt
 no-token-stops (b ∷ text) longest = at (is_token_byte b) refl
   where
+    -- the first byte is no byte of a token, since the longest token would else not be empty
     at : (x : Bool) → is_token_byte b ≡ x → is_token_byte b ≡ false
     at false is = is
     at true is = absurd (omega (arith, longest.longest 1 (b ∷ [], text, (b ∷ [], [], (b, is, refl), ([], tt, refl), refl), refl, refl)))
@@ -47,6 +49,7 @@ no-token-stops (b ∷ text) longest = at (is_token_byte b) refl
 pub past-token : (text : List ℕ) (n : ℕ) → IsLongestFront Token text n → PastRun is_token_byte text (drop n text)
 past-token text n longest = at n refl
   where
+    -- the claim holds whether or not the token is empty
     at : (m : ℕ) → n ≡ m → PastRun is_token_byte text (drop n text)
     at zero none =
         let empty : IsLongestFront Token text 0 = subst (IsLongestFront Token text) none longest in
@@ -75,6 +78,7 @@ stops-bare : (rest : List ℕ) → Stops is_token_byte rest → past colon rest 
 stops-bare [] stops none = tt
 stops-bare (b ∷ rest) stops none = at (nat_eq b colon) refl
   where
+    -- the byte is no colon, so it is not bare
     at : (x : Bool) → nat_eq b colon ≡ x → is_bare_byte b ≡ false
     at false other = or_from (is_token_byte b) (nat_eq b colon) stops other
     at true same = absurd (none-some rest (sym none ∙ ap (λ x. cond x (Some rest) None) same))
@@ -111,6 +115,7 @@ whole-token text n longest within token =
 
 -- what stands in brackets at the front of a text is "[", bytes without "]", "]" and what is left
 bracket-whole : (text : List ℕ) (x : List ℕ × List ℕ) → (b : BracketFront text x) → text ≡ left_bracket ∷ (b.0 ++ right_bracket ∷ (x.1))
+-- v is what is read and r what is left; i is the bytes within the brackets
 bracket-whole text (v, r) (i, lacks, v_is, whole) =
     whole ∙ ap (λ x. x ++ r) v_is ∙ ap (λ x. left_bracket ∷ x) (append_assoc i (right_bracket ∷ []) r)
 
@@ -163,6 +168,7 @@ no-host_reference text part rest bracket none x reference =
 
 -- a quoted value at the front is blanks and a quoted string there
 quoted-string : (text : List ℕ) (x : List ℕ × List ℕ) → QuotedFront text x → HasFront (Sws then Quoted) text (length (x.0))
+-- v is what is read and r what is left; q says that v is a quoted string
 quoted-string text (v, r) (q, whole) = (v, r, ([], v, inl refl, q, refl), whole, refl)
 
 -- where no quoted string stands at the front of a text, none is read
@@ -171,16 +177,20 @@ no-quoted text none x quoted = none (length (x.0)) (quoted-string text x quoted)
 
 -- where a quoted string of n bytes alone stands at the front of a text that begins with a quote, it is read
 pub one-quoted_string : (text inner : List ℕ) (n : ℕ) → past dquote text ≡ Some inner → IsOnlyFront (Sws then Quoted) text (Some n) → ReadAs (QuotedFront text) (take n text, drop n text)
+-- u is the blanks and the string, v what is left, and q the string
 one-quoted_string text inner n found ((u, v, (blanks, q, sws, quoted, u_is), whole, len), only) =
     read-one (QuotedFront text) (take n text, drop n text) (one-quoted text)
     (subst Quoted (sym (front_is ∙ u_is ∙ ap (λ x. x ++ q) (none blanks sws flat))) quoted, whole ∙ ap (λ x. x ++ v) (sym front_is) ∙ ap (λ x. take n text ++ x) (sym rest_is))
   where
+    -- the first n bytes are the quoted string
     front_is : take n text ≡ u
     front_is = ap (λ m. take m text) len ∙ ap (take (length u)) whole ∙ take-append_seam u v
 
+    -- after n bytes follows what is left
     rest_is : drop n text ≡ v
     rest_is = front-rest (Sws then Quoted) text n (u, v, (blanks, q, sws, quoted, u_is), whole, len)
 
+    -- the text is the blanks, the quoted string and what is left
     flat : dquote ∷ inner ≡ blanks ++ (q ++ v)
     flat = sym (past-some dquote text inner found) ∙ whole ∙ ap (λ x. x ++ v) u_is ∙ append_assoc blanks q v
 
@@ -203,6 +213,7 @@ value-reference text value rest is = read-one (ValueFront text) (value, rest) (o
 pub value-bare : {A : Type 0} (parts : A → List ℕ × List ℕ) (text : List ℕ) (r : Option A) → NotRead (QuotedFront text) → NotRead (ReferenceFront text) → IsOnlyValue BareFront parts text r → IsOnlyValue ValueFront parts text r
 value-bare parts text None quoted reference none = at
   where
+    -- no value is read: neither a quoted string, nor an address in brackets, nor a bare value
     at : NotRead (ValueFront text)
     at x (inl is) = quoted x is
     at x (inr (inl is)) = reference x is

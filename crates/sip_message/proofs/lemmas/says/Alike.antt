@@ -1,4 +1,6 @@
 -- Two readings that come to the same: to values that belong together, or to one fault.
+-- In the lemmas a and b are what the first reading and the second come to, x and y their values, and out and o what they come to with a further step.
+-- `gives x` is an outcome with the value x, and `stops f` one at the fault f; s and t say that a step has an outcome, and q that Q relates two values.
 use Rattle.std.proofs.Common.{◌≡◌, refl, sym, subst}
 use Rattle.std.specs.Prelude.{⊤}
 use Rattle.sip_standard.specs.declared.fault.Fault.{Fault}
@@ -21,9 +23,11 @@ abbrev pub Equal : {X : Type 0} → X → X → Type 0
 Equal x y = x ≡ y
 
 -- demands with one fault come to the same where each value that meets the one has a value that meets the other, and Q relates them
+-- R is the one demand, on x, and P the other, on y
 pub same-demand : {X Y : Type 0} (Q : X → Y → Type 0) (R : X → Type 0) (P : Y → Type 0) (fault : Fault) → ((x : X) → R x → (y : Y) × P y × Q x y) → ((y : Y) → P y → (x : X) × R x × Q x y) → Same Q (Demand R fault) (Demand P fault)
 same-demand {X = X} {Y = Y} Q R P fault go come = record { to = to; back = back }
   where
+    -- what meets the one demand, or breaks it, has its like that does the same by the other
     to : (a : Outcome X) → Demand R fault a → (b : Outcome Y) × Demand P fault b × Alike Q a b
     to (gives x) s = let y = go x s in (gives y.0, y.1, y.2)
     to (stops g) s = (stops g, ((λ y p. let x = come y p in s.0 x.0 x.1), s.1), refl)
@@ -48,20 +52,23 @@ same-gives Q x y q = record {
 pub same-self : {X : Type 0} (S : Outcome X → Type 0) → Same Equal S S
 same-self {X = X} S = record { to = to; back = back }
   where
+    -- to each outcome one is alike: itself
     to : (a : Outcome X) → S a → (b : Outcome X) × S b × Alike Equal a b
     to (gives x) s = (gives x, s, refl)
     to (stops f) s = (stops f, s, refl)
 
-    -- each outcome is itself
+    -- each outcome is alike to one: itself
     back : (b : Outcome X) → S b → (a : Outcome X) × S a × Alike Equal a b
     back (gives x) s = (gives x, s, refl)
     back (stops f) s = (stops f, s, refl)
 
--- two steps come to the same as two others where the first ones do, and the second ones do after values that Q relates
+-- S and then A come to the same as T and then B where S comes to the same as T, and A to the same as B after values that Q relates
+-- S gives x and T gives y, which Q relates; A goes on from x and B from y, and what they give is related by W
 pub same-then : {X Y U V : Type 0} (Q : X → Y → Type 0) (W : U → V → Type 0) {S : Outcome X → Type 0} {T : Outcome Y → Type 0} (A : X → Outcome U → Type 0) (B : Y → Outcome V → Type 0)
     → Same Q S T → ((x : X) (y : Y) → Q x y → Same W (A x) (B y)) → Same W (Then S A) (Then T B)
 same-then {X = X} {Y = Y} {U = U} {V = V} Q W {S = S} {T = T} A B first later = record { to = to; back = back }
   where
+    -- where the first step gives x, the second steps come to the same
     to-gives : (x : X) (out : Outcome U) → A x out → (b : Outcome Y) → T b → Alike Q (gives x) b → (o : Outcome V) × Then T B o × Alike W out o
     to-gives x out a (gives y) t q = let m = (later x y q).to out a in (m.0, passes y t m.1, m.2)
     to-gives x out a (stops g) t q = absurd q
@@ -91,7 +98,8 @@ same-then {X = X} {Y = Y} {U = U} {V = V} Q W {S = S} {T = T} A B first later = 
     back out (passes y t b) = let m = first.back (gives y) t in back-gives y out b m.0 m.1 m.2
     back out (stopped f t out_is) = let m = first.back (stops f) t in back-stops f out out_is m.0 m.1 m.2
 
--- two steps come to the same as two others where the first ones do, with equal values, and the second ones do after each value
+-- S and then A come to the same as T and then B where S and T come to the same, with equal values, and so do A and B after each value
+-- W relates what A and B come to
 pub same-next : {X U V : Type 0} (W : U → V → Type 0) {S T : Outcome X → Type 0} (A : X → Outcome U → Type 0) (B : X → Outcome V → Type 0)
     → Same Equal S T → ((x : X) → Same W (A x) (B x)) → Same W (Then S A) (Then T B)
 same-next W A B first later = same-then Equal W A B first (λ x y x_is. subst (λ z. Same W (A x) (B z)) x_is (later x))

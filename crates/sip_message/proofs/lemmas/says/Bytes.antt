@@ -1,4 +1,6 @@
 -- What bytes are read as is what they say by the definitions: the start line, the fields and the body are the same.
+-- In the lemmas v, f and fs are a value, a field and fields as the readers read them, and w, g and gs as the definitions say them; n is the number of a line.
+-- In the lemmas of one field line x and y are two pairs: a name, by the readers and as it is spelled, and what stands after the colon, blanks included.
 use Rattle.std.proofs.Common.{◌≡◌, ℕ, ◌+◌, ◌≤◌, Bool, true, false, cond, ◌||◌, List, [], ◌∷◌, ◌++◌, length, map, Option, inl, inr, refl, sym, ap, ◌∙◌, subst, arith}
 use Rattle.std.specs.Prelude.{⊤, ◌==◌, codes, bytes_eq, filter, IfSome, is_some}
 use Prim.Native.String.{String}
@@ -38,6 +40,7 @@ use Rattle.sip_message.proofs.lemmas.says.Names.{row-said, named-via, named-from
 
 -- a text whose first byte is no blank does not begin with a byte of a blank run, as the definitions say it
 opens-trimmed : (t : List ℕ) → OpensSolid t → ¬ ((One is_lws_byte then (λ behind. ⊤)) t)
+-- u would be the first byte b, a blank, and v the rest
 opens-trimmed [] opens (u, v, (b, blank, u_is), any, whole) = absurd (omega (arith, ap length whole, length-append u v, ap length u_is))
 opens-trimmed (c ∷ t) opens (u, v, (b, blank, u_is), any, whole) =
     let same : c ∷ t ≡ b ∷ v = whole ∙ ap (λ z. z ++ v) u_is in
@@ -49,6 +52,7 @@ trimmed-opens : (t : List ℕ) → ¬ ((One is_lws_byte then (λ behind. ⊤)) t
 trimmed-opens [] none = tt
 trimmed-opens (c ∷ t) none = at (is_lws_byte c) refl
   where
+    -- the first byte cannot be a blank, since the text does not begin with one
     at : (b : Bool) → is_lws_byte c ≡ b → is_lws_byte c ≡ false
     at true is = absurd (none (c ∷ [], t, (c, is, refl), tt, refl))
     at false is = is
@@ -61,6 +65,7 @@ last-solid (c ∷ d ∷ u) b ends = last-solid (d ∷ u) b ends
 
 -- a text that does not end with a blank has no blank as its last byte
 ends-trimmed : (t : List ℕ) → EndsSolid t → ¬ (((λ before. ⊤) then One is_lws_byte) t)
+-- v would be the last byte b, a blank, and u what is before it
 ends-trimmed t ends (u, v, any, (b, blank, v_is), whole) =
     both_ways (is_lws_byte b) (last-solid u b (subst EndsSolid (whole ∙ ap (λ z. u ++ z) v_is) ends)) blank
 
@@ -69,6 +74,7 @@ trimmed-ends : (t : List ℕ) → ¬ (((λ before. ⊤) then One is_lws_byte) t)
 trimmed-ends [] none = tt
 trimmed-ends (c ∷ []) none = at (is_lws_byte c) refl
   where
+    -- the last byte cannot be a blank, since the text does not end with one
     at : (b : Bool) → is_lws_byte c ≡ b → is_lws_byte c ≡ false
     at true is = absurd (none ([], c ∷ [], tt, (c, is, refl), refl))
     at false is = is
@@ -87,11 +93,11 @@ AreFields n (f ∷ fs) (g ∷ gs) = IsField n f g × AreFields (n + 1) fs gs
 AreFields n [] (g ∷ gs) = ⊥
 AreFields n (f ∷ fs) [] = ⊥
 
--- the line is a token, SP and HTAB, a colon, and what follows it, by the definitions
+-- the line is a token, SP and HTAB, a colon, and what follows it, by the definitions: y is the token and what follows
 abbrev SaidName : List ℕ → List ℕ × List ℕ → Type 0
 SaidName line y = ((λ t. Token t × (y.0 ≡ t)) then (Many (One (λ byte. byte == 0x20 || byte == 0x09)) then (Byte 58 then Exactly y.1))) line
 
--- the name is that which the bytes spell, and the rest is the same
+-- x and y are a name and what stands after its colon: the name of x is that which the bytes of y spell, and the rest is the same
 abbrev IsSame : FieldName × List ℕ → List ℕ × List ℕ → Type 0
 IsSame x y = (x.0 ≡ name_of y.0) × (x.1 ≡ y.1)
 
@@ -99,6 +105,7 @@ IsSame x y = (x.0 ≡ name_of y.0) × (x.1 ≡ y.1)
 same-named : (n : ℕ) (line : List ℕ) → Same IsSame (Demand (HasName line) (fault_in_line n reason.FieldLine)) (Demand (SaidName line) (fault_in_line n reason.FieldLine))
 same-named n line = same-demand IsSame (HasName line) (SaidName line) (fault_in_line n reason.FieldLine) to back
   where
+    -- a name by the readers is the same name by the definitions
     to : (x : FieldName × List ℕ) → HasName line x → (y : List ℕ × List ℕ) × SaidName line y × IsSame x y
     to x s =
         let w = s.whole in
@@ -109,14 +116,17 @@ same-named n line = same-demand IsSame (HasName line) (SaidName line) (fault_in_
     back y (u, v, (token, same), rest, whole) =
         ((name_of y.0, y.1), record { spelled = y.0; is_token = subst Token (sym same) token; name_is = refl; whole = (u, v, sym same, rest, whole) }, (refl, refl))
 
--- the value of a line by the definitions: without blanks at its ends, and of the row of the name
+-- the value of a line by the definitions, whose name is y.0 and whose rest after the colon y.1: without blanks at its ends, and of the row of the name
 abbrev SaidValue : List ℕ × List ℕ → List ℕ → Type 0
 SaidValue y value = (IsTrimmed value × (Sws then Exactly value then Sws) y.1) × RowSays (full_name (folded y.0)) value
 
 -- the demand for a value is the same by the readers and by the definitions
+-- x is the field's name as it is kept and what stands after the colon; y is the name as it is spelled and the same rest; v and w are the value in it, by
+-- the readers and by the definitions; n is the number of the line
 same-value : (n : ℕ) (x : FieldName × List ℕ) (y : List ℕ × List ℕ) → IsSame x y → Same Equal (Demand (IsValue x) (fault_in_line n reason.Value)) (Demand (SaidValue y) (fault_in_line n reason.Value))
 same-value n x y same = same-demand Equal (IsValue x) (SaidValue y) (fault_in_line n reason.Value) to back
   where
+    -- a value by the readers is the same value by the definitions
     to : (v : List ℕ) → IsValue x v → (w : List ℕ) × SaidValue y w × (v ≡ w)
     to v (text, row) =
         (v, (((opens-trimmed v text.opens, ends-trimmed v text.ends), subst (Sws then Exactly v then Sws) same.1 text.whole), (row-said y.0 v).0 (subst (λ n. Row n v) same.0 row)), refl)
@@ -142,6 +152,7 @@ same-fields n (line ∷ lines) =
     same-gives (AreFields n) _ _ (one, more)))
 
 -- the fields of a name, with the numbers of their lines, are the same as they are kept and as they are said
+-- k is the name, with `key` as its text; fs are the fields that are kept, gs those that are said, and n is the number of the first one's line
 pub all-found : (k : Known) (key : String) → ((token : List ℕ) → is_name_of k (name_of token) ≡ bytes_eq (full_name (folded token)) (codes key)) → (n : ℕ) (fs : List Field) (gs : List SaidField) → AreFields n fs gs → found_from n k fs ≡ all key gs
 all-found k key same n [] [] are = refl
 all-found k key same n [] (g ∷ gs) are = absurd are
@@ -149,10 +160,11 @@ all-found k key same n (f ∷ fs) [] are = absurd are
 all-found k key same n (f ∷ fs) (g ∷ gs) ((f_is, g_is, line_is, value_is), are) =
     at (is_name_of k f.name) (bytes_eq g.name (codes key)) (ap (is_name_of k) f_is ∙ same g.spelled ∙ sym (ap (λ x. bytes_eq x (codes key)) g_is)) (all-found k key same (n + 1) fs gs are)
   where
+    -- the field that is kept has the line and the value of the one that is said
     pair : ◌≡◌ {A = ℕ × List ℕ} (n, f.value) (g.line, g.value)
     pair = λ i. (sym line_is i, sym value_is i)
 
-    -- whether the first field has the name, as the readers see it and as it is said
+    -- the claim holds whether or not the first field has the name, as the readers see it and as it is said
     at : (b c : Bool) → b ≡ c → found_from (n + 1) k fs ≡ all key gs
         → cond b ((n, f.value) ∷ found_from (n + 1) k fs) (found_from (n + 1) k fs) ≡ map (λ h. (h.line, h.value)) (cond c (g ∷ filter (λ h. bytes_eq h.name (codes key)) gs) (filter (λ h. bytes_eq h.name (codes key)) gs))
     at true true b_is later = ap (λ x. x ∷ found_from (n + 1) k fs) pair ∙ ap (λ z. (g.line, g.value) ∷ z) later
@@ -161,6 +173,7 @@ all-found k key same n (f ∷ fs) (g ∷ gs) ((f_is, g_is, line_is, value_is), a
     at false true b_is later = absurd (both_ways true (sym b_is) refl)
 
 -- the demands on the fields of the six names, by the fields of each
+-- v, f, t, i, c and l are the fields of Via, From, To, Call-ID, CSeq and Content-Length
 abbrev NamesIn : (v f t i c l : List (ℕ × List ℕ)) → Outcome ((ℕ × List ℕ) × (ℕ × List ℕ)) → Type 0
 NamesIn v f t i c l =
     Then (FirstOf v) (λ via. Then (OneOf f) (λ _. Then (OneOf t) (λ _. Then (OneOf i) (λ _. Then (OneOf c) (λ cseq. Then (NoSecond l) (λ _. Gives (via, cseq)))))))
@@ -174,6 +187,7 @@ same-names fs gs are =
     let i = all-found known_name.CallId "call-id" named-call-id 1 fs gs are in
     let c = all-found known_name.CSeq "cseq" named-cseq 1 fs gs are in
     let l = all-found known_name.ContentLength "content-length" named-content-length 1 fs gs are in
+    -- what the readers find of each name is what the definitions have of it
     subst (λ x. Same Equal (NamesOf fs) (NamesIn x (all "from" gs) (all "to" gs) (all "call-id" gs) (all "cseq" gs) (all "content-length" gs))) v
     (subst (λ x. Same Equal (NamesOf fs) (NamesIn (found known_name.Via fs) x (all "to" gs) (all "call-id" gs) (all "cseq" gs) (all "content-length" gs))) f
     (subst (λ x. Same Equal (NamesOf fs) (NamesIn (found known_name.Via fs) (found known_name.From fs) x (all "call-id" gs) (all "cseq" gs) (all "content-length" gs))) t
@@ -204,6 +218,7 @@ stream-said via (transport, (v, vias, text, transport_is), stream) =
 said-stream : (via : List ℕ) → StreamSays via → IsStream via
 said-stream via (s, more, said, kind) = let es = said-vias (s ∷ more) via said in at es.0 es.1 es.2
   where
+    -- there is an element, and its transport is the top one
     at : (es : List Element) → ElementsText via es → s ∷ more ≡ map said_via es → IsStream via
     at [] text are = absurd text
     at (e ∷ es) text are =

@@ -32,6 +32,7 @@ one true k name same = refl
 one false k name same = same
 
 -- a choice of a known name by one of two tests is written as the choice by both together
+-- b and c are the two tests, and k is the known name
 two : (b c : Bool) (k : Known) (name : FieldName) {text : List ℕ} → name_text name ≡ text → name_text (cond b (known k) (cond c (known k) name)) ≡ cond (b || c) (long_name k) text
 two true c k name same = refl
 two false true k name same = refl
@@ -45,6 +46,7 @@ long-name token =
     (two (has "from") (has "f") known_name.From _
     (two (has "to") (has "t") known_name.To _
     (two (has "call-id") (has "i") known_name.CallId _
+    -- the names are told apart one after the other, as the definitions do
     (one (has "cseq") known_name.CSeq _
     (two (has "content-length") (has "l") known_name.ContentLength _
     (two (has "contact") (has "m") known_name.Contact _
@@ -105,16 +107,21 @@ lines-in_full [] = refl
 lines-in_full (g ∷ gs) = ap (λ ts. form.field_text g ∷ ts) (lines-in_full gs)
 
 -- two messages that bytes tell have one canonical form exactly if they are the same with each name in full and each value in one line
+-- the bytes a tell the message x, and the bytes b the message y: each is a start line, fields and a body
 pub same-canonical : (a b : List ℕ) (x y : StartLine × List SaidField × List ℕ) → BytesTell a (gives x) → BytesTell b (gives y) → (canonical x ≡ canonical y) ↔ SameInFull x y
+-- s and r are the start lines, gs and hs the fields, and t and u the bodies
 same-canonical a b (s, gs, t) (r, hs, u) one other = (to, from)
   where
+    -- where the canonical forms are equal, so are the start lines, the fields in full and the bodies
     to : canonical (s, gs, t) ≡ canonical (r, hs, u) → SameInFull (s, gs, t) (r, hs, u)
     to same =
         let m = kept s gs t in
         let n = kept r hs u in
+        -- messages with one canonical form have the same parts
         let is : message_of m ≡ message_of n =
         same_canon a b (message_of m) (message_of n) (m, tells-text a m (gs, one, refl), refl) (n, tells-text b n (hs, other, refl), refl)
         (same-form m gs refl ∙ same ∙ sym (same-form n hs refl)) in
+        -- the start line, the fields in full and the body are the same, since the parts are
         record {
           start = ap (λ (k : Message). k.start) is;
           fields = sym (shown-in_full gs) ∙ ap (λ (k : Message). map shown k.fields) is ∙ shown-in_full hs;

@@ -1,4 +1,5 @@
 -- The names of fields, and what a field of a name may hold.
+-- In the lemmas f is the text of a name, s the spelling of a known one, v a value, and k a known name.
 use Rattle.std.proofs.Common.{◌≡◌, ℕ, Bool, true, false, cond, ◌||◌, List, [], ◌∷◌, map, refl, sym, ap, ◌∙◌, subst}
 use Rattle.std.specs.Bool.{Decides}
 use Rattle.std.specs.Prelude.{bytes_eq, codes}
@@ -24,6 +25,7 @@ by-name P [] text each none = none tt
 by-name P ((s, k) ∷ more) text each none =
     at (bytes_eq (folded text) s) (bytes_eq-Decides (folded text) s) (λ differs. by-name P more text each.1 (λ rest. none (differs, rest)))
   where
+    -- the claim holds whether or not the text is this spelling
     at : (b : Bool) → Decides b (folded text ≡ s) → ((folded text ≡ s → ⊥) → P (folded text) (name_by more text)) → P (folded text) (cond b (known k) (name_by more text))
     at true is later = subst (λ f. P f (known k)) (sym (is.0 refl)) each.0
     at false is later = later (λ same. both_ways false refl (is.1 same))
@@ -32,6 +34,7 @@ by-name P ((s, k) ∷ more) text each none =
 miss : (f s : List ℕ) → (f ≡ s → ⊥) → bytes_eq f s ≡ false
 miss f s differs = at (bytes_eq f s) (bytes_eq-Decides f s)
   where
+    -- the test cannot pass, since the texts differ
     at : (b : Bool) → Decides b (f ≡ s) → b ≡ false
     at true is = absurd (differs (is.0 refl))
     at false is = refl
@@ -51,12 +54,14 @@ IsForeign f = AllByRecursion (λ s. f ≡ s.0 → ⊥) spellings
 
 -- a text that is no spelling of a known name is a name in full
 foreign-name : (f : List ℕ) → IsForeign f → full_name f ≡ f
+-- each part says that f is not this name: those of one letter are the compact forms
 foreign-name f (via, (v, (from, (f_, (to, (t, (call_id, (i, (cseq, (content_length, (l, (contact, (m, (content_encoding, (e, (content_type, (c, (subject, (s, (supported, (k, (route, end)))))))))))))))))))))) =
     cond-false (bytes_eq f (codes "v")) _ _ (miss f _ v) ∙ cond-false (bytes_eq f (codes "f")) _ _ (miss f _ f_) ∙ cond-false (bytes_eq f (codes "t")) _ _ (miss f _ t)
     ∙ cond-false (bytes_eq f (codes "i")) _ _ (miss f _ i) ∙ cond-false (bytes_eq f (codes "l")) _ _ (miss f _ l)
 
 -- a value is one of a foreign name's row exactly if the definitions let a field of that name have it
 foreign-row : (f v : List ℕ) → IsForeign f → Ways (Row (other f) v) (RowSays f v)
+-- each part says that f is not this name: those of one letter are the compact forms
 foreign-row f value (via, (v, (from, (f_, (to, (t, (call_id, (i, (cseq, (content_length, (l, (contact, (m, (content_encoding, (e, (content_type, (c, (subject, (s, (supported, (k, (route, end)))))))))))))))))))))) =
     let one = skips (bytes_eq f (codes "via")) _ _ (miss f _ via) in
     let two = skips (bytes_eq f (codes "from") || bytes_eq f (codes "to")) _ _ (or_from _ _ (miss f _ from) (miss f _ to)) in
@@ -80,6 +85,7 @@ address-row v = ((λ row. address-said v row.0 row.1), said-address v)
 cseq-row : (v : List ℕ) → Ways (Row (known known_name.CSeq) v) ((said : ℕ × List ℕ) × CSeqSays said v)
 cseq-row v = ((λ row. ((row.0, row.1), cseq-said v row.0 row.1 row.2)), at)
   where
+    -- a number and a method by the definitions are those of the row
     at : (said : ℕ × List ℕ) × CSeqSays said v → Row (known known_name.CSeq) v
     at ((n, m), says) = (n, m, said-cseq v n m says)
 

@@ -1,4 +1,6 @@
 -- What bytes say is what their one reading says.
+-- In the lemmas s and t are what bytes say, or a and b with faults among them, r is their reading, and m, gs and p are a message, its fields as they are
+-- said, and its parts.
 use Rattle.std.proofs.Common.{◌≡◌, ℕ, List, [], ◌∷◌, map, refl, sym, ap, ◌∙◌, subst}
 use Rattle.std.specs.Prelude.{codes, bytes_eq}
 use Rattle.std.specs.List.{join_with_byte}
@@ -37,6 +39,7 @@ use Rattle.sip_message.proofs.lemmas.says.Bytes.{AreFields, IsTold, all-found, s
 use Rattle.sip_message.proofs.lemmas.says.Told.{text-tells, tells-text}
 
 -- the values of a name in fields as they are kept are its values in the fields as they are said
+-- k is the name, with `key` as its text; fs are the fields as they are kept, and gs those as they are said
 values-said : (k : Known) (key : String) → ((token : List ℕ) → is_name_of k (name_of token) ≡ bytes_eq (full_name (folded token)) (codes key)) → (fs : List Field) (gs : List SaidField) → AreFields 1 fs gs → values k fs ≡ said_values key gs
 values-said k key same fs gs are = found-values 1 k fs ∙ ap (map (λ found. found.1)) (all-found k key same 1 fs gs are)
 
@@ -57,6 +60,7 @@ parts-tell m start gs body p (start_is, are, body_is) parts =
     let call_id = values-said known_name.CallId "call-id" named-call-id m.fields gs are in
     let cseq = values-said known_name.CSeq "cseq" named-cseq m.fields gs are in
     let route = values-said known_name.Route "route" named-route m.fields gs are in
+    -- each named value that is kept is the one that is said
     record {
       start_is = start_is;
       vias = subst (λ vs. ViasTell vs (map said_via (p.via ∷ p.others))) via (are-said (values known_name.Via m.fields) (p.via ∷ p.others) parts.vias);
@@ -68,10 +72,12 @@ parts-tell m start gs body p (start_is, are, body_is) parts =
     }
 
 -- what the fields as they are said tell is what fields as they are kept have as their parts, once these are theirs
+-- m is the message and p its parts; gs are the fields as they are said, and s is what they tell
 tell-parts : (m : Message) (start : StartLine) (gs : List SaidField) (body : List ℕ) (p : Parts) (s : Said) → IsTold m (start, gs, body) → HasParts m.fields p → FieldsTell start gs s
     → (q : Parts) × HasParts m.fields q × (s ≡ said_of (record { message = m; parts = q }))
 tell-parts m start gs body p s (start_is, are, body_is) parts tells = at es.0 es.1 es.2
   where
+    -- the elements of the Vias as they are kept, which are those as they are said
     es : (es : List Element) × AreElements (values known_name.Via m.fields) es × (s.via ∷ s.others ≡ map said_via es)
     es = said-are (values known_name.Via m.fields) (s.via ∷ s.others) (subst (λ vs. ViasTell vs (s.via ∷ s.others)) (sym (values-said known_name.Via "via" named-via m.fields gs are)) tells.vias)
 
@@ -82,13 +88,16 @@ tell-parts m start gs body p s (start_is, are, body_is) parts tells = at es.0 es
         let all_vias : ◌≡◌ {A = List SaidVia} (s.via ∷ s.others) (said_via e ∷ map said_via es) = vias in
         let via : s.via ≡ said_via e = cc in
         let others : s.others ≡ map said_via es = cc in
+        -- each part that is told is that of the message
         let told = parts-tell m start gs body p (start_is, are, body_is) parts in
         let from : s.from ≡ p.from.0 = one-first (said_values "from" gs) s.from p.from.0 tells.from told.from in
         let to : s.to ≡ p.to.0 = one-first (said_values "to" gs) s.to p.to.0 tells.to told.to in
         let start_same : s.start ≡ m.start = tells.start_is ∙ sym start_is in
         let route : s.route ≡ join_with_byte comma (values known_name.Route m.fields) = tells.route_is ∙ sym told.route_is in
+        -- q are the parts with what is said
         let q : Parts = record { via = e; others = es; from = p.from; to = p.to; call_id = s.call_id; cseq = s.cseq } in (
           q,
+          -- the fields have these parts
           record {
             vias = elements;
             from = parts.from;
@@ -103,6 +112,7 @@ tell-parts m start gs body p s (start_is, are, body_is) parts tells = at es.0 es
 pub text-says : (bytes : List ℕ) (r : Reading) → MessageText bytes r.message → HasParts r.message.fields r.parts → Says bytes (gives (said_of r))
 text-says bytes r text parts = let told = (same-read bytes).to (gives r.message) (text-read bytes r.message text) in at told.0 told.1 told.2
   where
+    -- bytes that tell a message say it, and bytes that tell a fault do not tell this message
     at : (b : Outcome (StartLine × List SaidField × List ℕ)) → BytesTell bytes b → Alike IsTold (gives r.message) b → Says bytes (gives (said_of r))
     at (gives y) tells is_told = passes y tells (said_of r, parts-tell r.message y.0 y.1 y.2 r.parts is_told parts, refl)
     at (stops f) tells is_told = absurd is_told
@@ -112,6 +122,7 @@ pub text-reads : (bytes : List ℕ) (r : Reading) → MessageText bytes r.messag
 text-reads bytes r text parts = record { says = text-says bytes r text parts.is; tells = text-tells bytes r.message text; parts = parts }
 
 -- what is kept of a message is read of some bytes
+-- m is the message and p its parts; v, f, t, i and c are the values of its first Via, From, To, Call-ID and CSeq
 pub keeps-reads : {m : Message} {p : Parts} {v f t i c : List ℕ} → Keeps m p v f t i c → (bytes : List ℕ) × Reads bytes (record { message = m; parts = p })
 keeps-reads {m = m} {p = p} k = (k.spelled.0, text-reads k.spelled.0 (record { message = m; parts = p }) k.spelled.1 k.parts)
 
@@ -120,9 +131,11 @@ pub says-reads : (bytes : List ℕ) (s : Said) → Says bytes (gives s) → (r :
 says-reads bytes s (stopped f tells is) = absurd (no_value is)
 says-reads bytes s (passes y tells (t, fields, is)) = let read = (same-read bytes).back (gives y) tells in at read.0 read.1 read.2
   where
+    -- bytes that are read as a message have the reading, and bytes that stop with a fault say nothing
     at : (a : Outcome Message) → ReadOf bytes a → Alike IsTold a (gives y) → (r : Reading) × Reads bytes r × (s ≡ said_of r)
     at (stops f) read is_told = absurd is_told
     at (gives m) read is_told =
+        -- the message has parts, and these say what was said
         let text = read-text bytes m read in
         let parts = has-parts bytes m text in
         let q = tell-parts m y.0 y.1 y.2 parts.0 s is_told parts.1 (subst (FieldsTell y.0 y.1) (sym (given is)) fields) in (
@@ -135,6 +148,7 @@ says-reads bytes s (passes y tells (t, fields, is)) = let read = (same-read byte
 pub fault-says : (bytes : List ℕ) (f : Fault) → ReadOf bytes (stops f) → Says bytes (stops f)
 fault-says bytes f read = let told = (same-read bytes).to (stops f) read in at told.0 told.1 told.2
   where
+    -- bytes that tell the fault say it, and bytes that tell a message do not stop
     at : (b : Outcome (StartLine × List SaidField × List ℕ)) → BytesTell bytes b → Alike IsTold (stops f) b → Says bytes (stops f)
     at (gives y) tells is_told = absurd is_told
     at (stops g) tells same = stopped g tells (ap (λ z. stops z) same)
@@ -144,6 +158,7 @@ pub says-fault : (bytes : List ℕ) (f : Fault) → Says bytes (stops f) → Rea
 says-fault bytes f (passes y tells (t, fields, is)) = absurd (no_value (sym is))
 says-fault bytes f (stopped g tells is) = let read = (same-read bytes).back (stops g) tells in at read.0 read.1 read.2
   where
+    -- bytes whose reading stops have this fault, and bytes that are read as a message say none
     at : (a : Outcome Message) → ReadOf bytes a → Alike IsTold a (stops g) → ReadOf bytes (stops f)
     at (gives m) read is_told = absurd is_told
     at (stops h) read same = subst (λ z. ReadOf bytes (stops z)) (same ∙ sym (fault_is is)) read
@@ -159,16 +174,18 @@ pub says-one : (bytes : List ℕ) (a b : Outcome Said) → Says bytes a → Says
 says-one bytes (gives s) (gives t) one other =
     let read = says-reads bytes s one in
     ap (λ x. gives x) (read.2 ∙ sym (said-is bytes read.0 t read.1 other))
+-- bytes that say a message have no fault
 says-one bytes (gives s) (stops f) one other =
     let read = says-reads bytes s one in
     absurd (no_value (one-read bytes (gives read.0.message) (stops f) (text-read bytes read.0.message (tells-text bytes read.0.message read.1.tells)) (says-fault bytes f other)))
 says-one bytes (stops f) (gives s) one other =
     let read = says-reads bytes s other in
     absurd (no_value (one-read bytes (gives read.0.message) (stops f) (text-read bytes read.0.message (tells-text bytes read.0.message read.1.tells)) (says-fault bytes f one)))
+-- both are faults, and the first fault is one
 says-one bytes (stops f) (stops g) one other =
     ap (λ x. stops x) (fault_is (one-read bytes (stops f) (stops g) (says-fault bytes f one) (says-fault bytes g other)))
 
--- bytes say one message
+-- bytes say at most one message
 pub said-one : (bytes : List ℕ) (s t : Said) → Says bytes (gives s) → Says bytes (gives t) → s ≡ t
 said-one bytes s t one other = given (says-one bytes (gives s) (gives t) one other)
 

@@ -1,4 +1,5 @@
 -- Bytes tell a message by the definitions exactly if they are its text by the readers.
+-- In the lemmas gs are fields as they are said, f is a fault, and n the message that was read.
 use Rattle.std.proofs.Common.{◌≡◌, ℕ, ◌+◌, List, [], ◌∷◌, map, refl, sym, ap₂, ◌∙◌, subst}
 use Rattle.sip_standard.specs.Outcome.{Outcome, gives, stops}
 use Rattle.sip_standard.specs.StartLine.{StartLine}
@@ -13,6 +14,7 @@ use Rattle.sip_message.proofs.lemmas.says.Alike.{Alike}
 use Rattle.sip_message.proofs.lemmas.says.Bytes.{AreFields, IsTold, same-read}
 
 -- where fields as they are kept are what lines say, they are made of what the lines say
+-- fs are the fields, gs are what the lines say, and n is the number of the first one's line
 fields-told : (n : ℕ) (fs : List Field) (gs : List SaidField) → AreFields n fs gs → fs ≡ map field_of gs
 fields-told n [] [] are = refl
 fields-told n [] (g ∷ gs) are = absurd are
@@ -25,6 +27,7 @@ fields-told n (f ∷ fs) (g ∷ gs) ((f_is, g_is, line_is, value_is), are) =
 pub text-tells : (bytes : List ℕ) (m : Message) → MessageText bytes m → TellMessage bytes m
 text-tells bytes m text = let told = (same-read bytes).to (gives m) (text-read bytes m text) in at told.0 told.1 told.2
   where
+    -- bytes that tell something alike tell this message, and bytes that tell a fault are no message
     at : (b : Outcome (StartLine × List SaidField × List ℕ)) → BytesTell bytes b → Alike IsTold (gives m) b → TellMessage bytes m
     at (stops f) tells is_told = absurd is_told
     at (gives (start, gs, body)) tells (start_is, are, body_is) =
@@ -35,6 +38,7 @@ text-tells bytes m text = let told = (same-read bytes).to (gives m) (text-read b
 pub tells-text : (bytes : List ℕ) (m : Message) → TellMessage bytes m → MessageText bytes m
 tells-text bytes m (gs, tells, same) = let read = (same-read bytes).back (gives (m.start, gs, m.body)) tells in at read.0 read.1 read.2
   where
+    -- bytes that are read as something alike are read as this message, and bytes that stop are none
     at : (a : Outcome Message) → ReadOf bytes a → Alike IsTold a (gives (m.start, gs, m.body)) → MessageText bytes m
     at (stops f) read is_told = absurd is_told
     at (gives n) read (start_is, are, body_is) =

@@ -1,4 +1,7 @@
 -- What start lines, addresses and CSeq say by the definitions is what the readers read of them.
+-- Of a start line a, or v, is the first part and w1 what follows it, s1 and s2 the SPs, b the URI, c the code and r the reason; of a parameter a is the name,
+-- c the "=" and d the value; of an address b is what stands before the URI u, and g the ">"; of a CSeq d is the digits and s the blanks.
+-- Further, m is a method, n the number of a CSeq, w what follows its blanks, and w2 and w3 what follows the second and third part of a start line.
 use Rattle.std.proofs.Common.{ℕ, List, [], ◌++◌, Option, None, Some, IfSome, inl, inr, refl, sym, ap, ◌∙◌, subst}
 use Rattle.std.specs.Prelude.{⊤, not}
 use Rattle.std.specs.Str.Parse.{digits_value}
@@ -94,6 +97,7 @@ address-said text a (name_addr fits (b, w1, before, (u, w2, u_is, (g, t, angle, 
       (u, w2, subst profile.Uri (sym u_is) (parts-uri a.uri_text a.uri fits.uri), (g, t, angle, params-of t (a.params, fits.params.0, fits.params.1, any-ok fits.params.0, tail), w2_is), w1_is),
       whole,
     )
+-- this clause is of an address without angles
 address-said text a (addr_spec fits none bare (u, t, u_is, tail, whole)) =
     inr (
       u,
@@ -112,6 +116,7 @@ said-address text (inl (b, w1, before, (u, w2, uri, (g, t, angle, params, w2_is)
       record { display = display.0; uri_text = u; uri = parts.0; params = tail.0 },
       name_addr (record { display = display.1; uri = parts.1; params = (tail.1, tail.2) }) (b, w1, display.2, (u, w2, refl, (g, t, angle, tail.4, w2_is), w1_is), whole),
     )
+-- an address without angles has no display name
 said-address text (inr (u, t, (uri, bare), params, whole)) =
     let tail = of-params t params in
     let parts = uri-parts u uri in (
@@ -123,6 +128,7 @@ said-address text (inr (u, t, (uri, bare), params, whole)) =
 pub cseq-said : (text : List ℕ) (n : ℕ) (m : List ℕ) → CSeqText text n m → CSeqSays (n, m) text
 cseq-said text n m c = at c.whole
   where
+    -- digits, blanks and a method are a CSeq by the definitions
     at : (Exactly c.digits then Blanks then Exactly m) text → CSeqSays (n, m) text
     at (d, w, d_is, (s, word, blanks, m_is, w_is), whole) =
         (c.low, (d, w, (subst Digits (sym d_is) c.are_digits, c.number_is ∙ ap (digits_value 10) (sym d_is)), (s, word, blanks, (subst Token (sym m_is) c.is_method, sym m_is), w_is), whole))

@@ -1,4 +1,8 @@
 -- What the values of Via say by the definitions is what the readers read of them.
+-- Of an element of Via a, b and c are its protocol, version and transport, s and r the slashes, sp the blanks, h the host, p the port and q the parameters,
+-- and w1 to w7 what follows each; of parameters m is the ";" with its blanks, x the first one, y the others, and os their branches; of a parameter a is the
+-- name, c the "=" and d the value.
+-- The lists es and fs are elements of Via, and ps parameters by their names and values; n is the name of the first parameter, and w what follows a comma.
 use Rattle.std.proofs.Common.{◌≡◌, ℕ, List, [], ◌∷◌, ◌++◌, length, map, Option, None, Some, IfSome, inl, inr, refl, sym, ap, ◌∙◌, subst, arith}
 use Rattle.std.specs.Prelude.{codes}
 use Rattle.std.proofs.lemmas.List.{append-nil, append_assoc}
@@ -33,9 +37,11 @@ tail-params text (b ∷ rest) [] part behind = absurd (omega (arith, ap length p
 tail-params text (b ∷ rest) (p ∷ ps) (opens, (m, t, (blanks, c, is_blanks, mark, m_is), others, whole)) (sws, tail, is_sws, tail_is, text_is) =
     (sws ++ c, t, (sws, c, is_sws, mark, refl), others, text_is ∙ ap (λ x. sws ++ x) (tail_is ∙ flat ∙ ap (λ x. x ++ (c ++ t)) none) ∙ sym (append_assoc sws c t))
   where
+    -- the text is the blanks of the mark, its byte and what follows
     flat : b ∷ rest ≡ blanks ++ (c ++ t)
     flat = whole ∙ ap (λ x. x ++ t) m_is ∙ append_assoc blanks c t
 
+    -- the first mark has no blanks before it
     none : blanks ≡ []
     none = no_blanks blanks (c ++ t) (each-sws blanks is_blanks) (subst OpensSolid flat opens)
 
@@ -51,11 +57,13 @@ params-tail text (p ∷ ps) (m, x, (sws, c, is_sws, (byte, after, is_byte, is_af
     )
 
 -- a parameter named branch whose value is a token says that branch
+-- x is the text of the parameter, n its name and v its value
 branch-said : (x n v : List ℕ) → SameText n (codes "branch") → Token v → ParamText x (n, Some v) → ParamSays (Some v) x
 branch-said x n v same token (named, kind, (a, b, a_is, (c, d, mark, d_is, b_is), whole)) =
     (a, b, (subst Token (sym a_is) named, ap folded a_is ∙ same), (c, d, mark, (subst Token (sym d_is) token, sym d_is), b_is), whole)
 
 -- a parameter that says a branch has the name `branch`, and the branch as its value
+-- x is the text of the parameter and b the branch; n is its name and v its value
 said-branch : (x b : List ℕ) → ParamSays (Some b) x → (n : List ℕ) × (v : List ℕ) × SameText n (codes "branch") × Token v × ParamText x (n, Some v) × (b ≡ v)
 said-branch x b (a, r, (token, any), (c, d, mark, (word, b_is), r_is), whole) =
     (a, d, any, word, (token, inl word, (a, r, refl, (c, d, mark, refl, r_is), whole)), b_is)
@@ -85,6 +93,7 @@ params-said ((n, value) ∷ ps) branch text (m, t, mark, (x, y, param, more, t_i
       (m ++ x, y, (m, x, mark, branch-said x n v same token (subst (λ o. ParamText x (n, o)) value_is param), refl), rest.1, whole ∙ ap (λ z. m ++ z) t_is ∙ sym (append_assoc m x y)),
       branch_is,
     )
+-- the first parameter says no branch, and the others say what they say
 params-said ((n, value) ∷ ps) branch text (m, t, mark, (x, y, param, more, t_is), whole) (inr (differs, others)) =
     let rest = params-said ps branch y more others in (
       None ∷ rest.0,
@@ -96,12 +105,14 @@ params-said ((n, value) ∷ ps) branch text (m, t, mark, (x, y, param, more, t_i
 said-params : (os : List (Option (List ℕ))) (text : List ℕ) → SaidParams os text → (ps : Params) × ParamsText text ps × IsBranch ps (first_some os)
 said-params [] text none = ([], none, refl)
 said-params (Some b ∷ os) text (u, y, (m, x, mark, said, u_is), more, whole) =
+    -- `one` is the parameter of x, the branch b, and `rest` are those of what follows
     let one = said-branch x b said in
     let rest = said-params os y more in (
       (one.0, Some one.1) ∷ rest.0,
       (m, x ++ y, mark, (x, y, one.4, rest.1, refl), whole ∙ ap (λ z. z ++ y) u_is ∙ append_assoc m x y),
       inl (one.2, one.1, one.3, refl, ap (λ z. Some z) one.5, first_some os, rest.2),
     )
+-- the first parameter is another one
 said-params (None ∷ os) text (u, y, (m, x, mark, said, u_is), more, whole) =
     let one = said-other x said in
     let rest = said-params os y more in (
@@ -126,10 +137,12 @@ via-said text v (fits, (a, w1, a_is, (s, w2, slash1, (b, w3, b_is, (r, w4, slash
     let ps = params-said fits.params.0 v.branch q (tail-params q v.params fits.params.0 fits.params.1 params) fits.params.2 in
     let host : profile.Host h × (host_text v.host ≡ h) = (subst profile.Host (sym h_is) (parts-host (host_text v.host) v.host fits.host), sym h_is) in
     let behind : (profile.Blanks then ((λ t. profile.Host t × (host_text v.host ≡ t)) then (PortSays v.port then SaidParams ps.0))) w5 =
+    -- the branch is what the parameters say, and the parts stand in the order of the text
     (sp, w6, blanks, (h, w7, host, (p, q, port-said v.port p fits.port port, ps.1, w7_is), w6_is), w5_is) in (
       ps.0,
       ps.2,
       refl,
+      -- the text is the protocol, the version, the transport, the host, the port and the parameters, in this order
       (
         a,
         w1,
@@ -147,6 +160,7 @@ said-via text via (os, branch_is, whole_is, (a, w1, a_is, (s, w2, slash1, (b, w3
     let hosts = host-parts h host in
     let ports = said-port via.port p port in
     let host_is : via.host ≡ host_text hosts.0 = h_is ∙ hosts.2 in
+    -- v has the parts of the element
     let v : ViaParts = record { protocol = a; version = b; transport = c; host = hosts.0; port = via.port; params = part.0; branch = first_some os } in (
       v,
       (
@@ -176,6 +190,7 @@ vias-said (e ∷ es) text (via, (x, y, x_is, more, whole)) =
 said-more : (vias : List SaidVia) (text : List ℕ) → SaidMore vias text → (es : List Element) × MoreElements es text × (vias ≡ map said_via es)
 said-more [] text none = ([], none, refl)
 said-more (v ∷ vias) text (u, y, (m, x, mark, said, u_is), more, whole) =
+    -- `one` is the element of the first Via, and `rest` are those of the others
     let one = said-via x v said in
     let rest = said-more vias y more in (
       (x, one.0) ∷ rest.0,

@@ -41,6 +41,7 @@ pub record RequestParts (line method uri : List ℕ) : Type 0 where
 
 -- the parts of a request line
 pub request_parts : (line method uri : List ℕ) → StartText line (request method uri) → RequestParts line method uri
+-- m, s, u and s2 are the method, a SP, the URI and a SP, and t, t2 and t3 what follows the first three
 request_parts line method uri (token, is_uri, (m, t, m_is, (s, t2, s_is, (u, t3, u_is, (s2, version, s2_is, is_version, t3_is), t2_is), t_is), line_is)) = record {
   version = version;
   is_version = is_version;
@@ -57,6 +58,7 @@ pub record StatusParts (line : List ℕ) (code : ℕ) (reason : List ℕ) : Type
 
 -- the parts of a status line
 pub status_parts : (line : List ℕ) (code : ℕ) (reason : List ℕ) → StartText line (status code reason) → StatusParts line code reason
+-- s and s2 are the SPs, and r the reason; t, t2 and t3 are what follows each part
 status_parts line code reason (bytes, (version, t, is_version, (s, t2, s_is, (digits, t3, is_code, (s2, r, s2_is, r_is, t3_is), t2_is), t_is), line_is)) = record {
   version = version;
   digits = digits;
@@ -69,6 +71,7 @@ status_parts line code reason (bytes, (version, t, is_version, (s, t2, s_is, (di
 slash_is : (b : ℕ) → to_ascii_lowercase b ≡ 47 → b ≡ 47
 slash_is b is = at (nat_lt b 65) (nat_lt b 91) refl refl
   where
+    -- the claim holds whether b is below the capital letters, is one, or is above them
     at : (low high : Bool) → nat_lt b 65 ≡ low → nat_lt b 91 ≡ high → b ≡ 47
     at true high low_is high_is = sym (ap (λ x. cond x b (cond (nat_lt b 91) (b + 32) b)) low_is) ∙ is
     at false false low_is high_is = sym (ap (λ x. cond x b (cond (nat_lt b 91) (b + 32) b)) low_is ∙ ap (λ x. cond x (b + 32) b) high_is) ∙ is
@@ -78,11 +81,13 @@ slash_is b is = at (nat_lt b 65) (nat_lt b 91) refl refl
         absurd (both_ways (nat_lt b 65) low_is (ap (λ x. nat_lt x 65) small))
 
 -- no text is a token and a SP and then more, and also a version and then more
+-- m is the token with x after the SP, and v the version with y after it
 no_token : (x y m v : List ℕ) → All is_token_byte m → Version v → m ++ space ∷ x ≡ v ++ y → ⊥
 no_token x y m [] token version same = absurd (omega (arith, ap length version))
 no_token x y m (a ∷ []) token version same = absurd (omega (arith, ap length version))
 no_token x y m (a ∷ b ∷ []) token version same = absurd (omega (arith, ap length version))
 no_token x y m (a ∷ b ∷ c ∷ []) token version same = absurd (omega (arith, ap length version))
+-- the token has fewer than four bytes, and the SP stands where the version has a letter or a slash
 no_token x y [] (a ∷ b ∷ c ∷ d ∷ v) token version same =
     absurd (omega (arith, ap (λ t. slice_index t 0) version, ap to_ascii_lowercase (ap (λ t. slice_index t 0) same)))
 no_token x y (k ∷ []) (a ∷ b ∷ c ∷ d ∷ v) token version same =
@@ -91,6 +96,7 @@ no_token x y (k ∷ l ∷ []) (a ∷ b ∷ c ∷ d ∷ v) token version same =
     absurd (omega (arith, ap (λ t. slice_index t 2) version, ap to_ascii_lowercase (ap (λ t. slice_index t 2) same)))
 no_token x y (k ∷ l ∷ m ∷ []) (a ∷ b ∷ c ∷ d ∷ v) token version same =
     absurd (omega (arith, slash_is d (ap (λ t. slice_index t 3) version), ap (λ t. slice_index t 3) same))
+-- a longer token has a slash, which is no byte of a token
 no_token x y (k ∷ l ∷ m ∷ n ∷ more) (a ∷ b ∷ c ∷ d ∷ v) token version same =
     both_ways (is_token_byte n) (ap is_token_byte (ap (λ t. slice_index t 3) same ∙ slash_is d (ap (λ t. slice_index t 3) version))) token.1.1.1.0
 
@@ -102,8 +108,10 @@ no_both line method uri reason code one other =
     no_token _ _ method s.version (each-token method one.0) s.is_version (sym r.whole ∙ s.whole)
 
 -- a line is at most one start line
+-- m and n are the methods of both, u and v the Request-URIs, c and d the codes, and r and s the reasons
 pub same_start : (line : List ℕ) (s t : StartLine) → StartText line s → StartText line t → s ≡ t
 same_start line (request m u) (request n v) one other =
+    -- the methods are the first tokens, and the URIs come before a version, which is of one length: so these are the same
     let p = request_parts line m u one in
     let q = request_parts line n v other in
     let methods = same_front is_token_byte m _ n _ (each-token m one.0) (each-token n other.0) refl refl (sym p.whole ∙ q.whole) in
@@ -111,12 +119,14 @@ same_start line (request m u) (request n v) one other =
     let inner : u ++ space ∷ p.version ≡ v ++ space ∷ q.version = cc in
     let uris = same_by_end u (space ∷ p.version) v (space ∷ q.version) (omega (arith, length-version _ p.is_version, length-version _ q.is_version)) inner in
     ap (λ x. request x u) methods.0 ∙ ap (λ x. request n x) uris.0
+-- a request line and a status line cannot be one line
 same_start line (request m u) (status c r) one other = absurd (no_both line m u r c one other)
 same_start line (status c r) (request m u) one other = absurd (no_both line m u r c other one)
 same_start line (status c r) (status d s) one other =
     let p = status_parts line c r one in
     let q = status_parts line d s other in
     let versions = append_cancel_both p.version _ q.version _ (length-version _ p.is_version ∙ sym (length-version _ q.is_version)) (sym p.whole ∙ q.whole) in
+    -- the digits have three bytes, and so the code and the reason are the same
     let tails : space ∷ (p.digits ++ space ∷ r) ≡ space ∷ (q.digits ++ space ∷ s) = versions.1 in
     let inner : p.digits ++ space ∷ r ≡ q.digits ++ space ∷ s = cc in
     let codes = append_cancel_both p.digits _ q.digits _ (length-code _ c p.is_code ∙ sym (length-code _ d q.is_code)) inner in

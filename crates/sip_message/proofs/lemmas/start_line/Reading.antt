@@ -1,5 +1,6 @@
 -- How a start line is read: of a request line a token and its SP from the front, and the version from the end; of a status line the
 -- version, the code and the reason from the front.
+-- In the lemmas v is a version, t eight bytes that have one, d the digits of a code, and n its number.
 use Rattle.std.proofs.Common.{◌≡◌, ℕ, ◌+◌, ◌≤◌, ◌<◌, Bool, true, false, nat_lt, cond, List, [], ◌∷◌, ◌++◌, length, take, drop, Some, None, refl, sym, ap, ◌∙◌, subst, arith}
 use Rattle.std.specs.Prelude.{codes}
 use Rattle.std.specs.List.{AllByRecursion, concat, list_all}
@@ -30,6 +31,7 @@ use Rattle.sip_message.proofs.lemmas.start_line.OneWay.{length-version, length-d
 kept_is : (b k : ℕ) → k < 65 → to_ascii_lowercase b ≡ k → b ≡ k
 kept_is b k small is = at (nat_lt b 65) (nat_lt b 91) refl refl
   where
+    -- the claim holds whether b is below the capital letters, is one, or is above them
     at : (low high : Bool) → nat_lt b 65 ≡ low → nat_lt b 91 ≡ high → b ≡ k
     at true high low_is high_is = sym (ap (λ x. cond x b (cond (nat_lt b 91) (b + 32) b)) low_is) ∙ is
     at false false low_is high_is = sym (ap (λ x. cond x b (cond (nat_lt b 91) (b + 32) b)) low_is ∙ ap (λ x. cond x (b + 32) b) high_is) ∙ is
@@ -112,17 +114,21 @@ space-version (b ∷ t) same =
 pub request-read : (line token rest more : List ℕ) (at : ℕ) (parts : UriParts) → ReadAs (TokenFront line) (token, rest) → past space rest ≡ Some more → SameText (drop at more) (codes " SIP/2.0") → UriText (take at more) parts → ReadAs (RequestLine line) (token, take at more)
 request-read line token rest more at parts read found version uri = (is, only)
   where
+    -- at the end of the line stand SP and a version
     v : (v : List ℕ) × (drop at more ≡ space ∷ v) × Version v
     v = space-version (drop at more) version
 
+    -- after the first SP stand the URI, SP and the version
     inner : more ≡ take at more ++ space ∷ v.0
     inner = sym (take-append-drop at more) ∙ ap (λ t. take at more ++ t) v.1
 
+    -- the line is the method, SP, the URI, SP and the version
     is : RequestLine line (token, take at more)
     is = (
       read.0.0,
       (parts, uri),
       (
+        -- the method, SP, the URI, SP and the version stand in a row
         token,
         space ∷ more,
         refl,
@@ -151,12 +157,14 @@ digits-code d n digits len value low high =
 code-digits : (d : List ℕ) (n : ℕ) → CodeText d n → Digits d
 code-digits d n is = at is.digits.0 is.digits.1 is.digits.2 is.digits.3
   where
+    -- three texts of one digit each are three digits
     at : (us : List (List ℕ)) → AllByRecursion (One is_ascii_digit) us → d ≡ concat us → 3 ≤ length us → Digits d
     at [] all whole three = absurd (omega (arith, three))
     at (u ∷ us) all whole three = (u, concat us, all.0, (us, all.1, refl), whole)
 
 -- a status code that is read at the front is the first three bytes, and a SP and the rest follow
 code-front : (text : List ℕ) (code : ℕ) (reason : List ℕ) → CodeFront text (code, reason) → CodeText (take 3 text) code × (drop 3 text ≡ space ∷ reason)
+-- d is the three digits, s the SP and r the reason
 code-front text code reason (d, t, is, (s, r, s_is, r_is, t_is), whole) =
     let flat : text ≡ d ++ space ∷ reason = whole ∙ ap (λ x. d ++ x) (t_is ∙ ap (λ x. x ++ r) s_is ∙ ap (λ x. space ∷ x) r_is) in
     let same = append_cancel_both (take 3 text) (drop 3 text) d (space ∷ reason) (omega (arith, length-code d code is, ap length flat, length-append d (space ∷ reason), length-take-le 3 text (omega (arith, length-code d code is, ap length flat, length-append d (space ∷ reason))))) (take-append-drop 3 text ∙ flat) in
@@ -189,7 +197,9 @@ code-low text n value low (code, reason) is =
 pub code-read : (text rest : List ℕ) (n : ℕ) → 3 ≤ length text → past space (drop 3 text) ≡ Some rest → Digits (take 3 text) → n ≡ digits_value 10 (take 3 text) → n ≤ 699 → 100 ≤ n → ReadAs (CodeFront text) (n, rest)
 code-read text rest n long found digits value high low = (is, only)
   where
+    -- the text is a status code with what follows its SP
     is : CodeFront text (n, rest)
+    -- the text is the three digits, SP and the rest
     is = (
       take 3 text,
       drop 3 text,
@@ -211,6 +221,7 @@ code-read text rest n long found digits value high low = (is, only)
 version-space : (t : List ℕ) → SameText t (codes "SIP/2.0 ") → (v : List ℕ) × Version v × (t ≡ v ++ space ∷ [])
 version-space t same = (take 7 t, sym (take-map to_ascii_lowercase 7 t) ∙ ap (take 7) same, sym (take-append-drop 7 t) ∙ ap (λ x. take 7 t ++ x) (last (drop 7 t) (sym (drop-map to_ascii_lowercase 7 t) ∙ ap (drop 7) same)))
   where
+    -- a text that is SP without case is SP
     last : (u : List ℕ) → folded u ≡ space ∷ [] → u ≡ space ∷ []
     last [] is = absurd (omega (arith, ap length is))
     last (b ∷ c ∷ u) is = absurd (omega (arith, ap length is))
@@ -226,6 +237,7 @@ status-line line code reason is =
     let whole : line ≡ (p.version ++ space ∷ []) ++ (p.digits ++ space ∷ reason) = p.whole ∙ sym (append_assoc p.version (space ∷ []) (p.digits ++ space ∷ reason)) in
     let len : length (p.version ++ space ∷ []) ≡ 8 = omega (arith, length-append p.version (space ∷ []), size) in
     let long : 8 ≤ length line = omega (arith, ap length whole, length-append (p.version ++ space ∷ []) (p.digits ++ space ∷ reason), len) in
+    -- the first eight bytes are the version and SP
     let same = append_cancel_both (take 8 line) (drop 8 line) (p.version ++ space ∷ []) (p.digits ++ space ∷ reason) (omega (arith, len, length-take-le 8 line long)) (take-append-drop 8 line ∙ whole) in (
       subst (λ t. SameText t (codes "SIP/2.0 ")) (sym same.0) (map-append to_ascii_lowercase p.version (space ∷ []) ∙ ap (λ t. t ++ space ∷ []) p.is_version),
       subst (λ t. CodeFront t (code, reason)) (sym same.1) (p.digits, space ∷ reason, p.is_code, (space ∷ [], reason, refl, refl, refl), refl),
@@ -253,6 +265,7 @@ status-read line n rest version read all = (
   (λ x other. read.1 x (status-line line x.0 x.1 other).1),
 )
   where
+    -- the first eight bytes are a version and SP
     v : (v : List ℕ) × Version v × (take 8 line ≡ v ++ space ∷ [])
     v = version-space (take 8 line) version
 

@@ -1,5 +1,6 @@
 -- Sets that stay themselves when a longest run of blanks in a text becomes one SP. A set that is made
 -- of sets is such a set where they are, and where no run of blanks crosses the seams between them.
+-- In the lemmas u and v are what stands before and after a run of blanks, b and c are bytes, and w, z, x and r what follows one.
 use Rattle.std.proofs.Common.{◌≡◌, ℕ, ◌⊎◌, Bool, true, false, not, List, [], ◌∷◌, ◌++◌, cond, refl, sym, ap, ◌∙◌, subst, inl, inr}
 use Rattle.std.specs.List.{AllByRecursion, concat, list_any}
 use Rattle.std.proofs.lemmas.Bool.{both_ways, not-true}
@@ -27,7 +28,7 @@ not_both b solid blank = both_ways true (sym solid ∙ ap not blank) refl
 pub solid_is : (b : ℕ) → is_solid b ≡ true → is_lws_byte b ≡ false
 solid_is b solid = not-true (is_lws_byte b) solid
 
--- a set whose texts have no blanks is closed: they have no run
+-- a set whose texts have no blanks is closed, since there is no run of blanks to replace
 pub closed-solid : (P : List ℕ → Type 0) → Each is_solid P → Closed P
 closed-solid P each u v b w ends opens blanks is =
     absurd (not_both b (all_right is_solid u ((b ∷ w) ++ v) (each _ is)).0 blanks.0)
@@ -70,7 +71,9 @@ pub closed-then : (P Q : List ℕ → Type 0) → Seam P Q → Closed P → Clos
 closed-then P Q seam left right u v b w ends opens blanks (p, q, is_p, is_q, whole) =
     at (two_cuts p q u ((b ∷ w) ++ v) (sym whole))
   where
+    -- where the run of blanks begins in p, the text with one SP in its place is a text of P and then one of Q
     inner : (c : ℕ) (z : List ℕ) → p ≡ u ++ c ∷ z → Cuts (b ∷ w) v (c ∷ z) q → (P then Q) (u ++ space ∷ v)
+    -- the run is what is left of p
     inner c z p_is (same_length run rest) = (
       u ++ space ∷ [],
       q,
@@ -78,12 +81,14 @@ closed-then P Q seam left right u v b w ends opens blanks (p, q, is_p, is_q, who
       is_q,
       ap (λ t. u ++ space ∷ t) rest ∙ sym (append_assoc u (space ∷ []) q),
     )
+    -- the run goes on into q: but no run of blanks crosses the seam
     inner c z p_is (first_longer d y run q_begins) =
         let both : All is_lws_byte ((c ∷ z) ++ d ∷ y) = subst (All is_lws_byte) run blanks in
         elim (seam p q is_p is_q) [
           | inl solid ↦ absurd (ends_blank u c z (subst EndsSolid p_is solid) (all_left is_lws_byte (c ∷ z) (d ∷ y) both))
           | inr solid ↦ absurd (both_ways (is_lws_byte d) (subst OpensSolid q_begins solid) (all_right is_lws_byte (c ∷ z) (d ∷ y) both).0)
         ]
+    -- the run ends within p
     inner c z p_is (second_longer d y run rest) = (
       u ++ space ∷ (d ∷ y),
       q,
@@ -92,11 +97,12 @@ closed-then P Q seam left right u v b w ends opens blanks (p, q, is_p, is_q, who
       ap (λ t. u ++ space ∷ t) rest ∙ sym (append_assoc u (space ∷ d ∷ y) q),
     )
 
-    -- the blanks lie within the text of P, within that of Q, or across the seam
+    -- the claim holds whether the run of blanks begins in p, at its end, or in q
     at : Cuts p q u ((b ∷ w) ++ v) → (P then Q) (u ++ space ∷ v)
     at (same_length front rest) =
         (p, space ∷ v, is_p, right [] v b w tt opens blanks (subst Q rest is_q), ap (λ t. t ++ space ∷ v) (sym front))
     at (first_longer c z p_is rest) = inner c z p_is (two_cuts (b ∷ w) v (c ∷ z) q rest)
+    -- the blanks lie within the text of Q
     at (second_longer c z u_is rest) = (
       p,
       (c ∷ z) ++ space ∷ v,
@@ -116,7 +122,7 @@ times-many P [] text is = subst (Many P) (sym is) (many-nil P)
 times-many P (x ∷ xs) text is =
     subst (Many P) (sym is.4) (many-cons P is.0 is.1 is.2 (times-many P xs is.1 is.3))
 
--- texts of P, joined, are P as many times
+-- n texts of P, joined, are n times P
 many-times : (P : List ℕ → Type 0) (us : List (List ℕ)) → AllByRecursion P us → Times P us (concat us)
 many-times P [] all = refl
 many-times P (u ∷ us) all = (u, concat us, all.0, many-times P us all.1, refl)
@@ -137,6 +143,7 @@ unfolds-run : (P : List ℕ → Type 0) → Closed P → (u run v : List ℕ) �
 unfolds-run P closed u [] v ends blanks opens is = is
 unfolds-run P closed u (b ∷ w) v ends blanks opens is = at (list_any is_end_byte (b ∷ w)) refl
   where
+    -- the run becomes one SP, or it stays where it has no line end
     at : (folds : Bool) → list_any is_end_byte (b ∷ w) ≡ folds → P (u ++ (cond folds (space ∷ []) (b ∷ w) ++ v))
     at true folds = closed u v b w ends opens blanks is
     at false folds = is
@@ -153,12 +160,13 @@ unfolds-from P closed [] u run ends blanks is =
     subst P (ap (λ t. u ++ t) (append-nil (unfolded_run run))) (unfolds-run P closed u run [] ends blanks tt is)
 unfolds-from P closed (b ∷ text) u run ends blanks is = at (unfolds-from P closed text) (is_lws_byte b) refl
   where
+    -- the text is the same where the run and b join its front
     shape : (t : List ℕ) → u ++ (unfolded_run run ++ b ∷ t) ≡ (u ++ (unfolded_run run ++ b ∷ [])) ++ t
     shape t =
         ap (λ x. u ++ x) (sym (append_assoc (unfolded_run run) (b ∷ []) t))
         ∙ sym (append_assoc u (unfolded_run run ++ b ∷ []) t)
 
-    -- whether the next byte is a blank, which makes the run longer
+    -- the claim holds whether or not the next byte is a blank, which makes the run longer
     at : ((x r : List ℕ) → EndsSolid x → All is_lws_byte r → P (x ++ (r ++ text)) → P (x ++ unfolded_from r text)) → (blank : Bool) → is_lws_byte b ≡ blank → P (u ++ cond blank (unfolded_from (run ++ b ∷ []) text) (unfolded_run run ++ b ∷ unfolded_from [] text))
     at later true blank =
         later u (run ++ b ∷ []) ends (all_both is_lws_byte run (b ∷ []) blanks (blank, tt))

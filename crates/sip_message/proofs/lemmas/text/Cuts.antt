@@ -1,4 +1,5 @@
 -- A text cut in two, in two ways.
+-- In the lemmas u and v are the two parts of a text by the one cut, and x and y those by the other; z is what is left of the longer first part after b.
 use Rattle.std.proofs.Common.{◌≡◌, ℕ, Bool, true, false, List, [], ◌∷◌, ◌++◌, length, refl, sym, ap, ◌∙◌, subst, arith}
 use Rattle.std.specs.Prelude.{⊤}
 use Rattle.std.specs.List.{AllByRecursion}
@@ -19,9 +20,11 @@ two_cuts [] v (a ∷ x) y same = second_longer a x refl same
 two_cuts (a ∷ u) v [] y same = first_longer a u refl (sym same)
 two_cuts (a ∷ u) v (b ∷ x) y same = more (two_cuts u v x y tails)
   where
+    -- the first bytes are equal
     heads : a ≡ b
     heads = cc
 
+    -- what follows the first bytes is equal
     tails : u ++ v ≡ x ++ y
     tails = cc
 
@@ -56,9 +59,11 @@ all_both test [] v left right = right
 all_both test (b ∷ u) v left right = (left.0, all_both test u v left.1 right)
 
 -- a text has one longest front of bytes that pass
+-- u and x are this front, and v and y what is left, by two cuts of the text
 pub same_front : (test : ℕ → Bool) (u v x y : List ℕ) → All test u → All test x → Stops test v → Stops test y → u ++ v ≡ x ++ y → (u ≡ x) × (v ≡ y)
 same_front test u v x y us xs v_stops y_stops same = at (two_cuts u v x y same)
   where
+    -- neither front is longer, since the next byte would pass and fail the test
     at : Cuts u v x y → (u ≡ x) × (v ≡ y)
     at (same_length left right) = (left, right)
     at (first_longer b z longer is) =

@@ -61,6 +61,7 @@ blank_is P sp ht cr lf b is =
         | inl e ↦ subst P (sym (eqb-true b space e)) sp
         | inr e ↦ subst P (sym (eqb-true b tab e)) ht
       ]
+      -- the byte is CR or LF
       | inr end ↦ elim (or_cases (nat_eq b carriage_return) _ end) [
         | inl e ↦ subst P (sym (eqb-true b carriage_return e)) cr
         | inr e ↦ subst P (sym (eqb-true b line_feed e)) lf
@@ -75,6 +76,7 @@ is_solid byte = not (is_lws_byte byte)
 pub solid_class : (class : ℕ → Bool) → class space ≡ false → class tab ≡ false → class carriage_return ≡ false → class line_feed ≡ false → (b : ℕ) → class b ≡ true → is_solid b ≡ true
 solid_class class sp ht cr lf b is = at (is_lws_byte b) refl
   where
+    -- a byte of the class is no blank
     at : (blank : Bool) → is_lws_byte b ≡ blank → not blank ≡ true
     at false blank = refl
     at true blank = absurd (both_ways (class b) (blank_is (λ c. class c ≡ false) sp ht cr lf b blank) is)

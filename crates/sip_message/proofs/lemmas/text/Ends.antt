@@ -88,6 +88,7 @@ end-each P each u is = ends-solid u (each u is)
 pub end-many : (P : List ℕ → Type 0) → AllEnd P → AllEnd (Many P)
 end-many P ends u many = subst EndsSolid (sym many.2) (go many.0 many.1)
   where
+    -- no text made of texts of P ends with a blank
     go : (us : List (List ℕ)) → AllByRecursion P us → EndsSolid (concat us)
     go [] all = tt
     go (p ∷ us) all = ends-both p (concat us) (ends p all.0) (go us all.1)

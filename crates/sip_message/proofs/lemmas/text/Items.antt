@@ -1,4 +1,5 @@
 -- Repetitions of texts in which blanks may stand: quoted strings, and the values that are not looked into.
+-- In the lemmas b, c and d are bytes, u, w, y and z what follows one in a text, and P is the set of the items.
 use Rattle.std.proofs.Common.{◌≡◌, ℕ, Bool, true, false, not, List, [], ◌∷◌, ◌++◌, length, refl, sym, ap, ◌∙◌, subst, inl, inr, arith}
 use Rattle.std.specs.List.{AllByRecursion, concat}
 use Rattle.std.proofs.lemmas.Bool.{both_ways}
@@ -32,6 +33,7 @@ pub record IsItem (P : List ℕ → Type 0) (text : List ℕ) : Type 0 where
 item_blanks : (P : List ℕ → Type 0) (b : ℕ) (u : List ℕ) → is_lws_byte b ≡ true → IsItem P (b ∷ u) → All is_lws_byte (b ∷ u)
 item_blanks P b u blank item = at item.front item.solid item.whole
   where
+    -- the item has no front that is not blank, since it begins with a blank
     at : (front : List ℕ) → All is_solid front → b ∷ u ≡ front ++ item.back → All is_lws_byte (b ∷ u)
     at [] solid whole = subst (All is_lws_byte) (sym whole) item.blank
     at (c ∷ front) solid whole =
@@ -39,20 +41,25 @@ item_blanks P b u blank item = at item.front item.solid item.whole
         absurd (not_both c solid.0 (subst (λ x. is_lws_byte x ≡ true) head blank))
 
 -- where items are blanks and then v, which does not begin with a blank, v is items
+-- us are the items, and w is the blanks
 skip : (P : List ℕ → Type 0) → ((u : List ℕ) → P u → IsItem P u) → (us : List (List ℕ)) (w v : List ℕ) → AllByRecursion P us → All is_lws_byte w → OpensSolid v → concat us ≡ w ++ v → Many P v
+-- where no blank is left, the items are v; no items are no blanks; an empty item is passed over; else the first item is cut against the blanks
 skip P item us [] v all blanks opens is = (us, all, sym is)
 skip P item [] (b ∷ w) v all blanks opens is = absurd (omega (arith, ap length is))
 skip P item ([] ∷ us) (b ∷ w) v all blanks opens is = skip P item us (b ∷ w) v all.1 blanks opens is
 skip P item ((a ∷ p) ∷ us) (b ∷ w) v all blanks opens is =
     at (λ d y y_blanks y_is. skip P item us (d ∷ y) v all.1 y_blanks opens y_is) (two_cuts (a ∷ p) (concat us) (b ∷ w) v is)
   where
-    -- the first item is as long as the blanks, longer than they are, or shorter
+    -- the claim holds whether the first item is as long as the blanks, longer or shorter
     at : ((d : ℕ) (y : List ℕ) → All is_lws_byte (d ∷ y) → concat us ≡ (d ∷ y) ++ v → Many P v) → Cuts (a ∷ p) (concat us) (b ∷ w) v → Many P v
+    -- as long: what follows the item is v
     at later (same_length front rest) = (us, all.1, sym rest)
+    -- longer: the item would hold blanks and the first byte of v, which is none
     at later (first_longer d y longer v_is) =
         let head : a ≡ b = cc in
         let each = item_blanks P a p (subst (λ x. is_lws_byte x ≡ true) (sym head) blanks.0) (item (a ∷ p) all.0) in
         absurd (both_ways (is_lws_byte d) (subst OpensSolid v_is opens) (all_right is_lws_byte (b ∷ w) (d ∷ y) (subst (All is_lws_byte) longer each)).0)
+    -- shorter: more blanks follow it
     at later (second_longer d y longer us_is) =
         later d y (all_right is_lws_byte (a ∷ p) (d ∷ y) (subst (All is_lws_byte) longer blanks)) us_is
 
@@ -60,9 +67,11 @@ skip P item ((a ∷ p) ∷ us) (b ∷ w) v all blanks opens is =
 item_cut : (P : List ℕ → Type 0) (p u : List ℕ) (c : ℕ) (z : List ℕ) → EndsSolid u → is_lws_byte c ≡ true → p ≡ u ++ c ∷ z → IsItem P p → P (u ++ space ∷ []) × All is_lws_byte (c ∷ z)
 item_cut P p u c z ends blank p_is item = at (two_cuts item.front item.back u (c ∷ z) (sym item.whole ∙ p_is))
   where
+    -- the claim holds whether the blanks begin where the item's own blanks begin, or within these
     at : Cuts item.front item.back u (c ∷ z) → P (u ++ space ∷ []) × All is_lws_byte (c ∷ z)
     at (same_length front back) =
         (subst (λ t. P (t ++ space ∷ [])) front (item.joins c z back), subst (All is_lws_byte) back item.blank)
+    -- the item would be longer by a byte that is a blank and none
     at (first_longer d y longer is) =
         let heads : c ≡ d = cc in
         absurd (not_both d (all_right is_solid u (d ∷ y) (subst (All is_solid) longer item.solid)).0 (subst (λ x. is_lws_byte x ≡ true) heads blank))
@@ -70,6 +79,7 @@ item_cut P p u c z ends blank p_is item = at (two_cuts item.front item.back u (c
         absurd (ends_blank item.front d y (subst EndsSolid longer ends) (all_left is_lws_byte (d ∷ y) (c ∷ z) (subst (All is_lws_byte) is item.blank)))
 
 -- where a run of blanks begins within an item and goes on into the items after it, what follows the run is items
+-- b and w are the run; c and z are its part in the first item, us are the other items, and v follows the run
 behind_run : (P : List ℕ → Type 0) → ((u : List ℕ) → P u → IsItem P u) → (us : List (List ℕ)) (v : List ℕ) (b : ℕ) (w : List ℕ) (c : ℕ) (z : List ℕ) → OpensSolid v → All is_lws_byte (b ∷ w) → AllByRecursion P us → All is_lws_byte (c ∷ z) → Cuts (b ∷ w) v (c ∷ z) (concat us) → Many P v
 behind_run P item us v b w c z opens blanks all run (same_length front back) = (us, all, back)
 behind_run P item us v b w c z opens blanks all run (first_longer d y longer is) =
@@ -78,24 +88,28 @@ behind_run P item us v b w c z opens blanks all run (second_longer d y longer is
     absurd (both_ways (is_lws_byte d) (subst OpensSolid is opens) (all_right is_lws_byte (b ∷ w) (d ∷ y) (subst (All is_lws_byte) longer run)).0)
 
 -- items in which a run of blanks is replaced by one SP are items
+-- the items us make the text x, the run, which is b and w, and then v
 items_run : (P : List ℕ → Type 0) → ((u : List ℕ) → P u → IsItem P u) → (us : List (List ℕ)) (x v : List ℕ) (b : ℕ) (w : List ℕ) → EndsSolid x → OpensSolid v → All is_lws_byte (b ∷ w) → AllByRecursion P us → concat us ≡ x ++ ((b ∷ w) ++ v) → Many P (x ++ space ∷ v)
 items_run P item [] x v b w ends opens blanks all is = absurd (omega (arith, ap length is, length-append x ((b ∷ w) ++ v)))
 items_run P item (p ∷ us) x v b w ends opens blanks all is =
     at (λ y y_ends y_is. items_run P item us y v b w y_ends opens blanks all.1 y_is) (two_cuts p (concat us) x ((b ∷ w) ++ v) is)
   where
+    -- the claim holds whether the run begins in the first item, at its end, or in the others
     at : ((y : List ℕ) → EndsSolid y → concat us ≡ y ++ ((b ∷ w) ++ v) → Many P (y ++ space ∷ v)) → Cuts p (concat us) x ((b ∷ w) ++ v) → Many P (x ++ space ∷ v)
     at later (same_length front back) =
         subst (λ t. Many P (t ++ space ∷ v)) front (many-cons P p (space ∷ v) all.0 (later [] tt back))
+    -- the blanks begin after the first item
     at later (second_longer c z longer back) =
         subst (Many P) (sym (append_assoc p (c ∷ z) (space ∷ v)) ∙ ap (λ t. t ++ space ∷ v) (sym longer))
         (many-cons P p ((c ∷ z) ++ space ∷ v) all.0 (later (c ∷ z) (ends-right p c z (subst EndsSolid longer ends)) back))
+    -- the blanks begin within the first item, and go on after it
     at later (first_longer c z longer back) =
         let heads : b ≡ c = cc in
         let cut = item_cut P p x c z ends (subst (λ t. is_lws_byte t ≡ true) heads blanks.0) longer (item p all.0) in
         subst (Many P) (append_assoc x (space ∷ []) v)
         (many-cons P (x ++ space ∷ []) v cut.0 (behind_run P item us v b w c z opens blanks all.1 cut.1 (two_cuts (b ∷ w) v (c ∷ z) (concat us) back)))
 
--- *P is closed where the texts of P are items
+-- any number of texts of P stay so when a run of blanks in them becomes one SP, if each text of P is an item
 pub closed-items : (P : List ℕ → Type 0) → ((u : List ℕ) → P u → IsItem P u) → Closed (Many P)
 closed-items P item u v b w ends opens blanks many =
     items_run P item many.0 u v b w ends opens blanks many.1 (sym many.2)
@@ -118,11 +132,14 @@ item-one P class solid u one = item-solid P u (subst (All is_solid) (sym one.2) 
 
 -- a quoted pair is an item where P has a quoted pair with SP: its second byte may be a blank
 item-pair : (P : List ℕ → Type 0) → P (backslash ∷ space ∷ []) → (u : List ℕ) → QuotedPair u → IsItem P u
+-- p is the backslash and q the byte b after it
 item-pair P one u (p, q, is_p, (b, escaped, q_is), whole) = at (is_lws_byte b) refl
   where
+    -- a quoted pair is a backslash and the byte b
     text : u ≡ backslash ∷ b ∷ []
     text = whole ∙ ap (λ t. t ++ q) is_p ∙ ap (λ t. backslash ∷ t) q_is
 
+    -- the claim holds whether or not the second byte is a blank
     at : (blank : Bool) → is_lws_byte b ≡ blank → IsItem P u
     at true blank = record { front = backslash ∷ []; back = b ∷ []; solid = (refl, tt); blank = (blank, tt); joins = λ c w is. one; whole = text }
     at false blank = item-solid P u (subst (All is_solid) (sym text) (refl, (ap not blank, tt)))
@@ -131,6 +148,7 @@ item-pair P one u (p, q, is_p, (b, escaped, q_is), whole) = at (is_lws_byte b) r
 pub closed-contents : Closed (Many (Qdtext or QuotedPair))
 closed-contents = closed-items (Qdtext or QuotedPair) item
   where
+    -- each piece of the contents is an item
     item : (u : List ℕ) → (Qdtext or QuotedPair) u → IsItem (Qdtext or QuotedPair) u
     item u (inl (inl lws)) = item-lws (Qdtext or QuotedPair) (inl (inl lws-space)) u lws
     item u (inl (inr one)) = item-one (Qdtext or QuotedPair) is_quoted_byte (solid_class is_quoted_byte refl refl refl refl) u one
@@ -140,6 +158,7 @@ closed-contents = closed-items (Qdtext or QuotedPair) item
 pub closed-other : Closed OtherText
 closed-other = closed-items (Lws or One is_value_byte) item
   where
+    -- each piece of the value is an item
     item : (u : List ℕ) → (Lws or One is_value_byte) u → IsItem (Lws or One is_value_byte) u
     item u (inl lws) = item-lws (Lws or One is_value_byte) (inl lws-space) u lws
     item u (inr one) = item-one (Lws or One is_value_byte) is_value_byte (solid_class is_value_byte refl refl refl refl) u one

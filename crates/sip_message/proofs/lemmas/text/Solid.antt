@@ -66,6 +66,7 @@ solid-v4 =
 solid-hexseq : Each S Hexseq
 solid-hexseq = each-then S _ _ hex (each-many S _ (each-then S _ _ (solid-byte colon refl) hex))
   where
+    -- a group of hexadecimal digits has no blanks
     hex : Each S Hex4
     hex = each-between S 1 4 _ (solid-one is_ascii_hexdigit refl refl refl refl)
 
@@ -120,6 +121,7 @@ solid-password = each-many S _ (each-or S _ _ (solid-one is_password_unreserved 
 solid-params : Each S UriParameters
 solid-params = each-many S _ (each-then S _ _ (solid-byte 59 refl) (each-then S _ _ word (each-optional S _ (each-then S _ _ (solid-byte 61 refl) word))))
   where
+    -- a word of a parameter has no blanks
     word : Each S ParamWord
     word = each-some S _ (each-or S _ _ (solid-one is_param_unreserved refl refl refl refl) (each-or S _ _ solid-unreserved solid-escaped))
 
@@ -127,13 +129,15 @@ solid-params = each-many S _ (each-then S _ _ (solid-byte 59 refl) (each-then S 
 solid-headers : Each S Headers
 solid-headers = each-then S _ _ header (each-many S _ (each-then S _ _ (solid-byte 38 refl) header))
   where
+    -- a piece of a header has no blanks
     char : Each S HeaderChar
     char = each-or S _ _ (solid-one is_hnv_unreserved refl refl refl refl) (each-or S _ _ solid-unreserved solid-escaped)
 
+    -- a header has no blanks
     header : Each S Header
     header = each-then S _ _ (each-some S _ char) (each-then S _ _ (solid-byte 61 refl) (each-many S _ char))
 
--- an optional part with its mark has no blanks where the parts have none, and the mark is none
+-- an optional part with its mark has no blanks where neither the parts nor the mark have any
 solid-led : (mark : ℕ) (P : List ℕ → Type 0) (part : Option (List ℕ)) → is_solid mark ≡ true → Each S P → IfSome part P → All S (led mark part)
 solid-led mark P None is each fits = tt
 solid-led mark P (Some part) is each fits = (is, each part fits)
@@ -163,9 +167,11 @@ pub solid-uri : (text : List ℕ) (parts : UriParts) → UriText text parts → 
 solid-uri text (sip p) (scheme, same, fits, whole) =
     subst (All S) (sym whole) (all_both S scheme (colon ∷ sip_text p) (solid-folded scheme (subst (All S) (sym same) (at p.secure))) (refl, solid-sip p fits))
   where
+    -- the scheme has no blanks, whether it is sip or sips
     at : (secure : Bool) → All S (folded (scheme_name secure))
     at true = (refl, (refl, (refl, (refl, tt))))
     at false = (refl, (refl, (refl, tt)))
+-- this clause is of a URI of another scheme
 solid-uri text (other scheme rest) (is_scheme, none, some, whole) =
     subst (All S) (sym whole) (all_both S scheme (colon ∷ rest)
     (each-then S _ _ solid-alpha (each-many S _ (solid-one is_scheme_byte refl refl refl refl)) scheme is_scheme)

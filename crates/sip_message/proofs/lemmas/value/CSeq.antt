@@ -1,4 +1,5 @@
 -- A CSeq is read by its digits, its blanks and its method, in one way.
+-- In the lemmas n is how many digits a text begins with, b how many bytes of blanks follow, and x a number with a method.
 use Rattle.std.proofs.Common.{◌≡◌, ℕ, true, false, List, [], ◌∷◌, ◌++◌, refl, sym, ap, ◌∙◌, subst, inr, ◌<◌, ◌≤◌, length, take, drop, arith}
 use Rattle.std.specs.Char.{is_ascii_digit}
 use Rattle.std.specs.Str.Parse.{digits_value}
@@ -41,7 +42,9 @@ method-behind text v number method c is = (subst StopsBlank (append-nil method) 
 
 -- a CSeq has one number and one method
 pub same-cseq : (text : List ℕ) (a b : ℕ × List ℕ) → CSeqValue text a → CSeqValue text b → a ≡ b
+-- m and n are the numbers, and s and t the methods, by the two readings
 same-cseq text (m, s) (n, t) a b =
+    -- the digits are the longest front of digits, and so the same; the method is what follows the blanks after them
     let split = same_front is_ascii_digit a.digits a.whole.1 b.digits b.whole.1 (each-digits a.digits a.are_digits) (each-digits b.digits b.are_digits)
     (digits-stop s a.whole.1 a.whole.3) (digits-stop t b.whole.1 b.whole.3)
     (ap (λ x. x ++ a.whole.1) (sym a.whole.2) ∙ sym a.whole.4 ∙ b.whole.4 ∙ ap (λ x. x ++ b.whole.1) b.whole.2) in
@@ -50,6 +53,7 @@ same-cseq text (m, s) (n, t) a b =
     cc
 
 -- the digits of a CSeq are the longest front of digits, and after its blanks stands the method
+-- n is how many digits the text begins with, and x the number and the method that the CSeq c says
 cseq-parts : (text rest : List ℕ) (n : ℕ) → n ≡ prefix_len is_ascii_digit text → rest ≡ drop n text → (x : ℕ × List ℕ) (c : CSeqText text x.0 x.1) → (c.digits ≡ take n text) × BlanksFront rest (x.1)
 cseq-parts text rest n n_is rest_is x c =
     let cut = prefix-at is_ascii_digit text n n_is in
@@ -71,11 +75,13 @@ cseq-no_digit text n n_is none x c =
     some-run is_ascii_digit c.digits c.are_digits ((cseq-parts text (drop n text) n n_is refl x c).0 ∙ ap (λ m. take m text) none)
 
 -- a text without a blank after its digits is no CSeq
+-- n is how many digits the text begins with, b how many blanks follow, and x a number and a method
 pub cseq-no_blank : (text rest : List ℕ) (n b : ℕ) → n ≡ prefix_len is_ascii_digit text → rest ≡ drop n text → IsLongestFront Blanks rest b → b ≡ 0 → (x : ℕ × List ℕ) → CSeqValue text x → ⊥
 cseq-no_blank text rest n b n_is rest_is longest none x c =
     no-blanks rest (subst (IsLongestFront Blanks rest) none longest) (x.1) (cseq-parts text rest n n_is rest_is x c).1
 
 -- what stands after the digits and the blanks of a CSeq is a token, its method
+-- n is how many digits the text begins with, b how many blanks follow, and x the number and the method
 pub cseq-method : (text rest method : List ℕ) (n b : ℕ) → n ≡ prefix_len is_ascii_digit text → rest ≡ drop n text → method ≡ drop b rest → IsLongestFront Blanks rest b → (b ≡ 0 → ⊥) → (x : ℕ × List ℕ) → CSeqValue text x → Token method
 cseq-method text rest method n b n_is rest_is method_is longest some x c =
     subst Token ((longest-blanks_front rest b longest some).1 (x.1) (cseq-parts text rest n n_is rest_is x c).1 ∙ sym method_is) c.is_method

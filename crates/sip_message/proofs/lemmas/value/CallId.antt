@@ -53,6 +53,7 @@ words-behind text n fits longest =
           let u = front.0 in
           let v = front.1 in
           let whole : text ≡ u ++ v = front.3 in
+          -- the bytes of the token may stand in a word, so those after it decide
           let each = subst (Each1 (Fits w8)) whole (Each1-from_get_or (Fits w8) text 0 (λ k lt. fits k)) in
           let words = token-words u v each (run-list_all is_token_byte u (many-some (One is_token_byte) u front.2)) in
           ap (λ m. list_all is_word_byte (drop m text)) front.4 ∙ ap (λ t. list_all is_word_byte (drop (length u) t)) whole

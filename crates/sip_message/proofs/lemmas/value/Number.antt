@@ -25,7 +25,7 @@ digits-at text k digits within other =
     both_ways (list_all is_ascii_digit text) (list_all_at is_ascii_digit text k 0 within other)
     (run-list_all is_ascii_digit text (many-some (One is_ascii_digit) text digits))
 
--- where the digits before the index write a number, and the byte at the index is a digit, those up to it write ten times as much and it
+-- where the digits before the index write a number, and the byte at the index is a digit, those up to it write ten times the number, plus the digit
 pub number-more : (text : List ℕ) (at number most : ℕ) → at < length text → ReadsNumber text at number most → is_ascii_digit (get_or text at 0) ≡ true → number * 10 + (get_or text at 0 - 48) ≡ digits_value 10 (take (at + 1) text)
 number-more text at number most within reads is =
     let digit = digit-above (get_or text at 0) is in

@@ -1,4 +1,5 @@
 -- A value that is not looked into, in pieces that begin no other: a byte or a blank, and a fold.
+-- In the lemmas u is a piece or a fold, v what follows it, n the length of the pieces at the front of a text, and k that of further ones.
 use Rattle.std.proofs.Common.{◌≡◌, ℕ, ◌+◌, ◌<◌, ◌⊎◌, Bool, true, false, nat_eq, cond, List, [], ◌∷◌, ◌++◌, length, drop, slice_index, if◌then◌else◌, refl, sym, ap, ◌∙◌, subst, inl, inr, arith}
 use Rattle.std.specs.Bool.{Decides}
 use Rattle.std.specs.List.{prefix_len}
@@ -52,10 +53,12 @@ fold-front text is =
     let ends = and_parts _ _ both.0 in
     at text (eqb-true _ _ ends.0) (eqb-true _ _ ends.1) both.1
   where
+    -- CR, LF and a WSP are a piece of three bytes
     at : (t : List ℕ) → slice_index t 0 ≡ carriage_return → slice_index t 1 ≡ line_feed → is_wsp (slice_index t 2) ≡ true → HasFront OtherItem t 3
     at [] cr lf wsp = absurd (omega (arith, cr))
     at (a ∷ []) cr lf wsp = absurd (omega (arith, lf))
     at (a ∷ l ∷ []) cr lf wsp = cc
+    -- CR, LF and a blank are the piece
     at (a ∷ l ∷ b ∷ t) cr lf wsp = (
       crlf ++ (b ∷ []),
       t,
@@ -73,11 +76,12 @@ other-piece : (text : List ℕ) → (other_len text ≡ 0) ⊎ HasFront OtherIte
 other-piece [] = inl refl
 other-piece (a ∷ text) = at (is_plain_byte a) refl
   where
+    -- the claim holds whether or not a fold stands at the front
     folds : (is : Bool) → begins_with_fold (a ∷ text) ≡ is → (fold_len is ≡ 0) ⊎ HasFront OtherItem (a ∷ text) (fold_len is)
     folds false is = inl refl
     folds true is = inr (fold-front (a ∷ text) is)
 
-    -- whether the first byte is a plain one
+    -- the claim holds whether or not the first byte is a plain one
     at : (plain : Bool) → is_plain_byte a ≡ plain → (cond plain 1 (fold_len (begins_with_fold (a ∷ text))) ≡ 0) ⊎ HasFront OtherItem (a ∷ text) (cond plain 1 (fold_len (begins_with_fold (a ∷ text))))
     at true is = inr (a ∷ [], text, inl (a, is, refl), refl, refl)
     at false is = folds (begins_with_fold (a ∷ text)) refl
@@ -95,6 +99,7 @@ blank-item u (front, b, inr fold, one, whole) = inr (front, b, fold, one, whole)
 other-items : (text : List ℕ) → OtherText text → Many OtherItem text
 other-items text many = many-flat (Lws or One is_value_byte) OtherItem text each many
   where
+    -- blanks are pieces, and so is a byte of a value
     each : (u : List ℕ) → (Lws or One is_value_byte) u → Many OtherItem u
     each u (inl lws) = many-map Blank OtherItem u blank-item (blanks-lws u lws)
     each u (inr (b, is, u_is)) = many-one OtherItem u (inl (b, or_left (is_value_byte b) (is_wsp b) is, u_is))
@@ -103,6 +108,7 @@ other-items text many = many-flat (Lws or One is_value_byte) OtherItem text each
 items-other : (text : List ℕ) → Many OtherItem text → OtherText text
 items-other text many = many-map OtherItem (Lws or One is_value_byte) text each many
   where
+    -- each piece is blanks or a byte of a value
     each : (u : List ℕ) → OtherItem u → (Lws or One is_value_byte) u
     each u (inl (b, is, u_is)) = elim (or_cases (is_value_byte b) (is_wsp b) is) [
       | inl byte ↦ inr (b, byte, u_is)
@@ -149,6 +155,7 @@ other-end text rest n front rest_is stops no_fold = (
     at (b ∷ t) stops_t no_t =
         ap (λ w. cond w 1 (cond (begins_with_fold (b ∷ t)) 3 0)) stops_t ∙ ap (λ w. cond w 3 0) no_t
 
+    -- no further piece follows
     none : other_len (drop n text) ≡ 0
     none = subst (λ t. other_len t ≡ 0) rest_is (at rest stops no_fold)
 

@@ -1,4 +1,5 @@
 -- A value is cut off its blanks at both ends.
+-- In the lemmas u and v are parts of a text, n is a length of its front, k a place, and b a byte.
 use Rattle.std.proofs.Common.{◌≡◌, ℕ, zero, suc, ◌-◌, ◌<◌, ◌≤◌, Bool, true, false, not, ◌&&◌, nat_lt, nat_eq, List, [], ◌∷◌, ◌++◌, Option, Some, None, is_some, length, take, drop, get_or, refl, sym, ap, ◌∙◌, subst, inl, inr, arith}
 use Rattle.std.specs.Bool.{Decides}
 use Rattle.std.specs.List.{prefix_len}
@@ -33,6 +34,7 @@ sws-whole text n within longest = (
     | inl none ↦ inl (length-none text (sym (eqb-true n (length text) same) ∙ none))
     | inr front ↦ inr (front-whole Blanks text n front (eqb-true n (length text) same))
   ],
+  -- the other way round, all of the text is blanks, or it is empty, and so the longest run is all of it
   λ sws. elim sws [
     | inl none ↦ eq-eqb n (length text) (omega (arith, within, ap length none))
     | inr blanks ↦
@@ -45,6 +47,7 @@ sws-whole text n within longest = (
 sws-append : (u v : List ℕ) → Sws u → Sws v → Sws (u ++ v)
 sws-append u v left right = blanks-units (u ++ v) (many-append Blank u v (many u left) (many v right))
   where
+    -- optional blanks are any number of blanks
     many : (t : List ℕ) → Sws t → Many Blank t
     many t (inl none) = subst (Many Blank) (sym none) (many-nil Blank)
     many t (inr blanks) = units-blanks t blanks
@@ -91,10 +94,12 @@ pub trimmed : (text rest : List ℕ) (n e : ℕ) → n ≡ prefix_len is_lws_byt
 trimmed text rest n e n_is rest_is within blank solid =
     let cut = prefix-at is_lws_byte text n n_is in
     let stops : Stops is_lws_byte rest = subst (Stops is_lws_byte) (sym rest_is) cut.1 in
+    -- the rest is cut into the value and the blanks after it
     let again : take e rest ++ drop e rest ≡ rest = take-append-drop e rest in
     record {
       blanks = cut.0;
       stops = subst (Stops is_lws_byte) (sym again) stops;
+      -- the value ends with its last byte that is no blank
       opens = opens-take rest e stops;
       ends = ends-take rest e within (λ k is. subst (λ i. is_lws_byte (get_or rest i 0) ≡ false) (omega (arith, is)) (solid (omega (arith, is))));
       spaces = all-from is_lws_byte rest e blank;
@@ -110,9 +115,11 @@ trimmed-value text front value back is left right =
 pub value-trimmed : (text front value back w : List ℕ) → IsTrimmed text front value back → ValueText text w → Sws front × Sws back
 value-trimmed text front value back w is of = at w of.opens of.ends (of.whole.4 ∙ ap (λ t. of.whole.0 ++ t) (of.whole.3.4 ∙ ap (λ t. t ++ b) of.whole.3.2))
   where
+    -- the blanks before the value
     a : List ℕ
     a = of.whole.0
 
+    -- the blanks after the value
     b : List ℕ
     b = of.whole.3.1
 
@@ -132,6 +139,7 @@ value-trimmed text front value back w is of = at w of.opens of.ends (of.whole.4 
         right [] v e = ap length e
         right (c ∷ u) v e = absurd (omega (arith, ap length e))
     at (c ∷ v) opens ends whole =
+        -- the blanks in front are the same in both cuts, so the values are, and what is left behind them are the same blanks
         let cut = same_front is_lws_byte front (value ++ back) a ((c ∷ v) ++ b) is.blanks (each-sws a of.whole.2) is.stops opens (sym is.whole ∙ whole) in
         let values : value ≡ c ∷ v = same_solid value back (c ∷ v) b is.ends ends is.spaces (each-sws b of.whole.3.3) cut.1 in
         let backs : back ≡ b = append_cancel_left (c ∷ v) back b (ap (λ t. t ++ back) (sym values) ∙ cut.1) in
@@ -153,11 +161,13 @@ one-space [] solid = absurd (both_ways false refl solid)
 one-space (b ∷ value) solid =
     let last : ℕ = length (b ∷ value) - 1 in
     let both = and_parts (nat_lt 0 (length (b ∷ value)) && not (is_lws_byte b)) (not (is_lws_byte (get_or (b ∷ value) last 0))) solid in
+    -- neither the first byte nor the last one is a blank
     let opens : is_lws_byte b ≡ false = not-true (is_lws_byte b) (and_parts (nat_lt 0 (length (b ∷ value))) (not (is_lws_byte b)) (both.0)).1 in
     let end : last ≡ length value = omega arith in
     record {
       opens = opens;
       ends = ends-solid b value (subst (λ i. is_lws_byte (get_or (b ∷ value) i 0) ≡ false) end (not-true _ (both.1)));
+      -- the SP, the value and nothing more are the text
       whole = (
         space ∷ [],
         b ∷ value,

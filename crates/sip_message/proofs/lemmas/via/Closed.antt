@@ -1,4 +1,7 @@
--- Values of Via stay such, and keep the transport of their first element, when a run of blanks in them becomes one SP.
+-- A value of Via stays one, and keeps the transport of its first element, when a run of blanks in it becomes one SP.
+-- Of an element of Via a, b and c are its protocol, version and transport, s and r the slashes, sp the blanks, h the host, p the port and q the parameters,
+-- and w1 to w7 what follows each; of further elements m is the comma with its blanks, x the first one and y the others, t both; v is the first of the
+-- elements vs, and n and v a parameter's name and value.
 use Rattle.std.proofs.Common.{◌≡◌, ℕ, ◌≤◌, Bool, true, false, List, [], ◌∷◌, ◌++◌, length, Option, Some, None, refl, sym, ap, ◌∙◌, subst, inl, inr, arith}
 use Rattle.std.specs.Bool.{Decides}
 use Rattle.std.specs.Prelude.{IfSome, codes, bytes_eq}
@@ -43,6 +46,7 @@ no_token u (d, t, d_is, rest, whole) token =
 some_is : {x y : List ℕ} → Some x ≡ Some y → x ≡ y
 some_is {x = x} is = ap (value_or x) is
   where
+    -- the value of an option, and d where there is none
     value_or : List ℕ → Option (List ℕ) → List ℕ
     value_or d None = d
     value_or d (Some v) = v
@@ -66,6 +70,7 @@ ok-branch : (ps : List (List ℕ × Option (List ℕ))) → AllOk BranchOk ps �
 ok-branch [] all = (None, refl)
 ok-branch ((n, value) ∷ ps) all = at (ok-branch ps all.1) (bytes_eq (folded n) (folded (codes "branch"))) (bytes_eq-Decides (folded n) (folded (codes "branch")))
   where
+    -- the claim holds whether or not the first parameter is a branch
     at : ((branch : Option (List ℕ)) × IsBranch ps branch) → (same : Bool) → Decides same (SameText n (codes "branch")) → (branch : Option (List ℕ)) × IsBranch ((n, value) ∷ ps) branch
     at more true is = let v = all.0 (is.0 refl) in (Some v.0, inl (is.0 refl, v.0, v.1, v.2, refl, more.0, more.1))
     at more false is = (more.0, inr ((λ same. both_ways false refl (is.1 same)), more.1))
@@ -74,6 +79,7 @@ ok-branch ((n, value) ∷ ps) all = at (ok-branch ps all.1) (bytes_eq (folded n)
 some-host : (t : List ℕ) (h : HostParts) → HostText t h → t ≡ [] → ⊥
 some-host t (name x) is none = absurd (omega (arith, ap length none, ap length is.0.4, length-append is.0.0 is.0.1, ap length is.0.3.4, length-append is.0.3.0 is.0.3.1, label is.0.3.0 is.0.3.2))
   where
+    -- a label has at least one byte
     label : (u : List ℕ) → Label is_ascii_alphabetic u → 1 ≤ length u
     label u (inl one) = omega (arith, ap length one.2)
     label u (inr both) = omega (arith, ap length both.4, length-append both.0 both.1, ap length both.2.2)
@@ -162,6 +168,7 @@ via-set T text v t (fits, (a, w1, a_is, (s, w2, slash1, (b, w3, b_is, (r, w4, sl
     s,
     w2,
     slash1,
+    -- after the slash stand the version, a slash, and then the transport
     (
       b,
       w3,
@@ -176,6 +183,7 @@ via-set T text v t (fits, (a, w1, a_is, (s, w2, slash1, (b, w3, b_is, (r, w4, sl
           w5,
           subst T (sym c_is) t,
           (
+            -- after the transport stand blanks, and then the host
             sp,
             w6,
             blanks,
@@ -183,6 +191,7 @@ via-set T text v t (fits, (a, w1, a_is, (s, w2, slash1, (b, w3, b_is, (r, w4, sl
               h,
               w7,
               (v.host, fits.host, h_is),
+              -- after the host stand an optional port, and the parameters
               (
                 p,
                 q,
@@ -210,6 +219,7 @@ set-via : (T : List ℕ → Type 0) (text : List ℕ) → ((u : List ℕ) → T 
 set-via T text token (a, w1, a_is, (s, w2, slash1, (b, w3, b_is, (r, w4, slash2, (c, w5, c_is, (sp, w6, blanks, (h, w7, (host, host_fits, h_is), (p, q, (port, port_fits, port_is), params, w7_is), w6_is), w5_is), w4_is), w3_is), w2_is), w1_is), whole) =
     let tail = set-tail BranchOk q params in
     let branch = ok-branch tail.1 tail.3 in
+    -- v has the parts of the element
     let v : ViaParts = record { protocol = a; version = b; transport = c; host = host; port = port; params = tail.0; branch = branch.0 } in (
       v,
       (
@@ -250,6 +260,7 @@ closed-vias_set T solid some =
 pub unfolded-via : (text transport : List ℕ) → TopTransport text transport → TopTransport (unfolded text) transport
 unfolded-via text transport (v, vs, (x, y, via, more, whole), is) =
     let token : Token transport = subst Token (sym is) via.0.transport in
+    -- `set`: the value is elements of which the first has this transport; this stays so when its folds are taken out (`after`)
     let set : ViasSet (Exactly transport) text = (x, y, via-set (Exactly transport) x v (sym is) via, more-set vs y more, whole) in
     let after = closed-unfolded (ViasSet (Exactly transport)) (closed-vias_set (Exactly transport)
     (λ u same. subst (All is_solid) (sym same) (solid-token transport token))

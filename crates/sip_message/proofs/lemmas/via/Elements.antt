@@ -1,4 +1,6 @@
 -- The elements of Via fields, one after another.
+-- Of further elements u is the comma with its blanks, of which s are those before it, and v what follows: w, or x, is the text of the first one, and f what
+-- it is read as.
 use Rattle.std.proofs.Common.{◌≡◌, ℕ, zero, suc, ◌+◌, ◌<◌, List, [], ◌∷◌, ◌++◌, length, drop, map, cond, slice_index_or, add-one, true, false, Option, None, Some, inl, inr, refl, sym, ap, ◌∙◌, subst, arith}
 use Rattle.std.proofs.Math.Logic.{∥∥₁_elim}
 use Rattle.std.specs.Coded.{Coded, Coded-set}
@@ -54,6 +56,7 @@ element-stops text rest v is =
 pub more-mark : (e : Element) (es : List Element) (rest : List ℕ) → MoreElements (e ∷ es) rest → (next : List ℕ) × MarkFront comma rest next × ElementsText next (e ∷ es)
 more-mark e es rest (via, (u, v, mark, (w, x, w_is, more, v_is), whole)) = (v, (stops, (u, v, mark, refl, whole)), (via, (w, x, w_is, more, v_is)))
   where
+    -- after the comma and its blanks no blank follows
     stops : StopsBlank v
     stops = subst StopsBlank (sym (v_is ∙ ap (λ t. t ++ x) w_is)) (element-stops e.0 x e.1 via)
 
@@ -66,6 +69,7 @@ no_mark-nil mark next (stops, (u, v, (s, t, sws, (b, w, b_is, w_is, t_is), u_is)
 left-nothing : (rest : List ℕ) (values : List (List ℕ)) (es : List Element) → NotRead (MarkFront comma rest) → AreLeft rest values es → (rest ≡ []) × AreElements values es
 left-nothing rest values es none left = at left.now left.are_now left.whole
   where
+    -- nothing is left of the value, since a comma would follow if an element were left
     at : (now : List Element) → MoreElements now rest → es ≡ now ++ left.more → (rest ≡ []) × AreElements values es
     at [] is whole = (is, subst (AreElements values) (sym whole) left.are_more)
     at (e ∷ now) is whole = let mark = more-mark e now rest is in absurd (none mark.0 mark.1)
@@ -82,6 +86,7 @@ left-of_nothing values es left = (left-nothing [] values es (no_mark-nil comma) 
 left-behind : (rest text : List ℕ) (values : List (List ℕ)) (es : List Element) → ReadAs (MarkFront comma rest) text → AreLeft rest values es → AreElements (text ∷ values) es
 left-behind rest text values es mark left = at left.now left.are_now left.whole
   where
+    -- the elements of what follows the comma are the first of those that are left, since an element follows a comma
     at : (now : List Element) → MoreElements now rest → es ≡ now ++ left.more → AreElements (text ∷ values) es
     at [] is whole = absurd (no_mark-nil comma text (subst (λ t. MarkFront comma t text) is mark.0))
     at (e ∷ now) is whole =
@@ -144,10 +149,11 @@ read-only : (rest text : List ℕ) (vals more : List (List ℕ)) (e : Element) (
     → (others : List Element) × (es ≡ e ∷ others) × IsOnly (AreLeft behind more) others
 read-only rest text vals more e behind es next read only = (first.others, first.first, record { is = first.are_left; only = same })
   where
+    -- the first element that is left is the one that was read
     first : FirstRead e behind more es
     first = first-read text e behind more es read (next.to es only.is)
 
-    -- the elements that are left after the first are in one way what they are
+    -- any list of elements that are left after the first is the list of the other elements
     same : (ys : List Element) → AreLeft behind more ys → ys ≡ first.others
     same ys left =
         let eq : ◌≡◌ {A = List Element} (e ∷ ys) (e ∷ first.others) = only.only (e ∷ ys) (next.from (e ∷ ys) (read-first text e behind more ys read.0 left)) ∙ first.first in
@@ -170,7 +176,7 @@ pub One-none : (rest : List ℕ) (vals : List (List ℕ)) (one : ExactlyOne (Are
 unfolding the
 One-none rest vals one none = ∥∥₁_elim one.1 (Coded-set elements_code one.0 []) (λ p. none one.0 p.is)
 
--- where elements are left, an element is read at the front of the next text
+-- where there is one list of the elements that are left, it cannot be that no element is read at the front of the next text
 pub One-read : (rest text : List ℕ) (vals more : List (List ℕ)) → ((es : List Element) → AreLeft rest vals es → NextText rest vals text more) → NotRead (ViaFront text) → ExactlyOne (AreLeft rest vals) → ⊥
 One-read rest text vals more next none one = ∥∥₁_elim one.1 (λ a b. absurd a) (λ p. no-first text more one.0 none ((next one.0 p.is).to one.0 p.is))
 
@@ -183,6 +189,7 @@ pub One-of : {X : Type 0} (R : X → Type 0) (x : X) → R x → ((y : X) → R 
 One-of R x is only = (x, ∣ record { is = is; only = only } ∣₁)
 
 -- an iterator that yielded the first element of its list has a shorter list left
+-- s is the list, a the element and t what is left
 pub yields-nearer : {A B : Type 0} (a : A) (s t : List B) (b : B) → s ≡ b ∷ t → MakesProgress (λ _. ⊤) (item_count (λ it. it)) s (Some a) t
 yields-nearer a s t b is = record { on = (λ fin. (tt, fin, omega (arith, ap length is))); keeps = tt; rests = (λ fin. tt) }
 

@@ -1,4 +1,5 @@
 -- The host and the port of sent-by, at the front of a text.
+-- A host is a name (`name`), an IPv4 address (`v4`) or an IPv6 address in brackets (`v6`).
 use Rattle.std.proofs.Common.{◌≡◌, ℕ, Bool, true, false, nat_eq, ◌||◌, List, [], ◌∷◌, ◌++◌, Option, Some, None, length, slice_index, refl, sym, ap, ◌∙◌, subst, inl, inr, arith}
 use Rattle.std.specs.Prelude.{IfSome}
 use Rattle.std.specs.Char.{is_ascii_digit}
@@ -42,6 +43,7 @@ host-bracket text part rest is = read-one (HostCut text) (part, rest) (one-host_
 pub host-token : {A : Type 0} (parts : A → List ℕ × List ℕ) (text : List ℕ) (r : Option A) → NotRead (BracketFront text) → IsOnlyValue TokenFront parts text r → IsOnlyValue HostCut parts text r
 host-token parts text None bracket none = at
   where
+    -- what may be a host is not read, neither in brackets nor as a token
     at : NotRead (HostCut text)
     at x (inl is) = bracket x is
     at x (inr is) = none x is
@@ -49,6 +51,7 @@ host-token parts text (Some a) bracket read = read-one (HostCut text) (parts a) 
 
 -- the parts of a host, with what is left after it, are read in one way
 pub one-host_last : (part rest : List ℕ) → AtMostOne (λ (x : HostParts × List ℕ). HostText part (x.0) × (x.1 ≡ rest))
+-- h and k are the hosts by the two readings, and r and s what is left
 one-host_last part rest (h, r) (k, s) (h_is, r_is) (k_is, s_is) =
     ap (λ x. (x, r)) (same-host part h k h_is k_is) ∙ ap (λ x. (k, x)) (r_is ∙ sym s_is)
 
@@ -77,6 +80,7 @@ bytes-token : (u : List ℕ) → All is_token_byte u → (u ≡ [] → ⊥) → 
 bytes-token [] all some = absurd (some refl)
 bytes-token (b ∷ u) all some = (b ∷ [], u, (b, all.0, refl), many u all.1, refl)
   where
+    -- bytes of tokens are any number of them
     many : (t : List ℕ) → All is_token_byte t → Many (One is_token_byte) t
     many [] every = many-nil (One is_token_byte)
     many (c ∷ t) every = many-cons (One is_token_byte) (c ∷ []) t (c, every.0, refl) (many t every.1)
@@ -135,6 +139,7 @@ front-host text h rest (both (part, left) cut (is, rest_is)) =
     let spelled = same h is in
     (subst (λ t. HostText t h) (sym spelled) is, whole cut ∙ ap (λ t. t ++ left) (sym spelled) ∙ ap (λ t. host_text h ++ t) (sym rest_is))
   where
+    -- the host that was read is spelled as this part of the text
     same : (k : HostParts) → HostText part k → host_text k ≡ part
     same (name x) fits = fits.1
     same (v4 x) fits = fits.1
@@ -150,6 +155,7 @@ pub port-front : (port : Option (List ℕ)) (p rest : List ℕ) → IfSome port 
 port-front None p rest fits p_is next =
     let whole : p ++ rest ≡ rest = ap (λ t. t ++ rest) p_is in
     ((λ inner mark. next-other is_separator colon rest refl refl next inner (subst (λ t. MarkFront colon t inner) whole mark)), sym whole)
+-- a colon and a port are read, and the port ends where its bytes end, since no byte of a token follows them
 port-front (Some port) p rest fits (m, t, mark, t_is, p_is) next = (
   port ++ rest,
   (

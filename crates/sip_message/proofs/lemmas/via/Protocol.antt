@@ -1,4 +1,4 @@
--- The steps by which sent-protocol is read read what the grammar has.
+-- The steps by which sent-protocol is read find what the grammar has.
 use Rattle.std.proofs.Common.{ℕ, List, [], ◌∷◌, ◌++◌, refl, sym, ap, ◌∙◌, subst}
 use Rattle.sip_standard.specs.Text.{Exactly, ◌then◌}
 use Rattle.sip_standard.specs.Profile.{Token, Blanks}
@@ -29,6 +29,7 @@ pub record IsProtocol (text : List ℕ) (p : ProtocolParts) : Type 0 where
 fail-stops : (P : List ℕ → Type 0) → AllFail is_token_byte P → (u : List ℕ) → P u → Stops is_token_byte u
 fail-stops P fail u is = at u (fail u is)
   where
+    -- a text that fails the test of a byte of a token begins with no such byte
     at : (v : List ℕ) → Fails is_token_byte v → Stops is_token_byte v
     at [] fails = absurd fails
     at (b ∷ v) fails = fails
@@ -37,6 +38,7 @@ fail-stops P fail u is = at u (fail u is)
 pub token-stops : (t rest : List ℕ) → Token t → StopsBlank (t ++ rest)
 token-stops t rest token = at t token
   where
+    -- a token begins with no blank, whatever follows it
     at : (u : List ℕ) → Token u → StopsBlank (u ++ rest)
     at [] is = absurd (some-run is_token_byte [] is refl)
     at (b ∷ u) is = stops-byte b (u ++ rest) (solid_is b (solid-token (b ∷ u) is).0)
@@ -49,6 +51,7 @@ protocol-steps text p is =
     let three = two.3 in
     let four = three.3 in
     let five = four.3 in
+    -- each step reads its part, and ends where the next one begins
     both (p.protocol, one.1) (is.protocol, fail-stops _ (fail-slash _) one.1 two, (p.protocol, one.1, refl, refl, one.4 ∙ ap (λ x. x ++ one.1) one.2))
     (both two.1 (subst StopsBlank (sym (three.4 ∙ ap (λ x. x ++ three.1) three.2)) (token-stops p.version three.1 is.version), (two.0, two.1, two.2, refl, two.4))
     (both (p.version, three.1) (is.version, fail-stops _ (fail-slash _) three.1 four, (p.version, three.1, refl, refl, three.4 ∙ ap (λ x. x ++ three.1) three.2))
@@ -57,6 +60,7 @@ protocol-steps text p is =
     (both p.rest (is.stops, five.3) refl)))))
 
 -- where a token is read at the front of a text, and what is left is of Q, the text is the token and a text of Q
+-- x is the text, u the token and y what is left
 token-then : (x u y : List ℕ) (Q : List ℕ → Type 0) → TokenFront x (u, y) → Q y → (Exactly u then Q) x
 token-then x u y Q is rest = (u, y, refl, rest, is.2.4 ∙ ap (λ z. z ++ is.2.1) is.2.2 ∙ ap (λ z. u ++ z) is.2.3)
 
@@ -66,6 +70,7 @@ mark-then x y Q is rest = (is.1.0, y, is.1.2, rest, is.1.4 ∙ ap (λ z. is.1.0 
 
 -- what the steps read is sent-protocol LWS of the grammar
 pub steps-protocol : (text : List ℕ) (p : ProtocolParts) → ProtocolFront text p → IsProtocol text p
+-- a, b and d are the protocol, the version and the transport, q, s and w what is left after each, and r and t what is left after the slashes
 steps-protocol text p (both (a, q) first (both r slash1 (both (b, s) second (both t slash2 (both (d, w) third (both rest blanks is)))))) =
     subst (IsProtocol text) (sym is) (record {
       protocol = first.0;

@@ -1,4 +1,7 @@
--- The steps by which an element of Via is read read what the grammar has, and in one way.
+-- The steps by which an element of Via is read find what the grammar has, and in one way.
+-- Of an element of Via a, b and c are its protocol, version and transport, s and r the slashes, sp the blanks, h the host, p the port and q the parameters,
+-- and w1 to w7 what follows each; r1 to r3 are what is left after the host, the port and the parameters; of parameters m is the ";" with its blanks and t
+-- what follows.
 use Rattle.std.proofs.Common.{◌≡◌, ℕ, ◌-◌, ◌≤◌, nat_eq, List, [], ◌∷◌, ◌++◌, Option, Some, None, length, take, refl, sym, ap, ◌∙◌, subst, inl, arith}
 use Rattle.std.proofs.lemmas.List.{append_assoc}
 use Rattle.sip_standard.specs.Text.{Exactly, ◌then◌}
@@ -60,6 +63,7 @@ behind-part (b ∷ part) q opens blanks = (stops-byte b part opens, blanks)
 part-behind : (ps : List Param) (q part : List ℕ) → ParamsText q ps → Behind q part → ParamsPart part ps × BehindBlanks part q
 part-behind [] q part q_is (stops, (u, v, sws, v_is, whole)) = at part (none u v (sym whole ∙ q_is)) v_is
   where
+    -- where two texts together are empty, the second is
     none : (a b : List ℕ) → a ++ b ≡ [] → b ≡ []
     none [] b is = is
     none (c ∷ a) b is = absurd (omega (arith, ap length is))
@@ -72,9 +76,11 @@ part-behind (p ∷ ps) q part (m, t, (s, c, sws, (byte, after, byte_is, after_is
     subst (λ x. ParamsPart x (p ∷ ps) × BehindBlanks x q) (sym part_is)
     ((refl, (semicolon ∷ after, t, ([], semicolon ∷ after, inl refl, (semicolon ∷ [], after, refl, after_is, refl), refl), more, refl)), (s, semicolon ∷ (after ++ t), sws, refl, flat))
   where
+    -- the text is blanks, ";" and what follows
     flat : q ≡ s ++ (semicolon ∷ (after ++ t))
     flat = whole ∙ ap (λ x. x ++ t) (m_is ∙ ap (λ x. s ++ x) (c_is ∙ ap (λ x. x ++ after) byte_is)) ∙ append_assoc s (semicolon ∷ after) t
 
+    -- the part begins with ";"
     part_is : part ≡ semicolon ∷ (after ++ t)
     part_is = same-behind q part (semicolon ∷ (after ++ t)) behind (stops-byte semicolon (after ++ t) refl, (s, semicolon ∷ (after ++ t), sws, refl, flat))
 
@@ -89,40 +95,52 @@ pub via-steps : (text : List ℕ) (e : Element) (rest : List ℕ) → ViaFront t
 via-steps text (whole, v) rest ((fits, (a, w1, a_is, (s, w2, slash1, (b, w3, b_is, (r, w4, slash2, (c, w5, c_is, (sp, w6, blanks, (h, w7, h_is, (p, q, port, params, w7_is), w6_is), w5_is), w4_is), w3_is), w2_is), w1_is), whole_is)), text_is, ends) =
     subst (λ t. ViaSteps t (v, rest)) (sym text_is)
     (both sent (protocol-steps (whole ++ rest) sent (record { protocol = fits.protocol; version = fits.version; transport = fits.transport; stops = stops; whole = spelled }))
+    -- after the transport the host, the port and the parameters are read
     (both (v.host, w7 ++ rest) (subst (λ t. HostFront t (v.host, w7 ++ rest)) (sym hosted) (host-front v.host (w7 ++ rest) fits.host after))
     (both (v.port, q ++ rest) (subst (λ t. LedFront colon PortFront t (v.port, q ++ rest)) (sym ported) (port-front v.port p (q ++ rest) fits.port port next))
     (both ((v.params, v.branch), rest) (((fits.params.0, (params-front fits.params.0 q rest texts separated, no-param (λ x. nat_eq x comma) rest refl (ends-next (λ x. nat_eq x comma) rest refl ends)), fits.params.2), (q, refl, behind-part v.params q fits.params.1.0 params)))
     (ends, refl)))))
   where
+    -- the protocol, the version and the transport, with what follows them
     sent : ProtocolParts
     sent = record { protocol = v.protocol; version = v.version; transport = v.transport; rest = w6 ++ rest }
 
+    -- the front of the text is the protocol, the version and the transport
     spelled : ProtocolText v.protocol v.version v.transport (Exactly (w6 ++ rest)) (whole ++ rest)
     spelled = (a, w1 ++ rest, a_is, (s, w2 ++ rest, slash1, (b, w3 ++ rest, b_is, (r, w4 ++ rest, slash2, (c, w5 ++ rest, c_is, (sp, w6 ++ rest, blanks, refl, onto w5 sp w6 rest w5_is), onto w4 c w5 rest w4_is), onto w3 r w4 rest w3_is), onto w2 b w3 rest w2_is), onto w1 s w2 rest w1_is), onto whole a w1 rest whole_is)
 
+    -- what follows the transport begins with the host
     hosted : w6 ++ rest ≡ host_text v.host ++ (w7 ++ rest)
     hosted = onto w6 h w7 rest w6_is ∙ ap (λ t. t ++ (w7 ++ rest)) h_is
 
+    -- what follows the host is the port, if there is one, and the parameters
     ported : w7 ++ rest ≡ p ++ (q ++ rest)
     ported = onto w7 p q rest w7_is
 
+    -- the host begins with no blank
     stops : StopsBlank (w6 ++ rest)
     stops = subst StopsBlank (sym hosted) (host-stops v.host (w7 ++ rest) fits.host)
 
+    -- the parameters, with their blanks, are these
     texts : ParamsText q fits.params.0
     texts = behind-params v.params fits.params.0 q fits.params.1 params
 
+    -- what follows the element begins with a separator
     separated : Next is_separator rest
     separated = ends-next is_separator rest refl ends
 
+    -- the parameters, or what follows them, begin with a separator
     next : Next is_separator (q ++ rest)
     next = params-next fits.params.0 q rest texts separated
 
+    -- what follows the host begins with a byte that may stand there
     after : Next is_after_host (w7 ++ rest)
     after = subst (Next is_after_host) (sym ported) (port-next v.port p (q ++ rest) port next)
 
 -- where what follows sent-protocol LWS is w and r, the text is a front and r, and the front is sent-protocol LWS and w
+-- a, b and c are the name, the version and the transport of sent-protocol; the front ends in a text of Q, as w is
 protocol-before : (a b c text rest w r : List ℕ) → rest ≡ w ++ r → ProtocolText a b c (Exactly rest) text → (whole : List ℕ) × (text ≡ whole ++ r) × ((Q : List ℕ → Type 0) → Q w → ProtocolText a b c Q whole)
+-- each part and mark is put in front again, with w in place of what followed
 protocol-before a b c text rest w r rest_is (a0, w1, a_is, (s, w2, slash1, (b0, w3, b_is, (r0, w4, slash2, (c0, w5, c_is, (sp, w6, blanks, w6_is, w5_is), w4_is), w3_is), w2_is), w1_is), whole_is) = (
   a0 ++ (s ++ (b0 ++ (r0 ++ (c0 ++ (sp ++ w))))),
   under text a0 w1 _ r whole_is (under w1 s w2 _ r w1_is (under w2 b0 w3 _ r w2_is (under w3 r0 w4 _ r w3_is (under w4 c0 w5 _ r w4_is (under w5 sp w6 w r w5_is (w6_is ∙ rest_is)))))),
@@ -134,6 +152,7 @@ pub steps-via : (text : List ℕ) (v : ViaParts) (rest : List ℕ) → ViaSteps 
 steps-via text v rest (both sent protocol (both (h, r1) host (both (port, r2) led (both ((params, branch), r3) (is_branch, (x, x_is, behind)) (ends, v_is))))) =
     subst (λ y. (whole : List ℕ) × ViaFront text ((whole, y.0), y.1)) (sym v_is) (
       begun.0,
+      -- the parts fit, and stand in the order of the text
       (
         (
           record { protocol = spelled.protocol; version = spelled.version; transport = spelled.transport; host = hosted.0; port = ported.2; params = (is_branch.0, parts.0, is_branch.2) },
@@ -144,23 +163,29 @@ steps-via text v rest (both sent protocol (both (h, r1) host (both (port, r2) le
       ),
     )
   where
+    -- the text begins with the protocol that the steps read
     spelled : IsProtocol text sent
     spelled = steps-protocol text sent protocol
 
+    -- the host is read at the front of what follows the transport
     hosted : HostText (host_text h) h × (sent.rest ≡ host_text h ++ r1)
     hosted = front-host sent.rest h r1 host
 
+    -- the port, if there is one, is read after the host
     ported : (p : List ℕ) × ColonPort port p × IfSome port Port × (r1 ≡ p ++ r2)
     ported = front-port port r1 r2 led
 
+    -- the parameters are read after the port
     texts : (u : List ℕ) × ParamsText u is_branch.0 × (r2 ≡ u ++ r3)
     texts = front-params is_branch.0 r2 r3 is_branch.1.0
 
+    -- the parameters begin with the first ";", after blanks
     parts : ParamsPart params is_branch.0 × BehindBlanks params x
     parts =
         part-behind is_branch.0 x params
         (subst (λ t. ParamsText t is_branch.0) (same_by_end texts.0 r3 x r3 refl (sym texts.2 ∙ x_is)).0 texts.1) behind
 
+    -- what follows the transport is the host, the port, the parameters and what is left
     tail_is : sent.rest ≡ (host_text h ++ (ported.0 ++ x)) ++ r3
     tail_is = under sent.rest (host_text h) r1 (ported.0 ++ x) r3 hosted.1 (under r1 ported.0 r2 x r3 ported.3 x_is)
 
@@ -170,6 +195,7 @@ steps-via text v rest (both sent protocol (both (h, r1) host (both (port, r2) le
 
 -- an element of Via at the front of a text is read in one way
 pub one-via : (text : List ℕ) → AtMostOne (ViaFront text)
+-- w and x are the texts of the element, v and y its parts, and r and s what is left, by the two readings
 one-via text ((w, v), r) ((x, y), s) a b =
     let same : ◌≡◌ {A = ViaParts × List ℕ} (v, r) (y, s) = one-via_steps text (v, r) (y, s) (via-steps text (w, v) r a) (via-steps text (x, y) s b) in
     let rest : r ≡ s = ap (λ z. z.1) same in

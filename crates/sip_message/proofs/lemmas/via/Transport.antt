@@ -1,4 +1,5 @@
 -- A value of Via has one transport of its first element.
+-- In the lemmas u is a text and v what follows it, and b a byte of it; beside t, u is another transport of one value.
 use Rattle.std.proofs.Common.{◌≡◌, ℕ, Bool, true, false, ◌||◌, nat_eq, List, [], ◌∷◌, ◌++◌, length, refl, sym, ap, ◌∙◌, subst, inl, inr, arith}
 use Rattle.std.proofs.lemmas.Bool.{both_ways, eqb-true, or_right}
 use Rattle.std.proofs.lemmas.List.{append_assoc, length-append}
@@ -36,6 +37,7 @@ pub fail-then : (test : ℕ → Bool) (P Q : List ℕ → Type 0) → AllFail te
 fail-then test P Q fail u both = subst (Fails test) (sym both.4) (fails-append test both.0 both.1 (fail both.0 both.2))
 
 -- where two texts begin alike, each with bytes that pass and then one that does not, their fronts of bytes that pass are the same
+-- u is a text of P and then Q, v one of R and then S; w and x follow them, and both texts are the same
 same_step : (test : ℕ → Bool) (P Q R S : List ℕ → Type 0) (u v w x : List ℕ) → Each test P → Each test R → AllFail test Q → AllFail test S → (one : (P then Q) u) → (other : (R then S) v) → u ++ w ≡ v ++ x → (one.0 ≡ other.0) × (one.1 ++ w ≡ other.1 ++ x)
 same_step test P Q R S u v w x ps rs qs ss one other same =
     same_front test one.0 (one.1 ++ w) other.0 (other.1 ++ x) (ps one.0 one.2) (rs other.0 other.2)
@@ -67,6 +69,7 @@ fail-blanks test fail u blanks = fails-class test is_lws_byte u fail (some-blank
 
 -- no mark begins with a byte that passes where no blank does, and its byte does not
 pub fail-mark : (test : ℕ → Bool) (mark : ℕ) → ((b : ℕ) → is_lws_byte b ≡ true → test b ≡ false) → test mark ≡ false → AllFail test (Mark mark)
+-- v is the mark's byte m with the blanks w after it
 fail-mark test mark fail at_mark u (sws, v, inl none, (m, w, m_is, w_sws, v_is), u_is) =
     subst (Fails test) (sym (u_is ∙ ap (λ t. t ++ v) none ∙ v_is ∙ ap (λ t. t ++ w) m_is)) at_mark
 fail-mark test mark fail at_mark u (sws, v, inr blanks, rest, u_is) =
@@ -78,10 +81,12 @@ each-mark mark is =
     each-then (is_mark_byte mark) _ _ blanks
     (each-then (is_mark_byte mark) _ _ (λ u byte. subst (All (is_mark_byte mark)) (sym byte) (or_right (is_lws_byte mark) _ is, tt)) blanks)
   where
+    -- blanks are bytes that may stand in a mark
     wider : (u : List ℕ) → All is_lws_byte u → All (is_mark_byte mark) u
     wider [] all = tt
     wider (b ∷ u) all = (ap (λ x. x || nat_eq b mark) all.0, wider u all.1)
 
+    -- optional blanks are bytes that may stand in a mark
     blanks : Each (is_mark_byte mark) Sws
     blanks u sws = wider u (each-sws u sws)
 
@@ -89,6 +94,7 @@ each-mark mark is =
 token-mark : (mark : ℕ) → is_token_byte mark ≡ false → (b : ℕ) → is_token_byte b ≡ true → is_mark_byte mark b ≡ false
 token-mark mark is b token = at (is_lws_byte b) (nat_eq b mark) refl refl
   where
+    -- a byte of a token is no blank, and it is not the mark
     at : (blank same : Bool) → is_lws_byte b ≡ blank → nat_eq b mark ≡ same → (blank || same) ≡ false
     at true same blank_is same_is = absurd (both_ways (is_token_byte b) (blank-token b blank_is) token)
     at false true blank_is same_is = absurd (both_ways (is_token_byte b) (ap is_token_byte (eqb-true b mark same_is) ∙ is) token)
@@ -110,21 +116,27 @@ fail-slash R = fail-then is_token_byte (Mark slash) R (fail-mark is_token_byte s
 
 -- a value of Via has one transport of its first element
 pub same_transport : (value t u : List ℕ) → TopTransport value t → TopTransport value u → t ≡ u
+-- v and x are the first elements, with the texts a and b, vs and xs the others, and w and y their texts, by the two readings
 same_transport value t u (v, vs, (a, w, (fits, one), more, is), t_is) (x, xs, (b, y, (fits_too, other), more_too, is_too), u_is) =
     t_is ∙ sym one.3.3.3.3.2 ∙ step5.0 ∙ other.3.3.3.3.2 ∙ sym u_is
   where
+    -- both protocols are the same, and so is what follows them
     step1 : (one.0 ≡ other.0) × (one.1 ++ w ≡ other.1 ++ y)
     step1 = same_step is_token_byte _ _ _ _ a b w y (each-part v.protocol fits.protocol) (each-part x.protocol fits_too.protocol) (fail-slash _) (fail-slash _) one other (sym is ∙ is_too)
 
+    -- both marks after the protocol are the same, and so is what follows them
     step2 : (one.3.0 ≡ other.3.0) × (one.3.1 ++ w ≡ other.3.1 ++ y)
     step2 = same_step (is_mark_byte slash) _ _ _ _ one.1 other.1 w y (each-mark slash refl) (each-mark slash refl) (fail-part v.version _ fits.version) (fail-part x.version _ fits_too.version) one.3 other.3 step1.1
 
+    -- both versions are the same, and so is what follows them
     step3 : (one.3.3.0 ≡ other.3.3.0) × (one.3.3.1 ++ w ≡ other.3.3.1 ++ y)
     step3 = same_step is_token_byte _ _ _ _ one.3.1 other.3.1 w y (each-part v.version fits.version) (each-part x.version fits_too.version) (fail-slash _) (fail-slash _) one.3.3 other.3.3 step2.1
 
+    -- both marks after the version are the same, and so is what follows them
     step4 : (one.3.3.3.0 ≡ other.3.3.3.0) × (one.3.3.3.1 ++ w ≡ other.3.3.3.1 ++ y)
     step4 = same_step (is_mark_byte slash) _ _ _ _ one.3.3.1 other.3.3.1 w y (each-mark slash refl) (each-mark slash refl) (fail-part v.transport _ fits.transport) (fail-part x.transport _ fits_too.transport) one.3.3.3 other.3.3.3 step3.1
 
+    -- both transports are the same, and so is what follows them
     step5 : (one.3.3.3.3.0 ≡ other.3.3.3.3.0) × (one.3.3.3.3.1 ++ w ≡ other.3.3.3.3.1 ++ y)
     step5 = same_step is_token_byte _ _ _ _ one.3.3.3.1 other.3.3.3.1 w y (each-part v.transport fits.transport) (each-part x.transport fits_too.transport)
         (fail-then is_token_byte _ _ (fail-blanks is_token_byte blank-token)) (fail-then is_token_byte _ _ (fail-blanks is_token_byte blank-token)) one.3.3.3.3 other.3.3.3.3 step4.1

@@ -14,6 +14,7 @@ AreVias text = (v : ViaParts) × (vias : List ViaParts) × ViasText text v vias
 
 -- further elements, at least one, begin with a comma, and elements stand after it
 more-comma : (v : ViaParts) (vias : List ViaParts) (text : List ℕ) → MoreVias (v ∷ vias) text → (next : List ℕ) × MarkFront comma text next × ViasText next v vias
+-- m is the comma with its blanks, x the text of v and y that of the others
 more-comma v vias text (m, next, mark, (x, y, via, more, next_is), whole) =
     (next, (subst StopsBlank (sym next_is) (element-stops x y v via), (m, next, mark, refl, whole)), (x, y, via, more, next_is))
 
@@ -24,6 +25,7 @@ more-ends (v ∷ vias) text is = let found = more-comma v vias text is in inr (f
 
 -- the first of the elements stands at the front
 vias-first : (text : List ℕ) → (are : AreVias text) → ViaFront text ((are.2.0, are.0), are.2.1)
+-- v is the first element, x its text and y that of the others
 vias-first text (v, vias, (x, y, via, more, whole)) = (via, whole, more-ends vias y more)
 
 -- where no element is read at the front of a text, the text is no elements
@@ -38,9 +40,11 @@ AreMore text = (vias : List ViaParts) × MoreVias vias text
 pub vias-behind : (text more : List ℕ) (e : Element) → ReadAs (ViaFront text) (e, more) → AreVias text ↔ AreMore more
 vias-behind text more e read = (to, from)
   where
+    -- where the text is elements, what is left after the first is further ones
     to : AreVias text → AreMore more
     to are = (are.1, subst (MoreVias are.1) (ap (λ x. x.1) (read.1 ((are.2.0, are.0), are.2.1) (vias-first text are))) are.2.3)
 
+    -- where what is left is further elements, the text is elements
     from : AreMore more → AreVias text
     from (vias, are) = (e.1, vias, (e.0, more, read.0.0, are, read.0.1))
 
@@ -48,6 +52,7 @@ vias-behind text more e read = (to, from)
 pub more-behind : (rest next : List ℕ) → ReadAs (MarkFront comma rest) next → AreMore rest ↔ AreVias next
 more-behind rest next read = (to, from)
   where
+    -- where the text is further elements, what follows the comma is elements
     to : AreMore rest → AreVias next
     to ([], is) = absurd (no_mark-nil comma next (subst (λ t. MarkFront comma t next) is read.0))
     to (v ∷ vias, is) =
@@ -64,6 +69,7 @@ more-behind rest next read = (to, from)
 pub more-none : (rest : List ℕ) → NotRead (MarkFront comma rest) → AreMore rest ↔ (rest ≡ [])
 more-none rest none = (to, λ is. ([], is))
   where
+    -- where the text is further elements, it is empty, since they would begin with a comma
     to : AreMore rest → rest ≡ []
     to ([], is) = is
     to (v ∷ vias, is) = let found = more-comma v vias rest is in absurd (none found.0 found.1)

@@ -6,7 +6,7 @@ use lib.Lanes.{chunk}
 use Rattle.sip_message.proofs.LaneLemmas.{number-front}
 use Rattle.sip_message.proofs.number.number_of.Goals as goal
 
--- the bytes in small letters, read as one number, whose later bytes are moved out
+-- the number is that of the bytes in small letters, whose later bytes are moved out
 pub returns : goal.returns
 returns c =
     let v = chunk 0 8 c.args.window.now in

@@ -8,6 +8,7 @@ use Rattle.sip_message.proofs.other.is_other.Goals as goal
 -- where neither a plain byte nor a fold follows, the value ends here
 pub returns-then-not-begins_with_fold : goal.returns-then-not-begins_with_fold
 returns-then-not-begins_with_fold c =
+    -- k plain bytes stand at `at`, which the loop reached, and what follows them is no fold
     let text = c.args.text.now in
     let at = c.folds.at in
     let k = c.plain_len-at.result in

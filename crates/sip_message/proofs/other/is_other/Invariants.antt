@@ -8,5 +8,6 @@ use Rattle.sip_message.proofs.other.is_other.Given as goal
 abbrev pub invariant-folds : goal.invariant-folds
 invariant-folds l = record { within : l.at ≤ length l.text; front : HasFront (Many OtherItem) l.text l.at }
 
+-- each turn of the loop goes on in the text, and the text ends
 abbrev pub decreases-folds : goal.decreases-folds
 decreases-folds l = length l.text - l.at

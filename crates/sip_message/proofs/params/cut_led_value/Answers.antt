@@ -6,13 +6,13 @@ use Rattle.sip_message.proofs.lemmas.front.OneWay.{one-value}
 use Rattle.sip_message.proofs.lemmas.front.Led.{no-led, led-some}
 use Rattle.sip_message.proofs.params.cut_led_value.Goals as goal
 
--- a `=` stands there without a value
+-- where a "=" stands there without a value after it, no part is read
 pub returns-in_err-value : goal.returns-in_err-value
 returns-in_err-value c =
     subst (IsOnlyValue (LedFront equals ValueFront) led_parts c.args.text.now) (sym c.from_residual.ensures)
     (no-led equals ValueFront c.args.text.now c.in-Some.inner.now c.in-Some.ensures c.in_err-value.ensures)
 
--- the value after the `=` is cut off
+-- where a value stands after the "=", the part is read with that value
 pub returns : goal.returns
 returns c =
     led-some equals ValueFront c.args.text.now c.in-Some.inner.now c.in_ok-value.value.now c.in_ok-value.rest.now refl one-value

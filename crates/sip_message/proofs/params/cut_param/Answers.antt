@@ -4,13 +4,13 @@ use Rattle.sip_message.specs.inner.ParamFronts.{ParamFront, param_parts}
 use Rattle.sip_message.proofs.lemmas.front.Cuts.{stop, go-stop, go, last}
 use Rattle.sip_message.proofs.params.cut_param.Goals as goal
 
--- no name follows the `;`
+-- where no name follows the ";", no parameter is read
 pub returns-in_err-name : goal.returns-in_err-name
 returns-in_err-name c =
     subst (IsOnlyValue ParamFront param_parts c.args.text.now) (sym c.from_residual-in_err-name.ensures)
     (go-stop c.in_ok-past_mark.ensures (stop c.in_err-name.ensures))
 
--- no value follows the `=`
+-- where a "=" follows the name without a value, no parameter is read
 pub returns-in_err-value : goal.returns-in_err-value
 returns-in_err-value c =
     subst (IsOnlyValue ParamFront param_parts c.args.text.now) (sym c.from_residual-in_err-value.ensures)

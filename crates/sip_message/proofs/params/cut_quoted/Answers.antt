@@ -7,7 +7,7 @@ use Rattle.sip_message.proofs.lemmas.front.Cuts.{ReadAs}
 use Rattle.sip_message.proofs.lemmas.params.Value.{no-quoted, one-quoted_string}
 use Rattle.sip_message.proofs.params.cut_quoted.Goals as goal
 
--- no quoted string stands at the front
+-- where no quoted string stands at the front, none is read
 pub returns-in_err-len : goal.returns-in_err-len
 returns-in_err-len c =
     subst (IsOnlyValue QuotedFront pair_parts c.args.text.now) (sym c.from_residual-in_err-len.ensures)

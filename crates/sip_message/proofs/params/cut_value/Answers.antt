@@ -2,11 +2,11 @@ use Rattle.sip_message.specs.inner.Fronts.{pair_parts}
 use Rattle.sip_message.proofs.lemmas.params.Value.{value-quoted, value-reference, value-bare}
 use Rattle.sip_message.proofs.params.cut_value.Goals as goal
 
--- the value is a quoted string
+-- where a quoted string is read at the front, it is the value
 pub returns-in-Some : goal.returns-in-Some
 returns-in-Some c = value-quoted c.args.text.now c.in-Some.value.now c.in-Some.rest.now c.in-Some.ensures
 
--- the value is an IPv6 address in brackets
+-- where an IPv6 address in brackets is read at the front, it is the value
 pub returns-in-Some-cut_reference : goal.returns-in-Some-cut_reference
 returns-in-Some-cut_reference c =
     value-reference c.args.text.now c.in-Some-cut_reference.value.now c.in-Some-cut_reference.rest.now c.in-Some-cut_reference.ensures

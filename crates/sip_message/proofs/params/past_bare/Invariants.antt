@@ -6,5 +6,6 @@ use Rattle.sip_message.proofs.params.past_bare.Given as goal
 abbrev pub invariant-colons : goal.invariant-colons
 invariant-colons l = BareSoFar l.fn.text l.rest
 
+-- what is left gets shorter in each turn of the loop
 abbrev pub decreases-colons : goal.decreases-colons
 decreases-colons l = length l.rest

@@ -3,7 +3,7 @@ use Rattle.sip_message.specs.inner.ParamFronts.{Param}
 use Rattle.sip_message.proofs.lemmas.params.Reading.{params-more, param-shorter}
 use Rattle.sip_message.proofs.params.past_params.Goals as goal
 
--- one parameter more stands at the front
+-- where one parameter more is read, the text before the rest is parameters still
 pub params-preserved : goal.params-preserved
 params-preserved c =
     let p : Param = (c.in-Some.field-0-0.now, option_copied c.in-Some.field-0-1) in

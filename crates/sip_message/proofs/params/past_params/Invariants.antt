@@ -6,5 +6,6 @@ use Rattle.sip_message.proofs.params.past_params.Given as goal
 abbrev pub invariant-params : goal.invariant-params
 invariant-params l = (params : List Param) × ParamsFront l.fn.text params l.rest
 
+-- what is left gets shorter in each turn of the loop
 abbrev pub decreases-params : goal.decreases-params
 decreases-params l = length l.rest

@@ -5,7 +5,7 @@ use Rattle.sip_message.specs.inner.ParamFronts.{PastRun}
 use Rattle.sip_message.proofs.lemmas.params.Value.{past-token}
 use Rattle.sip_message.proofs.params.past_token.Goals as goal
 
--- what is left begins with no byte of a token
+-- what is left stands after the longest run of bytes of tokens at the front
 pub returns : goal.returns
 returns c =
     subst (PastRun is_token_byte c.args.text.now) (sym (take_rest c.args.text.now c.token_len.result))

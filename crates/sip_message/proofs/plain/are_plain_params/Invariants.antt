@@ -6,5 +6,6 @@ use Rattle.sip_message.proofs.plain.are_plain_params.Given as goal
 abbrev pub invariant-params : goal.invariant-params
 invariant-params l = (l.from ≤ l.end) × (SomeParams (segment l.from l.end l.masks) → SomeParams (segment l.at l.end l.masks))
 
+-- each turn of the loop comes nearer to `end`
 abbrev pub decreases-params : goal.decreases-params
 decreases-params l = l.end - l.from

@@ -13,6 +13,7 @@ returns c = λ so.
     let inner = c.in-Some.inner in
     let close = c.in-Some-past_uri.close in
     let params = c.in-Some-past_byte.params in
+    -- the parts are put together from the parameters, at the end, back to the opening, each before those that were put together already
     let behind = whole-stands SomeParams m params end c.in-Some-past_byte.ensures.1 (c.are_plain_params.ensures so) in
     let closed = then-stands (Byte right_angle) SomeParams m close end params end c.in-Some-past_byte.ensures behind in
     let uri = then-stands SomeUri (Byte right_angle then SomeParams) m inner end close end c.in-Some-past_uri.ensures closed in

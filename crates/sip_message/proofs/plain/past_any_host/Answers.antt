@@ -3,7 +3,7 @@ use Rattle.sip_text.specs.Host.{name}
 use Rattle.sip_message.specs.inner.Plain.{segment}
 use Rattle.sip_message.proofs.plain.past_any_host.Goals as goal
 
--- the host is a name of an ordinary kind
+-- where an ordinary name stands there, it is a host
 pub returns-in-Some : goal.returns-in-Some
 returns-in-Some c =
     let found = c.in-Some.ensures in

@@ -1,9 +1,12 @@
 use Rattle.std.proofs.Common.{arith}
-use Rattle.sip_message.proofs.PlainLemmas.{run-stands}
+use Rattle.sip_message.proofs.PlainLemmas.{run-ends, run-stands}
 use Rattle.sip_message.proofs.plain.past_any_run.Goals as goal
 
--- the run is not empty, and lies within the masks
+-- the place after the run is not after the end of the line
+pub overflow_add-result : goal.overflow_add-result
+overflow_add-result c = omega (arith, run-ends c.args.masks.now c.args.at c.args.end c.run_at-len.result c.requires.0 c.requires.1 c.run_at-len.ensures)
+
+-- a run of plain bytes lies there, since it is not empty and ends before the line does
 pub returns : goal.returns
 returns c =
-    run-stands c.args.masks.now c.args.at c.args.end c.run_at-len.result (omega (arith, c.if-len-eq0.false, c.if-len-end.false)) c.requires.1 c.run_at-len.ensures
-    (omega (arith, c.if-len-eq0.false)) (omega (arith, c.if-len-end.false))
+    run-stands c.args.masks.now c.args.at c.args.end c.run_at-len.result c.requires.0 c.requires.1 c.run_at-len.ensures (omega (arith, c.if-len-eq0.false))

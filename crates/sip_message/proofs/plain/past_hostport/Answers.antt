@@ -10,6 +10,7 @@ use Rattle.sip_message.proofs.plain.past_hostport.Goals as goal
 -- a host, a colon and a port are a host with its port
 pub returns-in-Some : goal.returns-in-Some
 returns-in-Some c =
+    -- m is the text; the host was found, and the code then looks for a colon and a port
     let m = c.args.masks.now in
     let found = c.in_ok-host.ensures in
     let host = found.2 in

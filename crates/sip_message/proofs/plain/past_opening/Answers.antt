@@ -11,6 +11,7 @@ use Rattle.sip_message.proofs.plain.past_opening.Goals as goal
 -- a display name, a blank and `<` open an address
 pub returns : goal.returns
 returns c =
+    -- m is the text: the name ends at `name`, and the blank after it at `behind`, where `<` is looked for
     let m = c.args.masks.now in
     let name = c.in_ok-name.name in
     let behind = c.past_space.result in

@@ -10,6 +10,7 @@ use Rattle.sip_message.proofs.plain.past_plain_quoted.Goals as goal
 -- a quote, words and a quote are a quoted string
 pub returns : goal.returns
 returns c =
+    -- m is the text: the quote ends at `first`, and the words end at `close`, where another quote is looked for
     let m = c.args.masks.now in
     let first = c.in_ok-first.first in
     let close = c.in_ok-close.close in

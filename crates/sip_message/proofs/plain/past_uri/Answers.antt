@@ -9,6 +9,7 @@ use Rattle.sip_message.proofs.plain.past_uri.Goals as goal
 -- `sip:`, a plain user and a host with its port are a URI
 pub returns : goal.returns
 returns c =
+    -- m is the text: `sip:` ends at `start`, and the user with its "@" at `host`, where the host begins
     let m = c.args.masks.now in
     let start = c.in_ok-start.start in
     let host = c.in_ok-host.host in

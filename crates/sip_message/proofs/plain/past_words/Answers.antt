@@ -5,11 +5,11 @@ use Rattle.sip_message.specs.inner.Plain.{PlainRun}
 use Rattle.sip_message.proofs.PlainLemmas.{stands-as, then-stands, words-one, words-more}
 use Rattle.sip_message.proofs.plain.past_words.Goals as goal
 
--- the first run stands alone
+-- the first run of plain bytes alone is words
 pub words-init : goal.words-init
 words-init c = stands-as PlainRun Words c.args.masks.now c.args.at c.args.end c.in_ok-to.to words-one c.in_ok-to.ensures
 
--- a SP and a run more stand after the runs
+-- words, a SP and one run of plain bytes more are words
 pub words-preserved : goal.words-preserved
 words-preserved c =
     let m = c.args.masks.now in

@@ -7,7 +7,7 @@ use Rattle.sip_message.proofs.lemmas.start_line.Reading.{status-read}
 use Rattle.sip_message.proofs.PlainStartLemmas.{reason-open}
 use Rattle.sip_message.proofs.plain_start.open_status.Goals as goal
 
--- the line has the protocol, a code and a reason
+-- a line with the protocol, a code and a reason is a status line
 pub returns : goal.returns
 returns c =
     let line = c.args.line.now in

@@ -9,6 +9,7 @@ use Rattle.sip_message.proofs.plain_start.plain_request.Goals as goal
 -- a method, a URI and the version up to the end are a request line
 pub returns : goal.returns
 returns c =
+    -- m is the text: the method ends at `method`, and the URI goes from `uri` to `to`, where the version follows
     let m = c.args.masks.now in
     let end = c.args.end in
     let method = c.in_ok-method.method in

@@ -7,7 +7,7 @@ use Rattle.sip_message.proofs.PlainLemmas.{then-stands}
 use Rattle.sip_message.proofs.PlainValueLemmas.{call_id-one, call_id-two}
 use Rattle.sip_message.proofs.plain_values.is_plain_call_id.Goals as goal
 
--- the Call-ID is one word, without an `@`
+-- one word that goes up to the end, without an "@", is a Call-ID
 pub returns-then-word-end : goal.returns-then-word-end
 returns-then-word-end c = λ _.
     let m = c.args.masks.now in
@@ -17,6 +17,7 @@ returns-then-word-end c = λ _.
 -- two plain words with `@` between them are a Call-ID
 pub returns-in-Some-past_any_run : goal.returns-in-Some-past_any_run
 returns-in-Some-past_any_run c = λ so.
+    -- m is the text: the first word ends at `word`, where `@` stands, and the second one begins at `other`
     let m = c.args.masks.now in
     let end = c.args.end in
     let word = c.in-Some.word in

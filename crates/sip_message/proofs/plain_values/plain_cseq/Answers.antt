@@ -15,6 +15,7 @@ returns c =
     let method = c.in_ok-method.method in
     let number = c.in_ok-number.number in
     let same = c.text-text.ensures in
+    -- the method goes to the end, and the digits write the number
     let run = subst (LiesWithin PlainRun m method end) c.if-to-end.false c.in_ok-to.ensures in
     let is = subst (λ t. Digits (segment at digits t) × (number ≡ digits_value 10 (segment at digits t)) × (number < 2 ^ 31)) same c.in_ok-number.ensures in
     subst (λ t. CSeqText (segment at end m) number (segment method end t)) (sym same)

@@ -3,7 +3,7 @@ use Rattle.std.proofs.lemmas.Bool.{eqb-false}
 use Rattle.sip_message.proofs.PlainValueLemmas.{ReadsShort, short-more, short-end}
 use Rattle.sip_message.proofs.plain_values.short_number.Goals as goal
 
--- one digit more makes the number ten times as much and the digit
+-- with one digit more the number is ten times as large, plus the digit
 pub loop-byte-preserved : goal.loop-byte-preserved
 loop-byte-preserved c =
     let text = c.args.text.now in
@@ -11,7 +11,7 @@ loop-byte-preserved c =
     subst (λ d. ReadsShort text (at + 1) (c.loop-byte.number * 10 + d)) (sym c.from.ensures)
     (short-more text at c.loop-byte.number c.loop-byte-test.true c.loop-byte.invariant (sym c.is_ascii_digit.ensures.value ∙ c.if-not-is_ascii_digit.false) (omega (arith, c.if-number-gt-LAST_SHORT.false)))
 
--- at the end of the text the whole of it is the number
+-- at the end of the text its digits write the number
 pub returns : goal.returns
 returns c =
     let full : length c.args.text.now ≢ 0 = eqb-false (length c.args.text.now) 0 (sym c.is_empty.ensures ∙ c.if-is_empty.false) in

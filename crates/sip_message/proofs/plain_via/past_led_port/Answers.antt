@@ -6,7 +6,7 @@ use Rattle.sip_message.specs.inner.Plain.{segment, LiesWithin}
 use Rattle.sip_message.proofs.PlainViaLemmas.{port-led}
 use Rattle.sip_message.proofs.plain_via.past_led_port.Goals as goal
 
--- a colon stands at the place, and a port after it
+-- a colon and a port after it are an optional port with its colon
 pub returns : goal.returns
 returns c =
     let m = c.args.masks.now in

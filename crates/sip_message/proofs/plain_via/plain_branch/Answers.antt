@@ -15,6 +15,7 @@ params-preserved c =
     let old = option_copied c.params.branch in
     let found = option_copied c.in_ok-token_branch.field-0 in
     let new = ap option_copied c.or-branch.ensures ∙ copied-or c.params.branch c.in_ok-token_branch.field-0 in (
+      -- the parameter ends where the next one begins, and the others follow
       c.in-Some.ensures.param.1,
       λ later params.
           let all = c.params.invariant.1 (option_or found later) (branch-behind p found later m c.params.from c.args.end c.in-Some.to c.in-Some.ensures.param c.in_ok-token_branch.ensures params) in

@@ -10,5 +10,6 @@ invariant-params l =
     (l.from ≤ l.end)
     × ((later : Option (List ℕ)) → ViaParams (segment l.from l.end l.masks) later → ViaParams (segment l.at l.end l.masks) (option_or (option_copied l.branch) later))
 
+-- each turn of the loop comes nearer to `end`
 abbrev pub decreases-params : goal.decreases-params
 decreases-params l = l.end - l.from

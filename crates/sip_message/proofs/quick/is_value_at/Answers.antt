@@ -55,7 +55,7 @@ returns-in_default-clause-row c = λ _.
     let other : OtherText (segment c.args.at c.args.end c.args.masks.now) = open-other _ c.requires.clear in
     search rules
 
--- a name that is none of the six is of no field that is asked for
+-- a field with another name than these six is not asked for
 pub returns-in_default-clause-asked : goal.returns-in_default-clause-asked
 returns-in_default-clause-asked c = λ _.
     let name = name_parts c.args.name in
@@ -73,7 +73,7 @@ returns-in_default-2-clause-row c = λ _.
     let other : OtherText (segment c.args.at c.args.end c.args.masks.now) = open-other _ c.requires.clear in
     search rules
 
--- a name that is none of the six is of no field that is asked for
+-- a field with another name than these six is not asked for
 pub returns-in_default-2-clause-asked : goal.returns-in_default-2-clause-asked
 returns-in_default-2-clause-asked c = λ _.
     let name = name_parts c.args.name in

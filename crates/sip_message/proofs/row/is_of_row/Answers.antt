@@ -20,6 +20,7 @@ returns-in-Known-Via-clause-kept c =
     let named : name_parts c.args.name ≡ known known_name.Via = ap name_parts c.in-Known-Via.is ∙ ap known (rw c.in-Known-Via.is at c.in-Known-Via.field-0-is) in
     via-keeps _ c.first_via.result c.keep.result _ _ named c.keep.ensures.says c.first_via.ensures c.keep.ensures.kept refl
 
+-- nothing is kept of a From
 pub returns-in-Known-From-clause-kept : goal.returns-in-Known-From-clause-kept
 returns-in-Known-From-clause-kept c = λ _.
     named-keeps known_name.From _ _ (ap name_parts c.in-Known-From.is ∙ ap known (rw c.in-Known-From.is at c.in-Known-From.field-0-is)) (refl, refl)
@@ -29,6 +30,7 @@ pub returns-in-Known-To-clause-kept : goal.returns-in-Known-To-clause-kept
 returns-in-Known-To-clause-kept c = λ _.
     named-keeps known_name.To _ _ (ap name_parts c.in-Known-To.is ∙ ap known (rw c.in-Known-To.is at c.in-Known-To.field-0-is)) (refl, refl)
 
+-- nothing is kept of a Call-ID
 pub returns-in-Known-CallId-clause-kept : goal.returns-in-Known-CallId-clause-kept
 returns-in-Known-CallId-clause-kept c = λ _.
     named-keeps known_name.CallId _ _ (ap name_parts c.in-Known-CallId.is ∙ ap known (rw c.in-Known-CallId.is at c.in-Known-CallId.field-0-is)) (refl, refl)

@@ -9,5 +9,6 @@ invariant-loop-len l = record {
   blank : (k : ℕ) → l.len ≤ k → k < length l.text → is_lws_byte (get_or l.text k 0) ≡ true;
 }
 
+-- each turn of the loop takes one blank off the end
 abbrev pub decreases-loop-len : goal.decreases-loop-len
 decreases-loop-len l = l.len

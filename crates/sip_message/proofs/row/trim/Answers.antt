@@ -6,7 +6,7 @@ use Rattle.sip_message.proofs.lemmas.field.OneWay.{same_value}
 use Rattle.sip_message.proofs.lemmas.value.Trimmed.{one-space}
 use Rattle.sip_message.proofs.row.trim.Goals as goal
 
--- one SP stands before the value, and no other blank at its two ends, as is usual
+-- where one SP stands before the value, and no other blank at its two ends, the value is what follows the SP
 pub returns-in-Some : goal.returns-in-Some
 returns-in-Some c =
     let text = c.args.text.now in

@@ -24,6 +24,7 @@ returns-else-is_sws c = λ w is.
     let cut = trimmed text _ c.blank_len-front.result c.solid_len-end.result c.blank_len-front.ensures.run (take_rest text c.blank_len-front.result)
     c.solid_len-end.ensures.within c.solid_len-end.ensures.blank c.solid_len-end.ensures.solid in
     let blanks = value-trimmed text _ _ _ w cut is in
+    -- what stands at the end, or at the front, is no blank run
     elim c.else-is_sws.branch [
       | else-is_sws-via-then-is_sws+else-is_sws-2 w ↦
           both_ways w.is_sws-then-is_sws.result w.if-is_sws-2.false (w.is_sws-then-is_sws.ensures.1 (subst Sws (sym (take_rest _ c.solid_len-end.result)) blanks.1))

@@ -9,9 +9,11 @@ use Rattle.sip_message.specs.ViaParts.{element}
 use Rattle.sip_message.proofs.lemmas.message.Body.{stream-first, body-method, body-no_length, body-all, body-short, body-long, body-cut, body-whole}
 use Rattle.sip_message.proofs.stages.body_by_length.Goals as goal
 
+-- where the method of CSeq is not that of the request line, this is the fault of the bytes
 pub returns-then-not-fits_method : goal.returns-then-not-fits_method
 returns-then-not-fits_method c = body-method (start_parts c.args.start) (c.args.named.cseq_line, c.args.named.cseq.now) c.args.named.via.now (option_map (digits_value 10) (option_copied c.args.length)) c.args.rest.now (λ fits. both_ways false refl ((c.if-not-fits_method.ensures c.args.named.cseq.now c.requires.cseq).1 fits))
 
+-- where a message over a stream has no Content-Length, this is the fault of the bytes
 pub returns-then-is_stream : goal.returns-then-is_stream
 returns-then-is_stream c =
     body-no_length (start_parts c.args.start) (c.args.named.cseq_line, c.args.named.cseq.now) c.args.named.via.now (option_map (digits_value 10) (option_copied c.args.length)) c.args.rest.now ((c.if-not-fits_method.ensures c.args.named.cseq.now c.requires.cseq).0 refl) (ap (λ o. option_map (digits_value 10) (option_copied o)) c.in_default.is) ((stream-first c.args.named.via.now (element c.args.via.now) _ c.requires.via c.if-is_stream.ensures).0 refl)
@@ -21,7 +23,7 @@ pub returns-in_default : goal.returns-in_default
 returns-in_default c =
     body-all (start_parts c.args.start) (c.args.named.cseq_line, c.args.named.cseq.now) c.args.named.via.now (option_map (digits_value 10) (option_copied c.args.length)) c.args.rest.now ((c.if-not-fits_method.ensures c.args.named.cseq.now c.requires.cseq).0 refl) (ap (λ o. option_map (digits_value 10) (option_copied o)) c.in_default.is) (λ stream. both_ways false refl ((stream-first c.args.named.via.now (element c.args.via.now) _ c.requires.via c.if-is_stream.ensures).1 stream))
 
--- the length is more than any number of bytes here
+-- where Content-Length writes a number above the greatest that is read, fewer bytes follow than it says
 pub returns-in_default-number_at_most : goal.returns-in_default-number_at_most
 returns-in_default-number_at_most c =
     let digits = subst (λ o. IfSome (option_copied o) Digits) c.in-Some.is c.requires.digits in
@@ -32,7 +34,7 @@ pub returns-then-len-rest : goal.returns-then-len-rest
 returns-then-len-rest c =
     body-whole (start_parts c.args.start) (c.args.named.cseq_line, c.args.named.cseq.now) c.args.named.via.now (option_map (digits_value 10) (option_copied c.args.length)) c.args.rest.now c.in-Some-number_at_most.len (ap (λ o. option_map (digits_value 10) (option_copied o)) c.in-Some.is ∙ ap (λ n. Some n) (sym c.in-Some-number_at_most.ensures.0)) ((c.if-not-fits_method.ensures c.args.named.cseq.now c.requires.cseq).0 refl) c.if-len-rest.true
 
--- more bytes follow than the length says, over a stream
+-- where more bytes follow in a stream than Content-Length says, this is the fault of the bytes
 pub returns-then-is_stream-2 : goal.returns-then-is_stream-2
 returns-then-is_stream-2 c =
     body-long (start_parts c.args.start) (c.args.named.cseq_line, c.args.named.cseq.now) c.args.named.via.now (option_map (digits_value 10) (option_copied c.args.length)) c.args.rest.now c.in-Some-number_at_most.len (ap (λ o. option_map (digits_value 10) (option_copied o)) c.in-Some.is ∙ ap (λ n. Some n) (sym c.in-Some-number_at_most.ensures.0)) ((c.if-not-fits_method.ensures c.args.named.cseq.now c.requires.cseq).0 refl)

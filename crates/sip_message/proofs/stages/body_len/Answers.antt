@@ -15,6 +15,7 @@ pub returns-else-is_stream : goal.returns-else-is_stream
 returns-else-is_stream c = (
   omega arith,
   λ v cseq first said.
+      -- len is what Content-Length says, which is nothing, and `all` says that the body is all that follows
       let len = option_map (digits_value 10) (option_copied c.args.content_length) in
       let all = body-all (start_parts c.args.start.now) cseq (v.1) len c.args.rest.now ((c.if-not-fits_method.ensures (cseq.1) said).0 refl) (ap (λ o. option_map (digits_value 10) (option_copied o)) c.in_default.is)
       (λ stream. both_ways false refl ((stream-first (v.1) (element c.args.via.now) _ first c.if-is_stream.ensures).1 stream)) in
@@ -26,6 +27,7 @@ pub returns-then-len-rest : goal.returns-then-len-rest
 returns-then-len-rest c = (
   omega (arith, c.if-len-rest.true),
   λ v cseq first said.
+      -- len is what Content-Length says, and `all` says that the body is all that follows
       let len = option_map (digits_value 10) (option_copied c.args.content_length) in
       let all = body-whole (start_parts c.args.start.now) cseq (v.1) len c.args.rest.now c.in_ok-len.len (ap (λ o. option_map (digits_value 10) (option_copied o)) c.in-Some.is ∙ ap (λ n. Some n) (sym c.in_ok-len.ensures.0)) ((c.if-not-fits_method.ensures (cseq.1) said).0 refl) c.if-len-rest.true in
       subst (λ b. BodyOf (start_parts c.args.start.now) cseq (v.1) len c.args.rest.now (gives b)) (sym (ap (λ n. take n c.args.rest.now) c.if-len-rest.true ∙ take-length c.args.rest.now)) all,

@@ -7,7 +7,7 @@ use Rattle.sip_message.proofs.lemmas.front.Cuts.{ReadAs}
 use Rattle.sip_message.proofs.lemmas.lines.HeadEnd.{no-head, one-head}
 use Rattle.sip_message.proofs.stages.cut_head.Goals as goal
 
--- no empty line stands in the bytes
+-- where no empty line stands in the bytes, they have no head
 pub returns-in_err-at : goal.returns-in_err-at
 returns-in_err-at c = subst (IsOnlyValue CutSays pair_parts c.args.bytes.now) (sym c.from_residual.ensures) (no-head c.args.bytes.now c.in_err-at.ensures)
 

@@ -5,14 +5,14 @@ use Rattle.memchr.specs.Find.{FindsNeedle}
 use Rattle.sip_message.proofs.lemmas.lines.HeadEnd.{double_end, nowhere-double, none-before, first-double, none-more}
 use Rattle.sip_message.proofs.stages.find_double_end.Goals as goal
 
--- no line feed is followed by an empty line
+-- where no empty line follows any line feed that is left, no CRLF CRLF stands in the bytes
 pub returns-in_err-at : goal.returns-in_err-at
 returns-in_err-at c =
     let text = c.args.bytes.now in
     subst (FindsNeedle text double_end 0) (sym c.from_residual.ensures)
     (nowhere-double text _ c.feeds.from c.feeds.invariant.0 (take_rest text c.feeds.from) c.feeds.invariant.1 c.in_err-at.ensures)
 
--- the CR before the line feed makes it a double line end
+-- where a CR stands before the line feed that was found, the first CRLF CRLF begins at that CR
 pub returns-then-is_behind_cr : goal.returns-then-is_behind_cr
 returns-then-is_behind_cr c =
     let text = c.args.bytes.now in

@@ -6,5 +6,6 @@ use Rattle.sip_message.proofs.stages.find_double_end.Given as goal
 abbrev pub invariant-feeds : goal.invariant-feeds
 invariant-feeds l = (l.from ≤ length l.bytes) × NoneSoFar l.bytes l.from
 
+-- each turn of the loop goes on in the bytes, and they end
 abbrev pub decreases-feeds : goal.decreases-feeds
 decreases-feeds l = length l.bytes - l.from

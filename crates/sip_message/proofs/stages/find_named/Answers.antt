@@ -8,7 +8,7 @@ use Rattle.sip_message.proofs.lemmas.asked.Parts.{first-value}
 use Rattle.sip_message.proofs.lemmas.field.Named.{stops-there, once-first}
 use Rattle.sip_message.proofs.stages.find_named.Goals as goal
 
--- no Via stands in the head
+-- where no Via stands in the head, this is the fault
 pub returns-in_err-via-clause-names : goal.returns-in_err-via-clause-names
 returns-in_err-via-clause-names c =
     let fault = c.in_err-via.field-0.0 in
@@ -50,6 +50,7 @@ returns-in_err-check_not_twice-clause-names c =
     stops-there names_parts (NamesOf (slice_fields c.args.fields)) c.from_residual-in_err-check_not_twice.result fault c.from_residual-in_err-check_not_twice.ensures.0 c.from_residual-in_err-check_not_twice.ensures.1
     (passes _ c.in_ok-via.ensures.present (passes _ c.in_ok-from.ensures (passes _ c.in_ok-to.ensures (passes _ c.in_ok-call_id.ensures (passes _ c.in_ok-cseq.ensures (stopped fault c.in_err-check_not_twice.ensures refl))))))
 
+-- each named field was found, so there is no fault
 pub returns-clause-names : goal.returns-clause-names
 returns-clause-names c = passes _ c.in_ok-via.ensures.present (passes _ c.in_ok-from.ensures (passes _ c.in_ok-to.ensures (passes _ c.in_ok-call_id.ensures (passes _ c.in_ok-cseq.ensures (passes _ c.in_ok-check_not_twice.ensures refl)))))
 

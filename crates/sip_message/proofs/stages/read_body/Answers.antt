@@ -16,13 +16,13 @@ body_by_length-requires-clause-digits c =
     let fields = slice_fields c.args.fields in
     row-of known_name.ContentLength fields c.in-Some.digits.now c.requires.rows (first-value known_name.ContentLength fields (c.in-Some.field-0-1, c.in-Some.digits.now) (_, c.in-Some.ensures.found))
 
--- the message has a Content-Length
+-- where the message has a Content-Length, the body is read by it
 pub returns-in-Some : goal.returns-in-Some
 returns-in-Some c =
     subst (λ len. BodyOf (start_parts c.args.start) ((names_parts c.args.named).1) ((names_parts c.args.named).0.1) len c.args.rest.now (outcome_of text_parts c.body_by_length.result))
     (sym (length-some (slice_fields c.args.fields) _ _ c.in-Some.ensures.found)) c.body_by_length.ensures
 
--- without a Content-Length the body is what the transport leaves
+-- where the message has no Content-Length, the body is what the transport leaves
 pub returns-in-None : goal.returns-in-None
 returns-in-None c =
     subst (λ len. BodyOf (start_parts c.args.start) ((names_parts c.args.named).1) ((names_parts c.args.named).0.1) len c.args.rest.now (outcome_of text_parts c.body_by_length-in-None.result))

@@ -9,10 +9,11 @@ use Rattle.sip_message.specs.inner.StartLine.{CodeFront, status_parts}
 use Rattle.sip_message.proofs.lemmas.start_line.Reading.{code-short, code-no_space, code-no_digits, code-high, code-low, code-read}
 use Rattle.sip_message.proofs.start_line.cut_code.Goals as goal
 
+-- a text of less than three bytes has no code
 pub returns-then-text-lt3 : goal.returns-then-text-lt3
 returns-then-text-lt3 c = code-short c.args.text.now c.if-text-lt3.true
 
--- no SP follows the first three bytes
+-- where no SP follows the first three bytes, no code stands there
 pub returns-in_err-rest : goal.returns-in_err-rest
 returns-in_err-rest c =
     subst (IsOnlyValue CodeFront status_parts c.args.text.now) (sym c.from_residual.ensures)
@@ -23,7 +24,7 @@ pub returns-then-not-is_length : goal.returns-then-not-is_length
 returns-then-not-is_length c =
     code-no_digits c.args.text.now (λ digits. both_ways false refl (c.if-not-is_length.ensures.1 (subst Digits (sym c.split_at.ensures.front) digits)))
 
--- the number is too great for a code
+-- where the number is above 699, it is no code
 pub returns-in_err-code : goal.returns-in_err-code
 returns-in_err-code c =
     subst (IsOnlyValue CodeFront status_parts c.args.text.now) (sym c.from_residual-in_err-code.ensures)
@@ -34,7 +35,7 @@ pub returns-then-code-lt100 : goal.returns-then-code-lt100
 returns-then-code-lt100 c =
     code-low c.args.text.now c.in_ok-code.code (subst (λ t. c.in_ok-code.code ≡ digits_value 10 t) c.split_at.ensures.front c.in_ok-code.ensures.0) c.if-code-lt100.true
 
--- the first three bytes are a code
+-- three digits that write a number from 100 to 699, with a SP after them, are a code
 pub returns : goal.returns
 returns c =
     code-read c.args.text.now c.in_ok-rest.rest.now c.in_ok-code.code c.if-text-lt3.false (ap (past space) (sym c.split_at.ensures.back) ∙ sym c.in_ok-rest.ensures)

@@ -10,10 +10,11 @@ use Rattle.sip_message.proofs.lemmas.front.Cuts.{ReadAs, NotRead}
 use Rattle.sip_message.proofs.lemmas.start_line.Reading.{request-no_token, request-no_space, request-short, request-no_version, request-no_uri, request-read}
 use Rattle.sip_message.proofs.start_line.read_request.Goals as goal
 
+-- no token stands at the front, so the line has no method
 pub returns-in_err-method : goal.returns-in_err-method
 returns-in_err-method c = subst (IsOnlyValue RequestLine pair_parts c.args.line.now) (sym c.from_residual.ensures) (request-no_token c.args.line.now c.in_err-method.ensures)
 
--- no SP follows the method
+-- where no SP follows the method, the line is no request line
 pub returns-in_err-rest : goal.returns-in_err-rest
 returns-in_err-rest c =
     subst (IsOnlyValue RequestLine pair_parts c.args.line.now) (sym c.from_residual-in_err-rest.ensures)
@@ -25,7 +26,7 @@ returns-in_err-at c =
     subst (IsOnlyValue RequestLine pair_parts c.args.line.now) (sym c.from_residual-in_err-at.ensures)
     (request-short c.args.line.now c.in_ok-method.method.now c.in_ok-method.rest.now c.in_ok-rest.rest.now c.in_ok-method.ensures (sym c.in_ok-rest.ensures) (omega (arith, c.in_err-at.ensures)))
 
--- the line does not end with SIP/2.0
+-- where the line does not end with SP and SIP/2.0, it is no request line
 pub returns-then-not-same_text : goal.returns-then-not-same_text
 returns-then-not-same_text c =
     let more = c.in_ok-rest.rest.now in
@@ -43,6 +44,7 @@ returns-in_err-read_uri c =
 -- a method, a URI and the version are the parts of the request line
 pub returns : goal.returns
 returns c =
+    -- `more` is what follows the method and its SP; the code cuts it at `at`, where the version begins
     let more = c.in_ok-rest.rest.now in
     let at = c.in_ok-at.at in
     subst (λ t. ReadAs (RequestLine c.args.line.now) (c.in_ok-method.method.now, t)) (sym c.split_at.ensures.front)

@@ -8,12 +8,12 @@ use Rattle.sip_message.proofs.lemmas.front.Cuts.{ReadAs, NotRead}
 use Rattle.sip_message.proofs.lemmas.start_line.Reading.{status-no_version, status-no_code, status-no_reason, status-read}
 use Rattle.sip_message.proofs.start_line.read_status.Goals as goal
 
--- the line does not begin with SIP/2.0 and a SP
+-- where the line does not begin with SIP/2.0 and SP, it is no status line
 pub returns-then-not-same_text : goal.returns-then-not-same_text
 returns-then-not-same_text c =
     status-no_version c.args.line.now (λ same. both_ways false refl (c.if-not-same_text.ensures.1 (subst (λ t. SameText t (codes "SIP/2.0 ")) (sym c.split_at.ensures.front) same)))
 
--- no code follows the protocol
+-- where no code follows the protocol, the line is no status line
 pub returns-in_err-code : goal.returns-in_err-code
 returns-in_err-code c =
     subst (IsOnlyValue StatusLine status_parts c.args.line.now) (sym c.from_residual.ensures)

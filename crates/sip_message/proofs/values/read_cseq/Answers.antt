@@ -8,7 +8,7 @@ use Rattle.sip_message.proofs.lemmas.value.CSeq.{same-cseq, cseq-large, cseq-no_
 use Rattle.sip_message.proofs.values.read_cseq.Goals as goal
 use Rattle.sip_message.proofs.values.read_cseq.Goals.{then-len-eq0-via-then-len-eq0, then-len-eq0-via-else-len-eq0+then-blanks-eq0, then-len-eq0-via-else-len-eq0+else-blanks-eq0+then-not-is_token}
 
--- the number is too great
+-- where the number is too great, the text is no CSeq
 pub returns-in_err-number : goal.returns-in_err-number
 returns-in_err-number c =
     subst (IsOnlyValue CSeqValue cseq_parts c.args.text.now) (sym c.from_residual.ensures)
@@ -23,8 +23,10 @@ returns-then-len-eq0 c = λ x is.
     let rest_is = take_rest text n in
     elim c.then-len-eq0.branch [
       | then-len-eq0-via-then-len-eq0 w ↦ cseq-no_digit text n run w.if-len-eq0.true x is
+      -- no blank follows the digits
       | then-len-eq0-via-else-len-eq0+then-blanks-eq0 w ↦
           cseq-no_blank text _ n c.skip_lws-blanks.result run rest_is c.skip_lws-blanks.ensures.reads w.if-blanks-eq0.true x is
+      -- no token follows the blank
       | then-len-eq0-via-else-len-eq0+else-blanks-eq0+then-not-is_token w ↦
           both_ways w.is_token.result w.if-not-is_token.true
           (w.is_token.ensures.1 (cseq-method text _ _ n c.skip_lws-blanks.result run rest_is (take_rest _ c.skip_lws-blanks.result) c.skip_lws-blanks.ensures.reads w.if-blanks-eq0.false x is))

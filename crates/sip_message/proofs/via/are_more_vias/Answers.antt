@@ -5,7 +5,7 @@ use Rattle.sip_message.specs.ViaParts.{element}
 use Rattle.sip_message.proofs.lemmas.via.Value.{vias-none, vias-behind, more-behind, more-none}
 use Rattle.sip_message.proofs.via.are_more_vias.Goals as goal
 
--- no element follows the comma
+-- where no element follows a comma, the text is not further elements
 pub returns-in_default-read_via : goal.returns-in_default-read_via
 returns-in_default-read_via c = (
   λ is. absurd (false≢true is),

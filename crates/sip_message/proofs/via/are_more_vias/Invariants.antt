@@ -6,5 +6,6 @@ use Rattle.sip_message.proofs.via.are_more_vias.Given as goal
 abbrev pub invariant-elements : goal.invariant-elements
 invariant-elements l = AreMore l.rest ↔ AreMore l.fn.text
 
+-- what is left gets shorter in each turn of the loop
 abbrev pub decreases-elements : goal.decreases-elements
 decreases-elements l = length l.rest

@@ -6,5 +6,6 @@ use Rattle.sip_message.proofs.via.cut_branch.Given as goal
 abbrev pub invariant-params : goal.invariant-params
 invariant-params l = Decides l.fn.text l.rest (option_copied l.branch)
 
+-- what is left gets shorter in each turn of the loop
 abbrev pub decreases-params : goal.decreases-params
 decreases-params l = length l.rest

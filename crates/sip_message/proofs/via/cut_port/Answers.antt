@@ -6,12 +6,12 @@ use Rattle.sip_message.specs.inner.ViaFronts.{PortFront}
 use Rattle.sip_message.proofs.lemmas.via.Host.{port-found, port-missing}
 use Rattle.sip_message.proofs.via.cut_port.Goals as goal
 
--- no digits stand at the front
+-- where no token stands at the front, no port is read
 pub returns-in_err-port : goal.returns-in_err-port
 returns-in_err-port c =
     subst (IsOnlyValue PortFront pair_parts c.args.text.now) (sym c.from_residual.ensures) (λ x is. c.in_err-port.ensures x is.1)
 
--- the digits are a port
+-- where the token at the front is a port, it is the port that is read
 pub returns-then-is_port : goal.returns-then-is_port
 returns-then-is_port c =
     port-found c.args.text.now c.in_ok-port.port.now c.in_ok-port.rest.now c.in_ok-port.ensures (c.is_port.ensures.0 c.if-is_port.true)

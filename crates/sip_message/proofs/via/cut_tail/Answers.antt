@@ -5,7 +5,7 @@ use Rattle.sip_message.proofs.lemmas.params.Value.{rest-short}
 use Rattle.sip_message.proofs.lemmas.params.Branch.{branch-whole, tail-found, tail-missing}
 use Rattle.sip_message.proofs.via.cut_tail.Goals as goal
 
--- a branch without a value stands among the parameters
+-- where a parameter named branch has no token for value, no parameters of a Via are read
 pub returns-in_err-branch : goal.returns-in_err-branch
 returns-in_err-branch c =
     subst (IsOnlyValue TailFront tail_parts c.args.text.now) (sym c.from_residual.ensures)
@@ -17,7 +17,7 @@ slice_bounds-skip_blanks-count c =
     let whole = branch-whole c.args.text.now (option_copied c.in_ok-branch.branch) c.in_ok-branch.rest.now c.in_ok-branch.ensures.0 in
     rest-short c.args.text.now whole.0 c.in_ok-branch.rest.now whole.1
 
--- blanks and parameters were cut off, with the branch that counts in them
+-- blanks and parameters are read, with the branch that counts in them
 pub returns : goal.returns
 returns c =
     tail-found c.args.text.now c.skip_blanks.result.now (option_copied c.in_ok-branch.branch) c.in_ok-branch.rest.now c.in_ok-branch.ensures c.skip_blanks.ensures

@@ -6,7 +6,7 @@ use Rattle.sip_message.specs.inner.ElementFronts.{FirstVia}
 use Rattle.sip_message.proofs.lemmas.via.Value.{vias-behind, first-is}
 use Rattle.sip_message.proofs.via.first_via.Goals as goal
 
--- no element stands at the front
+-- where no element stands at the front, the text is no elements of Via
 pub returns-in_err-first : goal.returns-in_err-first
 returns-in_err-first c =
     subst (IsOnlyValue FirstVia element c.args.text.now) (sym c.from_residual.ensures) (λ e is. c.in_err-first.ensures (e, is.1.0) is.1.1)
@@ -19,7 +19,7 @@ returns-then-are_more_vias c =
     let first = element c.in_ok-first.first in
     first-is text more first c.in_ok-first.ensures ((vias-behind text more first c.in_ok-first.ensures).1 (c.are_more_vias.ensures.0 c.if-are_more_vias.true))
 
--- what follows the first element is not more elements
+-- where what follows the first element is not further elements, the text is no elements of Via
 pub returns-else-are_more_vias : goal.returns-else-are_more_vias
 returns-else-are_more_vias c = λ e is.
     both_ways c.are_more_vias.result c.if-are_more_vias.false

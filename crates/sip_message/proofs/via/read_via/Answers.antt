@@ -40,19 +40,23 @@ returns-then-not-ends_element c =
     via-missing c.args.text.now (go-stop c.in_ok-protocol.ensures (go-stop c.in_ok-host.ensures (go-stop c.in_ok-port.ensures (go-stop c.in_ok-params.ensures
     (λ y is. both_ways c.ends_element.result c.if-not-ends_element.true (c.ends_element.ensures.1 is.0))))))
 
--- the parts that each step found, as the steps of an element have them
+-- the parts before the host, as the steps of an element have them
 abbrev sent : goal.Else-not-ends_element → ProtocolParts
 sent c = record { protocol = c.in_ok-protocol.protocol.now; version = c.in_ok-protocol.version.now; transport = c.in_ok-protocol.transport.now; rest = c.in_ok-protocol.rest.now }
 
+-- the parts of the host, and the text after it
 abbrev host : goal.Else-not-ends_element → HostParts × List ℕ
 host c = (host_parts c.in_ok-host.host, c.in_ok-host.rest.now)
 
+-- the port, and the text after it
 abbrev port : goal.Else-not-ends_element → Option (List ℕ) × List ℕ
 port c = (option_copied c.in_ok-port.port, c.in_ok-port.rest.now)
 
+-- the parameters, the branch that they name, and the text after them
 abbrev tail : goal.Else-not-ends_element → (List ℕ × Option (List ℕ)) × List ℕ
 tail c = ((c.in_ok-params.params.now, option_copied c.in_ok-params.branch), c.in_ok-params.rest.now)
 
+-- the parts of the whole element
 abbrev parts : goal.Else-not-ends_element → ViaParts
 parts c = parts_of (sent c) (host c) (port c) (tail c)
 

@@ -7,6 +7,6 @@ use Rattle.sip_part.proofs.laws.a_branch_falls_into_one_part.Goals as goal
 pub returns-clause-one : goal.returns-clause-one
 returns-clause-one c = λ branch count some. (fnv1a branch % count + 1, omega arith, omega arith, eq-eqb (fnv1a branch % count + 1) (fnv1a branch % count + 1) refl)
 
--- both parts are this one
+-- two parts into which a branch falls are the same, since the hash of the branch tells the part
 pub returns-clause-alone : goal.returns-clause-alone
 returns-clause-alone c = λ branch count i j one other. sym (eqb-true (fnv1a branch % count + 1) i one) ∙ eqb-true (fnv1a branch % count + 1) j other

@@ -5,11 +5,11 @@ use Rattle.sip_part.specs.Led.{branch_in}
 use Rattle.sip_part.proofs.Stops.{stop_first, stop_nowhere}
 use Rattle.sip_part.proofs.led.branch_from_stop.Goals as goal
 
--- no stop stands in the text, so there are no parameters
+-- where no stop stands in the text, no branch is found in it
 pub returns-in_err-at : goal.returns-in_err-at
 returns-in_err-at c = ap option_copied c.from_residual.ensures ∙ sym (ap branch_in (stop_nowhere c.args.text.now c.in_err-at.ensures))
 
--- the parameters are looked at from the first stop on
+-- the branch is that of the text from its first stop on
 pub returns : goal.returns
 returns c =
     let text = c.args.text.now in

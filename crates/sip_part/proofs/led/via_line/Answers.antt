@@ -5,6 +5,7 @@ use Rattle.sip_part.specs.Led.{opens_via, via_line}
 use Rattle.sip_part.proofs.Lines.{next_line, no_line}
 use Rattle.sip_part.proofs.led.via_line.Goals as goal
 
+-- where no line is left, none begins as a Via does
 pub returns-in_err-end : goal.returns-in_err-end
 returns-in_err-end c = ap option_copied c.from_residual.ensures ∙ sym (c.lines.invariant.0 ∙ no_line c.lines.rest.now c.in_err-end.ensures)
 

@@ -3,5 +3,6 @@ use Rattle.std.specs.Prelude.{◌*◌, ◌%◌, ◌^◌, fold, bit_xor}
 use Rattle.sip_standard.specs.Case.{folded}
 use Rattle.sip_part.proofs.part.joined.Given as goal
 
+-- the sum is that of the bytes so far
 abbrev pub invariant-loop-byte : goal.invariant-loop-byte
 invariant-loop-byte l = l.sum ≡ fold (λ sum byte. (bit_xor sum byte * 16777619) % 2 ^ 32) l.start (folded (take l.byte-index l.text))

@@ -32,12 +32,13 @@ returns-in_ok-entry-in-len3 c = (
   c.in_ok-entry-in-len3.ensures.0,
 )
 
--- words of no form that is told ask for nothing
+-- words in none of these forms ask for nothing
 pub returns-in_default : goal.returns-in_default
 returns-in_default c = λ asked meant same.
     elim c.in_default.branch [
       | in_default-via-then-words-lt2 w ↦
           not-long string_bytes c.args.words.now (λ l. search rules) (λ l. search rules) (λ l. search rules) asked same
+      -- two words of another kind, or three, and any other number of words ask for nothing
       | in_default-via-in-len2-2+else-eq-2 w ↦
           not-two string_bytes c.args.words.now w.word-item.result w.word-item-then-words-lt3.result _ _ w.in-len2.len_at_least w.in-len2.len_below w.word-item.is w.word-item-then-words-lt3.is
           w.as_str.ensures.value w.as_str-then-words-lt3.ensures.value w.if-eq.ensures w.if-eq-2.ensures asked same

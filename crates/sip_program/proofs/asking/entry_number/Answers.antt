@@ -14,8 +14,10 @@ returns-in_default c = λ entry is same.
 -- a number out of its limits, or with another spelling than the plain one, is no number of an entry
 pub returns-then-number-lt-LEAST : goal.returns-then-number-lt-LEAST
 returns-then-number-lt-LEAST c = λ entry is same.
+    -- `parse` reads the plain spelling of the entry's number as that number
     let read = parse-decimal 64 entry c.args.word.now c.parse.result (omega (arith, is.1)) (omega (arith, is.1)) same c.parse.ensures.value.0 in
     let one : c.in-Ok.number ≡ entry = (let both : Ok c.in-Ok.number ≡ Ok entry = sym c.in-Ok.is ∙ read in cc) in
+    -- each of the three ways here says that the number is below the least, is above the most, or is not what the word spells
     elim c.then-number-lt-LEAST.branch [
       | then-number-lt-LEAST-via-then-number-lt-LEAST w ↦ omega (arith, one, is.0, w.if-number-lt-LEAST.true)
       | then-number-lt-LEAST-via-else-number-lt-LEAST+then-number-gt-MOST w ↦ omega (arith, one, is.1, w.if-number-gt-MOST.true)

@@ -11,16 +11,19 @@ returns-clause-advances g c =
     let xs = c.args.pool.now in
     let ys = c.keep_waiting.new.pool in
     let ended = g.M.Machine.ended m in
+    -- one can wait in the ended state for ever, so it stays where the set has it
     let stays : g.M.Machine.until m ended ≡ None =
     sym (g.met.M.Machine.until_stands m [] ended) ∙ ap r.until (g.met.M.Machine.ended_stands m []) ∙ (g.met.M.Machine.lawful m).ended_stays in
     let stay = advances_stay g.M.Machine.in_range (g.M.Machine.end_window m) (g.M.Machine.until m) ended stays c.args.from c.args.to xs ys c.requires.distinct c.requires.in_range in
     let push = advances_push g.M.Machine.in_range (g.M.Machine.end_window m) (g.M.Machine.until m) ended stays c.args.from c.args.to xs ys c.requires.distinct c.requires.in_range in
     let ends = c.some_can_end.ensures in
     elim c.if-some_can_end.branch [
+      -- some state can end, and ended is not there: it is pushed
       | then-some_can_end+then-not-has_at_rest+in_ok-push w ↦
           let there = rw w.ended.ensures at w.has_at_rest.ensures in
           push (g.met.M.Machine.ended_fits m).1 (ends.0 w.if-some_can_end.true) (λ member. true≢false (sym (there.1 member) ∙ w.if-not-has_at_rest.true))
           (rw (w.pool-is, w.in_ok-push.ensures.ok, w.ended-then-not-has_at_rest.ensures) at c.keep_waiting.ensures)
+      -- no state can end, or ended is there already
       | else-some_can_end w ↦
           stay
           (λ some. elim w.else-some_can_end.branch [

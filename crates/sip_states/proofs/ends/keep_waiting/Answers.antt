@@ -28,7 +28,7 @@ copy-requires-clause-to g c =
     let behind = c.loop-at.invariant.filters.behind in
     omega (arith, long, behind)
 
--- no more states are kept than were looked at
+-- at most as many states are kept as were looked at
 pub overflow_add-kept : goal.overflow_add-kept
 overflow_add-kept g c = let behind = c.loop-at.invariant.filters.behind in omega (arith, behind)
 
@@ -41,10 +41,12 @@ loop-at-preserved g c =
     let filters = c.loop-at.invariant.filters in
     let in_range = c.loop-at.invariant.in_range in
     let long = filters.long in
+    -- x is the state that is looked at
     let low : at < length ys = omega (arith, long) in
     let d = g.M.Machine.ended m in
     let x = get_or ys at d in
     let is : x ≡ get_or ys at x = get_or_default ys at d x low in
+    -- the call tells whether the state can wait until the moment
     let test : is_within c.args.moment (g.M.Machine.until m x) ≡ c.is_within.result = sym (ap (is_within c.args.moment) (c.until.ensures d)) ∙ sym c.is_within.ensures in
     elim c.if-is_within.branch [
       | then-is_within w ↦
@@ -53,6 +55,7 @@ loop-at-preserved g c =
             filters = FiltersInPlace-more_set filters low (test ∙ w.if-is_within.true) is;
             in_range = All-set g.M.Machine.in_range ys c.loop-at.kept x (All-get_or g.M.Machine.in_range ys at d low in_range) in_range;
           })
+      -- a state that cannot wait until the moment is passed over
       | else-is_within w ↦ rw (w.pool-is, w.kept-is) (record { filters = FiltersInPlace-more_no filters low (test ∙ w.if-is_within.false) is; in_range = in_range })
     ]
 

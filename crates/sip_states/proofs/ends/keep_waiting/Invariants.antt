@@ -3,6 +3,7 @@ use Rattle.std.proofs.lemmas.List.Filters.{FiltersInPlace}
 use Rattle.sip_states.specs.inner.Ways.{is_within}
 use Rattle.sip_states.proofs.ends.keep_waiting.Given as goal
 
+-- of the states up to `at`, those that can wait until the moment stand at the front, and all are in range
 abbrev pub invariant-loop-at : goal.invariant-loop-at
 invariant-loop-at g l =
     record {

@@ -20,11 +20,13 @@ returns-in_err-last_of g c = rw c.from_residual.ensures (λ m low.
 -- after one state more, the last moment so far is the latest to which one of them can wait
 pub loop-at-preserved : goal.loop-at-preserved
 loop-at-preserved g c =
+    -- xs are the states of the pool, i is the place of the one that was looked at, and d stands for no state
     let m = c.args.machine.now in
     let xs = c.args.pool.now in
     let i = c.loop-at.at in
     let d = g.M.Machine.ended m in
     let low : i < length xs = omega arith in
+    -- the last moment is now the later one of that so far and of this state's
     let later : c.max-last.result ≡ max c.loop-at.last c.in_ok-last_of.field-0 = omega arith in
     rw (take_more xs i d low)
     (last_push (g.M.Machine.end_window m) (g.M.Machine.until m) c.args.from (take i xs) (get_or xs i d) c.loop-at.last c.in_ok-last_of.field-0 c.max-last.result c.loop-at.invariant (c.in_ok-last_of.ensures d) later)

@@ -11,6 +11,7 @@ loop-at-preserved g c =
     let ys = c.loop-at.map.entries in
     let long = c.loop-at.invariant.long in
     elim c.if-flags-at.branch [
+      -- an entry whose flag is set moves to the front, and any other is passed over
       | then-flags-at w ↦
           rw (w.map-is, w.count-is, w.swap_indices.ensures.entries)
           (step_swap flags xs ys c.loop-at.count c.loop-at.at c.loop-at.invariant (omega arith) (omega (arith, long, c.requires)) (search rules))

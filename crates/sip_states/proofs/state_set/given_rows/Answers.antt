@@ -14,7 +14,7 @@ use Rattle.sip_states.proofs.state_set.given_rows.Given.{Over}
 use Rattle.sip_states.proofs.state_set.given_rows.Goals as goal
 use Rattle.sip_states.proofs.state_set.given_rows.Goals.{After-len}
 
--- What follows is of the moment after the states were found and each was taken once.
+-- What follows is of a call g that is over, c being what holds after its last step: the states were found, and each was taken once.
 module _ (g : Over) (c : After-len g) where
   -- the states that were found, each once, stand for exactly what the event gives
   found_stand : (x : CodeOwing _) → StandFor g.M.Machine.names g.M.Machine.in_range g.M.Machine.seen c.args.book.now
@@ -24,11 +24,13 @@ module _ (g : Over) (c : After-len g) where
       let m = c.args.machine.now in
       let r = g.M.Machine.rules m in
       let texts = c.args.book.now in
+      -- xs are the states before the event, and `new` those after it
       let xs = c.args.states.now in
       let e = event_in texts c.args.event.now in
       let new = c.find_given.new.pool in
       let rows = c.in_ok-rows.rows.items in
       let ones = c.in_ok-rows.ensures in
+      -- the states follow the rules of the machine, and of equal ones the first stands there
       let follows : Follows g.M.Machine.names g.M.Machine.seen r (g.M.Machine.ended m) (g.M.Machine.end_window m) (g.M.Machine.until m) =
       record { lawful = g.met.M.Machine.lawful m; ended_is = g.met.M.Machine.ended_stands m; ended_names = (g.met.M.Machine.ended_fits m).0; window_is = g.met.M.Machine.window_stands m; until_is = g.met.M.Machine.until_stands m; apart = g.met.M.Machine.apart } in
       covers_stand g.M.Machine.names g.M.Machine.in_range g.M.Machine.seen r (g.M.Machine.ended m) (g.M.Machine.end_window m) (g.M.Machine.until m) follows texts xs c.args.from e
@@ -42,11 +44,13 @@ returns-then-len-gt-WIDEST-clause-too_many g c = λ _.
     let x = g.M.Machine.ended c.args.machine.now in
     let rows = c.in_ok-rows.rows.items in
     let states = picked c.find_given.new.pool x rows in
+    -- there are more rows than a set follows, and so more states
     let size : length states ≡ length rows = length-map rows (λ row. get_or c.find_given.new.pool row x) in
     let len = c.len.ensures in
     let ok = c.in_ok-rows.rows.ok.0 in
     let many : widest < length states = omega (arith, size, len, ok) in
     many_wide g.M.Machine.names g.M.Machine.in_range g.M.Machine.seen c.args.book.now _ states (found_stand g at x) many
 
+-- the states that were found, each once, are those that the event gives
 pub returns-clause-gives : goal.returns-clause-gives
 returns-clause-gives g c = λ x. found_stand g (goal.at.returns-clause-gives g c).After-len x

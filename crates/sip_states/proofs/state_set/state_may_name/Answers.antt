@@ -19,6 +19,7 @@ returns-in-Some g c d =
     let number = c.args.number in
     let named = c.in-Some.named in
     let message = c.message.result in
+    -- the state is at rest, so it names what its phase names
     let rest = (c.is_at_rest.ensures d).0 (search rules) in
     let tells = rest_may_name g.M.Phases.names (get_or c.args.states.now c.args.at d) c.phase-phase.result message number rest c.message.ensures in
     elim (eqb_tells named number) [

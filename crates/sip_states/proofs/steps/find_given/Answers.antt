@@ -27,11 +27,13 @@ returns-then-not-some_can_end-clause-gives g c =
     let r = g.M.Machine.rules m in
     let e = event_in texts c.args.event.now in
     let xs = c.args.pool.now in
+    -- all states of the pool were asked
     let n = c.len-count.result in
     let size = c.len-count.ensures in
     let (found, is, covers) = c.in_ok-step_each.ensures.gives in
     let all : take n xs ≡ xs = take_all n xs (omega (arith, size)) in
     let ends = rw c.moment.ensures at c.some_can_end.ensures in
+    -- the states follow the rules of the machine, and none can end
     let follows : Follows g.M.Machine.names g.M.Machine.seen r (g.M.Machine.ended m) (g.M.Machine.end_window m) (g.M.Machine.until m) =
     record { lawful = g.met.M.Machine.lawful m; ended_is = g.met.M.Machine.ended_stands m; ended_names = (g.met.M.Machine.ended_fits m).0; window_is = g.met.M.Machine.window_stands m; until_is = g.met.M.Machine.until_stands m; apart = g.met.M.Machine.apart } in
     subst (Covers g.M.Machine.names g.M.Machine.in_range g.M.Machine.seen texts (GivesAfter g.M.Machine.seen texts r xs c.args.from e))
@@ -63,7 +65,7 @@ successors-requires-clause-known g c = λ d.
     let there = next-there c.args.pool.now c.push.new.self c.step_each-2.new.pool found (at_rest c.ended.result) d c.len-count.result c.in_ok-push.ensures.ok is c.len-count.ensures ∙ c.ended.ensures in
     subst (Knows g.M.Machine.names c.args.book.now) (sym there) (subst (All (Keeps c.args.book.now)) (sym (g.met.M.Machine.ended_fits m).0) (All-nil (Keeps c.args.book.now)))
 
--- ended, which was pushed, is in range
+-- the ended state, which was pushed, is in range
 pub successors-requires-clause-in_range : goal.successors-requires-clause-in_range
 successors-requires-clause-in_range g c = λ d.
     let m = c.args.machine.now in
@@ -82,6 +84,7 @@ pub returns-clause-within : goal.returns-clause-within
 returns-clause-within g c =
     let (found, is, covers) = c.in_ok-step_each-2.ensures.gives in
     let (added, new_is, gives) = c.in_ok-successors.ensures.ok (g.M.Machine.ended c.args.machine.now) in
+    -- mid are the old states and ended; what was found comes after them, and what was added after that
     let mid = c.push.new.self in
     let one : length c.step_each-2.new.pool ≡ length mid + length found = ap length is ∙ length-append mid found in
     let two : length c.successors.new.pool ≡ length c.step_each-2.new.pool + length added = ap length new_is ∙ length-append c.step_each-2.new.pool added in
@@ -97,14 +100,17 @@ returns-clause-gives g c =
     let e = event_in texts c.args.event.now in
     let xs = c.args.pool.now in
     let n = c.len-count.result in
+    -- what was found of the states, and then of ended
     let mid = c.push.new.self in
     let ended = g.M.Machine.ended m in
     let (found, is, covers) = c.in_ok-step_each-2.ensures.gives in
     let (added, new_is, gives) = c.in_ok-successors.ensures.ok ended in
+    -- the states that were asked are those before ended, which stands after them
     let all : take n mid ≡ xs = take-old xs (at_rest c.ended.result ∷ []) mid n c.in_ok-push.ensures.ok c.len-count.ensures in
     let there = next-there xs mid c.step_each-2.new.pool found (at_rest c.ended.result) ended n c.in_ok-push.ensures.ok is c.len-count.ensures ∙ c.ended.ensures in
     let whole = new_is ∙ ap (λ ys. ys ++ added) is ∙ append_assoc mid found added in
     let ends = rw c.moment.ensures at c.some_can_end.ensures in
+    -- the states follow the rules of the machine, and some can end
     let follows : Follows g.M.Machine.names g.M.Machine.seen r (g.M.Machine.ended m) (g.M.Machine.end_window m) (g.M.Machine.until m) =
     record { lawful = g.met.M.Machine.lawful m; ended_is = g.met.M.Machine.ended_stands m; ended_names = (g.met.M.Machine.ended_fits m).0; window_is = g.met.M.Machine.window_stands m; until_is = g.met.M.Machine.until_stands m; apart = g.met.M.Machine.apart } in
     subst (Covers g.M.Machine.names g.M.Machine.in_range g.M.Machine.seen texts (GivesAfter g.M.Machine.seen texts r xs c.args.from e))

@@ -25,11 +25,14 @@ returns-clause-gives g c =
     let e = event_in texts c.args.event.now in
     let xs = c.args.pool.now in
     let s = get_or xs 0 (g.M.Machine.ended m) in
+    -- the pool has one state, which cannot end before the event
     let one : length xs ≡ 1 = omega arith in
     let is = only xs (g.M.Machine.ended m) one in
     let ends = rw c.moment.ensures at c.some_can_end.ensures in
+    -- the state follows the rules of the machine
     let follows : Follows g.M.Machine.names g.M.Machine.seen r (g.M.Machine.ended m) (g.M.Machine.end_window m) (g.M.Machine.until m) =
     record { lawful = g.met.M.Machine.lawful m; ended_is = g.met.M.Machine.ended_stands m; ended_names = (g.met.M.Machine.ended_fits m).0; window_is = g.met.M.Machine.window_stands m; until_is = g.met.M.Machine.until_stands m; apart = g.met.M.Machine.apart } in
+    -- the state cannot end before the event, so that it alone is led on
     IfOk-weaker c.step.result _ _
     (λ stepped gives.
     OnTrue_from stepped _

@@ -15,6 +15,7 @@ returns-clause-gives g c =
     let r = g.M.Machine.rules m in
     let e = event_in texts c.args.event.now in
     let some = take c.args.count c.args.pool.now in
+    -- what each state gives is what the event gives from one of them
     on_ok_weaker c.successors_each.result
     (λ (has : HasFound g.M.Machine.names g.M.Machine.in_range g.M.Machine.seen texts (λ x. r.Take (g.M.Machine.seen texts x) e) some c.args.pool.now c.successors_each.new.pool).
     let (found, is, covers) = has in (

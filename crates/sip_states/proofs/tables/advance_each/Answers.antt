@@ -19,6 +19,7 @@ pub returns-in_err-advance-clause-keys : goal.returns-in_err-advance-clause-keys
 returns-in_err-advance-clause-keys g c =
     keys-with_value_at c.loop-index.sets (get_or c.args.indices.now c.loop-index.index-index 0) c.advance.new.self ∙ c.loop-index.invariant.keys_are
 
+-- the map is as big as it was
 pub returns-in_err-advance-clause-size : goal.returns-in_err-advance-clause-size
 returns-in_err-advance-clause-size g c =
     index_map_len-with_value_at c.loop-index.sets (get_or c.args.indices.now c.loop-index.index-index 0) c.advance.new.self ∙ c.loop-index.invariant.size
@@ -31,6 +32,7 @@ returns-in_err-advance-clause-err g c =
     let sets = c.loop-index.sets in
     let at = get_or indices i 0 in
     let w = c.advance.new.self in
+    -- the sets of the indices before this one have waited
     always_err c.from_residual.result _ (
       take i indices,
       take_among i indices,
@@ -46,6 +48,7 @@ loop-index-preserved g c =
     let sets = c.loop-index.sets in
     let at = get_or indices i 0 in
     let w = c.advance.new.self in
+    -- this set has waited now, and the map has the same keys
     let low : i < length indices = omega arith in
     let inv = c.loop-index.invariant in
     record {

@@ -15,6 +15,7 @@ returns-in-Occupied-clause-ok g c =
     let found = rw c.in-Occupied.is at c.in_ok-entry.ensures.found in
     let index = rw c.in-Occupied.is at c.in_ok-entry.ensures.index in
     let same = rw c.in-Occupied.is at c.in_ok-entry.ensures.unchanged in
+    -- the map is as before, and the index is that of the key
     let link = rw c.in_ok-entry.was at (c.entry.follows.holds c.in-Occupied.entry.map.now) in
     let place = found-at old c.args.key found.0 in
     let is = c.index.ensures ∙ index in
@@ -27,12 +28,14 @@ unfolding entry_index entry_value
 returns-in-Ok-clause-ok g c =
     let old = c.args.sets.now in
     let set = c.in-Ok.set in
+    -- no entry has the key, so it is put at the end
     let none = rw c.in-Vacant.is at c.in_ok-entry.ensures.found in
     let key = c.key.ensures ∙ (rw c.in-Vacant.is at c.in_ok-entry.ensures.key) refl in
     let same = rw c.in-Vacant.is at c.in_ok-entry.ensures.unchanged in
     let writes = rw c.in-Vacant.is at c.in_ok-entry.ensures.update in
     let link = rw c.in_ok-entry.was at (c.entry.follows.holds (map_with_value (Vacant c.in-Vacant.entry) set)) in
     let starts = c.in-Ok.ensures ∙ ap (start_of c.args.params) key in
+    -- the map is the old one with this entry after the others
     let grown : (c.entry.follows.lender (map_with_value (Vacant c.in-Vacant.entry) set)).entries ≡ old.entries ++ (c.args.key, start_of c.args.params c.args.key) ∷ []
     = ap (λ m. m.entries) link ∙ writes.1 set ∙ insert_entry-new same_key old c.args.key set none ∙ ap (λ s. old.entries ++ (c.args.key, s) ∷ []) starts in
     inr (All-absent old.entries c.args.key none, c.index-index.ensures ∙ ap length same, search (rules, grown))

@@ -36,12 +36,14 @@ loop-place-preserved-then-is_quiet g c =
     let inv = c.loop-place.invariant in
     let set = c.index.result.now in
     let at = rw inv.same at c.index.ensures in
+    -- a quiet set needs no mark: it names nothing, and a restart does not change it
     let quiet : IsQuietSet set = c.is_quiet.ensures.0 c.if-is_quiet.true in
     let as_long : length marks ≡ length moved = omega (arith, inv.long, inv.as_long, c.requires.long.0, c.requires.long.1) in
     record {
       long = ap length c.unmark.ensures.moved ∙ length-set moved index false ∙ inv.long;
       as_long = ap length c.unmark.ensures.named ∙ length-set marks index false ∙ inv.as_long;
       marked = rw c.unmark.ensures.named (unmarked (λ s. numbers_of s ≡ []) marks (values c.args.sets.now) index set inv.marked at (quiet_silent set quiet));
+      -- the set is quiet, and each other one without the mark is
       moves = rw (c.unmark.ensures.moved, c.unmark.ensures.named) (record {
         quiet = unmarked IsQuietSet moved (values c.args.sets.now) index set inv.moves.quiet at quiet;
         within = within_set marks moved index false as_long inv.moves.within;

@@ -3,6 +3,7 @@ use Rattle.indexmap.specs.IndexMap.{values}
 use Rattle.sip_states.specs.inner.Marks.{AreMarked, AreMoved}
 use Rattle.sip_states.proofs.tables.unmark_quiet.Given as goal
 
+-- the marks are still right for the sets, which are as they were
 abbrev pub invariant-loop-place : goal.invariant-loop-place
 invariant-loop-place g l =
     record {

@@ -19,6 +19,7 @@ index-requires g c =
     let low = slice_get_within marks index true mark in
     rw c.loop-place.invariant.same (omega (arith, low, c.loop-place.invariant.long, c.requires.long))
 
+-- the index is one of the marked ones
 pub unmark_named-requires : goal.unmark_named-requires
 unmark_named-requires g c =
     let marks = c.loop-place.marks.named in
@@ -32,10 +33,12 @@ loop-place-preserved-then-is_empty g c =
     let marks = c.loop-place.marks.named in
     let index = c.in-Some.index in
     let set = c.index.result.now in
+    -- the set names nothing, so it needs no mark
     let none : length c.names.new.out.items ≡ 0 = grind (arith, common_steps) in
     let empty : c.names.new.out.items ≡ [] = nil_from_length c.names.new.out.items none in
     let silent : numbers_of set ≡ [] = names_nothing (numbers_of set) c.clear.new.self.items c.names.new.out.items c.clear.ensures.items empty
     (numbers_appended set c.clear.new.self.items c.names.new.out.items c.in_ok-names.ensures) in
+    -- the mark of the index is gone, and the others stay
     record {
       long = ap length c.unmark_named.ensures.named ∙ length-set marks index false ∙ c.loop-place.invariant.long;
       marked = rw c.unmark_named.ensures.named (unmarked (λ s. numbers_of s ≡ []) marks (values c.args.sets.now) index set c.loop-place.invariant.marked (rw c.loop-place.invariant.same at c.index.ensures) silent);

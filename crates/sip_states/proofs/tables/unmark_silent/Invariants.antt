@@ -3,6 +3,7 @@ use Rattle.indexmap.specs.IndexMap.{values}
 use Rattle.sip_states.specs.inner.Marks.{AreMarked, IsMarked}
 use Rattle.sip_states.proofs.tables.unmark_silent.Given as goal
 
+-- the marks for sets that may name a message are still right, no mark is new, and the sets are as they were
 abbrev pub invariant-loop-place : goal.invariant-loop-place
 invariant-loop-place g l =
     record {

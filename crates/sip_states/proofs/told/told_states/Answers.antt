@@ -15,12 +15,14 @@ loop-at-preserved g c = λ texts.
     let d = at_rest c.phase.result in
     let x = get_or states at d in
     let mean = meant m.told m.seen m.names texts in
+    -- the phase, its words and its runs of debts are those of the state
     let phase : c.phase.result ≡ x.phase = rw c.states-states.ensures at c.phase.ensures d in
     let runs = rw c.states-states.ensures at c.in_ok-runs.ensures d in
     let told : ToldState = record { phase = c.in_ok-told.field-0; owes = c.in_ok-runs.field-0 } in
     let words = c.in_ok-told.ensures.words texts ∙ ap (λ p. m.told (m.seen texts p)) phase in
     let names = c.in_ok-told.ensures.names ∙ ap m.names phase in
     let said : said_state texts told ≡ mean x = λ t. (words t, names t, runs.whole t) in
+    -- one state more is told as it is meant
     let size : length c.states-states.result.now ≡ length states = ap length c.states-states.ensures in
     let low : at < length states = omega (arith, size) in
     ap (map (said_state texts)) c.in_ok-push.ensures.items ∙ map-append (said_state texts) c.loop-at.told.items (told ∷ [])

@@ -14,12 +14,15 @@ pub returns-in_err-count : goal.returns-in_err-count
 returns-in_err-count c = rw c.from_residual-in_err-count.ensures (λ part is one two. c.in_err-count.ensures part.count (omega (arith, is)) two)
 
 -- where two words are numbers, the part of these numbers is the part that the words name, if there is one
+-- a and b are the words of the numbers k and n, and r is the part, if there is one
 made : (a b : List ℕ) (k n : ℕ) (r : Option PartOf) → k < 2 ^ 32 → n < 2 ^ 32 → a ≡ decimal k → b ≡ decimal n
     → MatchOption r (¬ ((0 < k) × (k ≤ n))) (λ part. (part ≡ record { number = k; count = n }) × (0 < k) × (k ≤ n)) → IsPartBetween a b r
+-- where there is no part, a part with these numbers would be within the limits
 made a b k n None low high a_is b_is none = λ part is one two.
     let first : k ≡ part.number = decimal_injective k part.number (omega (arith, low)) (omega (arith, is)) (sym a_is ∙ one) in
     let second : n ≡ part.count = decimal_injective n part.count (omega (arith, high)) (omega (arith, is)) (sym b_is ∙ two) in
     none (omega (arith, is, first), omega (arith, is, first, second))
+-- where there is one, it has the numbers k and n
 made a b k n (Some part) low high a_is b_is (same, some, within) =
     let number : part.number ≡ k = ap (λ p. p.number) same in
     let count : part.count ≡ n = ap (λ p. p.count) same in

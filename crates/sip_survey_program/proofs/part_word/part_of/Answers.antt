@@ -19,6 +19,7 @@ whole word a b None within front rest none = λ part is same.
     none part is (front ∙ ap (before_first is_slash) same ∙ number_before part.number part.count (omega (arith, is)))
     (rest ∙ ap (after_first is_slash) same ∙ number_after part.number part.count (omega (arith, is)))
 
+-- a word without a slash is that of no part
 pub returns-in_err-number : goal.returns-in_err-number
 returns-in_err-number c = rw c.from_residual.ensures (without c.args.word.now (c.in_err-number.ensures.byte (omega arith) (λ w o f. f)))
 

@@ -5,6 +5,7 @@ use Rattle.sip_survey_program.proofs.running.run.Goals as goal
 -- the answer is that to what the words ask for, with the log that they name
 pub returns-clause-answer : goal.returns-clause-answer
 returns-clause-answer g c =
+    -- `words` are those that the code has; they are the system's, where these are known, and to ask for them changed nothing else
     let words = map string_bytes c.as_slice.result.now in
     let told : IfSome (g.S.System.words c.args.system.now) (λ known. words ≡ known) = search rules in
     let same : g.S.Source.left c.words.new.self ≡ g.S.Source.left c.args.system.now = search rules in

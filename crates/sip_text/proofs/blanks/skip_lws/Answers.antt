@@ -6,13 +6,13 @@ use Rattle.sip_text.proofs.texts.ManyLemmas.{front-within, run-more}
 use Rattle.sip_text.proofs.strings.BlanksLemmas.{blank-step, longest-blanks}
 use Rattle.sip_text.proofs.blanks.skip_lws.Goals as goal
 
--- no LWS stands at the place, so the run ends there
+-- where no LWS stands at the place, the blank run ends there, and is the longest
 pub returns-then-step-eq0-clause-reads : goal.returns-then-step-eq0-clause-reads
 returns-then-step-eq0-clause-reads c =
     longest-blanks c.args.text.now c.blanks.at c.blanks.invariant.front
     (ap blank_len (sym (take_rest c.args.text.now c.blanks.at)) ∙ sym c.blank_len-step.ensures.len ∙ c.if-step-eq0.true)
 
--- one LWS more is still a blank run
+-- blanks with one LWS more are blanks
 pub blanks-preserved : goal.blanks-preserved
 blanks-preserved c =
     let more = run-more Blank blank_len c.args.text.now c.blanks.at c.blank_len-step.result blank-step c.blanks.invariant.front

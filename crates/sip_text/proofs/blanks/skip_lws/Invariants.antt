@@ -8,5 +8,6 @@ use Rattle.sip_text.proofs.blanks.skip_lws.Given as goal
 abbrev pub invariant-blanks : goal.invariant-blanks
 invariant-blanks l = record { within : l.at ≤ length l.text; front : HasFront (Many Blank) l.text l.at }
 
+-- each turn of the loop goes on in the text, and the text ends
 abbrev pub decreases-blanks : goal.decreases-blanks
 decreases-blanks l = length l.initial.text - l.at

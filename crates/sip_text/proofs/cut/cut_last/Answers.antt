@@ -14,6 +14,7 @@ returns-in-Some-clause-front c =
 pub returns-in-Some-clause-rest : goal.returns-in-Some-clause-rest
 returns-in-Some-clause-rest c =
     let last = c.in-Some.ensures in
+    -- the front, up to the last mark, has as many bytes as the place of the mark says, so the rest is the text without the front and the mark
     let len : c.in-Some.at ≡ length (take c.in-Some.at c.args.text.now) = omega (arith, length-take c.in-Some.at c.args.text.now, last.0.high) in
     take_rest c.args.text.now (c.in-Some.at + 1)
     ∙ ap (λ n. drop (n + 1) c.args.text.now) len

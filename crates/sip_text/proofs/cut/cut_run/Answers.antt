@@ -5,7 +5,7 @@ use Rattle.sip_text.specs.inner.Cut.{past}
 use Rattle.sip_text.proofs.cuts.RunCutLemmas.{run-end, run-mark, run-other}
 use Rattle.sip_text.proofs.cut.cut_run.Goals as goal
 
--- the run is the whole text, which has no mark
+-- where the run is the whole text, all bytes before the first mark are of the class
 pub returns-then-len-text-clause-run : goal.returns-then-len-text-clause-run
 returns-then-len-text-clause-run c =
     (run-end (is_in c.args.class) c.args.mark c.run_len-len.result c.args.text.now c.requires c.run_len-len.ensures.run c.if-len-text.true).2
@@ -20,7 +20,7 @@ pub returns-then-len-text-clause-rest : goal.returns-then-len-text-clause-rest
 returns-then-len-text-clause-rest c =
     (run-end (is_in c.args.class) c.args.mark c.run_len-len.result c.args.text.now c.requires c.run_len-len.ensures.run c.if-len-text.true).1
 
--- the mark after the run is the first one
+-- where the mark follows the run, all bytes before the first mark are of the class
 pub returns-in-Some-clause-run : goal.returns-in-Some-clause-run
 returns-in-Some-clause-run c =
     (run-mark (is_in c.args.class) c.args.mark c.run_len-len.result c.args.text.now c.in-Some.rest.now c.requires c.run_len-len.ensures.run

@@ -5,6 +5,7 @@ use Rattle.sip_text.specs.inner.HostTests.{has_len, is_hex4}
 use Rattle.sip_text.proofs.cuts.CutLemmas.{behind-shorter, parts-fail, parts-last, parts-more}
 use Rattle.sip_text.proofs.host.is_hexseq.Goals as goal
 
+-- where a byte other than a hex digit stands before the next colon, the text is no hexseq
 pub returns-in_default : goal.returns-in_default
 returns-in_default c =
     sym (parts-fail is_hex4 colon c.groups.rest.now (and_right _ _ (sym c.in_default.ensures.run))) ∙ c.groups.invariant

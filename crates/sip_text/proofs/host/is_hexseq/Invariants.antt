@@ -6,5 +6,6 @@ use Rattle.sip_text.proofs.host.is_hexseq.Given as goal
 abbrev pub invariant-groups : goal.invariant-groups
 invariant-groups l = is_hexseq l.rest ≡ is_hexseq l.text
 
+-- what is left gets shorter in each turn of the loop
 abbrev pub decreases-groups : goal.decreases-groups
 decreases-groups l = length l.rest

@@ -6,6 +6,7 @@ use Rattle.sip_text.proofs.cuts.CutLemmas.{behind-shorter}
 use Rattle.sip_text.proofs.hosts.LabelLemmas.{labels-fail, labels-last_run, labels-more, labels-other}
 use Rattle.sip_text.proofs.host.is_name.Goals as goal
 
+-- where a byte that a label may not have stands before the next dot, the text is no hostname
 pub returns-in_default : goal.returns-in_default
 returns-in_default c = sym (labels-other c.labels.rest.now (sym c.in_default.ensures.run)) ∙ c.labels.invariant
 
@@ -33,7 +34,7 @@ returns-in-Some-2 c =
     (sym label.rest ∙ ap option_copied c.in-Some-more.is))
     ∙ c.labels.invariant
 
--- the last label decides
+-- where no dot is left, the text is a hostname exactly if what is left is a last label
 pub returns-in-None : goal.returns-in-None
 returns-in-None c =
     let label = c.in-Some.ensures in

@@ -8,5 +8,6 @@ use Rattle.sip_text.proofs.host.is_name.Given as goal
 abbrev pub invariant-labels : goal.invariant-labels
 invariant-labels l = are_labels (parts dot l.rest) ≡ are_labels (parts dot l.text)
 
+-- what is left gets shorter in each turn of the loop
 abbrev pub decreases-labels : goal.decreases-labels
 decreases-labels l = length l.rest

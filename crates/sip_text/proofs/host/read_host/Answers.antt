@@ -2,16 +2,16 @@ use Rattle.std.proofs.Common.{sym, ◌∙◌}
 use Rattle.sip_text.proofs.hosts.HostLemmas.{only-v6, only-v4, only-name, no-host}
 use Rattle.sip_text.proofs.host.read_host.Goals as goal
 
--- the host is an IPv6 address in brackets
+-- where the text passes the test of an IPv6 address in brackets, it is that host
 pub returns-then-is_v6_reference : goal.returns-then-is_v6_reference
 returns-then-is_v6_reference c =
     only-v6 c.args.text.now (sym c.is_v6_reference.ensures ∙ c.if-is_v6_reference.true)
 
--- the host is an IPv4 address
+-- where the text passes the test of an IPv4 address, it is that host
 pub returns-then-is_v4 : goal.returns-then-is_v4
 returns-then-is_v4 c = only-v4 c.args.text.now (sym c.is_v4.ensures ∙ c.if-is_v4.true)
 
--- the host is a name
+-- where the text passes the test of a hostname, it is that host
 pub returns-then-is_hostname : goal.returns-then-is_hostname
 returns-then-is_hostname c = only-name c.args.text.now (sym c.is_hostname.ensures ∙ c.if-is_hostname.true)
 

@@ -6,7 +6,7 @@ use Rattle.sip_text.proofs.texts.ManyLemmas.{front-within, run-more}
 use Rattle.sip_text.proofs.strings.QuotedLemmas.{item-step}
 use Rattle.sip_text.proofs.quoted.contents_len.Goals as goal
 
--- one character more may stand between the quotes
+-- pieces with one piece more are pieces of a quoted string
 pub items-preserved : goal.items-preserved
 items-preserved c =
     let more = run-more QuotedItem item_len c.args.text.now c.items.at c.item_len-step.result item-step c.items.invariant.front

@@ -8,5 +8,6 @@ use Rattle.sip_text.proofs.quoted.contents_len.Given as goal
 abbrev pub invariant-items : goal.invariant-items
 invariant-items l = record { within : l.at ≤ length l.text; front : HasFront (Many QuotedItem) l.text l.at }
 
+-- each turn of the loop goes on in the text, and the text ends
 abbrev pub decreases-items : goal.decreases-items
 decreases-items l = length l.initial.text - l.at

@@ -9,7 +9,7 @@ use Rattle.sip_text.proofs.strings.BlanksLemmas.{blanks-longest}
 use Rattle.sip_text.proofs.strings.QuotedLemmas.{none-opens, none-closes, only-quoted}
 use Rattle.sip_text.proofs.quoted.read_quoted.Goals as goal
 
--- no quote follows the blanks
+-- where no quote follows the blanks, no quoted string stands at the front
 pub returns-in_err-inner-clause-reads : goal.returns-in_err-inner-clause-reads
 returns-in_err-inner-clause-reads c =
     let text = c.args.text.now in
@@ -25,6 +25,7 @@ returns-in_err-past-clause-reads c =
     let inner = c.in_ok-inner.inner.now in
     let n = c.skip_lws-open.result in
     let k = c.contents_len-close.result in
+    -- the blanks are the longest run, and no quote follows the contents
     let blanks = blanks-longest text n c.skip_lws-open.ensures.reads in
     subst (IsOnlyFront (Sws then Quoted) text) (sym c.from_residual-in_err-past.ensures)
     (none-closes text inner n k blanks.0 c.contents_len-close.ensures.front blanks.1
@@ -39,6 +40,7 @@ returns-clause-reads c =
     let inner = c.in_ok-inner.inner.now in
     let n = c.skip_lws-open.result in
     let k = c.contents_len-close.result in
+    -- the blanks are the longest run, and a quote follows the contents
     let blanks = blanks-longest text n c.skip_lws-open.ensures.reads in
     only-quoted text inner c.in_ok-past.field-0.now n k blanks.0 c.contents_len-close.ensures.front blanks.1
     (ap (past dquote) (sym (take_rest text n)) ∙ sym c.in_ok-inner.ensures)

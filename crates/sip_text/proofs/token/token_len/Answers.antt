@@ -7,6 +7,7 @@ use Rattle.sip_text.proofs.texts.RunLemmas.{longest-run}
 use Rattle.sip_text.proofs.texts.BlockLemmas.{block-passes, block-stops}
 use Rattle.sip_text.proofs.token.token_len.Goals as goal
 
+-- a text that is shorter than a block is looked at byte by byte
 pub returns-then-text-lt-BLOCK-clause-reads : goal.returns-then-text-lt-BLOCK-clause-reads
 returns-then-text-lt-BLOCK-clause-reads c =
     subst (IsLongestFront Token c.args.text.now) (sym c.run_len.ensures.run) (longest-run is_token_byte c.args.text.now)
@@ -14,6 +15,7 @@ returns-then-text-lt-BLOCK-clause-reads c =
 -- where a byte of this block is no token byte, the token ends before it
 pub returns-then-step-lt-BLOCK-clause-reads : goal.returns-then-step-lt-BLOCK-clause-reads
 returns-then-step-lt-BLOCK-clause-reads c =
+    -- `at` is where the block begins, and `step` how many of its bytes are of a token; all before it are
     let text = c.args.text.now in
     let at = c.loop-at.at in
     let step = c.block_len-step.result in
@@ -35,6 +37,7 @@ loop-at-preserved c =
 -- the last 16 bytes are looked at once more as a block, and the token ends where they say
 pub returns-clause-reads : goal.returns-clause-reads
 returns-clause-reads c =
+    -- `last` is where the last block begins, and `step` how many of its bytes are of a token
     let text = c.args.text.now in
     let last = length text - 16 in
     let step = c.block_len.result in

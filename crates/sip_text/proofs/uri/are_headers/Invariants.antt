@@ -8,5 +8,6 @@ use Rattle.sip_text.proofs.uri.are_headers.Given as goal
 abbrev pub invariant-headers : goal.invariant-headers
 invariant-headers l = Each ampersand Header l.rest ↔ Each ampersand Header l.fn.text
 
+-- what is left gets shorter in each turn of the loop
 abbrev pub decreases-headers : goal.decreases-headers
 decreases-headers l = length l.rest

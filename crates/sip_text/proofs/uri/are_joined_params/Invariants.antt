@@ -8,5 +8,6 @@ use Rattle.sip_text.proofs.uri.are_joined_params.Given as goal
 abbrev pub invariant-params : goal.invariant-params
 invariant-params l = Each semicolon UriParameter l.rest ↔ Each semicolon UriParameter l.fn.text
 
+-- what is left gets shorter in each turn of the loop
 abbrev pub decreases-params : goal.decreases-params
 decreases-params l = length l.rest

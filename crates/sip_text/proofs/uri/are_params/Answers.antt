@@ -1,7 +1,7 @@
 use Rattle.sip_text.proofs.uris.UriPartLemmas.{decides-params, decides-no_params}
 use Rattle.sip_text.proofs.uri.are_params.Goals as goal
 
--- the text begins with a `;`
+-- where the text begins with a ";", it is parameters exactly if what follows the ";" is joined parameters
 pub returns-in-Some : goal.returns-in-Some
 returns-in-Some c =
     decides-params c.args.text.now c.in-Some.params.now c.are_joined_params.result c.in-Some.ensures c.are_joined_params.ensures

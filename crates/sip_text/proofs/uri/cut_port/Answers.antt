@@ -17,6 +17,7 @@ pub returns-in_default : goal.returns-in_default
 returns-in_default c =
     no-port c.args.text.now (λ u there port.
     elim c.in_default.branch [
+      -- what follows the last colon is no port
       | in_default-via-in-Some+else-is_port w ↦
           both_ways w.is_port.result w.if-is_port.false
           (w.is_port.ensures.1 (subst Port (sym c.cut_last.ensures.rest) port))

@@ -19,7 +19,7 @@ returns-else-is_some_chars c =
     c.cut.ensures.front (ap option_copied (sym c.in-Some.is) ∙ c.cut.ensures.rest)
     (both-unless c.is_some_chars.result c.if-is_some_chars.false (decides-some is_hnv_unreserved _ _ c.is_some_chars.ensures))
 
--- a header without a `=` is none
+-- a text without a `=` is no header
 pub returns-in-None : goal.returns-in-None
 returns-in-None c =
     decides-header c.args.text.now c.cut.result.0.now None _

@@ -20,7 +20,7 @@ returns-else-is_some_chars c =
     c.cut.ensures.front (ap option_copied (sym c.in-Some.is) ∙ c.cut.ensures.rest)
     (both-unless c.is_some_chars.result c.if-is_some_chars.false (decides-some is_param_unreserved _ _ c.is_some_chars.ensures))
 
--- a parameter without a value, of which the name decides
+-- where a parameter has no value, its name decides
 pub returns-in-None : goal.returns-in-None
 returns-in-None c =
     decides-param c.args.text.now c.cut.result.0.now None c.is_some_chars-in-None.result

@@ -20,7 +20,7 @@ pub returns-then-not-has : goal.returns-then-not-has
 returns-then-not-has c = decides-not (λ port.
     port-digit c.args.text.now c.loop-byte.byte-index port c.loop-byte-test.true (sym c.has.ensures ∙ c.if-not-has.true))
 
--- the digits so far write a number that is too great for a port
+-- where the digits so far write a number that is too great for a port, the text is no port
 pub returns-then-number-gt-LAST_PORT : goal.returns-then-number-gt-LAST_PORT
 returns-then-number-gt-LAST_PORT c = decides-not (λ port.
     let more = digit-more c.args.text.now c.loop-byte.byte-index c.loop-byte.number c.loop-byte-test.true

@@ -8,13 +8,13 @@ use Rattle.sip_text.proofs.uris.UriSipLemmas.{no-host_cut, info-fits, parts-fit,
 use Rattle.sip_text.proofs.uri.read_sip.Goals as goal
 use Rattle.sip_text.proofs.uri.read_sip.Goals.{then-not-userinfo_fits-via-then-not-userinfo_fits, then-not-userinfo_fits-via-else-not-userinfo_fits+then-not-tail_fits}
 
--- what stands in the place of the host is none
+-- where what stands in the place of the host is no host, the text is no SIP URI after its scheme
 pub returns-in_err-host : goal.returns-in_err-host
 returns-in_err-host c =
     subst (IsOnlyValue (SipText c.args.secure) uri_parts c.args.text.now) (sym c.from_residual.ensures)
     (λ x. no-host_cut c.args.secure c.args.text.now (cut_parts c.cut_sip-cuts.result) x c.cut_sip-cuts.ensures c.in_err-host.ensures)
 
--- where the user or what follows the host does not fit, the text is no such URI
+-- where the user or what follows the host does not fit, the text is no SIP URI after its scheme
 pub returns-then-not-userinfo_fits : goal.returns-then-not-userinfo_fits
 returns-then-not-userinfo_fits c = λ x is.
     let fits = info-fits c.args.secure c.args.text.now (cut_parts c.cut_sip-cuts.result) x c.cut_sip-cuts.ensures is in
@@ -28,6 +28,7 @@ returns-then-not-userinfo_fits c = λ x is.
 -- where the user, the host and what follows it fit, they are the only parts that the text has
 pub returns : goal.returns
 returns c =
+    -- `cut` are the parts that were cut off, and `host` the host that is read of them
     let cut = cut_parts c.cut_sip-cuts.result in
     let host = host_parts c.in_ok-host.host in (
       parts-fit c.args.secure c.args.text.now cut host c.cut_sip-cuts.ensures

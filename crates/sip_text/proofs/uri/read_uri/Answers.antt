@@ -9,7 +9,7 @@ use Rattle.sip_text.proofs.uris.UriLemmas.{scheme-at, read-sip, named-so, not-si
 use Rattle.sip_text.proofs.uri.read_uri.Goals as goal
 use Rattle.sip_text.proofs.uri.read_uri.Goals.{then-is_sip-via-then-is_sip, then-is_sip-via-else-is_sip+then-same_text, else-is_scheme-via-then-is_scheme+else-is_some_chars, else-is_scheme-via-else-is_scheme}
 
--- no colon stands in the text, so it is no URI
+-- where no colon stands in the text, it is no URI
 pub returns-in_err-rest : goal.returns-in_err-rest
 returns-in_err-rest c =
     subst (IsOnlyValue UriText uri_parts c.args.text.now) (sym c.from_residual.ensures)
@@ -21,6 +21,7 @@ returns-then-is_sip c =
     let is_sip = c.same_text-is_sip.result in
     let scheme = c.cut_scheme.result.0.now in
     let cut = scheme-at c.args.text.now scheme c.cut_scheme.result.1 c.in_ok-rest.rest c.cut_scheme.ensures.front c.cut_scheme.ensures.rest c.in_ok-rest.was in
+    -- where the scheme is not `sip`, it is `sips`
     let sips_named : is_sip ≡ false → SameText scheme (scheme_name true) =
     λ no. elim c.then-is_sip.branch [
       | then-is_sip-via-then-is_sip w ↦ absurd (both_ways is_sip no w.if-is_sip.true)
@@ -33,6 +34,7 @@ returns-then-is_sip c =
 pub returns-then-is_some_chars : goal.returns-then-is_some_chars
 returns-then-is_some_chars c =
     let cut = scheme-at c.args.text.now c.cut_scheme.result.0.now c.cut_scheme.result.1 c.in_ok-rest.rest c.cut_scheme.ensures.front c.cut_scheme.ensures.rest c.in_ok-rest.was in
+    -- the scheme is neither `sip` nor `sips`
     let neither = not-sip c.cut_scheme.result.0.now
     (λ same. both_ways c.same_text-is_sip.result c.if-is_sip.false (c.same_text-is_sip.ensures.1 same))
     (λ same. both_ways c.same_text.result c.if-same_text.false (c.same_text.ensures.1 same)) in
@@ -46,10 +48,12 @@ returns-then-is_some_chars c =
 pub returns-else-is_scheme : goal.returns-else-is_scheme
 returns-else-is_scheme c = λ x is.
     let cut = scheme-at c.args.text.now c.cut_scheme.result.0.now c.cut_scheme.result.1 c.in_ok-rest.rest c.cut_scheme.ensures.front c.cut_scheme.ensures.rest c.in_ok-rest.was in
+    -- the scheme is neither `sip` nor `sips`
     let neither = not-sip c.cut_scheme.result.0.now
     (λ same. both_ways c.same_text-is_sip.result c.if-is_sip.false (c.same_text-is_sip.ensures.1 same))
     (λ same. both_ways c.same_text.result c.if-same_text.false (c.same_text.ensures.1 same)) in
     let fits = other-only c.args.text.now c.cut_scheme.result.0.now c.in_ok-rest.rest.now x cut neither is in
+    -- what follows the colon is not bytes of a URI, or what stands before it is no scheme
     elim c.else-is_scheme.branch [
       | else-is_scheme-via-then-is_scheme+else-is_some_chars w ↦
           let uric = decides-some is_reserved c.in_ok-rest.rest.now w.is_some_chars.result w.is_some_chars.ensures in

@@ -16,7 +16,7 @@ returns-then-is_none_or c =
     both-when c.is_none_or.result c.is_none_or-then-is_none_or.result c.if-is_none_or.true
     (if-some (decides-some is_user_unreserved) _ _ user) (if-some (decides-many is_password_unreserved) _ _ password)
 
--- the user does not fit
+-- where the user does not fit, the answer is no
 pub returns-else-is_none_or : goal.returns-else-is_none_or
 returns-else-is_none_or c =
     let user : Decides c.is_none_or.result (IfSome (option_copied c.args.cuts.now.user) (OneOrMore (ClassChar class.User))) = search rules in

@@ -6,6 +6,7 @@ use Rattle.sip_verdict.proofs.entries.find.Goals as goal
 -- what was found is the fault of the entry's message, if it has one, and then the trouble that the entry brings
 pub returns-clause-found : goal.returns-clause-found
 returns-clause-found g c =
+    -- e is the entry, and took is what holds after it was taken
     let e = c.args.entry.now in
     let took = c.in_ok-fault.ensures in
     on_ok_weaker c.tell.result (λ told es tracks counts late.

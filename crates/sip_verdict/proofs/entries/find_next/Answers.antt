@@ -6,8 +6,8 @@ use Rattle.sip_verdict.proofs.surveys.kept.Kept.{surveyed_kept, surveyed_swept}
 use Rattle.sip_verdict.proofs.entries.find_next.Goals as goal
 
 -- where no sweep is due yet, what was found at the entry is right, and the book has few enough messages
-pub returns-then-kept-left-clause-found : goal.returns-then-kept-left-clause-found
-returns-then-kept-left-clause-found g c = λ es surveyed counts late.
+pub returns-then-not-is_slow-clause-found : goal.returns-then-not-is_slow-clause-found
+returns-then-not-is_slow-clause-found g c = λ es surveyed counts late.
     let s = c.args.standing.now in
     let mid = c.find.new.standing in
     let left = c.args.left.now in
@@ -15,9 +15,9 @@ returns-then-kept-left-clause-found g c = λ es surveyed counts late.
     let (e, here, seen, now, found, added, tracks) = c.in_ok-find.ensures.found es surveyed.tracks counts late in
     (e, here, seen, found, added, surveyed_kept s.book mid.book s.tables mid.tables c.args.troubled.now.deaf.items c.find.new.troubled.deaf.items left es e c.in_ok-find.ensures.times surveyed few tracks)
 
--- an entry without keys leaves the book no more than it had
-pub returns-then-kept-left-clause-keyless : goal.returns-then-kept-left-clause-keyless
-returns-then-kept-left-clause-keyless g c none = same_within c.args.standing.now.book c.find.new.standing.book (c.in_ok-find.ensures.keyless none)
+-- after an entry without keys the book has no message that is new
+pub returns-then-not-is_slow-clause-keyless : goal.returns-then-not-is_slow-clause-keyless
+returns-then-not-is_slow-clause-keyless g c none = same_within c.args.standing.now.book c.find.new.standing.book (c.in_ok-find.ensures.keyless none)
 
 -- after the sweep the next entry may come
 pub returns-clause-may : goal.returns-clause-may
@@ -28,11 +28,11 @@ returns-clause-may g c =
     let swept = c.in_ok-sweep.ensures in
     swept_take mid.book new.book mid.tables new.tables (e.number + 1) e.moment c.in_ok-find.ensures.may swept.may swept.recorded (within_keeps mid.book new.book swept.fewer) swept.keys
 
--- at most two keys more are known after the sweep too
+-- after the sweep there are at most two keys more, as after the entry
 pub returns-clause-keys : goal.returns-clause-keys
 returns-clause-keys g c = let same = ap length c.in_ok-sweep.ensures.keys in let few = c.in_ok-find.ensures.keys in omega arith
 
--- no more messages are left than there are entries
+-- the book keeps at most as many messages as there were entries
 pub returns-clause-left : goal.returns-clause-left
 returns-clause-left g c =
     let may = c.in_ok-find.ensures.may in
@@ -40,7 +40,7 @@ returns-clause-left g c =
     let high = c.kept-2.ensures.few (c.args.entry.now.number + 1) (λ n keeps. may.numbered n (fewer n keeps)) in
     omega (arith, high, c.requires.count)
 
--- the sweep leaves the book no more than it had
+-- after the sweep the book has no message that is new
 pub returns-clause-keyless : goal.returns-clause-keyless
 returns-clause-keyless g c none = subst (λ b. All (Contains b) c.sweep.new.self.book) (c.in_ok-find.ensures.keyless none) c.in_ok-sweep.ensures.fewer
 
@@ -58,6 +58,7 @@ returns-clause-found g c = λ es surveyed counts late.
     let new = c.sweep.new.self in
     let swept = c.in_ok-sweep.ensures in
     let h = c.in_ok-find.ensures in
+    -- what was found at the entry before the sweep
     let (e, here, seen, now, found, added, tracks) = h.found es surveyed.tracks counts late in (
       e,
       here,

@@ -51,7 +51,7 @@ drop_unnamed-requires-clause-given g c =
     (subst (λ all. HaveNumbers all numbers keys) (sym c.in_ok-pass_each-in-Heard.ensures.keys)
     (have_numbers keys numbers c.args.standing.now.tables c.touch_each.new.tables c.in_ok-concerned-in-Heard.ensures.touched))
 
--- no set but those of the hearers names the newest message
+-- only sets of the hearers may name the newest message
 pub drop_unnamed-requires-clause-others : goal.drop_unnamed-requires-clause-others
 drop_unnamed-requires-clause-others g c some n set among at =
     let s = c.args.standing.now in
@@ -88,6 +88,7 @@ returns-in_ok-pass_each-in-Heard-clause-histories g c = λ es e told t_keys coun
     let entry = c.args.entry.now in
     let kept = rw c.in-Heard.is at c.in_ok-told.ensures.kept in
     let noted = c.in_ok-note_each-in-Heard.ensures in
+    -- f is what is observed of the entry, which is the same as e
     let (f, f_seen, f_is) = (rw c.in-Heard.is at c.in_ok-told.ensures.observed) es in
     let is = observes_one es (item entry) e f seen f_seen ∙ f_is in
     heard_histories es e c.args.histories.now c.note_each.new.self entry.number entry.bytes.items s.tables c.touch_each.new.tables (each c.in-Heard.concerned) (each c.in_ok-concerned-in-Heard.concerned)
@@ -140,6 +141,7 @@ returns-in_ok-pass_each-in-Restart-clause-may g c =
 -- a restart is taken
 pub returns-in_ok-pass_each-in-Restart-clause-taken : goal.returns-in_ok-pass_each-in-Restart-clause-taken
 returns-in_ok-pass_each-in-Restart-clause-taken g c = λ es fresh tracks late.
+    -- s is what stands before the restart e, whose book did not change
     let s = c.args.standing.now in
     let e = c.args.entry.now in
     let same = (rw c.in-Restart.is at c.in_ok-told.ensures.kept).0 in
@@ -155,6 +157,7 @@ returns-in_ok-pass_each-in-Heard-clause-may g c =
     let t = c.pass_each-in-Heard.new.tables in
     let new = c.drop_unnamed.new.self in
     let passed = c.in_ok-pass_each-in-Heard.ensures in
+    -- the book may lack the newest message, which no set names
     subst (λ x. MayTake new.book x (e.number + 1) e.moment) (sym c.drop_unnamed.ensures.tables)
     (dropped_take e.number mid new.book t (e.number + 1) e.moment c.drop_unnamed.ensures.book
     (may_next None s.book mid mid s.tables c.touch_each.new.tables t e.number e.moment e.bytes.items c.requires.may
@@ -177,8 +180,11 @@ returns-in_ok-pass_each-in-Heard-clause-taken g c = λ es fresh tracks late.
     let b = c.pass_each-in-Heard.new.troubled in
     let new = c.drop_unnamed.new.self in
     let dropped = c.drop_unnamed.ensures in
+    -- the new keys have flags, all of them false, and the entry concerns some keys
     let grown = c.in_ok-grow-in-Heard.ensures in
     let is_heard = rw c.in-Heard.is at c.in_ok-told.ensures.heard in
+    -- f is what is observed of the entry, and `seen` says that it is seen so. It has no fault and its moment is `now`; the keys are those so far
+    -- and its own, and each transaction is passing it.
     let (f, seen, fine, now, keys, passing) =
     heard_taken s.book mid e.number e.bytes.items (rw c.in-Heard.is at c.in_ok-told.ensures.kept).4 (item e) e.moment refl c.in-Heard.event c.in-Heard.concerned c.in_ok-concerned-in-Heard.concerned
     s.tables c.touch_each.new.tables t c.args.troubled.now c.grow.new.self b grown.deaf.0
@@ -188,23 +194,24 @@ returns-in_ok-pass_each-in-Heard-clause-taken g c = λ es fresh tracks late.
       seen,
       fine,
       now,
+      -- after the message was dropped the tables are the same, and each transaction is still passing the entry
       ap (λ x. x.keys) dropped.tables ∙ keys,
       subst (λ x. ArePassing new.book s.tables.times es f (is_among []) x b) (sym dropped.tables) (dropped_passing e.number mid new.book s.tables.times es f t b dropped.book passing),
     )
 
--- no key more is known
+-- the entry brings no new key
 pub returns-in_ok-pass_each-in-Unheard-clause-keys : goal.returns-in_ok-pass_each-in-Unheard-clause-keys
 returns-in_ok-pass_each-in-Unheard-clause-keys g c = let same = ap length c.in_ok-pass_each-in-Unheard.ensures.keys in omega arith
 
--- there are as many keys as before
+-- the entry brings no new key
 pub returns-in_ok-pass_each-in-Fault-clause-keys : goal.returns-in_ok-pass_each-in-Fault-clause-keys
 returns-in_ok-pass_each-in-Fault-clause-keys g c = let same = ap length c.in_ok-pass_each-in-Fault.ensures.keys in omega arith
 
--- there are as many keys as before
+-- the entry brings no new key
 pub returns-in_ok-pass_each-in-Restart-clause-keys : goal.returns-in_ok-pass_each-in-Restart-clause-keys
 returns-in_ok-pass_each-in-Restart-clause-keys g c = let same = ap length c.in_ok-pass_each-in-Restart.ensures.keys in omega arith
 
--- at most two keys more are known
+-- the entry brings at most two new keys
 pub returns-in_ok-pass_each-in-Heard-clause-keys : goal.returns-in_ok-pass_each-in-Heard-clause-keys
 returns-in_ok-pass_each-in-Heard-clause-keys g c =
     let few = few_keys c.in-Heard.concerned (each c.in_ok-concerned-in-Heard.concerned) c.args.standing.now.tables c.touch_each.new.tables c.in_ok-concerned-in-Heard.ensures.touched in

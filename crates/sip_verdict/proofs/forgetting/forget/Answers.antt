@@ -13,9 +13,11 @@ use Rattle.sip_verdict.proofs.sweeps.FollowedLemmas.{swept_take}
 use Rattle.sip_verdict.proofs.sweeps.SweptBook.{within_keeps}
 use Rattle.sip_verdict.proofs.forgetting.forget.Goals as goal
 
+-- there is a flag for each transaction
 pub keep-requires : goal.keep-requires
 keep-requires g c = ap length c.as_slice-flags.ensures.value ∙ c.in_ok-flags.ensures.long
 
+-- there is a flag for each history
 pub keep-requires-2 : goal.keep-requires-2
 keep-requires-2 g c = ap length c.as_slice-flags.ensures.value ∙ c.in_ok-flags.ensures.long ∙ ap length c.in_ok-wait.ensures.keys ∙ sym c.requires.watched.long
 
@@ -38,6 +40,7 @@ sweep-requires-clause-recorded g c =
 -- after all sets have waited, some were forgotten and the book was swept, the next entry may be taken
 pub returns-clause-may : goal.returns-clause-may
 returns-clause-may g c =
+    -- `old` is what stands at first, s after the waiting, `mid` without what the flags drop, and `new` after the sweep
     let old = c.args.standing.now in
     let s = c.wait.new.self in
     let flags = c.as_slice-flags.result.now in
@@ -46,6 +49,7 @@ returns-clause-may g c =
     let new = c.sweep.new.self in
     let mid = c.keep.new.self in
     let swept = c.in_ok-sweep.ensures in
+    -- the next entry may be taken after the wait, after the others were kept, and after the sweep
     let waited = take_waited old.book s.book old.tables s.tables (newest.number + 1) newest.moment c.in_ok-wait.ensures.book c.in_ok-wait.ensures.keys c.in_ok-wait.ensures.may c.in_ok-wait.ensures.recorded c.requires.may in
     let may = subst (λ t. MayTake s.book t (newest.number + 1) newest.moment) (sym c.in_ok-keep.ensures.ok) (take_kept flags s.tables long c.known.ensures.unique s.book (newest.number + 1) newest.moment waited) in
     swept_take s.book new.book mid new.tables (newest.number + 1) newest.moment may swept.may swept.recorded (within_keeps s.book new.book swept.fewer) swept.keys
@@ -54,18 +58,21 @@ returns-clause-may g c =
 pub returns-clause-watched : goal.returns-clause-watched
 returns-clause-watched g c =
     let s = c.wait.new.self in
+    -- the flags are as many as the tables' sets; b is the list of transactions in trouble, of which some were dropped
     let flags = c.as_slice-flags.result.now in
     let long = ap length c.as_slice-flags.ensures.value ∙ c.in_ok-flags.ensures.long in
     let b = c.keep-2.new.self in
+    -- what was watched before is watched after the waiting (`waited`), after the dropping (`h`) and after the sweep
     let waited = watched_waited c.args.standing.now.tables s.tables c.args.troubled.now c.in_ok-wait.ensures.keys c.in_ok-wait.ensures.records c.in_ok-wait.ensures.recorded c.requires.watched in
     let h = subst (λ t. AreWatched [] t b) (sym c.in_ok-keep.ensures.ok) (watched_kept flags s.tables long c.known.ensures.unique c.args.troubled.now b c.keep-2.ensures.deaf waited) in
     let swept = c.in_ok-sweep.ensures in
     record { long = h.long ∙ ap length (sym swept.keys); recorded = swept.recorded; silent = λ n is. ap (λ rs. slice_get rs n) swept.records ∙ h.silent n is }
 
+-- no transaction has come into trouble by this
 pub returns-clause-fresh : goal.returns-clause-fresh
 returns-clause-fresh g c = record { broken = c.keep-2.ensures.broken ∙ c.requires.fresh.broken; wide = c.keep-2.ensures.wide ∙ c.requires.fresh.wide }
 
--- no more messages are left than there are entries
+-- the book keeps at most as many messages as there were entries
 pub returns-clause-left : goal.returns-clause-left
 returns-clause-left g c =
     let old = c.args.standing.now in
@@ -74,6 +81,7 @@ returns-clause-left g c =
     let high = c.kept.ensures.few (c.args.newest.number + 1) (λ n keeps. c.requires.may.numbered n (within_keeps old.book c.sweep.new.self.book fewer n keeps)) in
     omega (arith, high, c.requires.count)
 
+-- the book has no message that is new
 pub returns-clause-fewer : goal.returns-clause-fewer
 returns-clause-fewer g c = subst (λ b. All (Contains b) c.sweep.new.self.book) c.in_ok-wait.ensures.book c.in_ok-sweep.ensures.fewer
 
@@ -86,13 +94,16 @@ returns-clause-forgets g c = λ es surveyed told newest.
     let flags = c.as_slice-flags.result.now in
     let long = ap length c.as_slice-flags.ensures.value ∙ c.in_ok-flags.ensures.long in
     let apart = c.known.ensures.unique in
+    -- each flag says whether its transaction is over
     let says = subst (AreFlags c.args.until t c.args.histories.now) (sym c.as_slice-flags.ensures.value) c.in_ok-flags.ensures in
     let troubled = c.args.troubled.now in
     let deaf = troubled.deaf.items in
+    -- after the wait the tables track the same entries, and what is over has a quiet set
     let (tracks_on, quiet) = c.in_ok-wait.ensures.surveyed es deaf surveyed.tracks newest c.requires.watched.long in
     let waited = watched_waited old.tables t troubled c.in_ok-wait.ensures.keys c.in_ok-wait.ensures.records c.in_ok-wait.ensures.recorded c.requires.watched in
     let kept = kept_by flags t.keys in
     let left = remembered kept es in
+    -- what is left tracks what is remembered, and so it does after the sweep
     let mid = c.keep.new.self in
     let new = c.sweep.new.self in
     let swept = c.in_ok-sweep.ensures in
@@ -100,6 +111,7 @@ returns-clause-forgets g c = λ es surveyed told newest.
     let tracks = subst (TablesSurvey s.book left mid) (sym c.keep-2.ensures.deaf) (subst (λ u. TablesSurvey s.book left u (kept_of flags deaf)) (sym c.in_ok-keep.ensures.ok) (survey_kept flags t long apart s.book es deaf tracks_on)) in
     let watched = subst (λ u. AreWatched [] u c.keep-2.new.self) (sym c.in_ok-keep.ensures.ok) (watched_kept flags t long apart troubled c.keep-2.new.self c.keep-2.ensures.deaf waited) in
     let both = swept.surveyed left now tracks (newest_kept kept es ∙ newest) watched.long in
+    -- the times are the same, and what was forgotten is over
     let times = ap (λ (u : Tabled). u.times) c.in_ok-keep.ensures.ok ∙ c.in_ok-wait.ensures.times in (
       kept,
       subst (λ p. ForgetsUpTo c.args.until p es kept) c.in_ok-wait.ensures.times

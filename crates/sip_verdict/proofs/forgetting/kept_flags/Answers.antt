@@ -13,6 +13,7 @@ loop-index-preserved g c =
     let flags = c.loop-index.flags.items in
     let past = c.is_past.result in
     let pushed = c.in_ok-push.ensures.items in
+    -- the flag stands at the place of the next transaction
     let place : length flags ≡ c.loop-index.index + 1 - 1 = omega (arith, inv.long) in
     record {
       long = ap length pushed ∙ length-append flags (not past ∷ []) ∙ ap (λ n. n + 1) inv.long;

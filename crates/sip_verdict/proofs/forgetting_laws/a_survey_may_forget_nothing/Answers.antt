@@ -1,10 +1,10 @@
 use Rattle.sip_verdict.proofs.surveys.forgetting.Never.{never_part, never_whole}
 use Rattle.sip_verdict.proofs.forgetting_laws.a_survey_may_forget_nothing.Goals as goal
 
--- a survey of the whole log
+-- a survey of the whole log that forgets nothing is one that a survey which may forget may give
 pub returns-clause-whole : goal.returns-clause-whole
 returns-clause-whole c = never_whole
 
--- a survey of a part of the log
+-- so is a survey of a part of the log
 pub returns-clause-part : goal.returns-clause-part
 returns-clause-part c = never_part

@@ -20,6 +20,7 @@ pub entry-requires : goal.entry-requires
 entry-requires g c = λ goes_on.
     let l = c.loop-found in
     let moves = rw c.in-Entry.is at c.in_ok-entry.ensures.moves in
+    -- the survey has counted the entries, and its newest moment is that of the reader
     let number = moves.1.number_is in
     let counts = l.invariant.at.counts in
     let newest = l.invariant.at.newest in
@@ -34,6 +35,7 @@ loop-found-preserved g c =
     let l = c.loop-found in
     let old : log.ReaderState = beside_source l.progress (g.R.Source.left l.reader) (g.R.Source.has_failed l.reader) in
     let new : log.ReaderState = beside_source c.read_next.new.progress (g.R.Source.left c.read_next.new.reader) (g.R.Source.has_failed c.read_next.new.reader) in
+    -- the reader moved on over the entry, which was taken
     let moves = rw c.in-Entry.is at c.in_ok-entry.ensures.moves in
     let taken = c.in_ok-entry-in-Entry.ensures in
     record {
@@ -41,11 +43,13 @@ loop-found-preserved g c =
       at = record {
         on = moves.0;
         goes_on = search rules;
+        -- the count, the newest moment and the room are those after the entry
         counts = taken.newest.0 ∙ sym moves.2;
         newest = taken.newest.1 ∙ sym moves.3;
         few = (let number = moves.1.number_is in let count = moves.2 in let low = moves.4 in omega arith);
         room = (let number = moves.1.number_is in let count = moves.2 in let more = taken.keys in let room = l.invariant.at.room in omega arith);
       };
+      -- the findings are those before and those at this entry
       counts_are = sym taken.newest.0;
       told = λ start reads.
           let read = l.invariant.told start reads in

@@ -4,8 +4,10 @@ use Rattle.sip_log.specs.Reading.{beside_source}
 use Rattle.sip_verdict.specs.inner.SurveyingLogs.{IsSurveyAt, SurveysRead}
 use Rattle.sip_verdict.proofs.gathering.gather_entries.Given as goal
 
+-- the survey stands after the entries that were read, and what was found is what it finds at them
 abbrev pub invariant-loop-found : goal.invariant-loop-found
 invariant-loop-found g l =
+    -- the reader has not failed since; survey and log stand at the same entry; what was told so far is what the survey finds
     record {
       fine : g.R.Source.has_failed l.reader ≡ g.R.Source.has_failed l.fn.reader;
       at : IsSurveyAt l.survey l.progress;
@@ -14,5 +16,6 @@ invariant-loop-found g l =
           → SurveysRead None l.survey l.found.items start (beside_source l.progress (g.R.Source.left l.reader) (g.R.Source.has_failed l.reader));
     }
 
+-- each turn of the loop reads one entry, and a log has at most `most_entries`
 abbrev pub decreases-loop-found : goal.decreases-loop-found
 decreases-loop-found g l = most_entries - l.progress.count

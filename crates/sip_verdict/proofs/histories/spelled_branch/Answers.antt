@@ -24,5 +24,6 @@ returns-in-Ok c =
     read_spells c.args.bytes.now (said_of c.in-Ok.message) None c.new.result.items c.in-Ok.ensures.says
     (sym (ap (λ (e : Element). e.1.branch) c.top_via.ensures) ∙ ap option_copied c.in-None.is) tt
 
+-- bytes that are no message spell no branch
 pub returns-in-Err-Fault : goal.returns-in-Err-Fault
 returns-in-Err-Fault c = fault_spells c.args.bytes.now c.in-Err-Fault.field-0-0 _ (rw c.in-Err-Fault.field-0-is at c.in-Err-Fault.ensures)

@@ -16,6 +16,6 @@ returns-in_default-clause-observed c es =
 pub returns-in_default-clause-heard : goal.returns-in_default-clause-heard
 returns-in_default-clause-heard c = rw c.told_without_message.ensures (silent_heard c.args.book.now c.args.entry.now.moment c.args.entry.now.action)
 
--- it leaves the book as it was
+-- an entry that concerns nothing leaves the book as it was
 pub returns-in_default-clause-kept : goal.returns-in_default-clause-kept
 returns-in_default-clause-kept c = rw c.told_without_message.ensures (silent_kept c.args.book.now c.args.book.now c.args.entry.now (sym c.direction_of.ensures ∙ c.in_default.is) refl)

@@ -37,18 +37,22 @@ returns-in-Err-NoCookie-clause-observed c es =
       refl,
     )
 
+-- the entry is no mark, since its message went some way
 pub of-event-requires-clause-action : goal.of-event-requires-clause-action
 of-event-requires-clause-action c = going c.args.entry.now.action c.args.direction c.requires.direction
 
+-- the entry is no restart, since its message went some way
 pub of-event-requires-clause-message : goal.of-event-requires-clause-message
 of-event-requires-clause-message c = going_on c.args.entry.now.action c.args.direction c.requires.direction
 
+-- the bytes that were kept are those that were read
 pub keep_to-requires-clause-read : goal.keep_to-requires-clause-read
 keep_to-requires-clause-read c = rw (c.in_ok-number.ensures.ok.1, c.as_slice-2.ensures.value, ← c.as_slice.ensures.value) c.in-Ok.ensures
 
 -- a message that concerns some transaction is observed with its event and its keys
 pub returns-clause-observed : goal.returns-clause-observed
 returns-clause-observed c es =
+    -- i is the entry's item; the book has its message under its number, or under that of equal bytes
     let i = item c.args.entry.now in
     rw c.keep_to.ensures (
       _,
@@ -71,6 +75,7 @@ returns-clause-kept c =
     let seen = returns-clause-observed c [] in
     let kept = event_kept i c.in-Ok.message c.add.new.self c.of-event.result c.in_ok-number.number _ c.of-event.ensures c.in_ok-number.ensures.ok.0 (c.in_ok-number.ensures.ok.1 ∙ c.as_slice-2.ensures.value) in
     let some = concerns_some i (each c.in-Ok-keys_of.concerned) seen.0 seen.1 (ap (λ o. o.keys) seen.2) (each_some c.in-Ok-keys_of.concerned c.in-Ok-keys_of.ensures.3 c.in_default.not-None) in
+    -- the entry was sent, received or failed, and concerns some key
     rw c.keep_to.ensures (
       going_says i.action c.args.direction c.requires.direction,
       some,

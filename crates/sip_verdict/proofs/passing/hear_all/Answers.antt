@@ -20,10 +20,12 @@ loop-number-preserved g c =
     let i = c.loop-number.number-index in
     let heard = c.in_ok-hear_one.ensures in
     let old = c.loop-number.invariant in
+    -- the tables are those after this transaction has heard the event
     record {
       times_are = heard.times ∙ old.times_are;
       keys_are = heard.keys ∙ old.keys_are;
       may = heard.may;
+      -- the transactions up to this one have heard the event, with the outcome so far
       heard = subst (λ o. HearsEach c.args.book.now event (take (i + 1) numbers) c.args.tables.now c.args.others c.hear_one.new.tables o) (sym c.first-outcome.ensures)
           (subst (λ ns. HearsEach c.args.book.now event ns c.args.tables.now c.args.others c.hear_one.new.tables (first_of c.loop-number.outcome c.in_ok-hear_one.field-0)) (sym (take_more numbers i 0 (omega arith)))
           (hears_more c.args.book.now event (take i numbers) (get_or numbers i 0) c.args.tables.now c.loop-number.tables c.hear_one.new.tables c.args.others c.loop-number.outcome c.in_ok-hear_one.field-0 old.heard heard.heard));

@@ -2,6 +2,7 @@ use Rattle.std.proofs.Common.{◌≡◌, take}
 use Rattle.sip_verdict.specs.inner.TablesTracking.{MayPass, HearsEach}
 use Rattle.sip_verdict.proofs.passing.hear_all.Given as goal
 
+-- the transactions so far have heard the event, the outcome is the first trouble of these, and all may still pass the moment
 abbrev pub invariant-loop-number : goal.invariant-loop-number
 invariant-loop-number g l =
     record {

@@ -5,6 +5,7 @@ use Rattle.sip_verdict.specs.inner.TablesTracking.{HearsEach}
 use Rattle.sip_verdict.proofs.tables.TablesPassing.{given_still, named_hearers}
 use Rattle.sip_verdict.proofs.passing.hear_each.Goals as goal
 
+-- the cancelled transaction is still one of the tables after its CANCEL was heard
 pub hear_one-requires-in-OwnAndCancelled-2-clause-given : goal.hear_one-requires-in-OwnAndCancelled-2-clause-given
 hear_one-requires-in-OwnAndCancelled-2-clause-given g c =
     given_still c.in-OwnAndCancelled.cancelled c.args.tables.now c.hear_one-in-OwnAndCancelled.new.tables c.in_ok-hear_one-in-OwnAndCancelled.ensures.keys ((rw c.in-OwnAndCancelled.is at c.requires.hear.given) 1 0 (omega arith))
@@ -16,6 +17,7 @@ returns-in-None-clause-heard g c =
     let h = c.args.hearing.now in
     let hear = c.requires.hear in (
       c.requires.may,
+      -- there are no hearers
       (
         each h.concerned,
         named_hearers t h.concerned (ap is_all c.in-None.is) hear.given hear.apart,
@@ -32,6 +34,7 @@ returns-in_ok-hear_one-in-Own-clause-heard g c =
     let hear = c.requires.hear in
     let heard = c.in_ok-hear_one-in-Own.ensures in (
       heard.may,
+      -- the own transaction is the only hearer
       (
         each h.concerned,
         named_hearers t h.concerned (ap is_all c.in-Own.is) hear.given hear.apart,
@@ -42,6 +45,7 @@ returns-in_ok-hear_one-in-Own-clause-heard g c =
 -- where the event concerns its own transaction and the cancelled one, both hear it, the own one first
 pub returns-in_ok-hear_one-in-OwnAndCancelled-2-clause-heard : goal.returns-in_ok-hear_one-in-OwnAndCancelled-2-clause-heard
 returns-in_ok-hear_one-in-OwnAndCancelled-2-clause-heard g c =
+    -- t are the tables before, mid those after the own transaction has heard the event, and u those after the cancelled one has
     let t = c.args.tables.now in
     let mid = c.hear_one-in-OwnAndCancelled.new.tables in
     let u = c.hear_one-in-OwnAndCancelled-2.new.tables in
@@ -49,6 +53,7 @@ returns-in_ok-hear_one-in-OwnAndCancelled-2-clause-heard g c =
     let hear = c.requires.hear in
     let own = c.in_ok-hear_one-in-OwnAndCancelled in
     let cancelled = c.in_ok-hear_one-in-OwnAndCancelled-2 in (
+      -- the own transaction and the cancelled one are the hearers
       cancelled.ensures.may,
       (
         each h.concerned,

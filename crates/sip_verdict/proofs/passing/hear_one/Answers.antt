@@ -9,6 +9,7 @@ use Rattle.sip_verdict.proofs.passing.hear_one.Goals as goal
 -- after one set has heard the event and its record is new, the tables may still pass the moment
 pub returns-in_ok-settle-clause-may : goal.returns-in_ok-settle-clause-may
 returns-in_ok-settle-clause-may g c =
+    -- the set at the index is the one that has heard the event, and the others are as before
     let sets = c.args.tables.now.sets in
     let index = c.args.number - 1 in
     subst (λ t. MayPass c.args.book.now t c.args.event.now.moment) (sym c.in_ok-settle.ensures.ok.recorded) (record {
@@ -20,6 +21,7 @@ returns-in_ok-settle-clause-may g c =
 -- where the set has states left, the transaction has heard the event, and its record is new
 pub returns-in_ok-settle-clause-heard : goal.returns-in_ok-settle-clause-heard
 returns-in_ok-settle-clause-heard g c = record {
+  -- `before` and `after` are the set before and after the event
   before = c.set_mut.result.now;
   after = c.hear.new.set;
   was = c.set_mut.ensures.value;

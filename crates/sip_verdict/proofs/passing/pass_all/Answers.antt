@@ -8,6 +8,7 @@ use Rattle.sip_verdict.proofs.tables.Halfway.{mark_outcome, heard_outcome, quiet
 use Rattle.sip_verdict.proofs.tables.TablesPassing.{on_record_if, heard_recorded, recorded_more, hears_others, others_left}
 use Rattle.sip_verdict.proofs.passing.pass_all.Goals as goal
 
+-- nothing was heard, so each last moment is on record as before
 pub returns-in_default-clause-recorded : goal.returns-in_default-clause-recorded
 returns-in_default-clause-recorded g c = on_record_if _ c.args.tables.now (λ fine. rw c.in_default.is at c.requires.recorded)
 
@@ -24,6 +25,7 @@ hear_each-requires-clause-hear g c =
     let hear = c.requires.hear c.in-Some.hearing c.in-Some.is in
     subst (λ m. MayHear c.args.book.now c.args.tables.now m c.in-Some.hearing.now) (sym hear.at) hear
 
+-- the tables may pass the moment of the event, which is that of the entry
 pub hear_each-requires-clause-may : goal.hear_each-requires-clause-may
 hear_each-requires-clause-may g c =
     subst (MayPass c.args.book.now c.args.tables.now) (sym (c.requires.hear c.in-Some.hearing c.in-Some.is).at) c.requires.may
@@ -39,6 +41,8 @@ returns-clause-recorded g c =
     let h = c.in-Some.hearing.now in
     let t = c.args.tables.now in
     IfOk-weaker c.hear_each.result _ _
+    -- h is what is heard, and t are the tables before the event; of what the call gives, heard.1.0 are the numbers of the hearers, heard.1.1 says that they
+    -- are those of the event, and heard.1.2 that each of them heard it
     (λ outcome heard.
     let hearers = heard.1.1 in
     heard_recorded c.args.book.now h.event heard.1.0 t c.hear_each.new.tables c.overdue-overdue.result outcome hearers.given
@@ -50,9 +54,11 @@ returns-clause-outcome g c =
     let h = c.in-Some.hearing.now in
     let t = c.args.tables.now in
     let u = c.hear_each.new.tables in
+    -- h is what is heard, t are the tables before the event, and u those after it
     let hear = c.requires.hear c.in-Some.hearing c.in-Some.is in
     IfOk-weaker c.hear_each.result _ _
     (λ outcome heard p es e newest told ready.
+    -- the hearers are those of the event, and the last moments of the others are on record
     let told_it = rw c.in-Some.is at told in
     let hearers = heard.1.1 in
     let recorded = recorded_more (each h.concerned) heard.1.0 t hearers.named (rw c.in-Some.is at c.requires.recorded) in

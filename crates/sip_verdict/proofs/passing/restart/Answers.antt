@@ -16,6 +16,7 @@ returns-clause-heard g c =
     let event = c.args.event.now in
     let heard = c.in_ok-outcome.ensures in (
       subst (λ u. MayPass c.args.book.now u event.moment) (sym c.restarted.ensures) heard.may,
+      -- the hearers are all numbers of the tables
       (
         c.as_slice.result.now,
         subst (AreHearers t concerned.All) (sym c.as_slice.ensures.value) (all_hearers t c.in_ok-numbers.numbers.items c.in_ok-numbers.ensures),

@@ -20,12 +20,14 @@ loop-number-preserved g c =
     let i = c.loop-number.number-index in
     let heard = c.in_ok-hear_or_release.ensures in
     let old = c.loop-number.invariant in
+    -- the next number is that of the transaction that hears now
     let next = next_number numbers i (omega arith) in
     record {
       times_are = heard.times ∙ old.times_are;
       keys_are = heard.keys ∙ old.keys_are;
       long = heard.long;
       may = heard.may;
+      -- the others of the list are still to hear the event
       watched = λ h. heard.watched (drop (i + 1) numbers) (subst (λ ns. AreWatched ns c.loop-number.tables c.loop-number.troubled) next (old.watched h));
       heard = λ p es e times late apart concerned h.
           heard.heard p es e (drop (i + 1) numbers) (old.times_are ∙ times) late (next_apart numbers i apart (omega arith))

@@ -7,6 +7,7 @@ use Rattle.sip_verdict.specs.inner.TablesTracking.{MayPass, is_among}
 use Rattle.sip_verdict.specs.inner.Surveying.{AreWatched, ArePassing, AreConcerned}
 use Rattle.sip_verdict.proofs.releasing.hear_numbers.Given as goal
 
+-- the transactions so far have heard the event or were released; those that are left in the list can still hear it
 abbrev pub invariant-loop-number : goal.invariant-loop-number
 invariant-loop-number g l =
     record {
@@ -14,6 +15,7 @@ invariant-loop-number g l =
       keys_are : l.tables.keys ≡ l.initial.tables.keys;
       long : length l.troubled.deaf.items ≡ length l.tables.keys;
       may : MayPass l.book l.tables l.event.moment;
+      -- what is watched and what is passing, but for those that are still to hear
       watched : AreWatched l.numbers l.initial.tables l.initial.troubled → AreWatched (drop l.number-index l.numbers) l.tables l.troubled;
       heard : (p : Times) (es : List (Observation KeyParts)) (e : Observation KeyParts) → l.initial.tables.times ≡ p → newest_moment es ≤ l.event.moment
           → AllPairs (λ i k. i ≢ k) l.numbers → AreConcerned l.book p es e l.event l.numbers l.initial.tables.keys

@@ -44,6 +44,7 @@ returns-in-Fine-clause-may g c =
 pub returns-in-Fine-clause-watched : goal.returns-in-Fine-clause-watched
 returns-in-Fine-clause-watched g c =
     let t = c.args.tables.now in
+    -- limit is the last moment to which the set can wait, which was put on record
     on_ok_weaker c.settle.result (λ settles waits h.
     let (limit, agenda, is) = settles_leaves c.args.number c.hear.new.set t c.settle.new.self settles in
     watched_on t c.args.troubled.now c.args.number waits c.requires.given h c.settle.new.self c.hear.new.set limit agenda (c.has.ensures ∙ ap Some c.if-has.false) (ap (λ x. x.keys) is) (ap (λ x. x.sets) is) (ap (λ x. x.records) is))
@@ -52,6 +53,7 @@ returns-in-Fine-clause-watched g c =
 -- the transaction goes on over the entry
 pub returns-in-Fine-clause-heard : goal.returns-in-Fine-clause-heard
 returns-in-Fine-clause-heard g c =
+    -- t is the tables before; the set goes on to `limit`, and p is the times, es the entries before and e this one
     let t = c.args.tables.now in
     on_ok_weaker c.settle.result (λ settles p es e waits times late once concerned h.
     let (limit, agenda, is) = settles_leaves c.args.number c.hear.new.set t c.settle.new.self settles in
@@ -100,9 +102,11 @@ returns-in_ok-restart_key-in-NoRun-clause-watched g c =
 -- where the event leaves no state, the transaction is called broken, and its set begins anew
 pub returns-in_ok-restart_key-in-NoRun-clause-heard : goal.returns-in_ok-restart_key-in-NoRun-clause-heard
 returns-in_ok-restart_key-in-NoRun-clause-heard g c =
+    -- t is the tables and b the list of transactions in trouble before; `anew`: the tables in which this one set begins anew
     let t = c.args.tables.now in
     let b = c.args.troubled.now in
     let anew = c.in_ok-restart_key-in-NoRun.ensures.ok in
+    -- p is the times, es the entries before and e this one, by which the definitions say that the transaction has no run
     on_ok_weaker c.add_broken.result (λ added p es e waits times late once concerned h.
     heard_broken c.args.book.now p es e t b c.args.number c.requires.given waits c.args.event.now late once concerned h (c.has.ensures ∙ ap Some c.if-has.false) c.set_mut.result.now c.hear.new.set c.set_mut.ensures.value
     c.in_ok-hear.field-0 c.in_ok-hear.ensures.stepped c.in-NoRun.is c.restart_key.new.self c.add_broken.new.self t.times anew.key anew.at times (ap (λ x. x.keys) anew.begun)
@@ -127,9 +131,11 @@ returns-in_ok-restart_key-in-TooWide-clause-watched g c =
 -- where the event leaves too many states, the transaction is called too wide, and its set begins anew
 pub returns-in_ok-restart_key-in-TooWide-clause-heard : goal.returns-in_ok-restart_key-in-TooWide-clause-heard
 returns-in_ok-restart_key-in-TooWide-clause-heard g c =
+    -- t is the tables and b the list of transactions in trouble before; `anew`: the tables in which this one set begins anew
     let t = c.args.tables.now in
     let b = c.args.troubled.now in
     let anew = c.in_ok-restart_key-in-TooWide.ensures.ok in
+    -- p is the times, es the entries before and e this one, by which the definitions say that the transaction has too many states
     on_ok_weaker c.add_wide.result (λ added p es e waits times late once concerned h.
     heard_wide c.args.book.now p es e t b c.args.number c.requires.given waits c.args.event.now late once concerned h (c.has.ensures ∙ ap Some c.if-has.false) c.set_mut.result.now c.hear.new.set c.set_mut.ensures.value
     c.in_ok-hear.field-0 c.in_ok-hear.ensures.stepped c.in-TooWide.is c.restart_key-in-TooWide.new.self c.add_wide.new.self t.times anew.key anew.at times (ap (λ x. x.keys) anew.begun)

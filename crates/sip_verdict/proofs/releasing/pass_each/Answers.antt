@@ -71,15 +71,18 @@ returns-clause-passed g c =
     let t = c.args.tables.now in
     let u = c.release_overdue.new.tables in
     let d = c.release_overdue.new.troubled in
+    -- the hearers are still to hear the event after the release
     let hearing = c.in-Some.hearing.now in
     let watched = rw c.in-Some.is at c.requires.watched in
     let hear = hear_still texts t u moment hearing released.keys (c.requires.hear c.in-Some.hearing c.in-Some.is) in
     on_ok_weaker c.hear_each.result (λ heard p es e times late now told h.
     let (numbers, hears, each_heard) = heard in
     let told_it = subst (λ ks. AreTold texts ks moment (Some hearing) e) (sym released.keys) (rw c.in-Some.is at told) in
+    -- each transaction is passing the entry after the release
     let mid = released.released texts p es e (each hearing.concerned) times late now c.requires.may watched h in
     let may = released.may texts c.requires.may in
     let now_watched = watched_more (each hearing.concerned) numbers u d hears.named (released.watched (each hearing.concerned) watched) in
+    -- the event concerns the hearers, and the others can wait until its moment
     each_heard p es e (released.times ∙ times) (subst (λ m. newest_moment es ≤ m) (sym hear.at) late) hears.apart
     (event_concerns texts p es e moment late now u d may released.none mid hearing told_it hear numbers hears now_watched)
     (event_waits texts p es e moment late now u d may released.none mid hearing told_it hear numbers hears now_watched)) c.hear_each.ensures.heard

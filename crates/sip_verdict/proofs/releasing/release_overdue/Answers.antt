@@ -15,19 +15,23 @@ loop-number-preserved g c =
     let d = c.add_broken.new.self in
     let number = c.in-Some.number in
     let old = c.loop-number.invariant in
+    -- the transaction is overdue, its set began anew, and it is among the broken ones
     let given = c.in-Some.ensures.some.0 in
     let past = c.in-Some.ensures.some.1 in
     let anew = c.in_ok-restart_key.ensures.ok in
     let added = c.in_ok-add_broken.ensures in
+    -- the other keys, sets and records are as they were
     let keys = ap (λ x. x.keys) anew.begun in
     let sets = ap (λ x. x.sets) anew.begun in
     let records = ap (λ x. x.records) anew.begun in
     record {
       times_are = ap (λ x. x.times) anew.begun ∙ old.times_are;
       keys_are = keys ∙ old.keys_are;
+      -- the tables have as many keys, and may still pass the moment
       long = ap length added.deaf ∙ length-set b.deaf.items (number - 1) _ ∙ old.long ∙ ap length (sym keys);
       may = λ texts may. passes_anew texts t u (number - 1) c.args.moment anew.key t.times (old.may texts may) keys sets;
       watched = λ waits h. watched_released t u b d number waits given (old.watched waits h) (start_of t.times anew.key) anew.endless added.deaf keys sets records;
+      -- the transaction breaks at the entry
       released = λ texts p es e waits times late now may watched h.
           overdue_broken texts p es e t b number given c.args.moment waits late now (old.may texts may) (old.watched waits watched) past (old.released texts p es e waits times late now may watched h)
           u d t.times anew.key anew.at (old.times_are ∙ times) keys sets added.deaf added.broken added.wide;

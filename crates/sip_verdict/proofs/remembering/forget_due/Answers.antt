@@ -10,6 +10,7 @@ returns-clause-left g c = λ es stands horizon_is.
     let m = c.args.horizon.now in
     let is : IsTrue c.are_due.result = search rules in
     let due = c.are_due.ensures.0 is in
+    -- `kept` says which transactions are remembered
     let (kept, forgets, left_stands, many) = c.in_ok-forget.ensures.forgets es stands in (
       remembered kept es,
       inr (m.until, kept, came_long_ago m es horizon_is due.0, forgets, refl),

@@ -16,6 +16,7 @@ returns-in-Ok-clause-surveyed g c =
     let part = option_copied c.args.part in
     let start = g.R.Source.left c.args.reader.now in
     let state : ProgressState → log.ReaderState = λ place. beside_source place (g.R.Source.left c.read_header.new.reader) (g.R.Source.has_failed c.read_header.new.reader) in
+    -- the header was read, and its times are those of the survey
     let read = rw c.in-Ok.is at c.in_ok-params.ensures.reads in
     let p = c.new-survey.result.tables.times in
     let times : p ≡ c.in-Ok.params = search rules in
@@ -24,6 +25,7 @@ returns-in-Ok-clause-surveyed g c =
     (remembers_none c.args.age part p c.new-survey.result start (state c.in-Ok.progress) refl c.new-survey.ensures.stands
     (stands_streamed start p [] (state c.in-Ok.progress) read.on (read.times_are ∙ ap Some (sym times)) read.stands)))
 
+-- no read has failed, neither of the header nor in the loop
 pub returns-in-Ok-clause-fine : goal.returns-in-Ok-clause-fine
 returns-in-Ok-clause-fine g c =
     still_fine _ c.write_on.result (g.R.Source.has_failed c.read_header.new.reader) (g.R.Source.has_failed c.write_on.new.reader) c.write_on.ensures.fine (c.in_ok-params.ensures.ok ∙ c.requires)
@@ -32,6 +34,7 @@ returns-in-Ok-clause-fine g c =
 pub returns-in-Err-clause-surveyed : goal.returns-in-Err-clause-surveyed
 returns-in-Err-clause-surveyed g c =
     let part = option_copied c.args.part in
+    -- `start` is the input, and `before` and `after` are what was written, where these are known
     let start = g.R.Source.left c.args.reader.now in
     let before = g.W.Sink.written c.args.writer.now in
     let after = g.W.Sink.written c.finish.new.writer in

@@ -25,6 +25,7 @@ loop-found-init g c = record {
   few = omega arith;
   counts_are = sym c.requires.first;
   aged = c.new-horizon.ensures.age;
+  -- no finding and no line was told, and the horizon is that of no entries
   told = (
     [],
     [],
@@ -42,6 +43,7 @@ entry-requires g c = λ goes_on.
     let number = moves.1.number_is in
     let same = c.in_ok-cut_to-in-Entry.ensures.number in
     let moment = c.in_ok-cut_to-in-Entry.ensures.moment in
+    -- after the forgetting the survey has the same number and the same newest moment
     let counts = l.invariant.counts_are in
     let kept = forgot.newest.0 in
     let newest = l.invariant.at.newest in
@@ -54,6 +56,7 @@ entry-requires g c = λ goes_on.
 -- after one entry more, the lines are those of all findings so far, and the survey stands after what is remembered
 pub loop-found-preserved : goal.loop-found-preserved
 loop-found-preserved g c =
+    -- l is how the loop stands; old is how far the log was read before the entry, and new after it
     let l = c.loop-found in
     let part = option_copied c.args.part in
     let p = c.args.survey.now.tables.times in
@@ -67,11 +70,13 @@ loop-found-preserved g c =
     let cut = c.in_ok-cut_to-in-Entry.ensures in
     let items : List Finding = c.entry.new.found.items in
     let lines : c.as_slice.result.now ≡ items = search rules in
+    -- nothing is found before the forgetting but what was told
     let told = l.invariant.told in
     let was = l.invariant.at.newest in
     let order = moves.1.order in
     let forgot_moment = forgot.newest.1 in
     let taken_moment = taken.newest.1 in
+    -- the cut entry has the number and the moment of the entry
     let cut_moment = cut.moment in
     let is_room : IsTrue c.has_room.result = search rules in
     let has_room : HasRoom c.forget_due.new.survey.number (length c.forget_due.new.survey.tables.keys) = c.has_room.ensures.0 is_room in
@@ -84,6 +89,7 @@ loop-found-preserved g c =
         goes_on = search rules;
         newest = taken.newest.1 ∙ cut.moment ∙ sym moves.2;
       };
+      -- as many entries were counted as the survey has taken
       few = (let number = moves.1.number_is in let same = cut.number in let survey = forgot.newest.0 in let counts = l.invariant.counts_are in let room = has_room.0 in omega arith);
       counts_are = sym taken.newest.0;
       aged = c.note.ensures.age ∙ forgot.age ∙ l.invariant.aged;
@@ -111,16 +117,19 @@ returns-then-not-has_room-clause-surveyed g c =
     let p = c.args.survey.now.tables.times in
     let old : log.ReaderState = beside_source l.progress (g.R.Source.left l.reader) (g.R.Source.has_failed l.reader) in
     let new : log.ReaderState = beside_source c.read_on.new.progress (g.R.Source.left c.read_on.new.reader) (g.R.Source.has_failed c.read_on.new.reader) in
+    -- what the survey told so far, and what it forgot
     let told = l.invariant.told in
     let moves = rw c.in-Entry.is at c.in_ok-entry.ensures.moves in
     let forgot = c.in_ok-forget_due-in-Entry.ensures in
     let number = c.cut_to.new.entry.number in
+    -- the number comes next, but there is no room for it
     let next : number ≡ c.forget_due.new.survey.number + 1 = c.in_ok-cut_to-in-Entry.ensures.number ∙ moves.1.number_is ∙ ap (λ n. n + 1) (l.invariant.counts_are ∙ sym forgot.newest.0) in
     let off : c.has_room.result ≡ false = search rules in
     let full : ¬ (HasRoom c.forget_due.new.survey.number (length c.forget_due.new.survey.tables.keys)) = λ room. absurd (false≢true (sym off ∙ c.has_room.ensures.1 room)) in
     let before = g.W.Sink.written c.args.writer.now in
     let mid = g.W.Sink.written l.writer in
     let after = g.W.Sink.written c.finish.new.writer in
+    -- the last line tells the fault
     summed c.finish.result l.counts (LogFault number Limit) c.finish.ensures.sums c.finish.ensures.text (λ summary end findings undecided last start reads.
     let so = told.3 start reads in
     let more = (rw c.in-Entry.is at c.in_ok-entry.ensures.gives) start p so.0.items so.0.read in
@@ -134,10 +143,12 @@ returns-in-End-clause-surveyed g c =
     let part = option_copied c.args.part in
     let p = c.args.survey.now.tables.times in
     let old : log.ReaderState = beside_source l.progress (g.R.Source.left l.reader) (g.R.Source.has_failed l.reader) in
+    -- what the survey told so far
     let told = l.invariant.told in
     let before = g.W.Sink.written c.args.writer.now in
     let mid = g.W.Sink.written l.writer in
     let after = g.W.Sink.written c.finish-in-End.new.writer in
+    -- the last line tells the end of the log, up to which no entry is left
     summed c.finish-in-End.result l.counts c.unwrap.result c.finish-in-End.ensures.sums c.finish-in-End.ensures.text (λ summary end findings undecided last start reads.
     let so = (told.3 start reads).0 in
     let logs = (rw c.in-End.is at c.in_ok-entry.ensures.gives) start p so.items so.read in
@@ -151,10 +162,12 @@ returns-in-Fault-clause-surveyed g c =
     let part = option_copied c.args.part in
     let p = c.args.survey.now.tables.times in
     let old : log.ReaderState = beside_source l.progress (g.R.Source.left l.reader) (g.R.Source.has_failed l.reader) in
+    -- what the survey told so far
     let told = l.invariant.told in
     let before = g.W.Sink.written c.args.writer.now in
     let mid = g.W.Sink.written l.writer in
     let after = g.W.Sink.written c.finish-in-Fault.new.writer in
+    -- the last line tells the fault of the entry
     summed c.finish-in-Fault.result l.counts (LogFault (l.count + 1) c.in-Fault.reason) c.finish-in-Fault.ensures.sums c.finish-in-Fault.ensures.text (λ summary end findings undecided last start reads.
     let so = (told.3 start reads).0 in
     remembers_stop c.args.age part p start old l.survey told.0 told.1 so l.counts summary before mid after told.2 findings undecided l.count c.in-Fault.reason l.invariant.counts_are end last

@@ -18,6 +18,7 @@ loop-entry-init g c =
     let before = g.R.Source.has_failed c.args.reader.now in
     let after = g.R.Source.has_failed c.open.new.source in
     let progress = c.in-Ok.progress in
+    -- the reader stands after the header
     let opened = Opens-stands start left before after c.in-Ok.field-0-0 progress c.in-Ok.ensures in
     record {
       count = sym opened.count;
@@ -33,7 +34,8 @@ returns-in-Ok-None-clause-shown g c =
     let l = c.loop-entry in
     let start = g.R.Source.left c.args.reader.now in
     let old : log.ReaderState = beside_source l.progress (g.R.Source.left l.reader) (g.R.Source.has_failed l.reader) in
-    let new : log.ReaderState = beside_source c.next.new.self (g.R.Source.left c.next.new.source) (g.R.Source.has_failed c.next.new.source) in
+    let new : log.ReaderState = beside_source c.next_into.new.self (g.R.Source.left c.next_into.new.source) (g.R.Source.has_failed c.next_into.new.source) in
+    -- what was written before, so far, and with the last line
     let first = g.W.Sink.written c.args.writer.now in
     let before = g.W.Sink.written l.writer in
     let after = g.W.Sink.written c.finish-in-Ok-None.new.writer in
@@ -43,22 +45,24 @@ returns-in-Ok-None-clause-shown g c =
     (λ last. showed_end start old first before l.invariant.showed new after l.count l.invariant.count nexts last)
 
 -- where the next entry cannot be read, the last line tells the fault and the entry
-pub returns-in-Err-next-clause-shown : goal.returns-in-Err-next-clause-shown
-returns-in-Err-next-clause-shown g c =
+pub returns-in-Err-next_into-clause-shown : goal.returns-in-Err-next_into-clause-shown
+returns-in-Err-next_into-clause-shown g c =
     let l = c.loop-entry in
     let start = g.R.Source.left c.args.reader.now in
     let old : log.ReaderState = beside_source l.progress (g.R.Source.left l.reader) (g.R.Source.has_failed l.reader) in
-    let new : log.ReaderState = beside_source c.next.new.self (g.R.Source.left c.next.new.source) (g.R.Source.has_failed c.next.new.source) in
+    let new : log.ReaderState = beside_source c.next_into.new.self (g.R.Source.left c.next_into.new.source) (g.R.Source.has_failed c.next_into.new.source) in
+    -- what was written before, so far, and with the last line
     let first = g.W.Sink.written c.args.writer.now in
     let before = g.W.Sink.written l.writer in
-    let after = g.W.Sink.written c.finish-in-Err-next.new.writer in
-    let reason = c.in_ok-reason-in-Err-next.reason in
-    finished c.finish-in-Err-next.result (LogFault (l.count + 1) reason) (Answers start first after) (Appends before after (last_text (LogFault (l.count + 1) reason) ++ line_feed ∷ []))
-    c.finish-in-Err-next.ensures.same c.finish-in-Err-next.ensures.text
+    let after = g.W.Sink.written c.finish-in-Err-next_into.new.writer in
+    let reason = c.in_ok-reason-in-Err-next_into.reason in
+    -- the last line tells the fault of the log
+    finished c.finish-in-Err-next_into.result (LogFault (l.count + 1) reason) (Answers start first after) (Appends before after (last_text (LogFault (l.count + 1) reason) ++ line_feed ∷ []))
+    c.finish-in-Err-next_into.ensures.same c.finish-in-Err-next_into.ensures.text
     (told-fault old.has_failed new.has_failed
     (λ reason. Appends before after (last_text (LogFault (l.count + 1) reason) ++ line_feed ∷ []) → Answers start first after (LogFault (l.count + 1) reason))
-    c.in-Err-next.error reason c.in_ok-reason-in-Err-next.ensures
-    (showed_stops start old first before l.invariant.showed new after l.count l.invariant.count c.in-Err-next.error c.in-Err-next.ensures)).1
+    c.in-Err-next_into.error reason c.in_ok-reason-in-Err-next_into.ensures
+    (showed_stops start old first before l.invariant.showed new after l.count l.invariant.count c.in-Err-next_into.error c.in-Err-next_into.ensures)).1
 
 -- where the message of an entry has a fault, the last line tells the fault and the entry
 pub returns-in-Some-clause-shown : goal.returns-in-Some-clause-shown
@@ -66,7 +70,8 @@ returns-in-Some-clause-shown g c =
     let l = c.loop-entry in
     let start = g.R.Source.left c.args.reader.now in
     let old : log.ReaderState = beside_source l.progress (g.R.Source.left l.reader) (g.R.Source.has_failed l.reader) in
-    let new : log.ReaderState = beside_source c.next.new.self (g.R.Source.left c.next.new.source) (g.R.Source.has_failed c.next.new.source) in
+    let new : log.ReaderState = beside_source c.next_into.new.self (g.R.Source.left c.next_into.new.source) (g.R.Source.has_failed c.next_into.new.source) in
+    -- what was written before, so far, and with the last line
     let first = g.W.Sink.written c.args.writer.now in
     let before = g.W.Sink.written l.writer in
     let after = g.W.Sink.written c.finish-in-Some.new.writer in
@@ -74,6 +79,7 @@ returns-in-Some-clause-shown g c =
     let fault = c.in-Some.fault in
     let nexts = rw c.in-Ok-Some.field-0-is at c.in-Ok-Some.ensures in
     let shows = rw c.in-Some.is at c.in_ok-fault.ensures in
+    -- the last line tells the fault of the message
     finished c.finish-in-Some.result (Malformed e.number fault) (Answers start first after) (Appends (g.W.Sink.written c.show_entry.new.writer) after (last_text (Malformed e.number fault) ++ line_feed ∷ []))
     c.finish-in-Some.ensures.same c.finish-in-Some.ensures.text
     (λ last. showed_fault start old first before l.invariant.showed new e nexts after fault shows.0 shows.1
@@ -85,9 +91,10 @@ loop-entry-preserved g c =
     let l = c.loop-entry in
     let start = g.R.Source.left c.args.reader.now in
     let old : log.ReaderState = beside_source l.progress (g.R.Source.left l.reader) (g.R.Source.has_failed l.reader) in
-    let new : log.ReaderState = beside_source c.next.new.self (g.R.Source.left c.next.new.source) (g.R.Source.has_failed c.next.new.source) in
+    let new : log.ReaderState = beside_source c.next_into.new.self (g.R.Source.left c.next_into.new.source) (g.R.Source.has_failed c.next_into.new.source) in
     let e = c.in-Ok-Some.entry in
     let nexts = rw c.in-Ok-Some.field-0-is at c.in-Ok-Some.ensures in
+    -- the entry has its canonical form, which was written
     let shows = rw c.in_default.is at c.in_ok-fault.ensures in
     let counted = Nexts-counted start l.invariant.showed.items old new e nexts in
     record {

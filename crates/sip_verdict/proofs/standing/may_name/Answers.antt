@@ -8,20 +8,20 @@ use Rattle.sip_verdict.proofs.sweeps.MayNameLemmas.{none_may, own_may, first_may
 use Rattle.sip_verdict.proofs.sweeps.NewestLemmas.{names_not}
 use Rattle.sip_verdict.proofs.standing.may_name.Goals as goal
 
--- the entry concerns no key, so none may be named
+-- the entry concerns no key, so no state may name the message
 pub returns-in-None-clause-may : goal.returns-in-None-clause-may
 returns-in-None-clause-may g c =
     let t = c.args.tables.now in
     let number = c.args.number in
     subst (λ x. IsTrue false ↔ MayBeNamed t number x) (sym c.in-None.is) (λ yes. absurd (false≢true yes), λ may. absurd (none_may t number may))
 
--- no key is named
+-- where the entry concerns no key, no state of its keys names the message
 pub returns-in-None-clause-none : goal.returns-in-None-clause-none
 returns-in-None-clause-none g c none =
     let names = NamesNot c.args.tables.now c.args.number in
     subst (λ x. (is_all x ≡ false) × All names (each x)) (sym c.in-None.is) (refl, All-nil names)
 
--- the one key of the entry may be named exactly if its set may
+-- a state of the one key of the entry may name the message exactly if the key's set says so
 pub returns-in-Own-clause-may : goal.returns-in-Own-clause-may
 returns-in-Own-clause-may g c =
     let t = c.args.tables.now in
@@ -30,7 +30,7 @@ returns-in-Own-clause-may g c =
     let may = c.may_name.ensures.may in
     subst (λ x. IsTrue c.may_name.result ↔ MayBeNamed t number x) (sym c.in-Own.is) (λ yes. tells.0 (may.0 yes), λ named. may.1 (tells.1 named))
 
--- the one key of the entry is not named
+-- no state of the one key of the entry names the message
 pub returns-in-Own-clause-none : goal.returns-in-Own-clause-none
 returns-in-Own-clause-none g c none =
     let t = c.args.tables.now in
@@ -49,6 +49,7 @@ returns-then-may_name-clause-may g c =
     let named = first_may t number two.own two.cancelled c.set-in-OwnAndCancelled.result.now c.set-in-OwnAndCancelled.ensures its in
     subst (λ x. IsTrue c.may_name-in-OwnAndCancelled.result ↔ MayBeNamed t number x) (sym two.is) (λ _. named, λ _. c.if-may_name.true)
 
+-- the tables have the cancelled transaction
 pub set-requires-else-may_name : goal.set-requires-else-may_name
 set-requires-else-may_name g c = (rw c.in-OwnAndCancelled.is at c.requires) 1 0 (omega arith)
 
@@ -60,6 +61,7 @@ returns-else-may_name-clause-may g c =
     let two = c.in-OwnAndCancelled in
     let one = c.set-in-OwnAndCancelled in
     let other = c.set-else-may_name in
+    -- some set may name it if one of the two may
     let tells = both_may t number two.own two.cancelled one.result.now other.result.now one.ensures other.ensures in
     let first = c.may_name-in-OwnAndCancelled.ensures.may in
     let second = c.may_name-else-may_name.ensures.may in
@@ -68,6 +70,7 @@ returns-else-may_name-clause-may g c =
       λ named. elim (tells.1 named) [ inl its ↦ absurd (false≢true (sym c.if-may_name.false ∙ first.1 its)) | inr also ↦ second.1 also ],
     )
 
+-- where all transactions are concerned, the message is taken to be named
 pub returns-in-All-clause-may : goal.returns-in-All-clause-may
 returns-in-All-clause-may g c =
     subst (λ x. IsTrue true ↔ MayBeNamed c.args.tables.now c.args.number x) (sym c.in-All.is) (λ _. inl refl, λ _. refl)

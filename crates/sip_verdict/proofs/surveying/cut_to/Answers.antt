@@ -16,11 +16,13 @@ returns-then-not-branch-clause-cut c =
     let e = c.args.entry.now in
     let part = c.in-Some.part.now in
     let goes : is_none (direction_of e.action) ≡ false = search rules in
+    -- the branch of the message does not fall into the part
     let falls = c.in_ok-has_message.field-0 in
     let other : falls ≡ false = search rules in
     let text : c.as_slice.result.now ≡ e.bytes.items = search rules in
     let told : (branch : List ℕ) × TellsBranch e.bytes.items branch × (falls ≡ falls_into part branch) =
     subst (λ (t : List ℕ). (branch : List ℕ) × TellsBranch t branch × (falls ≡ falls_into part branch)) text c.in_ok-has_message.ensures in
+    -- the entry is a mark at the same moment now
     let cut : Item = record { action = Mark; moment = e.moment; text = c.clear.new.self.items } in
     let is : cut ≡ (if falls then item e else mark_of (item e)) =
     ap (λ (t : List ℕ). record { action = Mark; moment = e.moment; text = t }) c.clear.ensures.items ∙ sym (ap (λ f. if f then item e else mark_of (item e)) other) in
@@ -32,6 +34,7 @@ returns-else-not-branch-clause-cut c =
     let e = c.args.entry.now in
     let part = c.in-Some.part.now in
     let goes : is_none (direction_of e.action) ≡ false = search rules in
+    -- the branch of the message falls into the part
     let falls = c.in_ok-has_message.field-0 in
     let here : falls ≡ true = search rules in
     let text : c.as_slice.result.now ≡ e.bytes.items = search rules in

@@ -14,6 +14,7 @@ loop-finding-preserved g c =
     let put = c.in_ok-put_finding.ensures in
     let (text, written, are) = l.invariant.text in
     let (line, appends, is) = put.text in
+    -- the next finding comes after those so far
     let inside : l.finding-index < length found = omega (arith, c.loop-finding-test.true) in
     let more = take_more found l.finding-index _ inside in
     record {
@@ -22,6 +23,7 @@ loop-finding-preserved g c =
         Appends-trans (g.W.Sink.written c.args.writer.now) (g.W.Sink.written l.writer) (g.W.Sink.written c.put_finding.new.writer) text line written appends,
         subst (λ fs. AreLinesBy s fs (text ++ line)) (sym more) (lines_push s (take l.finding-index found) _ text line are is),
       );
+      -- this finding is counted too, and no write has failed
       counted = subst (λ fs. AreCounted fs c.args.counts c.in_ok-counts.counts) (sym more)
           (counted_more (take l.finding-index found) _ c.args.counts l.counts c.in_ok-counts.counts c.with.result l.invariant.counted c.with.ensures
           (some_of_ok c.with.result _ c.in_ok-counts.counts (sym c.ok_or.ensures.value ∙ c.in_ok-counts.was)));

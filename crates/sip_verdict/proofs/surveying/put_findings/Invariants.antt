@@ -3,6 +3,7 @@ use Rattle.std.specs.Io.KnownBytes.{Appends}
 use Rattle.sip_verdict.specs.inner.SurveyingLogs.{AreCounted, AreLinesBy}
 use Rattle.sip_verdict.proofs.surveying.put_findings.Given as goal
 
+-- the lines of the findings so far were written, and these were counted
 abbrev pub invariant-loop-finding : goal.invariant-loop-finding
 invariant-loop-finding g l =
     record {

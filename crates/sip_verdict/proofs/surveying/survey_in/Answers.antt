@@ -19,6 +19,7 @@ returns-in-Ok-clause-surveyed g c =
     all_told part _ c.write_entries.result start (g.W.Sink.written c.args.writer.now) (g.W.Sink.written c.write_entries.new.writer) c.write_entries.ensures.surveyed
     (subst (λ place. SurveysRead part c.new-survey.result [] start (state place)) (search rules) (surveys_none part c.new-survey.result c.in-Ok.params start (state c.in-Ok.progress) times c.new-survey.ensures.stands read))
 
+-- no read has failed, neither of the header nor in the loop
 pub returns-in-Ok-clause-fine : goal.returns-in-Ok-clause-fine
 returns-in-Ok-clause-fine g c =
     still_fine _ c.write_entries.result (g.R.Source.has_failed c.read_header.new.reader) (g.R.Source.has_failed c.write_entries.new.reader) c.write_entries.ensures.fine (c.in_ok-params.ensures.ok ∙ c.requires)
@@ -27,6 +28,7 @@ returns-in-Ok-clause-fine g c =
 pub returns-in-Err-clause-surveyed : goal.returns-in-Err-clause-surveyed
 returns-in-Err-clause-surveyed g c =
     let part = option_copied c.args.part in
+    -- `start` is the input, and `before` and `after` are what was written, where these are known
     let start = g.R.Source.left c.args.reader.now in
     let before = g.W.Sink.written c.args.writer.now in
     let after = g.W.Sink.written c.finish.new.writer in

@@ -18,6 +18,7 @@ loop-found-init g c = record {
   written = refl;
   at = c.requires.at;
   counts_are = sym c.requires.first;
+  -- no finding and no line was told
   told = (
     [],
     [],
@@ -32,16 +33,15 @@ pub entry-requires : goal.entry-requires
 entry-requires g c = λ goes_on.
     let l = c.loop-found in
     let moves = rw c.in-Entry.is at c.in_ok-entry.ensures.moves in
-    let number = moves.1.number_is in
-    let same = c.in_ok-cut_to-in-Entry.ensures.number in
-    let moment = c.in_ok-cut_to-in-Entry.ensures.moment in
+    let number = moves.1 in
+    -- the survey has counted the entries
     let counts = l.invariant.at.counts in
     let newest = l.invariant.at.newest in
-    let order = moves.1.order in
-    let high = moves.1.moment_high in
+    let order = moves.2 in
+    let high = moves.3 in
     let room = l.invariant.at.room in
-    let low = moves.4 in
-    record { next = omega (arith, number, same, counts); order = omega (arith, newest, order, moment); limit = omega (arith, high, moment); room = (omega (arith, counts, low), omega (arith, room, low)) }
+    let low = moves.6 in
+    record { next = omega (arith, number, counts); order = omega (arith, newest, order); limit = high; room = (omega (arith, counts, low), omega (arith, room, low)) }
 
 -- after one entry more, the lines are those of all findings so far, and the survey stands after the entries that were read
 pub loop-found-preserved : goal.loop-found-preserved
@@ -49,7 +49,7 @@ loop-found-preserved g c =
     let l = c.loop-found in
     let part = option_copied c.args.part in
     let old : log.ReaderState = beside_source l.progress (g.R.Source.left l.reader) (g.R.Source.has_failed l.reader) in
-    let new : log.ReaderState = beside_source c.read_next.new.progress (g.R.Source.left c.read_next.new.reader) (g.R.Source.has_failed c.read_next.new.reader) in
+    let new : log.ReaderState = beside_source c.read_taken.new.progress (g.R.Source.left c.read_taken.new.reader) (g.R.Source.has_failed c.read_taken.new.reader) in
     let moves = rw c.in-Entry.is at c.in_ok-entry.ensures.moves in
     -- what the calls of the loop did: an entry was taken, and its lines were put
     let taken = c.in_ok-entry-in-Entry.ensures in
@@ -64,12 +64,14 @@ loop-found-preserved g c =
       at = record {
         on = moves.0;
         goes_on = search rules;
-        counts = taken.newest.0 ∙ c.in_ok-cut_to-in-Entry.ensures.number ∙ sym moves.2;
-        newest = taken.newest.1 ∙ c.in_ok-cut_to-in-Entry.ensures.moment ∙ sym moves.3;
-        few = (let number = moves.1.number_is in let count = moves.2 in let low = moves.4 in omega arith);
-        room = (let number = moves.1.number_is in let count = moves.2 in let more = taken.keys in let room = l.invariant.at.room in omega arith);
+        -- the count and the newest moment are those of the entries that were read
+        counts = taken.newest.0 ∙ sym moves.4;
+        newest = taken.newest.1 ∙ sym moves.5;
+        few = (let number = moves.1 in let count = moves.4 in let low = moves.6 in omega arith);
+        room = (let number = moves.1 in let count = moves.4 in let more = taken.keys in let room = l.invariant.at.room in omega arith);
       };
-      counts_are = sym (taken.newest.0 ∙ c.in_ok-cut_to-in-Entry.ensures.number);
+      counts_are = sym taken.newest.0;
+      -- the findings and the lines are those before and those at this entry
       told = (
         told.0 ++ items,
         told.1 ++ put.text.0,
@@ -80,7 +82,7 @@ loop-found-preserved g c =
             let so = told.3 start reads in
             let read = so.read in
             let more = (rw c.in-Entry.is at c.in_ok-entry.ensures.gives) start l.survey.tables.times read.items read.read in
-            surveys_on part start old l.survey told.0 told.1 so c.in-Entry.entry c.cut_to.new.entry new more c.in_ok-cut_to-in-Entry.ensures.cut c.entry.new.self taken.times items
+            surveys_on part start old l.survey told.0 told.1 so more.0 c.in-Entry.entry new more.1 more.2 c.entry.new.self taken.times items
             (rw c.clear.ensures.items at taken.found) put.text.0 (subst (λ fs. AreLinesBy c.entry.new.self fs put.text.0) lines put.text.2),
       );
     }
@@ -91,10 +93,12 @@ returns-in-End-clause-surveyed g c =
     let l = c.loop-found in
     let part = option_copied c.args.part in
     let old : log.ReaderState = beside_source l.progress (g.R.Source.left l.reader) (g.R.Source.has_failed l.reader) in
+    -- what the survey told so far
     let told = l.invariant.told in
     let before = g.W.Sink.written c.args.writer.now in
     let mid = g.W.Sink.written l.writer in
     let after = g.W.Sink.written c.finish.new.writer in
+    -- the last line tells the end of the log
     summed c.finish.result l.counts c.unwrap.result c.finish.ensures.sums c.finish.ensures.text (λ summary end findings undecided last start reads.
     let so = told.3 start reads in
     let read = so.read in
@@ -108,10 +112,12 @@ returns-in-Fault-clause-surveyed g c =
     let l = c.loop-found in
     let part = option_copied c.args.part in
     let old : log.ReaderState = beside_source l.progress (g.R.Source.left l.reader) (g.R.Source.has_failed l.reader) in
+    -- what the survey told so far
     let told = l.invariant.told in
     let before = g.W.Sink.written c.args.writer.now in
     let mid = g.W.Sink.written l.writer in
     let after = g.W.Sink.written c.finish-in-Fault.new.writer in
+    -- the last line tells the fault of the entry
     summed c.finish-in-Fault.result l.counts (LogFault (l.count + 1) c.in-Fault.reason) c.finish-in-Fault.ensures.sums c.finish-in-Fault.ensures.text (λ summary end findings undecided last start reads.
     let so = told.3 start reads in
     let read = so.read in

@@ -1,4 +1,5 @@
 -- A transaction that is idle again can be forgotten: what a survey finds of it later is what it finds of a new one.
+-- In the lemmas x is where a list is split, zs what stands between two splits, and y a state in which a run stands at the moment k.
 use Rattle.std.proofs.Common.{◌≡◌, ◌≤◌, ◌↔◌, ◌⊎◌, inl, inr, ℕ, List, [], ◌∷◌, ◌++◌, All, AllPairs, refl, sym, ap, ◌∙◌, subst, arith, append_assoc, append-nil}
 use Rattle.std.proofs.lemmas.List.Elements.{All-weaker}
 use Rattle.sip_standard.specs.Key.{KeyParts}
@@ -26,15 +27,18 @@ split_of [] ys front x rest is = inr (front, refl, is)
 split_of (y ∷ xs) ys [] x rest is = inl (xs, cc)
 split_of {A} (y ∷ xs) ys (z ∷ front) x rest is = by (split_of xs ys front x rest (cc))
   where
+    -- the first elements are equal
     same : y ≡ z
     same = cc
 
+    -- the split lies in the first list or in the second, as that of the rest does
     by : ((zs : List A) × (xs ≡ front ++ x ∷ zs)) ⊎ ((zs : List A) × (front ≡ xs ++ zs) × (ys ≡ zs ++ x ∷ rest))
         → ((zs : List A) × (y ∷ xs ≡ z ∷ (front ++ x ∷ zs))) ⊎ ((zs : List A) × (z ∷ front ≡ y ∷ (xs ++ zs)) × (ys ≡ zs ++ x ∷ rest))
+    -- zs is what stands between the end of the one list and the split
     by (inl (zs, e)) = inl (zs, cc)
     by (inr (zs, e, f)) = inr (zs, cc, f)
 
--- What follows is of one key, which the old entries leave idle again.
+-- What follows is of one key by the times p, which the entries `old` leave idle again.
 module _ (p : Times) (key : KeyParts) (old : List (Observation KeyParts)) (again : IsIdleAgain (machine_of_key p.rules key) p (events_for key old) (newest_moment old)) where
   -- the old entries and these later ones are in order of their moments
   abbrev order_of : List (Observation KeyParts) → Type 0
@@ -45,6 +49,7 @@ module _ (p : Times) (key : KeyParts) (old : List (Observation KeyParts)) (again
       → Stands (transaction_of (machine_of_key p.rules key)).figure p (events_for key (old ++ more)) k y ↔ Stands (transaction_of (machine_of_key p.rules key)).figure p (events_for key more) k y
   stands_new more order k high y =
       let from : All (λ e. 0 ≤ e.event.moment) (old ++ more) = λ i d within. omega arith in
+      -- the old events leave the key idle again, so it is as new for those after them
       let both = idle_is_new (machine_of_key p.rules key) p (events_for key old) (events_for key more) (newest_moment old) k y again
       (events-all key (λ f. f.moment ≤ newest_moment old) old (newest-to 0 old more order))
       (events-all key (λ f. newest_moment old ≤ f.moment) more (newest-before 0 old more from order)) high in
@@ -70,12 +75,12 @@ module _ (p : Times) (key : KeyParts) (old : List (Observation KeyParts)) (again
       let one : (old ++ front) ++ e ∷ [] ≡ old ++ (front ++ e ∷ []) = append_assoc old front (e ∷ []) in
       let whole = newest_moment-push (old ++ front) e in
       let new = newest_moment-push front e in (
-        -- from all entries to the later ones
+        -- a run over all entries is one over the later ones
         λ runs.
             let at : Stands f p (events_for key (old ++ (front ++ e ∷ []))) e.event.moment runs.0 =
             subst (λ es. Stands f p (events_for key es) e.event.moment runs.0) one (subst (λ m. Stands f p (events_for key ((old ++ front) ++ e ∷ [])) m runs.0) whole runs.1) in
             (runs.0, subst (λ m. Stands f p (events_for key (front ++ e ∷ [])) m runs.0) (sym new) ((stands_new (front ++ e ∷ []) order e.event.moment late runs.0).0 at)),
-        -- from the later entries to all of them
+        -- a run over the later entries is one over all of them
         λ runs.
             let at : Stands f p (events_for key (old ++ (front ++ e ∷ []))) e.event.moment runs.0 =
             (stands_new (front ++ e ∷ []) order e.event.moment late runs.0).1 (subst (λ m. Stands f p (events_for key (front ++ e ∷ [])) m runs.0) new runs.1) in
@@ -88,6 +93,7 @@ module _ (p : Times) (key : KeyParts) (old : List (Observation KeyParts)) (again
       let f = (transaction_of (machine_of_key p.rules key)).figure in
       let late = last_late front e [] order in
       let new = stands_new front (order_front front (e ∷ []) order) e.event.moment late in
+      -- what stands over all entries stands over the later ones, and the other way round
       let into : (y : Owing (transaction_of (machine_of_key p.rules key)).Phase) → StandsAfter f p (events_for key (old ++ front)) e.event y → StandsAfter f p (events_for key front) e.event y =
       λ y stands. (stands.0, (new stands.0).0 stands.1, stands.2) in
       let from : (y : Owing (transaction_of (machine_of_key p.rules key)).Phase) → StandsAfter f p (events_for key front) e.event y → StandsAfter f p (events_for key (old ++ front)) e.event y =
@@ -105,6 +111,7 @@ module _ (p : Times) (key : KeyParts) (old : List (Observation KeyParts)) (again
       λ new. (runs_both more order new.0, λ front e rest is wide. narrow new front e rest wide (split_of old more front e rest is)),
     )
       where
+        -- the entries up to e are in the order of their moments
         order_at : (front : List (Observation KeyParts)) (e : Observation KeyParts) (rest : List (Observation KeyParts)) → more ≡ front ++ e ∷ rest → order_of (front ++ e ∷ [])
         order_at front e rest is = order_front (front ++ e ∷ []) rest (subst order_of (is ∙ sym (append_assoc front (e ∷ []) rest)) order)
 
@@ -118,7 +125,7 @@ module _ (p : Times) (key : KeyParts) (old : List (Observation KeyParts)) (again
         runs_of : (es : List (Observation KeyParts)) → order_of es → RunsOver p (old ++ es) key → RunsOver p es key
         runs_of es order runs = by (empty_or_last es)
           where
-            -- there are no later entries, or there is a last one
+            -- the key has runs over the later entries, whether or not there are any
             by : (es ≡ []) ⊎ ((front : List (Observation KeyParts)) × (e : Observation KeyParts) × (es ≡ front ++ e ∷ [])) → RunsOver p es key
             by (inl none) = subst (λ xs. RunsOver p xs key) (sym none) (sound_nil p key).0
             by (inr (front, e, is)) =
@@ -129,7 +136,7 @@ module _ (p : Times) (key : KeyParts) (old : List (Observation KeyParts)) (again
         runs_both : (es : List (Observation KeyParts)) → order_of es → RunsOver p es key → RunsOver p (old ++ es) key
         runs_both es order runs = by (empty_or_last es)
           where
-            -- there are no later entries, or there is a last one
+            -- the key has runs over the old entries and the later ones, whether or not there are any later ones
             by : (es ≡ []) ⊎ ((front : List (Observation KeyParts)) × (e : Observation KeyParts) × (es ≡ front ++ e ∷ [])) → RunsOver p (old ++ es) key
             by (inl none) = subst (λ xs. RunsOver p (old ++ xs) key) (sym none) (subst (λ xs. RunsOver p xs key) (sym (append-nil old)) sound.0)
             by (inr (front, e, is)) =

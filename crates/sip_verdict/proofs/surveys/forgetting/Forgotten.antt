@@ -1,4 +1,5 @@
 -- What a survey keeps where some of its transactions are forgotten.
+-- In the lemmas n is the place or the number of a key, b and c are what is recorded of the transactions before and after, and t and u the tables.
 use Rattle.std.proofs.Common.{◌≡◌, ◌≢◌, ◌≤◌, ◌↔◌, ◌+◌, ◌⊎◌, inl, inr, ℕ, zero, suc, Bool, true, false, cond, Option, Some, None, List, [], ◌∷◌, ◌++◌, All, AllPairs, length, slice_get, refl, sym, ap, ◌∙◌, subst, arith, append-nil, append_assoc, length-append, true≢false}
 use Rattle.std.specs.Prelude.{filter, flat_map, max, not, IsTrue}
 use Rattle.std.specs.List.{list_any}
@@ -49,14 +50,16 @@ kept_by (b ∷ flags) (k ∷ keys) key = cond (same_key key k) b (kept_by flags 
 pub kept_by_at : (flags : List Bool) (keys : List KeyParts) → AllPairs (λ a b. a ≢ b) keys → (n : ℕ) (key : KeyParts) (b : Bool) → slice_get keys n ≡ Some key → slice_get flags n ≡ Some b → kept_by flags keys key ≡ b
 kept_by_at [] keys apart n key b at flag = absurd cc
 kept_by_at (c ∷ flags) [] apart n key b at flag = absurd cc
+-- the key is the first one, k, and b is its flag c
 kept_by_at (c ∷ flags) (k ∷ keys) apart zero key b at flag =
     let same : k ≡ key = cc in
     let is : c ≡ b = cc in
     ap (λ t. cond t c (kept_by flags keys key)) ((same_key-decides key k).1 (sym same)) ∙ is
+-- the key is a later one, and so another than k
 kept_by_at (c ∷ flags) (k ∷ keys) apart (suc n) key b at flag =
     go (same_key key k) refl (kept_by_at flags keys (AllPairs-tail (λ a b. a ≢ b) k keys apart) n key b at flag)
   where
-    -- whether the first key is the one that is looked for
+    -- the flag of the key is b, whether or not the first key is the one that is looked for
     go : (t : Bool) → same_key key k ≡ t → kept_by flags keys key ≡ b → cond (same_key key k) c (kept_by flags keys key) ≡ b
     go true e rest = absurd (All-place (λ x. k ≢ x) keys n key at (AllPairs-head (λ a b. a ≢ b) k keys apart) (sym ((same_key-decides key k).0 e)))
     go false e rest = ap (λ t. cond t c (kept_by flags keys key)) e ∙ rest
@@ -67,6 +70,7 @@ kept_by_not [] keys key gone = absurd (true≢false gone)
 kept_by_not (b ∷ flags) [] key gone = absurd (true≢false gone)
 kept_by_not (b ∷ flags) (k ∷ keys) key gone = go (same_key key k) refl (λ still. kept_by_not flags keys key still)
   where
+    -- a key that is not kept stands at a place whose flag is false, whether or not the first key is this one
     go : (t : Bool) → same_key key k ≡ t → (kept_by flags keys key ≡ false → (n : ℕ) × (slice_get keys n ≡ Some key) × (slice_get flags n ≡ Some false))
         → (n : ℕ) × (slice_get (k ∷ keys) n ≡ Some key) × (slice_get (b ∷ flags) n ≡ Some false)
     go true e rest = (0, ap Some (sym ((same_key-decides key k).0 e)), ap Some (sym (ap (λ t. cond t b (kept_by flags keys key)) e) ∙ gone))
@@ -89,11 +93,12 @@ pub flags_more : (until : ℕ) (t : Tabled) (b : Histories) (flags : List Bool) 
     → TellsPast until t b flags → TellsPast until t b (flags ++ not is_past ∷ [])
 flags_more until t b flags is_past says each n is_kept set h flag at of = go (push_place flags (not is_past) n is_kept flag)
   where
+    -- the new flag is false exactly if the transaction is past
     turned : (past : Bool) → (not past ≡ false) ↔ IsTrue past
     turned true = (λ e. refl, λ e. refl)
     turned false = (λ e. absurd (true≢false e), λ e. absurd (false≢true e))
 
-    -- the flag is one of those so far, or the new one
+    -- the flag says whether the transaction is past, be it one of those so far or the new one
     go : (slice_get flags n ≡ Some is_kept) ⊎ ((n ≡ length flags) × (not is_past ≡ is_kept)) → (is_kept ≡ false) ↔ IsPast until b.restart set h
     go (inl old) = each n is_kept set h old at of
     go (inr (last, is)) =
@@ -104,13 +109,13 @@ flags_more until t b flags is_past says each n is_kept set h flag at of = go (pu
 pub All-kept : {A : Type 0} (P : A → Type 0) (flags : List Bool) (xs : List A) → All P xs → All P (kept_of flags xs)
 All-kept P flags xs all = All-places P (kept_of flags xs) (λ n x at. All-place P xs (place_of flags n) x (kept_at flags xs n x at).0 all)
 
--- What follows is of one key that is kept.
+-- What follows is of one key that is kept: `kept` says which are.
 module _ (kept : KeyParts → Bool) (key : KeyParts) (is : kept key ≡ true) where
   -- an entry without the keys that are not kept is of a kept key exactly if the entry is
   same_of : (e : Observation KeyParts) → is_of key (record { fault = e.fault; event = e.event; keys = filter kept e.keys }) ≡ is_of key e
   same_of e = among_chosen kept key is e.keys
 
-  -- where no entry is of the key, no entry as it is remembered is
+  -- where no entry concerns the key, none concerns it as it is remembered
   none_of : (es : List (Observation KeyParts)) → All (λ o. is_of key o ≡ false) es → All (λ o. is_of key o ≡ false) (remembered kept es)
   none_of [] all = All-nil (λ o. is_of key o ≡ false)
   none_of (e ∷ es) all =
@@ -142,6 +147,7 @@ module _ (kept : KeyParts → Bool) (key : KeyParts) (is : kept key ≡ true) wh
         subst (λ m. LeadsOf texts p (machine_of_key p.rules key) [] m set) (sym (newest_cut kept 0 es (remembered kept es) zip)) leads,
         λ sound. unsound ((sound_cut kept key is p es (remembered kept es) zip).1 sound),
       )
+  -- the transaction is in no trouble, and its set leads to the same runs
   followed_kept texts p es set false (leads, sound) =
       let zip = zip_remembered kept es in (
         subst (λ m. LeadsOf texts p (machine_of_key p.rules key) (events_for key (remembered kept es)) m set) (sym (newest_cut kept 0 es (remembered kept es) zip))
@@ -151,10 +157,13 @@ module _ (kept : KeyParts → Bool) (key : KeyParts) (is : kept key ≡ true) wh
 
 -- no entry of a transaction comes after its last one
 last_not_after : (es : List (Observation KeyParts)) (key : KeyParts) (m n : ℕ) → IsLastOf es key m → IsLastOf es key n → n ≤ m
+-- e is the last entry with b before it and a after it, and f is the other one with c before it and d after it
 last_not_after es key m n (b, e, a, whole, is, none, counts) (c, f, d, other, at, last, number) = by (split_compare b a c d e f (sym whole ∙ other))
   where
+    -- n is at most m, for the entry with number n is the last one or stands before it
     by : ((b ≡ c) × (e ≡ f)) ⊎ (((zs : List (Observation KeyParts)) × (c ≡ b ++ e ∷ zs)) ⊎ ((zs : List (Observation KeyParts)) × (b ≡ c ++ f ∷ zs))) → n ≤ m
     by (inl same) = omega (arith, counts, number, ap length same.0)
+    -- f after e would be among the entries a, none of which has the key, and f has it; an f before e has a lower number
     by (inr (inl (zs, later))) =
         let tail : e ∷ a ≡ (e ∷ zs) ++ f ∷ d = append_cancel_left b (e ∷ a) ((e ∷ zs) ++ f ∷ d) (sym whole ∙ other ∙ ap (λ xs. xs ++ f ∷ d) later ∙ append_assoc b (e ∷ zs) (f ∷ d)) in
         let after : a ≡ zs ++ f ∷ d = cc in
@@ -165,6 +174,7 @@ last_not_after es key m n (b, e, a, whole, is, none, counts) (c, f, d, other, at
 key_of : (p : Times) (es : List (Observation KeyParts)) (key : KeyParts) (last : ℕ) → IsLastOf es key last → (n : ℕ) × (slice_get (keys_in es) n ≡ Some key)
 key_of p es key last (before, e, after, whole, is, none, counts) = by (list_any (same_key key) (keys_in es)) refl
   where
+    -- the key stands at some place of the keys, since an entry concerns it
     by : (b : Bool) → list_any (same_key key) (keys_in es) ≡ b → (n : ℕ) × (slice_get (keys_in es) n ≡ Some key)
     by true among = let (n, inside, there) = among-contains key (keys_in es) among in (n, slice_get-get_or (keys_in es) n key inside ∙ ap Some there)
     by false lacks =
@@ -193,11 +203,12 @@ take_waited old new t u number moment book keys passes recorded may = record {
 }
 
 -- tables with the same keys and records are watched as those before were
+-- t are the tables before, u those after, and b is the trouble
 pub watched_waited : (t u : Tabled) (b : Troubled) → u.keys ≡ t.keys → u.records ≡ t.records → AllAreOnRecord u → AreWatched [] t b → AreWatched [] u b
 watched_waited t u b keys records recorded h =
     record { long = h.long ∙ sym (ap length keys); recorded = recorded; silent = λ n is. ap (λ rs. slice_get rs n) records ∙ h.silent n is }
 
--- What follows is of tables of which the keys with a set flag are kept.
+-- What follows is of the tables t, of which the keys with a set flag are kept.
 module _ (flags : List Bool) (t : Tabled) (long : length flags ≡ length t.keys) (apart : AllPairs (λ a b. a ≢ b) t.keys) where
   -- whether a key is kept by the flags, which are those of the tables' keys
   abbrev pub kept : KeyParts → Bool
@@ -221,6 +232,7 @@ module _ (flags : List Bool) (t : Tabled) (long : length flags ≡ length t.keys
     order = subst (AllPairs (λ a b. a.event.moment ≤ b.event.moment)) (append-nil (remembered kept es)) (order_kept kept es [] (subst (AllPairs (λ a b. a.event.moment ≤ b.event.moment)) (sym (append-nil es)) tracks.order));
     keys = keys_left es tracks.keys;
     each = λ n key set d at here is.
+        -- m is the place that the nth kept key had before
         let m = place_of flags n in
         followed_kept kept key (is_kept n key at) texts t.times es set d
         (tracks.each m key set d (kept_at flags t.keys n key at).0 (kept_at flags t.sets n set here).0 (kept_at flags deaf n d is).0);
@@ -232,6 +244,7 @@ module _ (flags : List Bool) (t : Tabled) (long : length flags ≡ length t.keys
     long = ap length items ∙ kept_long flags b.each.items t.keys (h.long ∙ ap length (sym are)) ∙ ap length (keys_left es are);
     restart = (let low = h.restart in omega (arith, low, restart, long_kept kept es));
     each = λ n key k at here.
+        -- the history under a number is that of the key in the tables before
         let m = place_of flags n in
         let there = subst (λ ks. slice_get ks n ≡ Some key) (sym (keys_left es are)) at in
         subst (λ r. IsHistoryOf (remembered kept es) r key k) (sym restart)
@@ -254,6 +267,7 @@ module _ (flags : List Bool) (t : Tabled) (long : length flags ≡ length t.keys
     each = λ n set recorded at here. by n set recorded (h.each (place_of flags n) set recorded (kept_at flags t.sets n set at).0 (kept_at flags t.records n recorded here).0);
   }
     where
+      -- a last moment on record is so at each place, since none may be missing
       by : (n : ℕ) (set : AnySet) (recorded : Option (Option ℕ)) → IsOnRecord [] (place_of flags n + 1) set recorded → IsOnRecord [] (n + 1) set recorded
       by n set (Some limit) on = on
       by n set None on = on
@@ -274,16 +288,18 @@ module _ (flags : List Bool) (t : Tabled) (long : length flags ≡ length t.keys
     long = ap length deaf ∙ kept_long flags b.deaf.items t.keys h.long;
     recorded = recorded_kept h.recorded;
     silent = λ n is.
+        -- n is a place in what is left, and m the place there before: the transaction there was in trouble, and no last moment of it is on record
         let m = place_of flags n in
         let was = (kept_at flags b.deaf.items n true (subst (λ ds. slice_get ds n ≡ Some true) deaf is)).0 in
         let (recorded, at) = at_place (kept_of flags t.records) n (let l = slice_get_within (kept_of flags b.deaf.items) n true (subst (λ ds. slice_get ds n ≡ Some true) deaf is) in let k = kept_long flags b.deaf.items t.records (h.long ∙ sym h.recorded.long) in omega (arith, l, k)) in
         at ∙ sym (kept_at flags t.records n recorded at).0 ∙ h.silent m was;
   }
 
-  -- What follows is of the transactions that are forgotten, by their flags.
+  -- What follows is of the transactions that are forgotten, by their flags: `deaf` says which are in trouble, and b has the entries that each of them had.
   module _ (texts : Texts) (es : List (Observation KeyParts)) (deaf : List Bool) (b : Histories) (until moment : ℕ) (says : AreFlags until t b flags) (tracks : TablesSurvey texts es t deaf)
       (as_many : length deaf ≡ length t.keys) (may : MayPass texts t moment) (newest : newest_moment es ≡ moment) (told : AreHistories es b) where
     -- each key has a set, a flag of trouble and a history, and its set follows the entries
+    -- n is the key's place; d is the flag there, and h the history
     at_key : (n : ℕ) (key : KeyParts) → slice_get t.keys n ≡ Some key → (set : AnySet) × (d : Bool) × (h : History) × (slice_get t.sets n ≡ Some set) × (slice_get deaf n ≡ Some d) × (slice_get b.each.items n ≡ Some h)
     at_key n key at =
         let inside = slice_get_within t.keys n key at in

@@ -1,4 +1,5 @@
 -- A transaction that is surely idle again is as new.
+-- In the lemmas y is the state in which a run stands, at the moment k or m.
 use Rattle.std.proofs.Common.{◌≡◌, ◌≤◌, ◌<◌, ◌↔◌, ◌⊎◌, inl, inr, ℕ, List, [], ◌∷◌, ◌++◌, All, refl, sym, ap, ◌∙◌, subst, arith, append_assoc, append-nil, zero-le}
 use Rattle.std.proofs.Math.Decide.{dec_le}
 use Rattle.std.proofs.lemmas.List.{same_from_push}
@@ -31,7 +32,7 @@ module _ {X : Type 0} (f : Figure X) (p : Times) (lasts : (m : ℕ) → Lasts f 
   events_to events m y (ends evs h x stands may) = events_to evs h x stands
   events_to events m y (takes evs e x z stands does) = All-push (IsTo e.moment) evs e (events_to evs e.moment x stands) (omega arith)
 
-  -- What follows is of old events that leave the transaction idle at the moment m.
+  -- What follows is of the events `old`, which leave the transaction idle at the moment m.
   module _ (old : List MachineEvent) (m : ℕ) (idle : Stands f p old m (quiet f.idle)) where
     -- where old events leave the transaction idle at m, a run over later events goes on after them; before m such a run has no event and stands in idle
     on : (more : List MachineEvent) (k : ℕ) (y : Owing X) → Stands f p more k y → All (IsFrom m) more → (m ≤ k → Stands f p (old ++ more) k y) × (k < m → (more ≡ []) × (y ≡ quiet f.idle))
@@ -40,6 +41,7 @@ module _ {X : Type 0} (f : Figure X) (p : Times) (lasts : (m : ℕ) → Lasts f 
     -- the run waits
     on more k y (waits evs h n x stands low lasting) from = go (dec_le m h) (on evs h x stands from)
       where
+        -- the runs over both parts stand at n as they do at h: m has come by h, or the transaction is idle still
         go : Dec (m ≤ h) → (m ≤ h → Stands f p (old ++ evs) h x) × (h < m → (evs ≡ []) × (x ≡ quiet f.idle)) → (m ≤ n → Stands f p (old ++ evs) n x) × (n < m → (evs ≡ []) × (x ≡ quiet f.idle))
         go (yes late) both = (λ high. waits (old ++ evs) h n x (both.0 late) low lasting, λ before. absurd (omega (arith, late, low, before)))
         go (no early) both =
@@ -50,7 +52,7 @@ module _ {X : Type 0} (f : Figure X) (p : Times) (lasts : (m : ℕ) → Lasts f 
     -- the state ends
     on more k y (ends evs h x stands may) from = go (dec_le m h) (on evs h x stands from)
       where
-        -- the end comes at m or later, or before it
+        -- the claim of the runs holds of one that ends, whether the end comes at m or later, or before it
         go : Dec (m ≤ h) → (m ≤ h → Stands f p (old ++ evs) h x) × (h < m → (evs ≡ []) × (x ≡ quiet f.idle)) → (m ≤ h → Stands f p (old ++ evs) h (quiet f.ended)) × (h < m → (evs ≡ []) × (quiet f.ended ≡ quiet f.idle))
         go (yes late) both = (λ high. ends (old ++ evs) h x (both.0 late) may, λ before. absurd (omega (arith, late, before)))
         go (no early) both = absurd (has_no_end h (subst (λ z. MayEnd f p z h) (both.1 (omega (arith, early))).1 may))
@@ -60,7 +62,7 @@ module _ {X : Type 0} (f : Figure X) (p : Times) (lasts : (m : ℕ) → Lasts f 
         let before = (on evs e.moment x stands (All-front (IsFrom m) evs (e ∷ []) from)).0 last in
         (λ high. subst (λ es. Stands f p es e.moment z) (append_assoc old evs (e ∷ [])) (takes (old ++ evs) e x z before does), λ low. absurd (omega (arith, low, last)))
 
-  -- What follows is of old events after which the transaction stands in idle alone at the moment m.
+  -- What follows is of the events `old`, none after the moment m, after which the transaction stands in idle alone.
   module _ (old : List MachineEvent) (m : ℕ) (only : (x : Owing X) → Stands f p old m x → x ≡ quiet f.idle) (past : All (IsTo m) old) where
     -- the transaction stands in idle at each moment, where there is no event
     new : (k : ℕ) → Stands f p [] k (quiet f.idle)
@@ -70,6 +72,7 @@ module _ {X : Type 0} (f : Figure X) (p : Times) (lasts : (m : ℕ) → Lasts f 
     off : (all : List MachineEvent) (k : ℕ) (y : Owing X) → Stands f p all k y → m ≤ k → (more : List MachineEvent) → all ≡ old ++ more → All (IsFrom m) more → Stands f p more k y
     off all k y begins high more is from = subst (λ es. Stands f p es 0 (quiet f.idle)) (second old more is) begins
       where
+        -- where two lists together are empty, the second is
         second : (xs ys : List MachineEvent) → [] ≡ xs ++ ys → [] ≡ ys
         second [] ys e = e
         second (x ∷ xs) ys e = absurd (cc)
@@ -79,7 +82,7 @@ module _ {X : Type 0} (f : Figure X) (p : Times) (lasts : (m : ℕ) → Lasts f 
         none : (ys : List MachineEvent) → evs ≡ old ++ ys → All (IsFrom m) ys → h < m → ys ≡ []
         none ys are later early = by (empty_or_last ys)
           where
-            -- there are no later events, or there is a last one
+            -- there are no later events
             by : (ys ≡ []) ⊎ ((front : List MachineEvent) × (e : MachineEvent) × (ys ≡ front ++ e ∷ [])) → ys ≡ []
             by (inl e) = e
             by (inr (front, e, is_last)) =
@@ -88,30 +91,36 @@ module _ {X : Type 0} (f : Figure X) (p : Times) (lasts : (m : ℕ) → Lasts f 
                 let at = All-middle (IsFrom m) front [] e (subst (All (IsFrom m)) is_last later) in
                 absurd (omega (arith, to, at, early))
 
-        -- the wait begins at m or later, or before it
+        -- a run over the later events stands at n, whether the wait begins at m or later, or before it
         go : Dec (m ≤ h) → (m ≤ h → Stands f p more h x) → Stands f p more n x
         go (yes late) before = waits more h n x (before late) low lasting
         go (no early) before =
+            -- m comes before the wait begins: no later event is left, so the run over the old events stands at m in x, which is idle and as new
             let nil : more ≡ [] = none more is from (omega (arith, early)) in
             let here : Stands f p old m x = waits old h m x (subst (λ es. Stands f p es h x) (is ∙ ap (λ ys. old ++ ys) nil ∙ append-nil old) stands) (omega (arith, early)) (lasts_earlier f p x m n high lasting) in
             subst (λ es. Stands f p es n x) (sym nil) (subst (Stands f p [] n) (sym (only x here)) (new n))
+    -- the run ends or takes an event in its last step: it is taken off, and the run before it goes on from m
     off all k y (ends evs h x stands may) high more is from = ends more h x (off evs h x stands high more is from) may
     off all k y (takes evs e x z stands does) high more is from = go (empty_or_last more) (λ front are later. off evs e.moment x stands high front are later)
       where
-        -- no later event was taken, or the last one is e
+        -- the run over the later events stands in z at e, whether e is the last of them or there are none
         go : (more ≡ []) ⊎ ((front : List MachineEvent) × (d : MachineEvent) × (more ≡ front ++ d ∷ [])) → ((front : List MachineEvent) → evs ≡ old ++ front → All (IsFrom m) front → Stands f p front e.moment x) → Stands f p more e.moment z
+        -- no later event was taken, so e is the last one, at the moment m
         go (inl nil) before =
+            -- all events are old ones, so e is not after m; and z is idle, which is where a new run begins
             let whole : evs ++ e ∷ [] ≡ old = is ∙ ap (λ ys. old ++ ys) nil ∙ append-nil old in
             let to = All-middle (IsTo m) evs [] e (subst (All (IsTo m)) (sym whole) past) in
             let same : e.moment ≡ m = omega (arith, to, high) in
             let here : Stands f p old m z = subst (λ n. Stands f p old n z) same (subst (λ es. Stands f p es e.moment z) whole (takes evs e x z stands does)) in
             subst (λ es. Stands f p es e.moment z) (sym nil) (subst (Stands f p [] e.moment) (sym (only z here)) (new e.moment))
+        -- d is the last one, and it is e
         go (inr (front, d, are)) before =
             let both = same_from_push evs (old ++ front) e d (is ∙ ap (λ ys. old ++ ys) are ∙ sym (append_assoc old front (d ∷ []))) in
             let later : All (IsFrom m) front = All-front (IsFrom m) front (d ∷ []) (subst (All (IsFrom m)) are from) in
             subst (λ es. Stands f p es e.moment z) (sym are) (subst (λ g. Stands f p (front ++ g ∷ []) e.moment z) both.1 (takes front e x z (before front both.0 later) does))
 
 -- where a transaction is idle again after old events, it stands over old and later events just where it stands over the later ones
+-- m is the moment between old and later events, and k the moment at which the run stands in y
 pub idle_is_new : (kind : MachineKind) (p : Times) (old more : List MachineEvent) (m k : ℕ) (y : Owing (transaction_of kind).Phase) → IsIdleAgain kind p old m → All (λ e. e.moment ≤ m) old → All (λ e. m ≤ e.moment) more
     → m ≤ k → Stands (transaction_of kind).figure p (old ++ more) k y ↔ Stands (transaction_of kind).figure p more k y
 idle_is_new kind p old more m k y again past from high =

@@ -29,6 +29,7 @@ module _ {X : Type 0} (f : Figure X) (p : Times) where
   earlier_in_window h m low (Some (from, Some to)) lasts = omega (arith, low, lasts)
 
   -- what lasts until a moment lasts until each earlier one
+  -- x is the state, h the earlier moment and m the later one
   pub lasts_earlier : (x : Owing X) (h m : ℕ) → h ≤ m → Lasts f p x m → Lasts f p x h
   lasts_earlier x h m low (closes, sends, owed) = (
     earlier_in_window h m low (f.window p x.phase) closes,

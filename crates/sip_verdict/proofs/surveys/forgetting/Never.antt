@@ -73,7 +73,7 @@ number_here p es e (Undecided entry transaction) is = is.0 ∙ sym (length-appen
 
 -- An entry brings at most two transactions.
 
--- no more keys are known after more keys than there were before and are added
+-- with more keys there are at most as many keys as before and the new ones together
 few_more : (keys more : List KeyParts) → length (fold with_key keys more) ≤ length keys + length more
 few_more keys [] = omega arith
 few_more keys (key ∷ more) =
@@ -81,7 +81,7 @@ few_more keys (key ∷ more) =
     let one : length (with_key keys key) ≤ length keys + 1 = one_more (list_any (same_key key) keys) in
     omega (arith, rest, one)
   where
-    -- whether the key is known already
+    -- with one key more the keys are at most one more, whether or not the key is known already
     one_more : (b : Bool) → length (if b then keys else keys ++ key ∷ []) ≤ length keys + 1
     one_more true = omega arith
     one_more false = let long = length-append keys (key ∷ []) in omega arith
@@ -103,9 +103,11 @@ two_keys s direction keys is =
 two_more : (es : Entries) (item : Item) (e : Observation KeyParts) → Sees es item e → length (keys_in (es ++ e ∷ [])) ≤ length (keys_in es) + 2
 two_more es item e sees = by (direction_of item.action) refl sees
   where
+    -- an entry that concerns no key brings none
     none : e.keys ≡ [] → length (keys_in (es ++ e ∷ [])) ≤ length (keys_in es) + 2
     none empty = let same = ap length (keys_in-none es e empty) in omega arith
 
+    -- a mark concerns no key, and a restart concerns those that were there
     silent : (action : Action) → e ≡ silent_observation action item.moment (keys_in es) → length (keys_in (es ++ e ∷ [])) ≤ length (keys_in es) + 2
     silent Restart is = let same = ap length (keys_in-all es e (ap (λ o. o.keys) is)) in omega arith
     silent Mark is = none (ap (λ o. o.keys) is)
@@ -124,7 +126,7 @@ two_more es item e sees = by (direction_of item.action) refl sees
         let push = ap length (keys_in-push es e) in
         omega arith
 
-    -- whether the entry has a message, and which way it went
+    -- an entry brings at most two keys, whether or not it has a message, and whichever way it went
     by : (d : Option Direction) → direction_of item.action ≡ d → MatchOption d (e ≡ silent_observation item.action item.moment (keys_in es)) (λ direction. ObservesMessage direction item e)
         → length (keys_in (es ++ e ∷ [])) ≤ length (keys_in es) + 2
     by None is saw = silent item.action saw
@@ -140,9 +142,10 @@ never_after age part p es [] [] (Stops fault) found end after lines are few keys
 never_after age part p es [] (x ∷ taken) close found end after lines are few keys is seen text = absurd are
 never_after age part p es (item ∷ items) [] close found end after lines are few keys is seen text = absurd are
 never_after age part p es (item ∷ items) (x ∷ taken) close found end [] lines are few keys is seen text = absurd seen
--- one item more, at which nothing is forgotten
+-- one item more comes, at which nothing is forgotten
 never_after age part p es (item ∷ items) (x ∷ taken) close found end (f ∷ after) lines (one, more) few keys (e, here, later, sees, both, are, left) (saw, seen) text =
     let same : f ≡ e = observes_one es x f e saw sees in
+    -- the text is that of the findings here, and then of the later ones
     let whole : IsTextOf ((es ++ e ∷ []) ++ after) (here ++ later) lines =
     subst (λ xs. IsTextOf xs (here ++ later) lines) (ap (λ x. es ++ x ∷ after) same ∙ sym (append_assoc es (e ∷ []) after)) (subst (λ fs. IsTextOf (es ++ f ∷ after) fs lines) both text) in
     let s = split_text ((es ++ e ∷ []) ++ after) here later lines whole in
@@ -150,6 +153,7 @@ never_after age part p es (item ∷ items) (x ∷ taken) close found end (f ∷ 
     let two = two_more es x e sees in (
       es,
       inl refl,
+      -- there is room for the entry
       inr (
         (omega arith, omega arith),
         (
@@ -160,6 +164,7 @@ never_after age part p es (item ∷ items) (x ∷ taken) close found end (f ∷ 
           s.text,
           s.more,
           one,
+          -- what is found at the item comes next, and then its text
           sees,
           are,
           text_here (es ++ e ∷ []) after here s.text (λ g has. number_here p es e g ((are.1 g).0 has)) s.first,
@@ -180,6 +185,7 @@ log_streams : (input : List ℕ) (p : Times) (items : List Item) (close : LogEnd
 log_streams input p items Clean says other = (clean_stream input p items says.few).0 says
 log_streams input p items (Stops fault) says other = by (cases_lt (length items) most_entries)
   where
+    -- the stream has these items and stops: there are fewer entries than the most, or the log stops at its limit
     by : (length items < most_entries) ⊎ (most_entries ≤ length items) → StreamSays input p items (Stops fault)
     by (inl few) = (log_stream input p items (Stops fault) few).0 says
     by (inr many) =
@@ -187,13 +193,15 @@ log_streams input p items (Stops fault) says other = by (cases_lt (length items)
         let limit = cut_off says.format (length items) (last_of 0 items) says.rest fault many says.next in
         absurd (other (ap Stops limit) (omega (arith, few, many)))
 
--- how a survey of so many entries ends
+-- how a survey of this many entries ends
 survey_stops : (p : Times) (es : Entries) (items : List Item) (close : LogEnd) (found : List Finding) (end : SurveyEnd) → IsSurveyAfter p es items close found end → close ≡ Stops Limit → end ≡ LogFault (length es + length items + 1) Limit
+-- no item is left: the log ends there, and not cleanly, since `close` is the fault Limit
 survey_stops p es [] Clean found end is same = cc
 survey_stops p es [] (Stops fault) found end is same =
     let reason : fault ≡ Limit = cc in
     let long : length es + 1 ≡ length es + 0 + 1 = omega arith in
     is.1 ∙ ap (λ r. LogFault (length es + 1) r) reason ∙ ap (λ n. LogFault n Limit) long
+-- one item more is seen as e, and the survey goes on after it
 survey_stops p es (item ∷ items) close found end (e, here, later, sees, both, are, left) same =
     let long = length-append es (e ∷ []) in
     let sum : length (es ++ e ∷ []) + length items + 1 ≡ length es + suc (length items) + 1 = omega arith in
@@ -220,11 +228,15 @@ part_taken part (item ∷ items) (x ∷ cuts) (one, is) = let more = part_taken 
 
 -- where nothing is forgotten, the survey of an input and its text are among those of a survey that may forget
 pub never_whole : (age : ℕ) (input : List ℕ) (found : List Finding) (end : SurveyEnd) (text : List ℕ) → end ≢ LogFault (most_entries + 1) Limit → IsToldOf input found end text → IsToldForgetting age None input found end text
+-- p and q are the times of the log by the survey and by what is told, and es are the entries that were observed
+-- the input has no header by both, so nothing was found, and the text is the last line alone
 never_whole age input found end text other (inl (lacks, none, ended), (es, inl (also, empty), (lines, are, whole))) =
     inl (lacks, none, ended, whole ∙ ap (λ l. l ++ end_text end (length found)) (subst (λ fs. IsTextOf es fs lines) none are) ∙ ap (λ fs. end_text end (length fs)) none)
+-- both cannot be: by one the input has no header, and by the other it has one
 never_whole age input found end text other (inl (lacks, none, ended), (es, inr (q, others, last, says, seen), told)) = absurd (lacks says.format q _ says.header)
 never_whole age input found end text other (inr (p, items, close, says, is), (es, inl (lacks, empty), told)) = absurd (lacks says.format p _ says.header)
 never_whole age input found end text other (inr (p, items, close, says, is), (es, inr (q, others, last, say, seen), (lines, are, whole))) =
+    -- both have a header: what was observed is the same, and the survey may stop to forget at any entry, but does so at none
     let saw : AreSeen [] items es = says_same (λ r xs a. AreSeen [] xs es) input p q items others close last says say seen in
     let stream = log_streams input p items close says (not_cut_off p items items close found end refl is other) in
     let few = says.few in
@@ -238,6 +250,7 @@ IsPartAs part item cut direction = MatchOption direction (cut ≡ item) (λ d. (
 item_one : (part : PartOf) (item a b : Item) → IsPartItem part item a → IsPartItem part item b → a ≡ b
 item_one part item a b one other = by (direction_of item.action) one other
   where
+    -- two items that are cut of one item are the same, whether or not it has a message
     by : (direction : Option Direction) → IsPartAs part item a direction → IsPartAs part item b direction → a ≡ b
     by None is are = is ∙ sym are
     by (Some d) (branch, tells, is) (told, also, are) = is ∙ ap (λ t. if falls_into part t then item else mark_of item) (one_told item.text branch told tells also) ∙ sym are
@@ -254,13 +267,16 @@ part_one part (item ∷ items) (x ∷ cuts) (y ∷ others) (one, is) (other, are
 
 -- where nothing is forgotten, the survey of a part and its text are among those of a survey that may forget
 pub never_part : (age : ℕ) (part : PartOf) (input : List ℕ) (found : List Finding) (end : SurveyEnd) (text : List ℕ) → end ≢ LogFault (most_entries + 1) Limit → IsPartToldOf part input found end text → IsToldForgetting age (Some part) input found end text
+-- p and q are the times of the log by the survey and by what is told, and es are the entries that were observed
 never_part age part input found end text other (inl (lacks, none, ended), (es, inl (also, empty), (lines, are, whole))) =
     inl (lacks, none, ended, whole ∙ ap (λ l. l ++ end_text end (length found)) (subst (λ fs. IsTextOf es fs lines) none are) ∙ ap (λ fs. end_text end (length fs)) none)
 never_part age part input found end text other (inl (lacks, none, ended), (es, inr (q, others, last, taken, says, cut, seen), told)) = absurd (lacks says.format q _ says.header)
 never_part age part input found end text other (inr (p, items, close, cuts, says, cut, is), (es, inl (lacks, empty), told)) = absurd (lacks says.format p _ says.header)
+-- both surveys are of entries of the part
 never_part age part input found end text other (inr (p, items, close, cuts, says, cut, is), (es, inr (q, others, last, taken, say, part_of, seen), (lines, are, whole))) =
     let same : taken ≡ cuts = part_one part items taken cuts (says_same (λ r xs a. IsPartLog part xs taken) input p q items others close last says say part_of) cut in
     let (are_taken, long) = part_taken part items cuts cut in
     let stream = log_streams input p items close says (not_cut_off p items cuts close found end long is other) in
+    -- there is room for all entries
     let few = says.few in
     inr (p, items, close, lines, stream, never_after age (Some part) p [] items cuts close found end es lines are_taken (omega arith) (omega arith) is (subst (λ xs. AreSeen [] xs es) same seen) are, whole)

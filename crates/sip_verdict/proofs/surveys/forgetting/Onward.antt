@@ -63,10 +63,12 @@ remembered_moments kept (e ∷ es) = ap (λ ms. e.event.moment ∷ ms) (remember
 -- entries with the same moments, one by one, are in the same order
 order_by : (xs ys : Entries) → map (λ e. e.event.moment) xs ≡ map (λ e. e.event.moment) ys → IsOrdered xs → IsOrdered ys
 order_by xs ys same order i j d low high =
+    -- m gives the moment of an entry; at each place k both lists have the same moment
     let m : Observation KeyParts → ℕ = λ e. e.event.moment in
     let long : length xs ≡ length ys = sym (length-map xs m) ∙ ap length same ∙ length-map ys m in
     let at : (k : ℕ) → k < length ys → (get_or xs k d).event.moment ≡ (get_or ys k d).event.moment =
     λ k inside. sym (get_or-map m xs k d 0 (omega (arith, inside, long))) ∙ ap (λ ms. get_or ms k 0) same ∙ get_or-map m ys k d 0 inside in
+    -- xs has its moments in order at the places i and j, and so has ys
     let first = at i (omega (arith, low, high)) in
     let second = at j high in
     let was = order i j d low (omega (arith, high, long)) in
@@ -87,10 +89,11 @@ module _ (key : KeyParts) where
   stays_one [] = refl
   stays_one (k ∷ keys) = go (same_key key k) refl (stays_one keys)
     where
+      -- a key that is there already is not added again
       known : same_key key k ≡ true → with_key (key ∷ []) k ≡ key ∷ []
       known e = ap (λ b. cond (b || false) (key ∷ []) (key ∷ k ∷ [])) ((same_key-decides k key).1 (same_back k e))
 
-      -- whether the next key is equal to the one key
+      -- the one key alone is kept where its own keys are added to it, whether or not the next one is equal to it
       go : (b : Bool) → same_key key k ≡ b → fold with_key (key ∷ []) (own keys) ≡ key ∷ [] → fold with_key (key ∷ []) (cond (same_key key k) (k ∷ own keys) (own keys)) ≡ key ∷ []
       go false e rest = ap (λ b. fold with_key (key ∷ []) (cond b (k ∷ own keys) (own keys))) e ∙ rest
       go true e rest =
@@ -101,6 +104,7 @@ module _ (key : KeyParts) where
   becomes_one [] some = absurd (false≢true some)
   becomes_one (k ∷ keys) some = go (same_key key k) refl some (becomes_one keys)
     where
+      -- where the key is among the keys, its own keys are this key alone, whether or not the first is this one
       go : (b : Bool) → same_key key k ≡ b → (same_key key k || list_any (same_key key) keys) ≡ true → (list_any (same_key key) keys ≡ true → fold with_key [] (own keys) ≡ key ∷ [])
           → fold with_key [] (cond (same_key key k) (k ∷ own keys) (own keys)) ≡ key ∷ []
       go false e any rest =
@@ -140,10 +144,12 @@ module _ (key : KeyParts) where
 
     -- where the key is among the keys of two logs alike, an item that is seen after each of them concerns the key in both alike
     alike : (done left : Entries) → own (keys_in done) ≡ own (keys_in left) → (item : Item) (e f : Observation KeyParts) (a : Action) → SeenAs done item e a → SeenAs left item f a → IsCutOf (same_key key) f (cut_of e)
+    -- of a message the same is observed after both logs, and of a mark
     alike done left same item e f Sent sees saw = subst (λ g. IsCutOf (same_key key) g (cut_of e)) (message_one way.Sent item e f sees saw) (cut_self e)
     alike done left same item e f Received sees saw = subst (λ g. IsCutOf (same_key key) g (cut_of e)) (message_one way.Received item e f sees saw) (cut_self e)
     alike done left same item e f Failed sees saw = subst (λ g. IsCutOf (same_key key) g (cut_of e)) (message_one way.Sent item e f sees saw) (cut_self e)
     alike done left same item e f Mark sees saw = subst (λ g. IsCutOf (same_key key) g (cut_of e)) (sees ∙ sym saw) (cut_self e)
+    -- a restart concerns the keys so far, among which this key is in both
     alike done left same item e f Restart sees saw = (
       ap (λ g. g.event.moment) sees ∙ sym (ap (λ g. g.event.moment) saw),
       ap (λ g. own g.keys) sees ∙ same ∙ sym (ap (λ g. own g.keys) saw),
@@ -156,11 +162,13 @@ module _ (key : KeyParts) where
 
     -- items that are seen after each of two logs which know the key alike give entries that are alike
     all_alike : (done left : Entries) → own (keys_in done) ≡ own (keys_in left) → (items : List Item) (es fs : Entries) → AreSeen done items es → AreSeen left items fs → AreAlike es fs
+    -- no item is left; there are as many entries as items in both logs
     all_alike done left same [] [] [] seen saw = ([], tt, tt)
     all_alike done left same [] [] (f ∷ fs) seen saw = absurd saw
     all_alike done left same [] (e ∷ es) fs seen saw = absurd seen
     all_alike done left same (item ∷ items) [] fs seen saw = absurd seen
     all_alike done left same (item ∷ items) (e ∷ es) [] seen saw = absurd saw
+    -- e and f are what is observed of the item after each of the logs, which are alike, and so are the others
     all_alike done left same (item ∷ items) (e ∷ es) (f ∷ fs) (sees, seen) (saw, seen_left) =
         let here = alike done left same item e f item.action sees saw in
         let more = all_alike (done ++ e ∷ []) (left ++ f ∷ []) (own_push done left e f same here.1) items es fs seen seen_left in
@@ -178,16 +186,20 @@ module _ (key : KeyParts) where
     -- two lists that are alike, split at the same place, are alike up to it and at it
     split_alike : (front back cs : Entries) (e f : Observation KeyParts) (rest more : Entries) → AllZip (IsCutOf (same_key key)) (front ++ e ∷ rest) cs → AllZip (IsCutOf (same_key key)) (back ++ f ∷ more) cs
         → length front ≡ length back → SplitAlike front back e f
+    -- without fronts the place is the first, and e and f are alike, with c for both
     split_alike [] [] [] e f rest more one other long = absurd one
     split_alike [] [] (c ∷ cs) e f rest more one other long = record { mid = []; cut = c; fronts = tt; backs = tt; first = one.0; second = other.0 }
+    -- of fronts of other lengths the one is not as long as the other
     split_alike [] (y ∷ back) cs e f rest more one other long = absurd (omega (arith, long))
     split_alike (x ∷ front) [] cs e f rest more one other long = absurd (omega (arith, long))
     split_alike (x ∷ front) (y ∷ back) [] e f rest more one other long = absurd one
+    -- the first entries x and y are alike, with c for both, and so are the lists after them
     split_alike (x ∷ front) (y ∷ back) (c ∷ cs) e f rest more one other long =
         let s = split_alike front back cs e f rest more one.1 other.1 (omega (arith, long)) in
         record { mid = c ∷ s.mid; cut = s.cut; fronts = (one.0, s.fronts); backs = (other.0, s.backs); first = s.first; second = s.second }
 
     -- where two parts of entries stand for two parts of others, both parts together do
+    -- ys stand for xs, and vs for us
     zip_join : (xs ys us vs : Entries) → AllZip (IsCutOf (same_key key)) xs ys → AllZip (IsCutOf (same_key key)) us vs → AllZip (IsCutOf (same_key key)) (xs ++ us) (ys ++ vs)
     zip_join [] [] us vs zip more = more
     zip_join [] (y ∷ ys) us vs zip more = absurd zip
@@ -218,10 +230,12 @@ module _ (key : KeyParts) where
     pub later_kept : (kept : KeyParts → Bool) → kept key ≡ true → (old : Entries) (items : List Item) (es fs : Entries) → AreSeen old items es → AreSeen (remembered kept old) items fs
         → HasSameTroubleAfter p old (remembered kept old) es fs key
     later_kept kept is old items es fs seen saw front back e f rest more split other long =
+        -- `only` are the old entries of this key alone, for which both logs stand
         let only = remembered (same_key key) old in
         let whole = zip_remembered (same_key key) old in
         let left = zip_left kept key is old in
         let same : own (keys_in old) ≡ own (keys_in (remembered kept old)) = sym (keys_cut (same_key key) old only whole) ∙ keys_cut (same_key key) (remembered kept old) only left in
+        -- cs is what both logs have of the key from there on, and s what of it lies before the entries e and f
         let (cs, ones, others) = all_alike old (remembered kept old) same items es fs seen saw in
         let s = split_alike front back cs e f rest more (subst (λ xs. AllZip (IsCutOf (same_key key)) xs cs) split ones) (subst (λ xs. AllZip (IsCutOf (same_key key)) xs cs) other others) long in
         alike_by (old ++ front) (only ++ s.mid) (remembered kept old ++ back) e s.cut f (zip_join old only front s.mid whole s.fronts) (zip_join (remembered kept old) only back s.mid left s.backs) s.first s.second
@@ -245,6 +259,7 @@ module _ (key : KeyParts) where
     all_restarts : (e : Observation KeyParts) → Passes e → All (λ d. d.action ≡ Restart) (events_for key (e ∷ []))
     all_restarts e passes = go (list_any (same_key key) e.keys) refl passes
       where
+        -- the events of the entry for the key are restarts, whether or not the entry concerns the key
         go : (b : Bool) → list_any (same_key key) e.keys ≡ b → Passes e → All (λ d. d.action ≡ Restart) (map (λ f. f.event) (cond (list_any (same_key key) e.keys) (e ∷ []) []))
         go false none any = subst (λ b. All (λ d. d.action ≡ Restart) (map (λ f. f.event) (cond b (e ∷ []) []))) (sym none) (All-nil (λ d. d.action ≡ Restart))
         go true some (inl none) = absurd (false≢true (sym none ∙ some))
@@ -254,10 +269,12 @@ module _ (key : KeyParts) where
     idle_here : (e : Observation KeyParts) → Passes e → Stands (transaction_of kind).figure p (events_for key (e ∷ [])) e.event.moment (quiet (transaction_of kind).figure.idle)
     idle_here e passes = go (list_any (same_key key) e.keys) refl passes
       where
+        -- the transaction is idle after the events of the entry for the key, whether or not the entry concerns it
         go : (b : Bool) → list_any (same_key key) e.keys ≡ b → Passes e → Stands (transaction_of kind).figure p (map (λ g. g.event) (cond (list_any (same_key key) e.keys) (e ∷ []) [])) e.event.moment (quiet (transaction_of kind).figure.idle)
         go false none any =
             subst (λ b. Stands (transaction_of kind).figure p (map (λ g. g.event) (cond b (e ∷ []) [])) e.event.moment (quiet (transaction_of kind).figure.idle)) (sym none)
             (waits [] 0 e.event.moment (quiet (transaction_of kind).figure.idle) begins zero-le (idle_lasts kind p e.event.moment))
+        -- an entry that concerns it is a restart, over which it stands in idle
         go true some (inl none) = absurd (false≢true (sym none ∙ some))
         go true some (inr is) =
             subst (λ b. Stands (transaction_of kind).figure p (map (λ g. g.event) (cond b (e ∷ []) [])) e.event.moment (quiet (transaction_of kind).figure.idle)) (sym some)
@@ -277,10 +294,12 @@ module _ (key : KeyParts) where
         let f = (transaction_of kind).figure in
         let now = newest_moment-push es e in
         let both = stands_new p key es r.again (e ∷ []) order e.event.moment (late_push es e order) in
+        -- the transaction stands in idle over the entry, and nowhere else
         let idle = quiet f.idle in
         let stands : Stands f p (events_for key (es ++ e ∷ [])) e.event.moment idle = (both idle).1 (idle_here e passes) in
         let only : (x : Owing (transaction_of kind).Phase) → Stands f p (events_for key (es ++ e ∷ [])) e.event.moment x → x ≡ idle =
         λ x there. stands_idle f p (idle_stays kind p) (events_for key (e ∷ [])) e.event.moment x ((both x).0 there) (all_restarts e passes) in
+        -- the transaction is idle again, and in no trouble
         record {
           again = subst (IsIdleAgain kind p (events_for key (es ++ e ∷ []))) (sym now) (stands, only);
           sound = sound_push p es e key r.sound (idle, subst (λ m. Stands f p (events_for key (es ++ e ∷ [])) m idle) (sym now) stands) (λ wide. narrow only wide);
@@ -325,9 +344,12 @@ module _ (key : KeyParts) where
     found_both : (old left : Entries) (g : Observation KeyParts) (es fs : Entries) → list_any (same_key key) g.keys ≡ true → IsOrdered (old ++ g ∷ es) → IsOrdered (left ++ g ∷ fs) → Rests old → Rests left
         → AreAlike es fs → HasSameTroubleAfter p old left (g ∷ es) (g ∷ fs) key
     found_both old left g es fs some order order_left r r_left (cs, ones, others) front back e f rest more split other long =
+        -- s is what the two logs have in common up to the entries e and f, from g on
         let s = split_alike front back (cut_of g ∷ cs) e f rest more (subst (λ xs. AllZip (IsCutOf (same_key key)) xs (cut_of g ∷ cs)) split (cut_self g, ones)) (subst (λ xs. AllZip (IsCutOf (same_key key)) xs (cut_of g ∷ cs)) other (cut_self g, others)) long in
+        -- in each log the transaction was idle again before g, so that it is found as a new one from there
         let new = found_new p key old r.again r.sound front e (ordered_to old front e rest (subst (λ xs. IsOrdered (old ++ xs)) split order)) in
         let new_left = found_new p key left r_left.again r_left.sound back f (ordered_to left back f more (subst (λ xs. IsOrdered (left ++ xs)) other order_left)) in
+        -- over what the logs have in common the same is found
         let same = alike_by front s.mid back e s.cut f s.fronts s.backs s.first s.second in
         through (old ++ front) front (left ++ back) e e f new (through (left ++ back) back front f f e new_left same)
 
@@ -337,20 +359,25 @@ module _ (key : KeyParts) where
     later_rests old left [] (g ∷ es) fs order order_left r r_left seen saw front back e f rest more split other long = absurd seen
     later_rests old left (item ∷ items) [] fs order order_left r r_left seen saw front back e f rest more split other long = absurd seen
     later_rests old left (item ∷ items) (g ∷ es) [] order order_left r r_left seen saw front back e f rest more split other long = absurd saw
+    -- the next entries are alike for the key, and then the later ones
     later_rests old left (item ∷ items) (g ∷ es) (h ∷ fs) order order_left r r_left (sees, seen) (saw, seen_left) front back e f rest more split other long =
         by (comes old left item g h item.action sees saw) (λ now now_left.
         later_rests (old ++ g ∷ []) (left ++ h ∷ []) items es fs (subst IsOrdered (sym (append_assoc old (g ∷ []) es)) order) (subst IsOrdered (sym (append_assoc left (h ∷ []) fs)) order_left) now now_left seen seen_left)
       where
+        -- the old entries with g after them are in the order of their moments
         first : IsOrdered (old ++ g ∷ [])
         first = ordered_to old [] g es order
 
+        -- the entries that are left with h after them are in the order of their moments
         first_left : IsOrdered (left ++ h ∷ [])
         first_left = ordered_to left [] h fs order_left
 
         -- the entries that are compared are the next ones, or later ones
         at : Rests (old ++ g ∷ []) → Rests (left ++ h ∷ []) → HasSameTroubleAfter p (old ++ g ∷ []) (left ++ h ∷ []) es fs key
             → (front back : Entries) (e f : Observation KeyParts) (rest more : Entries) → g ∷ es ≡ front ++ e ∷ rest → h ∷ fs ≡ back ++ f ∷ more → length front ≡ length back → Alike (old ++ front) e (left ++ back) f
+        -- the next entries of both logs: nothing is found at either
         at now now_left later [] [] e f rest more split other long =
+            -- e and f are the next entries g and h, and what was put after the old entries before them is empty
             let is : g ≡ e = cc in
             let is_left : h ≡ f = cc in
             let none = nothing_found old g now in
@@ -358,8 +385,10 @@ module _ (key : KeyParts) where
             subst (λ x. Alike (old ++ []) x (left ++ []) f) is (subst (λ x. Alike (old ++ []) g (left ++ []) x) is_left
             (subst (λ xs. Alike xs g (left ++ []) h) (sym (append-nil old)) (subst (λ xs. Alike old g xs h) (sym (append-nil left))
             ((λ b. absurd (none.0 b), λ b. absurd (none_left.0 b)), (λ w. absurd (none.1 w), λ w. absurd (none_left.1 w))))))
+        -- the two entries cannot be later in one log and next in the other
         at now now_left later [] (y ∷ back) e f rest more split other long = absurd (omega (arith, long))
         at now now_left later (x ∷ front) [] e f rest more split other long = absurd (omega (arith, long))
+        -- the two entries are later ones in both logs
         at now now_left later (x ∷ front) (y ∷ back) e f rest more split other long =
             let is : g ≡ x = cc in
             let is_left : h ≡ y = cc in
@@ -369,22 +398,26 @@ module _ (key : KeyParts) where
             (subst (λ xs. Alike ((old ++ g ∷ []) ++ front) e xs f) (append_assoc left (h ∷ []) back ∙ ap (λ z. left ++ z ∷ back) is_left)
             (later front back e f rest more tail tail_left (omega (arith, long))))
 
-        -- the next entries of both logs are alike for the key
+        -- the two entries are alike for the key after both logs so far, if the next entries of both are
         by : Comes g h → (Rests (old ++ g ∷ []) → Rests (left ++ h ∷ []) → HasSameTroubleAfter p (old ++ g ∷ []) (left ++ h ∷ []) es fs key) → Alike (old ++ front) e (left ++ back) f
+        -- the next entries g and h are one entry, which concerns the key: from there on the same is found
         by (inl (same, some)) on =
             let own_same : own (keys_in (old ++ g ∷ [])) ≡ own (keys_in (left ++ h ∷ [])) = own_with old g some ∙ sym (own_with left h (ap (λ x. list_any (same_key key) x.keys) (sym same) ∙ some)) in
             found_both old left g es fs some order (subst (λ x. IsOrdered (left ++ x ∷ fs)) (sym same) order_left) r r_left (all_alike (old ++ g ∷ []) (left ++ h ∷ []) own_same items es fs seen seen_left)
             front back e f rest more split (ap (λ x. x ∷ fs) same ∙ other) long
+        -- neither concerns the key, which goes on as before after both
         by (inr (passes, passes_left)) on =
             let now = rests_on old g first r passes in
             let now_left = rests_on left h first_left r_left passes_left in
             at now now_left (on now now_left) front back e f rest more split other long
 
-    -- a key that is forgotten in no trouble and idle again has the same trouble at the same entries as if nothing were forgotten
+    -- a key that is forgotten in no trouble and idle again has the same trouble at the same entries as if nothing were forgotten: es are the items as
+    -- they are seen after all old entries, and fs as they are seen after what is remembered of these
     pub later_idle : (kept : KeyParts → Bool) → kept key ≡ false → (old : Entries) (items : List Item) (es fs : Entries) → IsOrdered (old ++ es)
         → IsIdleAgain (machine_of_key p.rules key) p (events_for key old) (newest_moment old) → IsSound p old key → AreSeen old items es → AreSeen (remembered kept old) items fs
         → HasSameTroubleAfter p old (remembered kept old) es fs key
     later_idle kept not old items es fs order again sound seen saw =
+        -- m gives the moment of an entry: both logs have the same moments
         let m : Observation KeyParts → ℕ = λ e. e.event.moment in
         let left = remembered kept old in
         let same : map m (old ++ es) ≡ map m (left ++ fs) =

@@ -29,7 +29,7 @@ module _ (texts : Texts) (p : Times) (machine : MachineKind) (events : List Mach
   not_later : held.moment ≤ n
   not_later = subst (λ m. m ≤ n) (ap moment_of leads.1 ∙ moment_is machine held) low
 
-  -- What follows is of a set with one state, which stays as it is: the runs stand in this state alone.
+  -- What follows is of a set with one state x, which stays as it is: the runs stand in q alone, for which x stands.
   module _ (x : StateOf machine) (q : Owing (transaction_of machine).Phase) (one : held.states ≡ x ∷ []) (still : IsStill p machine texts x) (is : (meaning_of machine).seen texts x ≡ q) where
     -- what the states of the set wait to at n is q, and nothing else
     waits : (y : PhaseOf machine) → Wait ((meaning_of machine).rules p) (Contains (map ((meaning_of machine).seen texts) held.states)) held.moment n y ↔ (y ≡ q)
@@ -50,6 +50,7 @@ module _ (texts : Texts) (p : Times) (machine : MachineKind) (events : List Mach
       let at_rest = quiet_in machine held (subst IsQuietSet leads.1 quiet_set) in
       let (x, one, still) = quiet_still p machine texts held at_rest in
       elim at_rest [
+        -- the one state is idle, or it is ended
         | inl first ↦
             let is = ap (λ z. (meaning_of machine).seen texts z) (ap (λ l. get_or l 0 x) (sym one ∙ first)) ∙ first_is_of machine texts p in
             let at = stands x (quiet (transaction_of machine).figure.idle) one still is in

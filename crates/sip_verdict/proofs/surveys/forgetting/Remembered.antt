@@ -41,16 +41,20 @@ restarted : {X : Type 0} (f : Figure X) (p : Times) (e : MachineEvent) (y : Owin
 restarted f p e y is =
     (λ does. stays (subst (λ a. Steps f p a e (quiet f.idle) y) is does), λ same. subst (λ a. Steps f p a e (quiet f.idle) y) (sym is) (inl (refl, same)))
   where
+    -- a restart leaves the idle transaction idle
     stays : Restarts f (quiet f.idle) y → y ≡ quiet f.idle
     stays (inl idle) = idle.1
     stays (inr other) = absurd (other.0 refl)
 
 -- a run over restarts alone stands in idle
+-- x is the state in which the run stands at the moment m
 pub stands_idle : {X : Type 0} (f : Figure X) (p : Times) → ((m : ℕ) → ¬ (MayEnd f p (quiet f.idle) m)) → (events : List MachineEvent) (m : ℕ) (x : Owing X) → Stands f p events m x
     → All (λ e. e.action ≡ Restart) events → x ≡ quiet f.idle
+-- the run begins in idle; where it waits, it stays there; and nothing can end from idle
 stands_idle f p stays events m x begins all = refl
 stands_idle f p stays events m x (waits evs h k y stands low lasting) all = stands_idle f p stays evs h y stands all
 stands_idle f p stays events m x (ends evs h y stands may) all = absurd (stays h (subst (λ z. MayEnd f p z h) (stands_idle f p stays evs h y stands all) may))
+-- the event that is taken is a restart, which leaves what is idle as it is
 stands_idle f p stays events m x (takes evs e y z stands does) all =
     let idle = stands_idle f p stays evs e.moment y stands (All-front (λ d. d.action ≡ Restart) evs (e ∷ []) all) in
     (restarted f p e z (All-middle (λ d. d.action ≡ Restart) evs [] e all)).0 (subst (λ w. Takes f p w e z) idle does)
@@ -97,10 +101,12 @@ module _ (kept : KeyParts → Bool) where
     same_left [] = refl
     same_left (k ∷ keys) = go (kept k) refl (same_key key k) refl (same_left keys)
       where
+        -- the key is found among the kept keys as often as among all, whether or not k is kept, and whether or not it is the key
         go : (b : Bool) → kept k ≡ b → (t : Bool) → same_key key k ≡ t → filter (same_key key) (filter kept keys) ≡ filter (same_key key) keys
             → filter (same_key key) (cond (kept k) (k ∷ filter kept keys) (filter kept keys)) ≡ cond (same_key key k) (k ∷ filter (same_key key) keys) (filter (same_key key) keys)
         go true e t same rest =
             ap (λ b. filter (same_key key) (cond b (k ∷ filter kept keys) (filter kept keys))) e ∙ ap (λ l. cond (same_key key k) (k ∷ l) l) rest
+        -- a key that is not kept is not equal to a kept one
         go false e true same rest = absurd (false≢true (sym e ∙ ap kept (sym ((same_key-decides key k).0 same)) ∙ is))
         go false e false same rest =
             ap (λ b. filter (same_key key) (cond b (k ∷ filter kept keys) (filter kept keys))) e ∙ rest ∙ ap (λ b. cond b (k ∷ filter (same_key key) keys) (filter (same_key key) keys)) (sym same)
@@ -110,7 +116,7 @@ module _ (kept : KeyParts → Bool) where
     zip_left [] = tt
     zip_left (e ∷ es) = ((refl, sym (same_left e.keys), λ some. refl), zip_left es)
 
-    -- where ys are the entries xs cut to the key alone, they are still with more entries after both, which are cut to the key in the second
+    -- where ys are the entries xs cut to the key, ys and further entries cut to the key are xs and these entries cut to the key
     zip_append : (xs ys : List (Observation KeyParts)) → AllZip (IsCutOf (same_key key)) xs ys → (more : List (Observation KeyParts)) → AllZip (IsCutOf (same_key key)) (xs ++ more) (ys ++ remembered (same_key key) more)
     zip_append [] [] zip more = zip_remembered (same_key key) more
     zip_append [] (y ∷ ys) zip more = absurd zip
@@ -120,10 +126,12 @@ module _ (kept : KeyParts → Bool) where
     -- of a kept key the same is found after the remembered entries as after all entries
     pub found_kept : (p : Times) (old front : List (Observation KeyParts)) (e : Observation KeyParts) → IsFoundAlike p key (remembered kept old ++ front) (old ++ front) e
     found_kept p old front e =
+        -- c is the entry with this key alone, and `mid` are the entries of this key, for which both logs stand
         let c : Observation KeyParts = record { fault = e.fault; event = e.event; keys = filter (same_key key) e.keys } in
         let mid = remembered (same_key key) old ++ remembered (same_key key) front in
         let here : same_key key key ≡ true = (same_key-decides key key).1 refl in
         let cut : IsCutOf (same_key key) e c = (refl, refl, λ some. refl) in
+        -- by them the same is found in what is remembered (`left`) and in all (`whole`)
         let left = trouble_cut (same_key key) key here p (remembered kept old ++ front) mid e c (zip_append (remembered kept old) (remembered (same_key key) old) (zip_left old) front) cut in
         let whole = trouble_cut (same_key key) key here p (old ++ front) mid e c (zip_append old (remembered (same_key key) old) (zip_remembered (same_key key) old) front) cut in
         ((λ h. whole.0.1 (left.0.0 h), λ h. left.0.1 (whole.0.0 h)), (λ h. whole.1.1 (left.1.0 h), λ h. left.1.1 (whole.1.0 h)))
@@ -135,6 +143,7 @@ module _ (kept : KeyParts → Bool) where
     none_left [] = refl
     none_left (k ∷ keys) = go (kept k) refl (same_key key k) refl (none_left keys)
       where
+        -- a key that is forgotten is not among the kept keys, whether or not k is kept, and whether or not it is the key
         go : (b : Bool) → kept k ≡ b → (t : Bool) → same_key key k ≡ t → list_any (same_key key) (filter kept keys) ≡ false
             → list_any (same_key key) (cond (kept k) (k ∷ filter kept keys) (filter kept keys)) ≡ false
         go false e t same rest = ap (λ b. list_any (same_key key) (cond b (k ∷ filter kept keys) (filter kept keys))) e ∙ rest

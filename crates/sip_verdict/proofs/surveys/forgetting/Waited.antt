@@ -1,4 +1,5 @@
 -- Tables of a survey whose sets have all waited until the newest moment: they follow the same entries, and a transaction that is over has a quiet set.
+-- In the lemmas n is the place of a key, r its record, and d whether it is deaf.
 use Rattle.std.proofs.Common.{◌≡◌, ◌≤◌, ◌+◌, ◌↔◌, inl, inr, ℕ, Bool, true, false, Option, Some, None, List, [], ◌∷◌, All, Contains, length, map, slice_get, refl, sym, ap, ◌∙◌, subst, arith}
 use Rattle.std.proofs.lemmas.List.Elements.{All-head}
 use Rattle.std.proofs.lemmas.Option.{slice_get_within}
@@ -39,16 +40,19 @@ use Rattle.sip_verdict.proofs.surveys.forgetting.Remembered.{idle_begun}
 use Rattle.sip_verdict.proofs.sweeps.SweptSets.{swept_agenda, waited_leads}
 use Rattle.sip_verdict.proofs.tables.TablesPassing.{at_place, All-place, All-places}
 
--- What follows is of states that stand for one thing alone: they are one state.
+-- What follows is of states that stand for one thing alone: only y does, so they are one state. P says for what the states stand, `seen` for what each one
+-- does.
 module _ {X S : Type 0} (names : S → List ℕ) (InRange : S → Type 0) (seen : Texts → S → X) (texts : Texts)
     (apart : (x y : S) → Knows names texts x → Knows names texts y → seen texts x ≡ seen texts y → x ≡ y) (P : X → Type 0) (y : S)
     (only : (z : X) → P z ↔ (z ≡ seen texts y)) (known : Knows names texts y) where
   -- where a list of states stands for what y stands for and for nothing else, it is y alone
   alone : (xs : List S) → StandFor names InRange seen texts P xs → xs ≡ y ∷ []
+  -- a list without states stands for nothing, and one state in it stands for what y does
   alone [] stand = absurd (Contains-none (seen texts y) ((stand.members (seen texts y)).1 ((only (seen texts y)).1 refl)))
   alone (x ∷ []) stand =
       let is = (only (seen texts x)).0 ((stand.members (seen texts x)).0 (Contains-here (seen texts x) [])) in
       ap (λ z. z ∷ []) (apart x y (All-head (Knows names texts) x [] stand.known) known is)
+  -- two states in it, x and z, would stand for the same
   alone (x ∷ z ∷ xs) stand =
       let first = (only (seen texts x)).0 ((stand.members (seen texts x)).0 (Contains-here (seen texts x) (map (seen texts) (z ∷ xs)))) in
       let second
@@ -65,7 +69,7 @@ waited_known texts book moment old new waits known =
     let stand = waited.states texts book (of_set (λ X M S m s. IsKnown m texts s) machine s (subst (IsKnownSet texts) is known)) in
     (subst (IsKnownSet texts) (sym new_is) (to_set (λ X M S m s. IsKnown m texts s) machine t stand.known), ap moment_of new_is ∙ moment_is machine t ∙ waited.at)
 
--- What follows is of the set of one transaction, before it has waited until the moment and after it.
+-- What follows is of the set of one transaction over the events: `old` before it has waited until the moment, and `new` after it.
 module _ (texts : Texts) (book : IsBook texts) (p : Times) (machine : MachineKind) (events : List MachineEvent) (from moment : ℕ) (late : from ≤ moment) (old new : AnySet)
     (low : moment_of old ≤ moment) (waits : SetWaits moment old new) where
   -- the states of the set that has waited stand for just where the runs stand at the moment, and the set leads to these runs
@@ -83,12 +87,13 @@ module _ (texts : Texts) (book : IsBook texts) (p : Times) (machine : MachineKin
       let not_later : s.moment ≤ moment = subst (λ n. n ≤ moment) (ap moment_of is ∙ moment_is machine s) low in
       -- the waited states stand for where the runs that wait until the moment stand
       let stand = subst (λ q. StandFor m.names m.in_range m.seen texts (Wait (m.rules q) (Contains (map (m.seen texts) s.states)) s.moment moment) t.states) leads.machine_is (waited.states texts book leads.leads.known) in
-      -- so they also lead to the runs until the moment
+      -- the states after the wait lead to the runs until the moment too
       let on = waited_leads m.names m.in_range m.seen texts (m.rules p) (lawful_of machine p) events from s.moment moment s.states t.states not_later leads.leads stand in
       record {
         held = t;
         is = new_is;
         leads = record { machine_is = waited.machine ∙ leads.machine_is; leads = subst (λ n. Leads m.names m.seen texts (m.rules p) events from n t.states) (sym waited.at) on };
+        -- the states of the set stand for those of the runs
         stand = record {
           members = λ x. iff_trans (stand.members x) (leads.leads.runs moment x late not_later);
           distinct = stand.distinct;
@@ -107,6 +112,7 @@ module _ (texts : Texts) (book : IsBook texts) (p : Times) (machine : MachineKin
       → (s : Stood) → s.held.states ≡ y ∷ []
   one_state y q is known (some, only) s =
       let f = (transaction_of machine).figure in
+      -- a run stands at the moment where it stands by the steps, and so in q alone
       let by : (x : PhaseOf machine) → Stands f p events moment x ↔ RuledRun (key_rules p machine) events moment x = λ x. stands-runs f (coded_holds machine).is_figure p events moment x in
       let both : (x : PhaseOf machine) → RuledRun (key_rules p machine) events moment x ↔ (x ≡ (meaning_of machine).seen texts y) =
       λ x. (λ run. only x ((by x).1 run) ∙ sym is, λ same. (by x).0 (subst (λ z. Stands f p events moment z) (sym (same ∙ is)) some)) in
@@ -126,7 +132,7 @@ module _ (texts : Texts) (book : IsBook texts) (p : Times) (machine : MachineKin
       let s = stood leads in
       subst IsQuietSet (sym s.is) (to_machine IsQuietIn machine s.held (inr (one_state (last_of machine) (quiet (transaction_of machine).figure.ended) (last_is_of machine texts p) (last_knows machine texts) ended s)))
 
--- What follows is of all sets of the tables.
+-- What follows is of all sets of the tables: t are the tables before all sets have waited until the moment, and u after it.
 
 module _ (texts : Texts) (book : IsBook texts) (t u : Tabled) (moment : ℕ) (waited : ChangesSets (SetWaits moment) t u) (may : MayPass texts t moment) where
   -- the set that stood at the place before the wait
@@ -163,12 +169,12 @@ module _ (texts : Texts) (book : IsBook texts) (t u : Tabled) (moment : ℕ) (wa
         go n r old new was at (recorded.each n old r was there);
   }
     where
-      -- of one set: its last moment on record is still right
+      -- the last moment on record of one set is still right after the wait
       go : (n : ℕ) (r : Option (Option ℕ)) (old new : AnySet) → slice_get t.sets n ≡ Some old → slice_get u.sets n ≡ Some new → IsOnRecord [] (n + 1) old r → IsOnRecord [] (n + 1) new r
       go n None old new was at h = h
       go n (Some limit) old new was at h = swept_agenda texts book moment old new (low n old was) (inl (waited.each n old new was at)) (known n old was) limit h
 
-  -- What follows is of tables t that track the entries es, and the tables u after all sets have waited.
+  -- What follows is of the tables t, which track the entries es, and the tables u after all sets have waited; `deaf` says which transactions are in trouble.
   module _ (es : List (Observation KeyParts)) (deaf : List Bool) (tracks : TablesSurvey texts es t deaf) (newest : newest_moment es ≡ moment) (as_many : length deaf ≡ length t.keys) where
     -- no entry is after the moment
     late : newest_moment es ≤ moment
@@ -203,19 +209,19 @@ module _ (texts : Texts) (book : IsBook texts) (t u : Tabled) (moment : ℕ) (wa
         let (d, is) = at_place deaf n (let inside = slice_get_within t.keys n key key_at in omega (arith, inside, as_many)) in
         by n old new was here key d (tracks.each n key old d key_at was is) (subst (λ q. IsOver q es key) waited.times over)
       where
-        -- of one set: where its runs stand in idle alone, it is quiet
+        -- a set whose runs stand in idle alone is quiet after the wait
         idle : (n : ℕ) (old new : AnySet) → slice_get t.sets n ≡ Some old → slice_get u.sets n ≡ Some new → (machine : MachineKind) (events : List MachineEvent)
             → LeadsOf texts t.times machine events (newest_moment es) old → IsIdleAgain machine t.times events (newest_moment es) → IsQuietSet new
         idle n old new was at machine events leads again =
             idle_quiet texts book t.times machine events (newest_moment es) moment late old new (low n old was) (waited.each n old new was at) leads (subst (IsIdleAgain machine t.times events) newest again)
 
-        -- of one set: where its transaction has ended, it is quiet
+        -- a set whose transaction has ended is quiet after the wait
         ended : (n : ℕ) (old new : AnySet) → slice_get t.sets n ≡ Some old → slice_get u.sets n ≡ Some new → (machine : MachineKind) (events : List MachineEvent)
             → LeadsOf texts t.times machine events (newest_moment es) old → HasEnded machine t.times events (newest_moment es) → IsQuietSet new
         ended n old new was at machine events leads is_over =
             ended_quiet texts book t.times machine events (newest_moment es) moment late old new (low n old was) (waited.each n old new was at) leads (subst (HasEnded machine t.times events) newest is_over)
 
-        -- the transaction is in trouble, idle again, or ended
+        -- the set of a transaction that is over is quiet: the transaction is in trouble, idle again, or ended
         by : (n : ℕ) (old new : AnySet) → slice_get t.sets n ≡ Some old → slice_get u.sets n ≡ Some new → (key : KeyParts) (d : Bool) → IsFollowed texts t.times es key old d → IsOver t.times es key → IsQuietSet new
         by n old new was at key true (leads, unsound) over = idle n old new was at (machine_of_key t.times.rules key) [] leads (idle_begun (machine_of_key t.times.rules key) t.times (newest_moment es))
         by n old new was at key false (leads, sound) (inl unsound) = absurd (unsound sound)

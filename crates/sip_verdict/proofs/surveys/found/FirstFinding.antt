@@ -1,4 +1,5 @@
 -- The verdict of an input is the first finding of its survey.
+-- In the lemmas k is the number of an entry or of a key, t the number of a transaction, a a fault, g a finding, and zs what stands between two places.
 use Rattle.std.proofs.Common.{◌≡◌, ◌≤◌, ◌⊎◌, inl, inr, ℕ, Some, None, List, [], ◌∷◌, ◌++◌, All, AllPairs, Contains, length, refl, sym, ap, ap₂, ◌∙◌, subst, arith, length-append}
 use Rattle.sip_standard.specs.Key.{KeyParts}
 use Rattle.sip_standard.specs.Times.{Times}
@@ -26,6 +27,7 @@ first_least : (P Q : KeyParts → Type 0) (keys : List KeyParts) (n k : ℕ) →
 first_least P Q keys n k (before, key, rest, is, holds, earlier, counts) (front, other, more, are, has, number) sub =
     by (split_compare before rest front more key other (sym is ∙ are))
   where
+    -- n is at most k, since the first key of which P holds does not stand after the other
     by : ((before ≡ front) × (key ≡ other)) ⊎ (((zs : List KeyParts) × (front ≡ before ++ key ∷ zs)) ⊎ ((zs : List KeyParts) × (before ≡ front ++ other ∷ zs))) → n ≤ k
     by (inl h) = let same : length before ≡ length front = ap length h.0 in omega (arith, counts, number, same)
     by (inr (inl h)) = omega (arith, counts, number, simp length-append at (ap length h.1))
@@ -35,7 +37,7 @@ first_least P Q keys n k (before, key, rest, is, holds, earlier, counts) (front,
 found_none : (P Q : KeyParts → Type 0) (keys : List KeyParts) (k : ℕ) → HoldsOf Q keys k → All P keys → ((key : KeyParts) → Q key → P key → ⊥) → ⊥
 found_none P Q keys k (front, key, rest, is, has, number) all not = not key has (All-middle P front rest key (subst (All P) is all))
 
--- What follows is of the entry e after the entries es, and what a survey finds at it.
+-- What follows is of the entry e after the entries es by the times p, and `here`, what a survey finds at it.
 module _ (p : Times) (es : List (Observation KeyParts)) (e : Observation KeyParts) (here : List Finding) (at : AreFoundAt p es e here) where
   -- the keys of the entries and e
   abbrev keys : List KeyParts
@@ -45,11 +47,12 @@ module _ (p : Times) (es : List (Observation KeyParts)) (e : Observation KeyPart
   least_first : (f : Finding) → Contains here f → ((g : Finding) → Contains here g → Precedes g f → ⊥) → (later : List Finding) (end : SurveyEnd) → verdict_in (here ++ later) end ≡ verdict_of f
   least_first f has least later end = by here at.0 has least
     where
+      -- the first finding of the list is f, since none precedes f
       by : (found : List Finding) → AllPairs Precedes found → Contains found f → ((g : Finding) → Contains found g → Precedes g f → ⊥) → verdict_in (found ++ later) end ≡ verdict_of f
       by [] sorted h none = absurd (Contains-none f h)
       by (g ∷ found) sorted h none = go (Contains-cons g found f h)
         where
-          -- the finding is the first of the list, or a later one
+          -- g has the same verdict as f, for it is the first of the list too, or a later one that would precede f
           go : (g ≡ f) ⊎ Contains found f → verdict_of g ≡ verdict_of f
           go (inl same) = ap verdict_of same
           go (inr rest) = absurd (none g (Contains-here g found) (first_before Precedes g found sorted f rest))
@@ -69,6 +72,7 @@ module _ (p : Times) (es : List (Observation KeyParts)) (e : Observation KeyPart
   before_fault k a (Undecided m t) low = low
 
   -- nothing comes before the breach of the first key without a run
+  -- k is the entry and t the number of the transaction that breaks, and g any other finding
   before_breach : e.fault ≡ None → (k t : ℕ) → IsFirstKey (λ key. ¬ (RunsOver p (es ++ e ∷ []) key)) keys t → (g : Finding) → Contains here g → Precedes g (Breach k t) → ⊥
   before_breach formed k t first (Malformed m a) h low = formed_none m a formed h
   before_breach formed k t first (Undecided m u) h low = low
@@ -76,6 +80,7 @@ module _ (p : Times) (es : List (Observation KeyParts)) (e : Observation KeyPart
       let least = first_least (λ key. ¬ (RunsOver p (es ++ e ∷ []) key)) (Breaks p es e) keys t u first ((at.1 (Breach m u)).0 h).1 (λ key breaks. breaks.1) in omega (arith, least, low)
 
   -- nothing comes before the finding that the first key which is too wide is followed no further, where each key has a run
+  -- k is the entry and t the number of the transaction that is too wide, and g any other finding
   before_wide : e.fault ≡ None → All (RunsOver p (es ++ e ∷ [])) keys → (k t : ℕ) → IsFirstKey (IsWideAt p es e) keys t → (g : Finding) → Contains here g → Precedes g (Undecided k t) → ⊥
   before_wide formed runs k t first (Malformed m a) h low = formed_none m a formed h
   before_wide formed runs k t first (Breach m u) h low = whole_none runs m u h
@@ -103,6 +108,7 @@ module _ (p : Times) (es : List (Observation KeyParts)) (e : Observation KeyPart
   fine_none : e.fault ≡ None → All (RunsOver p (es ++ e ∷ [])) keys → All (λ key. ¬ (IsWideAt p es e key)) keys → here ≡ []
   fine_none formed runs narrow = by here at
     where
+      -- there is no finding of any kind
       none : (f : Finding) → Contains here f → ⊥
       none (Malformed k a) h = formed_none k a formed h
       none (Breach k t) h = whole_none runs k t h
@@ -118,9 +124,11 @@ verdict_after : (p : Times) (es : List (Observation KeyParts)) (items : List Ite
     IsVerdictAfter p es items close v → IsSurveyAfter p es items close found end → v ≡ verdict_in found end
 verdict_after p es [] Clean v found end sound a b = a ∙ sym (ap₂ verdict_in b.0 b.1)
 verdict_after p es [] (Stops fault) v found end sound a b = a ∙ sym (ap₂ verdict_in b.0 b.1)
+-- the next item is in trouble, so its first finding is the verdict
 verdict_after p es (item ∷ items) close v found end sound (e, sees, inl trouble) (f, here, later, saw, is, at, more) =
     let same : f ≡ e = observes_one es item f e saw sees in
     trouble_first p es e here (subst (λ g. AreFoundAt p es g here) same at) sound v trouble later end ∙ ap (λ fs. verdict_in fs end) (sym is)
+-- the next item is in no trouble, so nothing is found at it
 verdict_after p es (item ∷ items) close v found end sound (e, sees, inr (formed, runs, narrow, left)) (f, here, later, saw, is, at, more) =
     let same : f ≡ e = observes_one es item f e saw sees in
     let none : here ≡ [] = fine_none p es e here (subst (λ g. AreFoundAt p es g here) same at) formed runs narrow in

@@ -1,4 +1,5 @@
 -- What is found at an entry is its fault, the transactions that break, and those that are followed no further.
+-- In the lemmas n is the number of the entry, t the number of a transaction, and f a finding.
 use Rattle.std.proofs.Common.{◌≡◌, ◌<◌, ◌+◌, ◌⊎◌, inl, inr, ℕ, Option, Some, None, List, [], ◌∷◌, ◌++◌, AllPairs, Contains, length, map, refl, sym, ◌∙◌, subst, arith}
 use Rattle.std.proofs.lemmas.List.Elements.{Contains-append_left, Contains-append_right, Contains-append_cases}
 use Rattle.sip_standard.specs.declared.fault.Fault.{Fault}
@@ -15,6 +16,7 @@ use Rattle.sip_verdict.proofs.surveys.found.Numbers.{AreNumbers}
 
 -- no two findings come each before the other
 pub precedes_once : (f g : Finding) → Precedes f g → Precedes g f → ⊥
+-- faults come before breaches, and these before transactions that are undecided: k and m are entries, and t and u numbers of transactions
 precedes_once (Malformed k a) (Malformed m b) up down = up
 precedes_once (Malformed k a) (Breach m u) up down = down
 precedes_once (Malformed k a) (Undecided m u) up down = down
@@ -23,6 +25,7 @@ precedes_once (Breach k t) (Breach m u) up down = omega (arith, up, down)
 precedes_once (Breach k t) (Undecided m u) up down = down
 precedes_once (Undecided k t) (Malformed m b) up down = up
 precedes_once (Undecided k t) (Breach m u) up down = up
+-- of two findings of one kind the transaction with the smaller number comes first
 precedes_once (Undecided k t) (Undecided m u) up down = omega (arith, up, down)
 
 -- the finding of the fault at the entry with this number, where it has one
@@ -39,6 +42,7 @@ fault_is : (n : ℕ) (fault : Option Fault) (f : Finding) → Contains (fault_fo
 fault_is n None f h = absurd (Contains-none f h)
 fault_is n (Some a) f h = by (Contains-cons (Malformed n a) [] f h)
   where
+    -- f is the finding of the fault, since it is among this one finding
     by : (Malformed n a ≡ f) ⊎ Contains [] f → (b : Fault) × (Some a ≡ Some b) × (f ≡ Malformed n b)
     by (inl e) = (a, refl, sym e)
     by (inr none) = absurd (Contains-none f none)
@@ -48,7 +52,8 @@ fault_alone : (n : ℕ) (fault : Option Fault) → AllPairs Precedes (fault_foun
 fault_alone n None = λ i j d low high. absurd (omega (arith, high))
 fault_alone n (Some a) = λ i j d low high. absurd (omega (arith, low, high))
 
--- What follows is of the entry e with the number n, and the numbers of the transactions that come into trouble at it.
+-- What follows is of the entry e with the number n, and the numbers of the transactions that come into trouble at it: `broken` have no run more,
+-- and `wide` are followed no further.
 module _ (p : Times) (es : List (Observation KeyParts)) (e : Observation KeyParts) (n : ℕ) (is : n ≡ length es + 1) (broken wide : List ℕ)
     (breaks : AreNumbers (Breaks p es e) (keys_in (es ++ e ∷ [])) broken) (widens : AreNumbers (Widens p es e) (keys_in (es ++ e ∷ [])) wide) where
   -- the findings of transactions alone: those that break, and those that are followed no further
@@ -59,6 +64,7 @@ module _ (p : Times) (es : List (Observation KeyParts)) (e : Observation KeyPart
   other_is : (f : Finding) → Contains others f → ((t : ℕ) × Contains broken t × (Breach n t ≡ f)) ⊎ ((t : ℕ) × Contains wide t × (Undecided n t ≡ f))
   other_is f h = by (Contains-append_cases (map (λ t. Breach n t) broken) (map (λ t. Undecided n t) wide) f h)
     where
+      -- f is a breach of one of `broken`, or it is undecided of one of `wide`
       by : Contains (map (λ t. Breach n t) broken) f ⊎ Contains (map (λ t. Undecided n t) wide) f → ((t : ℕ) × Contains broken t × (Breach n t ≡ f)) ⊎ ((t : ℕ) × Contains wide t × (Undecided n t ≡ f))
       by (inl c) = inl (Contains-from_map (λ t. Breach n t) broken f c)
       by (inr c) = inr (Contains-from_map (λ t. Undecided n t) wide f c)
@@ -78,10 +84,12 @@ module _ (p : Times) (es : List (Observation KeyParts)) (e : Observation KeyPart
   -- where the numbers are in ascending order, the listed findings are in order
   in_order : (fault : Option Fault) → AllPairs Precedes (listed n fault broken wide)
   in_order fault =
+      -- the fault comes first; the breaches, and the transactions that are followed no further, are in the order of their numbers
       ordered_append Precedes (fault_found n fault) others (fault_alone n fault)
       (ordered_append Precedes (map (λ t. Breach n t) broken) (map (λ t. Undecided n t) wide)
       (ordered_map (λ a b. a < b) Precedes (λ t. Breach n t) (λ a b low. low) broken breaks.0)
       (ordered_map (λ a b. a < b) Precedes (λ t. Undecided n t) (λ a b low. low) wide widens.0) broken_first)
+      -- f is the fault, and g any other finding
       (λ f g h k. let a = fault_is n fault f h in subst (λ x. Precedes x g) (sym a.2) (fault_first a.0 g (other_is g k)))
 
   -- a finding of a transaction in the list is found at the entry
@@ -99,10 +107,12 @@ module _ (p : Times) (es : List (Observation KeyParts)) (e : Observation KeyPart
   from (Malformed k a) h =
       subst (λ fault. Contains (fault_found n fault ++ others) (Malformed k a)) (sym h.1)
       (subst (λ m. Contains (Malformed n a ∷ others) (Malformed m a)) (is ∙ sym h.0) (Contains-here (Malformed n a) others))
+  -- a breach stands among those after the fault
   from (Breach k t) h =
       subst (λ m. Contains (listed n e.fault broken wide) (Breach m t)) (is ∙ sym h.0)
       (Contains-append_right (fault_found n e.fault) others (Breach n t)
       (Contains-append_left (map (λ u. Breach n u) broken) (map (λ u. Undecided n u) wide) (Breach n t) (Contains-map (λ u. Breach n u) broken t ((breaks.1 t).1 h.1))))
+  -- what is undecided stands after the breaches
   from (Undecided k t) h =
       subst (λ m. Contains (listed n e.fault broken wide) (Undecided m t)) (is ∙ sym h.0)
       (Contains-append_right (fault_found n e.fault) others (Undecided n t)

@@ -34,10 +34,11 @@ after_some p es (item ∷ items) close never =
     after_some p (es ++ seen.0 ∷ []) items close (λ later.
     never (here.0 ++ later.0, later.1, (seen.0, here.0, later.0, seen.1, refl, here.1, later.2)))))
 
--- each input has a survey
+-- it cannot be that an input has no survey
 pub has_survey : (input : List ℕ) → ¬ ((found : List Finding) (end : SurveyEnd) → ¬ (IsSurveyOf input found end))
 has_survey input never = by (log_is_some input)
   where
+    -- it cannot be that the input has no header or is a log: either way it would have a survey
     by : LacksHeader input ⊎ ((p : Times) × (items : List Item) × (close : LogEnd) × LogSays input p items close) → ⊥
     by (inl none) = never [] (ended.LogFault 0 Header) (inl (none, refl, refl))
     by (inr (p, items, close, is)) = after_some p [] items close (λ one. never one.0 one.1 (inr (p, items, close, is, one.2)))

@@ -1,4 +1,5 @@
 -- Numbers of transactions that hear an event, one after another.
+-- In the lemmas ns are the numbers, n is one of them, and i the place of the next one; t are the tables, and b is what is in trouble.
 use Rattle.std.proofs.Common.{◌≡◌, ◌≢◌, ◌≤◌, ◌<◌, ◌+◌, ℕ, zero, suc, true, false, List, [], ◌∷◌, AllPairs, length, get_or, drop, slice_get, refl, sym, ap, ◌∙◌, subst, arith, add-one, drop-cons}
 use Rattle.sip_standard.specs.Key.{KeyParts}
 use Rattle.sip_standard.specs.Times.{Times}
@@ -46,7 +47,7 @@ pub concerned_rest : (texts : Texts) (p : Times) (es : List (Observation KeyPart
 concerned_rest texts p es e event ns i number next keys now same concerned n key at among =
     concerned n key (ap (λ ks. slice_get ks n) (sym same) ∙ at) (rest_among ns i (n + 1) (subst (λ xs. is_among xs (n + 1) ≡ true) (sym next) among))
 
--- What follows is of one event that transactions hear.
+-- What follows is of one event that transactions hear, beside the book `texts`.
 module _ (texts : Texts) (event : NumberedEvent) where
   -- where there is no number, nothing changes when the event is heard
   pub hears_none : (t : Tabled) (b : Troubled) → HearsNumbers texts event [] t b t b
@@ -59,10 +60,12 @@ module _ (texts : Texts) (event : NumberedEvent) where
       → AreConcerned texts p es e event (number ∷ waits) t.keys → ArePassing texts p es e (is_among (number ∷ waits)) t b → ArePassing texts p es e (is_among waits) u c
 
   -- where one transaction has heard the event, those of the list with its number alone have
+  -- t and b are the tables and the trouble before, and u and c those after
   pub hears_one : (number : ℕ) (t : Tabled) (b : Troubled) (u : Tabled) (c : Troubled) → HearsFirst number t b u c → HearsNumbers texts event (number ∷ []) t b u c
   hears_one number t b u c heard p es e times late apart concerned h = heard p es e [] times late refl concerned h
 
   -- where two transactions hear the event, one after the other, those of the list of both have
+  -- t and b are the tables and the trouble before, u and c those between, and v and d those after
   pub hears_two : (own cancelled : ℕ) (t : Tabled) (b : Troubled) (u : Tabled) (c : Troubled) (v : Tabled) (d : Troubled) → u.times ≡ t.times → u.keys ≡ t.keys
       → HearsFirst own t b u c → HearsFirst cancelled u c v d → HearsNumbers texts event (own ∷ cancelled ∷ []) t b v d
   hears_two own cancelled t b u c v d same_times same_keys first second p es e times late apart concerned h =

@@ -21,6 +21,7 @@ pub same_place : (P : KeyParts → Type 0) (keys before : List KeyParts) (key : 
 same_place P keys before key rest n is (front, other, more, are, holds, number) place =
     by (split_compare front more before rest other key (sym are ∙ is))
   where
+    -- P holds of the key: the two keys stand at one place, since they have one number
     by : ((front ≡ before) × (other ≡ key)) ⊎ (((zs : List KeyParts) × (before ≡ front ++ other ∷ zs)) ⊎ ((zs : List KeyParts) × (front ≡ before ++ key ∷ zs))) → P key
     by (inl h) = subst P h.1 holds
     by (inr (inl h)) = absurd (omega (arith, number, place, simp length-append at (ap length h.1)))
@@ -36,6 +37,7 @@ module _ (P : KeyParts → Type 0) (keys : List KeyParts) where
   none_above : AreAbove (length keys) []
   none_above = (λ i j d low high. absurd (omega (arith, high)), All-nil (λ n. length keys < n), λ n. (λ h. absurd (Contains-none n h), λ h. absurd (over n h.0 h.1)))
     where
+      -- no key has a number above the count of the keys
       over : (n : ℕ) → HoldsOf P keys n → length keys < n → ⊥
       over n (front, key, rest, are, holds, number) low = omega (arith, low, number, simp length-append at (ap length are))
 
@@ -88,5 +90,6 @@ module _ (P : KeyParts → Type 0) (keys : List KeyParts) where
   pub numbers_some : Weakly ((ns : List ℕ) × AreNumbers P keys ns)
   numbers_some never = above_some [] keys refl (λ one. never (one.0, (one.1.0, λ n. (λ h. ((one.1.2 n).0 h).0, λ h. (one.1.2 n).1 (h, positive n h)))))
     where
+      -- each number is above 0
       positive : (n : ℕ) → HoldsOf P keys n → 0 < n
       positive n (front, key, rest, are, holds, number) = omega (arith, number)

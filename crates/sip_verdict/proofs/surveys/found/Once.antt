@@ -1,4 +1,5 @@
 -- A survey names a transaction once.
+-- In the lemmas f and g are two findings, t, u and v numbers of transactions, k a key, and zs what a list has more than another.
 use Rattle.std.proofs.Common.{◌≡◌, ◌≤◌, ◌⊎◌, inl, inr, ℕ, Bool, true, false, cond, List, [], ◌∷◌, ◌++◌, All, AllPairs, Contains, sym, ap, ap₂, ◌∙◌, subst, arith, append_assoc, append-nil}
 use Rattle.std.specs.Prelude.{fold, flat_map}
 use Rattle.std.specs.List.{list_any}
@@ -42,6 +43,7 @@ pub observed_order : (format : Format) (last : ℕ) (done : List (Observation Ke
 observed_order format last done [] [] order seen = (All-nil (λ e. last ≤ e.event.moment), λ i j d low high. absurd (omega (arith, high)))
 observed_order format last done [] (e ∷ es) order seen = absurd seen
 observed_order format last done (item ∷ items) [] order seen = absurd seen
+-- the next entry has the moment of its item, and the later ones come after it
 observed_order format last done (item ∷ items) (e ∷ es) (low, entry, order) (sees, seen) =
     let at : e.event.moment ≡ item.moment = seen_moment done item e item.action sees in
     let (later, sorted) = observed_order format item.moment (done ++ e ∷ []) items es order seen in (
@@ -61,6 +63,7 @@ keys_after : (keys more : List KeyParts) → (zs : List KeyParts) × (fold with_
 keys_after keys [] = ([], sym (append-nil keys))
 keys_after keys (k ∷ more) = by (list_any (same_key k) keys) (keys_after (cond (list_any (same_key k) keys) keys (keys ++ k ∷ [])) more)
   where
+    -- the keys stand first in those with more, whether or not k is one of them
     by : (b : Bool) → ((zs : List KeyParts) × (fold with_key (cond b keys (keys ++ k ∷ [])) more ≡ cond b keys (keys ++ k ∷ []) ++ zs))
         → (zs : List KeyParts) × (fold with_key (cond b keys (keys ++ k ∷ [])) more ≡ keys ++ zs)
     by true rest = rest
@@ -89,17 +92,19 @@ troubled p front e t (Malformed n a) is found = absurd is
 troubled p front e t (Breach n u) is (at, (before, key, rest, are, breaks, number)) = (before, key, rest, are, inl breaks, sym is ∙ number)
 troubled p front e t (Undecided n u) is (at, (before, key, rest, are, widens, number)) = (before, key, rest, are, inr widens, sym is ∙ number)
 
--- What follows is of one transaction t over entries in the order of their moments.
+-- What follows is of the transaction with the number t over the entries es in the order of their moments, by the times p.
 module _ (p : Times) (es : List (Observation KeyParts)) (order : AllPairs (λ a b. a.event.moment ≤ b.event.moment) es) (t : ℕ) where
   -- a transaction that comes into trouble at an entry does not come into it at a later one
   not_later : (front : List (Observation KeyParts)) (e : Observation KeyParts) (zs : List (Observation KeyParts)) (last : Observation KeyParts) (more : List (Observation KeyParts)) → es ≡ (front ++ e ∷ zs) ++ last ∷ more
       → HoldsOf (IsTroubled p front e) (keys_in (front ++ e ∷ [])) t → HoldsOf (IsTroubled p (front ++ e ∷ zs) last) (keys_in ((front ++ e ∷ zs) ++ last ∷ [])) t → ⊥
   not_later front e zs last more is first second =
+      -- ks are the keys that come after the first entry, so that the number t is that of one key at both entries (`both`)
       let (ks, are) = keys_more (front ++ e ∷ []) (zs ++ last ∷ []) in
       let one : (front ++ e ∷ []) ++ (zs ++ last ∷ []) ≡ (front ++ e ∷ zs) ++ last ∷ [] =
       append_assoc front (e ∷ []) (zs ++ last ∷ []) ∙ sym (append_assoc front (e ∷ zs) (last ∷ [])) in
       let both = of_one_number (IsTroubled p front e) (IsTroubled p (front ++ e ∷ zs) last) (keys_in (front ++ e ∷ [])) ks t first
       (subst (λ keys. HoldsOf (IsTroubled p (front ++ e ∷ zs) last) keys t) (sym (ap keys_in one) ∙ are) second) in
+      -- that key would come into trouble twice
       one_finding p both.0 front e zs last
       (ordered_front (λ a b. a.event.moment ≤ b.event.moment) (front ++ e ∷ zs) (last ∷ more) (subst (AllPairs (λ a b. a.event.moment ≤ b.event.moment)) is order)) both.1 both.2
 
@@ -110,11 +115,14 @@ module _ (p : Times) (es : List (Observation KeyParts)) (order : AllPairs (λ a 
 
   -- two findings of one transaction at one entry are the same
   alike : (front : List (Observation KeyParts)) (e : Observation KeyParts) (f g : Finding) → IsOf t f → IsOf t g → IsFoundAt p front e f → IsFoundAt p front e g → f ≡ g
+  -- a fault names no transaction
   alike front e (Malformed n a) g is so found other = absurd is
   alike front e (Breach n u) (Malformed k a) is so found other = absurd so
   alike front e (Undecided n u) (Malformed k a) is so found other = absurd so
+  -- two breaches, or two undecided transactions, name one entry (n and k) and one transaction (u and v)
   alike front e (Breach n u) (Breach k v) is so found other = ap₂ (λ m w. Breach m w) (found.0 ∙ sym other.0) (is ∙ sym so)
   alike front e (Undecided n u) (Undecided k v) is so found other = ap₂ (λ m w. Undecided m w) (found.0 ∙ sym other.0) (is ∙ sym so)
+  -- no transaction both breaks and is undecided at one entry
   alike front e (Breach n u) (Undecided k v) is so found other = absurd (not_both front e u v (is ∙ sym so) found.1 other.1)
   alike front e (Undecided n u) (Breach k v) is so found other = absurd (not_both front e v u (so ∙ sym is) other.1 found.1)
 
@@ -124,13 +132,15 @@ module _ (p : Times) (es : List (Observation KeyParts)) (order : AllPairs (λ a 
       → ((front : List (Observation KeyParts)) × (e : Observation KeyParts) × (more : List (Observation KeyParts)) × (es ≡ front ++ e ∷ more) × IsFoundAt p front e g) → f ≡ g
   one_of f g is so (front, e, more, split, found) (back, c, others, cut, other) = by (split_compare front more back others e c (sym split ∙ cut))
     where
+      -- the transaction comes into trouble at the first finding's entry
       first : HoldsOf (IsTroubled p front e) (keys_in (front ++ e ∷ [])) t
       first = troubled p front e t f is found
 
+      -- the transaction comes into trouble at the second finding's entry
       second : HoldsOf (IsTroubled p back c) (keys_in (back ++ c ∷ [])) t
       second = troubled p back c t g so other
 
-      -- the two entries are the same, or one comes before the other
+      -- the two findings are the same: their entries are the same, and neither comes before the other
       by : ((front ≡ back) × (e ≡ c)) ⊎ (((zs : List (Observation KeyParts)) × (back ≡ front ++ e ∷ zs)) ⊎ ((zs : List (Observation KeyParts)) × (front ≡ back ++ c ∷ zs))) → f ≡ g
       by (inl h) = alike front e f g is so found (subst (λ xs. IsFoundAt p xs e g) (sym h.0) (subst (λ x. IsFoundAt p back x g) (sym h.1) other))
       by (inr (inl h)) =

@@ -40,7 +40,7 @@ no_finding p key done [] es is sound none = λ never. sound (λ s. never (subst 
 no_finding p key done (e ∷ rest) es is sound none =
     no_finding p key (done ++ e ∷ []) rest es (is ∙ sym (append_assoc done (e ∷ []) rest)) (λ unsound. sound (λ s. trouble_breaks p key done e s unsound (none done e rest is))) none
 
--- a transaction that is in trouble has a finding
+-- where a transaction is in trouble, it cannot be that it breaks or widens at no entry
 pub some_finding : (p : Times) (key : KeyParts) (es : List (Observation KeyParts)) → ¬ (IsSound p es key)
     → ¬ ((front : List (Observation KeyParts)) (e : Observation KeyParts) (more : List (Observation KeyParts)) → es ≡ front ++ e ∷ more → ¬ (Breaks p front e key ⊎ Widens p front e key))
 some_finding p key es unsound none = no_finding p key [] es es refl (λ never. never (sound_nil p key)) none unsound

@@ -1,4 +1,5 @@
 -- An input has one survey.
+-- In the lemmas fs and gs are the findings of two surveys, and end and fin how they end.
 use Rattle.std.proofs.Common.{◌≡◌, inl, inr, ℕ, List, [], ◌∷◌, ◌++◌, sym, ap₂, ◌∙◌, subst}
 use Rattle.sip_standard.specs.Key.{KeyParts}
 use Rattle.sip_standard.specs.Times.{Times}
@@ -20,15 +21,18 @@ found_one p es e fs gs a b = ordered_one Precedes precedes_once fs gs a.0 b.0 (�
 -- two surveys of the same items after the same entries are the same
 after_one : (p : Times) (es : List (Observation KeyParts)) (items : List Item) (close : LogEnd) (fs gs : List Finding) (end fin : SurveyEnd) → IsSurveyAfter p es items close fs end →
     IsSurveyAfter p es items close gs fin → (fs ≡ gs) × (end ≡ fin)
+-- no item is left: nothing is found, and the end is that of the log
 after_one p es [] Clean fs gs end fin a b = (a.0 ∙ sym b.0, a.1 ∙ sym b.1)
 after_one p es [] (Stops fault) fs gs end fin a b = (a.0 ∙ sym b.0, a.1 ∙ sym b.1)
 after_one p es (item ∷ items) close fs gs end fin (e, here, later, sees, is, at, more) (f, there, last, saw, are, by, left) =
+    -- e and f are what is observed of the next item; `here` and `there` are what is found at it
     let same : e ≡ f = observes_one es item e f sees saw in
     let same_here : here ≡ there = found_one p es e here there at (subst (λ g. AreFoundAt p es g there) (sym same) by) in
     let rest = after_one p (es ++ e ∷ []) items close later last end fin more (subst (λ g. IsSurveyAfter p (es ++ g ∷ []) items close last fin) (sym same) left) in
     (is ∙ ap₂ (λ xs ys. xs ++ ys) same_here rest.0 ∙ sym are, rest.1)
 
 -- what holds of one log that an input says holds of another that it says
+-- the input says the items xs with the times p and the end a, and the items ys with the times q and the end b
 pub says_same : (P : Times → List Item → LogEnd → Type 0) (input : List ℕ) (p q : Times) (xs ys : List Item) (a b : LogEnd) → LogSays input p xs a → LogSays input q ys b → P q ys b → P p xs a
 says_same P input p q xs ys a b one other holds =
     let same = log_is_one input p q xs ys a b one other in

@@ -1,13 +1,15 @@
 -- Two lists in a strict order that have the same elements are the same.
+-- In the lemmas x and y, or u and v, are elements of a list, and R and S are orders.
 use Rattle.std.proofs.Common.{◌≡◌, ◌⊎◌, inl, inr, List, [], ◌∷◌, ◌++◌, AllPairs, Contains, get_or, map, refl, sym, ap₂, ◌∙◌, subst, arith}
 use Rattle.std.proofs.lemmas.List.Elements.{All-contains, All-append, All-map, All-weaker, Contains-get_or}
 use Rattle.std.proofs.lemmas.List.Kept.{AllPairs-cons}
 use Rattle.sip_standard.proofs.Few.{AllPairs-head, AllPairs-tail}
 use Rattle.sip_states.proofs.lists.Listed.{Contains-none, Contains-here, Contains-there, Contains-cons}
 
--- What follows is of lists in the order R.
+-- What follows is of lists of which each element is in the relation R to those after it.
 module _ {A : Type 0} (R : A → A → Type 0) where
   -- two lists in order, of which each element of the second comes after each of the first, are in order one after the other
+  -- xs and ys are the lists, and R says that x comes before y
   pub ordered_append : (xs ys : List A) → AllPairs R xs → AllPairs R ys → ((x y : A) → Contains xs x → Contains ys y → R x y) → AllPairs R (xs ++ ys)
   ordered_append [] ys a b across = b
   ordered_append (x ∷ xs) ys a b across =
@@ -26,7 +28,7 @@ ordered_map R S f keeps (x ∷ xs) sorted =
     AllPairs-cons S (f x) (map f xs) (All-map (S (f x)) f xs (All-weaker (R x) (λ a. S (f x) (f a)) (keeps x) xs (AllPairs-head R x xs sorted)))
     (ordered_map R S f keeps xs (AllPairs-tail R x xs sorted))
 
--- What follows is of lists in the order R, in which no two elements come before each other.
+-- What follows is of lists in the order R, where no two elements can stand in R both ways.
 module _ {A : Type 0} (R : A → A → Type 0) (once : (a b : A) → R a b → R b a → ⊥) where
   -- lists in order with the same elements are the same
   pub ordered_one : (xs ys : List A) → AllPairs R xs → AllPairs R ys → ((a : A) → Contains xs a → Contains ys a) → ((a : A) → Contains ys a → Contains xs a) → xs ≡ ys
@@ -42,6 +44,7 @@ module _ {A : Type 0} (R : A → A → Type 0) (once : (a b : A) → R a b → R
       by (inr h) (inl e) = e
       by (inr h) (inr k) = absurd (once y x (first_before R y ys b x h) (first_before R x xs a y k))
 
+      -- the first elements of both lists are the same
       same : x ≡ y
       same = by (Contains-cons y ys x (to x (Contains-here x xs))) (Contains-cons x xs y (from y (Contains-here y ys)))
 
@@ -49,6 +52,7 @@ module _ {A : Type 0} (R : A → A → Type 0) (once : (a b : A) → R a b → R
       apart : (u v : A) → u ≡ v → R u v → ⊥
       apart u v is low = once u u (subst (R u) (sym is) low) (subst (R u) (sym is) low)
 
+      -- f is not y, so it is one of the others
       forth_by : (f : A) → Contains xs f → (y ≡ f) ⊎ Contains ys f → Contains ys f
       forth_by f h (inr k) = k
       forth_by f h (inl e) = absurd (apart x f (same ∙ e) (first_before R x xs a f h))

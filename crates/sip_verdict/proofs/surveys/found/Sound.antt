@@ -27,6 +27,7 @@ idle_runs p es key none =
 pub concerned-among : (key : KeyParts) (es : List (Observation KeyParts)) (e : Observation KeyParts) → list_any (same_key key) e.keys ≡ true → Contains (keys_in (es ++ e ∷ [])) key
 concerned-among key es e h = by (list_any (same_key key) (keys_in (es ++ e ∷ []))) refl
   where
+    -- the key is among the keys, since the entry concerns it
     by : (b : Bool) → list_any (same_key key) (keys_in (es ++ e ∷ [])) ≡ b → Contains (keys_in (es ++ e ∷ [])) key
     by true is = among-contains key (keys_in (es ++ e ∷ [])) is
     by false is =
@@ -41,6 +42,7 @@ AllSound p es = (key : KeyParts) → IsSound p es key
 pub sound_nil : (p : Times) → AllSound p []
 sound_nil p key = (idle_runs p [] key refl, λ front e rest is wide. absurd (splits front e rest is))
   where
+    -- the empty list has no split
     splits : (front : List (Observation KeyParts)) (e : Observation KeyParts) (rest : List (Observation KeyParts)) → [] ≡ front ++ e ∷ rest → ⊥
     splits [] e rest is = cc
     splits (f ∷ front) e rest is = cc
@@ -50,6 +52,7 @@ pub sound_push : (p : Times) (es : List (Observation KeyParts)) (e : Observation
     → RunsOver p (es ++ e ∷ []) key → ¬ (IsWideAt p es e key) → IsSound p (es ++ e ∷ []) key
 sound_push p es e key sound runs narrow = (runs, λ front f rest is. by front f rest is (split_compare es [] front rest e f is))
   where
+    -- wherever the entries are split, at the new entry or before it, the key is not too wide at the entry there
     by : (front : List (Observation KeyParts)) (f : Observation KeyParts) (rest : List (Observation KeyParts)) → es ++ e ∷ [] ≡ front ++ f ∷ rest →
         ((es ≡ front) × (e ≡ f)) ⊎ (((zs : List (Observation KeyParts)) × (front ≡ es ++ e ∷ zs)) ⊎ ((zs : List (Observation KeyParts)) × (es ≡ front ++ f ∷ zs))) → ¬ (IsWideAt p front f key)
     by front f rest is (inl h) wide = narrow (subst (λ g. IsWideAt p es g key) (sym h.1) (subst (λ gs. IsWideAt p gs f key) (sym h.0) wide))
@@ -61,9 +64,11 @@ pub all_sound_push : (p : Times) (es : List (Observation KeyParts)) (e : Observa
     → All (λ key. ¬ (IsWideAt p es e key)) (keys_in (es ++ e ∷ [])) → AllSound p (es ++ e ∷ [])
 all_sound_push p es e sound runs narrow key = sound_push p es e key (sound key) (by_key (list_any (same_key key) (keys_in (es ++ e ∷ []))) refl) not_wide
   where
+    -- the key has a run over one entry more, whether or not it is among the keys
     by_key : (b : Bool) → list_any (same_key key) (keys_in (es ++ e ∷ [])) ≡ b → RunsOver p (es ++ e ∷ []) key
     by_key true is = All-contains (RunsOver p (es ++ e ∷ [])) (keys_in (es ++ e ∷ [])) key runs (among-contains key (keys_in (es ++ e ∷ [])) is)
     by_key false is = idle_runs p (es ++ e ∷ []) key (new_key key (es ++ e ∷ []) is)
 
+    -- the key is not too wide at e, since none of the keys is
     not_wide : ¬ (IsWideAt p es e key)
     not_wide wide = All-contains (λ k. ¬ (IsWideAt p es e k)) (keys_in (es ++ e ∷ [])) key narrow (concerned-among key es e wide.0) wide

@@ -58,6 +58,7 @@ pub IfSome-at : {A : Type 0} (o : Option A) (P : A → Type 0) (x : A) → o ≡
 IfSome-at o P x is holds = subst (λ a. IfSome a P) (sym is) holds
 
 -- the history that is looked up at a place stands there in the list
+-- r is what is found at the place i of the histories xs, b the history that is lent, and ys the same list
 pub history_at : (xs ys : List History) (i : ℕ) (r : Option (Bor History)) (b : Bor History) → IsItemAt xs i r → xs ≡ ys → r ≡ Some b → slice_get ys i ≡ Some b.now
 history_at xs ys i None b item same is = absurd cc
 history_at xs ys i (Some a) b item same is =
@@ -83,14 +84,14 @@ last_here es e key n is counts = (es, e, [], refl, is, All-nil (λ x. is_of key 
 last_low : (es : Entries) (key : KeyParts) (n : ℕ) → IsLastOf es key n → n ≤ length es
 last_low es key n (before, o, after, whole, is, none, counts) = let long = ap length whole ∙ length-append before (o ∷ after) in omega (arith, long, counts)
 
--- no entry concerns a key that is not among the keys of the entries
+-- where a key is none of those that the entries name, no entry concerns it
 pub none_in : (key : KeyParts) (es : Entries) → list_any (same_key key) (flat_map (λ e. e.keys) es) ≡ false → All (λ o. is_of key o ≡ false) es
 none_in key [] none = All-nil (λ o. is_of key o ≡ false)
 none_in key (e ∷ es) none =
     let (here, later) = or_false _ _ (sym (list_any-append (same_key key) e.keys (flat_map (λ f. f.keys) es)) ∙ none) in
     All-cons (λ o. is_of key o ≡ false) e es here (none_in key es later)
 
--- where a key is not among the keys of the entries, no entry is of the key
+-- where a key is none of the keys of the log so far, no entry concerns it
 none_of : (key : KeyParts) (es : Entries) → ¬ Contains (keys_in es) key → All (λ o. is_of key o ≡ false) es
 none_of key es none =
     none_in key es (among-fold key [] (flat_map (λ e. e.keys) es) (not_among key (keys_in es) none)).1
@@ -102,11 +103,13 @@ none_yet b none restart = record { long = ap length none; restart = omega (arith
 -- an entry that concerns no transaction leaves the histories right as they are
 pub silent_histories : (es : Entries) (e : Observation KeyParts) (b : Histories) → e.keys ≡ [] → AreHistories es b → AreHistories (es ++ e ∷ []) b
 silent_histories es e b none h =
+    -- the keys stay the same, since the entry has none
     let same = keys_in-none es e none in
     record {
       long = h.long ∙ ap length (sym same);
       restart = (let long = length-append es (e ∷ []) in let low = h.restart in omega arith);
       each = λ n key k at here.
+          -- `one` is the history of the key as it was, which has the same first and last entry
           let one = h.each n key k (ap (λ ks. slice_get ks n) (sym same) ∙ at) here in
           record { first = first_more es e key k.first k.branch.items one.first; last = last_more es e key (max k.last b.restart) (ap (list_any (same_key key)) none) one.last };
     }
@@ -119,9 +122,11 @@ restart_histories es e b c number all counts kept newest h =
     record {
       long = ap length kept ∙ h.long ∙ ap length (sym same);
       restart = (let long = length-append es (e ∷ []) in omega (arith, newest, counts));
+      -- each key has its history as before
       each = λ n key k at here.
           let was : slice_get (keys_in es) n ≡ Some key = ap (λ ks. slice_get ks n) (sym same) ∙ at in
           let one = h.each n key k was (ap (λ hs. slice_get hs n) (sym kept) ∙ here) in
+          -- the last entry of the key is the restart, which concerns all keys
           let low = last_low es key (max k.last b.restart) one.last in
           let is : is_of key e ≡ true = contains-among key e.keys
           (subst (λ ks. Contains ks key) (sym all) (n, slice_get_within (keys_in es) n key was, get_or_from_slice_get (keys_in es) n key key was)) in
@@ -137,10 +142,12 @@ IsAt entry text old i h true =
     × (((k : History) × (slice_get old i ≡ Some k) × (h.branch.items ≡ k.branch.items) × (h.first ≡ k.first)) ⊎ ((length old ≤ i) × (h.first ≡ entry) × SpellsBranch text h.branch.items))
 IsAt entry text old i h false = slice_get old i ≡ Some h
 
--- What follows is of the note of one entry and the text of its message.
+-- What follows is of the note of one entry, by its number, and the text of its message.
 module _ (entry : ℕ) (text : List ℕ) where
   -- where a key was looked up and its number noted, there are as many histories as keys, and the number is at most one above those before
+  -- n is the key's number; t and u are the tables before and after it was looked up
   note_long : (key : KeyParts) (n : ℕ) (t u : Tabled) (old new : List History) → Touches key n t u → length old ≡ length t.keys → Notes entry text n old new → (length new ≡ length u.keys) × (0 < n) × (n ≤ length old + 1)
+  -- the key was there, and its history was written anew
   note_long key n t u old new (inl (has, same)) long (inl h) = (
     ap length h.is ∙ length-set old (n - 1) h.after ∙ long ∙ ap (λ x. length x.keys) (sym same),
     has.0,
@@ -148,6 +155,7 @@ module _ (entry : ℕ) (text : List ℕ) where
   )
   note_long key n t u old new (inl (has, same)) long (inr h) = (let within = slice_get_within t.keys (n - 1) key has.1 in let beyond = h.beyond in absurd (omega (arith, long)))
   note_long key n t u old new (inr (none, counts, is)) long (inl h) = (let within = slice_get_within old (n - 1) h.before h.was in absurd (omega (arith, long, counts)))
+  -- the key is new, and so is its history
   note_long key n t u old new (inr (none, counts, is)) long (inr h) = (
     ap length h.is ∙ length-append old (h.begun ∷ []) ∙ ap (λ x. x + 1) long ∙ sym (length-append t.keys (key ∷ [])) ∙ ap (λ x. length x.keys) (sym is),
     omega (arith, counts),
@@ -158,17 +166,20 @@ module _ (entry : ℕ) (text : List ℕ) where
   note_at : (n : ℕ) (old new : List History) → 0 < n → n ≤ length old + 1 → Notes entry text n old new → (i : ℕ) (h : History) → slice_get new i ≡ Some h → IsAt entry text old i h (nat_eq (i + 1) n)
   note_at n old new low high (inl note) i h here = by (nat_eq (i + 1) n) refl (set_place old (n - 1) i note.after h (ap (λ hs. slice_get hs i) (sym note.is) ∙ here))
     where
+      -- the history at the place is right after the note: it is the one that was noted, or it was there before
       by : (b : Bool) → nat_eq (i + 1) n ≡ b → ((i ≡ n - 1) × (note.after ≡ h)) ⊎ ((i ≢ n - 1) × (slice_get old i ≡ Some h)) → IsAt entry text old i h b
+      -- the history under the number is the one that was noted
       by true same (inl (at, is)) = (
         sym (ap (λ k. k.last) is) ∙ note.last,
         inl (note.before, ap (slice_get old) at ∙ note.was, sym (ap (λ k. k.branch.items) is) ∙ note.branch, sym (ap (λ k. k.first) is) ∙ note.first),
       )
+      -- at another place the history is as it was
       by true same (inr (other, was)) = absurd (other (omega (arith, (unsigned_Decides (i + 1) n).0 same)))
       by false other (inl (at, is)) = absurd (false≢true (sym other ∙ (unsigned_Decides (i + 1) n).1 (omega (arith, at, low))))
       by false other (inr (differs, was)) = was
   note_at n old new low high (inr note) i h here = by (nat_eq (i + 1) n) refl (push_place old note.begun i h (ap (λ hs. slice_get hs i) (sym note.is) ∙ here))
     where
-      -- whether the place is that of the new history
+      -- the history at the place is right after a new one was begun, whether or not the place is that of the new one
       by : (b : Bool) → nat_eq (i + 1) n ≡ b → (slice_get old i ≡ Some h) ⊎ ((i ≡ length old) × (note.begun ≡ h)) → IsAt entry text old i h b
       by true same (inl was) = (let within = slice_get_within old i h was in let beyond = note.beyond in absurd (omega (arith, (unsigned_Decides (i + 1) n).0 same)))
       by true same (inr (at, is)) = (
@@ -184,6 +195,7 @@ module _ (entry : ℕ) (text : List ℕ) where
   long_note n old new (inr h) = (let long = ap length h.is ∙ length-append old (h.begun ∷ []) in omega arith)
 
   -- notes of keys that were looked up, one after another, leave as many histories as there are keys
+  -- ns are the numbers of the keys ks; t and u are the tables before and after these were looked up
   pub notes_long : (ks : List KeyParts) (ns : List ℕ) (t u : Tabled) (old new : List History) → TouchesEach ks ns t u → length old ≡ length t.keys → NotesEach entry text ns old new → length new ≡ length u.keys
   notes_long [] [] t u old new same long is = ap length is ∙ long ∙ ap (λ x. length x.keys) (sym same)
   notes_long [] (n ∷ ns) t u old new touched long notes = absurd touched
@@ -191,21 +203,24 @@ module _ (entry : ℕ) (text : List ℕ) where
   notes_long (k ∷ ks) (n ∷ ns) t u old new (between, one, rest) long (mid, note, notes) = notes_long ks ns between u mid new rest (note_long k n t between old mid one long note).0 notes
 
   -- after the entry was noted under numbers, the history at a place is the noted one if its number is among them, and else the old one
+  -- ns are the numbers of the keys ks; t and u are the tables before and after these were looked up
   pub notes_at : (ks : List KeyParts) (ns : List ℕ) (t u : Tabled) (old new : List History) → TouchesEach ks ns t u → length old ≡ length t.keys → NotesEach entry text ns old new
       → (i : ℕ) (h : History) → slice_get new i ≡ Some h → IsAt entry text old i h (is_among ns (i + 1))
+  -- no key is left, and no history changed; there are as many numbers as keys
   notes_at [] [] t u old new same long is i h here = ap (λ hs. slice_get hs i) (sym is) ∙ here
   notes_at [] (n ∷ ns) t u old new touched long notes i h here = absurd touched
   notes_at (k ∷ ks) [] t u old new touched long notes i h here = absurd touched
   notes_at (k ∷ ks) (n ∷ ns) t u old new (between, one, rest) long (mid, note, notes) i h here =
+      -- the first key's number was noted, and then those of the others
       let (as_long, low, high) = note_long k n t between old mid one long note in
       by (is_among ns (i + 1)) (notes_at ks ns between u mid new rest as_long notes i h here) (note_at n old mid low high note i)
     where
-      -- whether the number of the place is among the others
+      -- the history at the place is right after all notes, whether or not the number of the place is among the others
       by : (b : Bool) → IsAt entry text mid i h b → ((j : History) → slice_get mid i ≡ Some j → IsAt entry text old i j (nat_eq (i + 1) n)) → IsAt entry text old i h (nat_eq (i + 1) n || b)
       by false was step = subst (IsAt entry text old i h) (sym (or_none (nat_eq (i + 1) n))) (step h was)
       by true (last, inl (j, was, branch, first)) step = subst (IsAt entry text old i h) (sym (or_some (nat_eq (i + 1) n))) (last, back (nat_eq (i + 1) n) (step j was))
         where
-          -- whether the number of the place was noted first
+          -- the history h at the place is right after both notes, whether or not the number of the place was noted first
           back : (b : Bool) → IsAt entry text old i j b → ((k : History) × (slice_get old i ≡ Some k) × (h.branch.items ≡ k.branch.items) × (h.first ≡ k.first)) ⊎ ((length old ≤ i) × (h.first ≡ entry) × SpellsBranch text h.branch.items)
           back false same = inl (j, same, branch, first)
           back true (_, inl (o, same, o_branch, o_first)) = inl (o, same, branch ∙ o_branch, first ∙ o_first)
@@ -213,7 +228,8 @@ module _ (entry : ℕ) (text : List ℕ) where
       by true (last, inr (beyond, first, spells)) step =
           subst (IsAt entry text old i h) (sym (or_some (nat_eq (i + 1) n))) (last, inr ((let grows = long_note n old mid note in omega (arith, beyond)), first, spells))
 
--- What follows is of an entry whose keys were looked up and whose numbers were noted.
+-- What follows is of an entry e after the entries es: its keys ks were looked up, which made the tables t to w and gave the numbers ns;
+-- b are the histories before it was noted, and c after it.
 module _ (es : Entries) (e : Observation KeyParts) (b c : Histories) (number : ℕ) (text : List ℕ) (t w : Tabled) (ks : List KeyParts) (ns : List ℕ)
     (h : AreHistories es b) (t_keys : t.keys ≡ keys_in es) (sets : length t.sets ≡ length t.keys) (counts : number ≡ length es + 1) (touched : TouchesEach ks ns t w) (apart : AllPairs (λ x y. x ≢ y) w.keys)
     (notes : NotesEach number text ns b.each.items c.each.items) (same_restart : c.restart ≡ b.restart) (keys : e.keys ≡ ks)
@@ -259,13 +275,15 @@ module _ (es : Entries) (e : Observation KeyParts) (b c : Histories) (number : �
       newest : (k : History) → k.last ≡ number → max k.last c.restart ≡ length es + 1
       newest k last = (let low = h.restart in omega (arith, last, counts, same_restart))
 
-      -- whether the entry is one of the transaction, and whether its key is new
+      -- k is the history of the key, whether or not the entry concerns the transaction, and whether or not its key is new
       by : (n : ℕ) (key : KeyParts) (k : History) (is : Bool) → is_of key e ≡ is → IsAt number text b.each.items n k is → (slice_get (keys_in es) n ≡ Some key) ⊎ ((length t.keys ≤ n) × ¬ Contains (keys_in es) key)
           → IsHistoryOf (es ++ e ∷ []) c.restart key k
+      -- the entry does not concern the transaction, so its history stays
       by n key k false other was (inl at) =
           let one = h.each n key k at was in
           record { first = first_more es e key k.first k.branch.items one.first; last = subst (λ r. IsLastOf (es ++ e ∷ []) key (max k.last r)) (sym same_restart) (last_more es e key (max k.last b.restart) other one.last) }
       by n key k false other was (inr (beyond, none)) = (let within = slice_get_within b.each.items n k was in absurd (omega (arith, t_long)))
+      -- the entry is its last one now
       by n key k true is (last, inl (o, was, branch, first)) (inl at) =
           let one = h.each n key o at was in
           record {
@@ -273,6 +291,7 @@ module _ (es : Entries) (e : Observation KeyParts) (b c : Histories) (number : �
             last = last_here es e key (max k.last c.restart) is (newest k last);
           }
       by n key k true is (last, inl (o, was, branch, first)) (inr (beyond, none)) = (let within = slice_get_within b.each.items n o was in absurd (omega (arith, t_long)))
+      -- the key is new, so the entry is its first and its last one
       by n key k true is (last, inr (beyond, first, spells)) (inl at) = (let within = slice_get_within (keys_in es) n key at in let long = h.long in absurd (omega arith))
       by n key k true is (last, inr (beyond, first, spells)) (inr (low, none)) =
           record { first = begun key k.branch.items none is spells k.first first; last = last_here es e key (max k.last c.restart) is (newest k last) }
@@ -281,11 +300,12 @@ module _ (es : Entries) (e : Observation KeyParts) (b c : Histories) (number : �
 branch_of : (s : Said) (direction : Direction) (keys : List KeyParts) → Concerns s direction keys → keys ≢ [] → (branch : List ℕ) × (s.via.branch ≡ Some branch)
 branch_of s direction keys concerns some = by s.via.branch refl
   where
+    -- a message that concerns a key has a branch
     by : (branch : Option (List ℕ)) → s.via.branch ≡ branch → (b : List ℕ) × (branch ≡ Some b)
     by (Some b) is = (b, refl)
     by None is = absurd (some (concerns ∙ no_keys _ _ (is_sent (λ method. bytes_eq method (codes "CANCEL")) s.start direction) (cookie_branch s.via.branch) (ap cookie_branch is)))
 
--- keys among which the test finds a key are not none
+-- a list of keys in which the test finds a key is not empty
 some_keys : (key : KeyParts) (keys : List KeyParts) → list_any (same_key key) keys ≡ true → keys ≢ []
 some_keys key keys is none = false≢true (sym (ap (list_any (same_key key)) none) ∙ is)
 
@@ -305,12 +325,14 @@ message_says es i e says seen key of =
     heard_says direction i e (subst (λ d. MatchOption d (e ≡ silent_observation i.action i.moment (keys_in es)) (λ way. ObservesMessage way i e)) goes seen) key of
 
 -- the numbers that keys got when they were looked up are above 0
+-- ns are the numbers of the keys ks; t and u are the tables before and after these were looked up
 pub touched_low : (ks : List KeyParts) (ns : List ℕ) (t u : Tabled) → TouchesEach ks ns t u → All (λ n. 0 < n) ns
 touched_low [] [] t u same = All-nil (λ n. 0 < n)
 touched_low [] (n ∷ ns) t u touched = absurd touched
 touched_low (k ∷ ks) [] t u touched = absurd touched
 touched_low (k ∷ ks) (n ∷ ns) t u (between, one, rest) = All-cons (λ i. 0 < i) n ns (low one) (touched_low ks ns between u rest)
   where
+    -- a key that was known has a number, and a new one gets the next
     low : Touches k n t between → 0 < n
     low (inl known) = known.0.0
     low (inr (none, counts, is)) = omega (arith, counts)
@@ -323,6 +345,7 @@ led_spells text branch led s says = subst (λ o. IfSome o (λ spelled. branch �
 pub read_spells : (text : List ℕ) (r : Said) (branch : Option (List ℕ)) (spelled : List ℕ) → Says text (gives r) → r.via.branch ≡ branch → IfSome branch (λ b. spelled ≡ b) → SpellsBranch text spelled
 read_spells text r branch spelled says is told s other = by s.via.branch (ap (λ x. x.via.branch) (said-one text s r other says) ∙ is)
   where
+    -- the branch that is told is the one of the top Via
     by : (o : Option (List ℕ)) → o ≡ branch → IfSome o (λ b. spelled ≡ b)
     by o same = subst (λ x. IfSome x (λ b. spelled ≡ b)) (sym same) told
 

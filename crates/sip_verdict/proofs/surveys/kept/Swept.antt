@@ -1,4 +1,5 @@
 -- After a sweep of a survey the tables follow the same entries, and just the messages are kept that transactions in no trouble name.
+-- In the lemmas n is the place of a key, d its flag, and t and u are the tables before and after the sets have waited.
 use Rattle.std.proofs.Common.{◌≡◌, ◌≤◌, ◌<◌, ◌↔◌, ℕ, Bool, true, false, Some, List, [], All, AllPairs, Contains, length, slice_get, refl, sym, ap, ◌∙◌, subst, arith}
 use Rattle.std.specs.List.{flat_map, list_any}
 use Rattle.std.proofs.lemmas.Option.{slice_get_within, get_or_from_slice_get, slice_get-get_or}
@@ -28,7 +29,8 @@ use Rattle.sip_verdict.proofs.sweeps.SweptSets.{swept_leads}
 use Rattle.sip_verdict.proofs.sweeps.SweptTables.{before, within}
 use Rattle.sip_verdict.proofs.tables.TablesPassing.{at_place, All-place}
 
--- What follows is of a survey that is swept: t are the tables before, u after all sets have waited, and `numbers` what the sets name.
+-- What follows is of a survey that is swept: t are the tables before, u after all sets have waited until the moment, and `numbers` what the sets name.
+-- The survey has read the entries es, and `deaf` says which transactions are in trouble.
 module _ (texts : Texts) (book : IsBook texts) (t u : Tabled) (moment : ℕ) (advances : AdvancesAll moment t u) (may : MayPass texts t moment)
     (numbers : List ℕ) (up : AllPairs (λ a b. a < b) numbers) (same : (n : ℕ) → Contains numbers n ↔ Contains (flat_map numbers_of u.sets) n) (kept : All (Keeps texts) numbers)
     (es : List (Observation KeyParts)) (deaf : List Bool) (tracks : TablesSurvey texts es t deaf) (newest : newest_moment es ≡ moment) (as_many : length deaf ≡ length t.keys) where
@@ -84,17 +86,19 @@ module _ (texts : Texts) (book : IsBook texts) (t u : Tabled) (moment : ℕ) (ad
   into n new is text (number, has, text_is) = (number, Contains-flat_map numbers_of u.sets new number (n, slice_get_within u.sets n new is, get_or_from_slice_get u.sets n new new is) has, text_is)
 
   -- a message that a transaction in no trouble names is under a number that some set names
+  -- (the first case cannot be: where no entry concerns a key, its transaction names no message)
   from_sound : (h : (text : List ℕ) × IsStillNamed p es text) (b : Bool) → list_any (same_key h.1.key) (keys_in es) ≡ b → IsNumberOf texts (flat_map numbers_of u.sets) h.0
   from_sound (text, h) false none =
       absurd (no_events_silent p moment (machine_of_key p.rules h.key) (events_for h.key es) text (new_key h.key es none)
       (h.state, subst (λ n. Stands (transaction_of (machine_of_key p.rules h.key)).figure p (events_for h.key es) n h.state) newest h.stands, h.names))
+  -- the key stands at the place n of the tables, with the sets `old` and `new` before and after the waiting; d is whether it is deaf
   from_sound (text, h) true some =
       let (n, inside, is) = subst (λ ks. Contains ks h.key) (sym tracks.keys) (among-contains h.key (keys_in es) some) in
       let at : slice_get t.keys n ≡ Some h.key = slice_get-get_or t.keys n h.key inside ∙ ap Some is in
       let (old, new, d, was, there, follows_it) = at_key n h.key at in
       by n old new was there d follows_it
     where
-      -- of one set: it names the message if its transaction does
+      -- the sets name the message if the transaction of this set does
       by : (n : ℕ) (old new : AnySet) → slice_get t.sets n ≡ Some old → slice_get u.sets n ≡ Some new → (d : Bool) → IsFollowed texts p es h.key old d → IsNumberOf texts (flat_map numbers_of u.sets) text
       by n old new was there true (leads_it, unsound) = absurd (unsound h.sound)
       by n old new was there false (leads_it, sound) =
@@ -111,10 +115,11 @@ module _ (texts : Texts) (book : IsBook texts) (t u : Tabled) (moment : ℕ) (ad
       let (old, same_new, d, was, same_there, follows_it) = at_key n key at in
       by n key new there (number, in_set, text_is) old was d follows_it
     where
-      -- of one set: its transaction names the message if it does
+      -- the transaction of this set names the message if the set does
       by : (n : ℕ) (key : KeyParts) (new : AnySet) → slice_get u.sets n ≡ Some new → IsNumberOf texts (numbers_of new) text → (old : AnySet) → slice_get t.sets n ≡ Some old → (d : Bool) → IsFollowed texts p es key old d → IsStillNamed p es text
       by n key new there named old was true (leads_it, unsound) =
           absurd (no_events_silent p moment (machine_of_key p.rules key) [] text refl ((names n old new was there key [] leads_it text).1 named))
+      -- a transaction in no trouble has a run whose state names the message
       by n key new there named old was false (leads_it, sound) =
           let (y, run, has_it) = (names n old new was there key (events_for key es) leads_it text).1 named in
           record {

@@ -40,7 +40,7 @@ of_one_branch s direction keys concerns =
     (All-append (λ key. branch ≡ Some key.branch) _ _ (own_branch (role_of s.start direction) (sent_by_of (role_of s.start direction) s.via) (method_of s.start s.cseq.1) branch)
     (cancelled_branch (is_sent (λ method. bytes_eq method (codes "CANCEL")) s.start direction) branch))
 
--- What follows is of the branches that are chosen.
+-- What follows is of the branches that are chosen: `chosen` says which are.
 module _ (chosen : List ℕ → Bool) where
   -- the item has a form in the log of the chosen branches: it stays, or becomes a mark
   abbrev Cut : Item → Observation KeyParts → Type 0
@@ -55,10 +55,11 @@ module _ (chosen : List ℕ → Bool) where
   one_cut item e None all = (item, inl (refl, inr (All-weaker (λ key. None ≡ Some key.branch) (λ key. chosen key.branch ≡ true) (λ key is. absurd (cc)) e.keys all)))
   one_cut item e (Some text) all = by (chosen text) refl
     where
+      -- a key with this branch has its bytes
       same : (key : KeyParts) → Some text ≡ Some key.branch → text ≡ key.branch
       same key is = cc
 
-      -- whether the branch is chosen
+      -- the item is cut as its branch asks, whether or not the branch is chosen
       by : (b : Bool) → chosen text ≡ b → Cut item e
       by true is = (item, inl (refl, inr (All-weaker (λ key. Some text ≡ Some key.branch) (λ key. chosen key.branch ≡ true) (λ key has. ap chosen (sym (same key has)) ∙ is) e.keys all)))
       by false is = (
@@ -77,6 +78,7 @@ module _ (chosen : List ℕ → Bool) where
   item_cut : (done : List (Observation KeyParts)) (item : Item) (e : Observation KeyParts) → Sees done item e → Cut item e
   item_cut done item e sees = by item.action refl sees
     where
+      -- the item is cut as it must be, whatever its action is
       by : (a : Action) → item.action ≡ a → SeenAs done item e a → Cut item e
       by Sent is seen = message_cut way.Sent item e seen
       by Received is seen = message_cut way.Received item e seen

@@ -28,7 +28,7 @@ seen_moment es item e Failed sees = heard_moment way.Sent item e sees
 seen_moment es item e Mark sees = ap (λ f. f.event.moment) sees
 seen_moment es item e Restart sees = ap (λ f. f.event.moment) sees
 
--- What follows is of the keys that are chosen.
+-- What follows is of the keys that are chosen: `chosen` says which are.
 module _ (chosen : KeyParts → Bool) where
   -- where all keys are chosen, the chosen ones are all
   filter_all : (keys : List KeyParts) → All (λ key. chosen key ≡ true) keys → filter chosen keys ≡ keys
@@ -61,6 +61,7 @@ module _ (chosen : KeyParts → Bool) where
   stays done back zip item e Received sees (inr all) = (e, sees, heard_stays back item e all)
   stays done back zip item e Failed sees (inl other) = absurd (cc)
   stays done back zip item e Failed sees (inr all) = (e, sees, heard_stays back item e all)
+  -- a mark concerns no key, and a restart concerns the chosen ones
   stays done back zip item e Mark sees either = (e, sees, (refl, ap (λ f. f.keys) sees ∙ sym (ap (λ f. filter chosen f.keys) sees), λ some. refl))
   stays done back zip item e Restart sees either =
       (silent_observation Restart item.moment (keys_in back), refl, (sym (ap (λ f. f.event.moment) sees), keys_cut chosen done back zip ∙ sym (ap (λ f. filter chosen f.keys) sees), λ some. sym (ap (λ f. f.event) sees)))
@@ -82,6 +83,7 @@ module _ (chosen : KeyParts → Bool) where
   log_cut done back zip [] (e ∷ es) cuts seen cut = absurd seen
   log_cut done back zip (item ∷ items) [] cuts seen cut = absurd seen
   log_cut done back zip (item ∷ items) (e ∷ es) [] seen cut = absurd cut
+  -- the first item is cut, and then the others
   log_cut done back zip (item ∷ items) (e ∷ es) (c ∷ cuts) (sees, seen) (here, cut) =
       let one = one_cut done back zip item e c sees here in
       let more = log_cut (done ++ e ∷ []) (back ++ one.0 ∷ []) (zip_push chosen done back e one.0 zip one.2) items es cuts seen cut in

@@ -18,13 +18,14 @@ use Rattle.sip_standard.specs.VerdictOf.{keys_in, events_for, RunsOver, IsWideAt
 use Rattle.sip_verdict.specs.SurveyOf.{IsSound, Breaks, Widens}
 use Rattle.sip_verdict.specs.SurveyLaws.{IsCutOf, HasSameTrouble}
 
--- What follows is of the keys that are chosen.
+-- What follows is of the keys that are chosen: `chosen` says which are.
 module _ (chosen : KeyParts → Bool) where
   -- a chosen key is among keys exactly if it is among the chosen ones of them
   pub among_chosen : (key : KeyParts) → chosen key ≡ true → (keys : List KeyParts) → list_any (same_key key) (filter chosen keys) ≡ list_any (same_key key) keys
   among_chosen key is [] = refl
   among_chosen key is (k ∷ keys) = go (chosen k) refl (same_key key k) refl (among_chosen key is keys)
     where
+      -- the key is found among the chosen keys as it is among all, whether or not k is chosen, and whether or not it is the key
       go : (b : Bool) → chosen k ≡ b → (t : Bool) → same_key key k ≡ t → list_any (same_key key) (filter chosen keys) ≡ list_any (same_key key) keys
           → list_any (same_key key) (cond (chosen k) (k ∷ filter chosen keys) (filter chosen keys)) ≡ (same_key key k || list_any (same_key key) keys)
       go true e t same rest = ap (λ b. list_any (same_key key) (cond b (k ∷ filter chosen keys) (filter chosen keys))) e ∙ ap (λ b. same_key key k || b) rest
@@ -40,20 +41,22 @@ module _ (chosen : KeyParts → Bool) where
   filter_with_key : (keys : List KeyParts) (k : KeyParts) → filter chosen (with_key keys k) ≡ fold with_key (filter chosen keys) (filter chosen (k ∷ []))
   filter_with_key keys k = go (chosen k) refl (list_any (same_key k) keys) refl
     where
+      -- a key at the end stays if it is chosen
       one : (b : Bool) → chosen k ≡ b → filter chosen (keys ++ k ∷ []) ≡ filter chosen keys ++ cond b (k ∷ []) []
       one b e = filter-append chosen keys (k ∷ []) ∙ ap (λ t. filter chosen keys ++ cond t (k ∷ []) []) e
 
+      -- a chosen key is among the chosen keys exactly if it is among the keys
       there : (t : Bool) → list_any (same_key k) keys ≡ t → chosen k ≡ true → list_any (same_key k) (filter chosen keys) ≡ t
       there t e is = among_chosen k is keys ∙ e
 
-      -- whether k is chosen, and whether it is among the keys already
+      -- one key more is cut as the keys are, whether or not k is chosen, and whether or not it is among the keys already
       by : (b t : Bool) → chosen k ≡ b → list_any (same_key k) keys ≡ t → OneMore keys k b t
       by true true e f = sym (ap (λ t. cond t (filter chosen keys) (filter chosen keys ++ k ∷ [])) (there true f e))
       by true false e f = one true e ∙ sym (ap (λ t. cond t (filter chosen keys) (filter chosen keys ++ k ∷ [])) (there false f e))
       by false true e f = refl
       by false false e f = one false e ∙ append-nil (filter chosen keys)
 
-      -- with the tests themselves in place of what they say
+      -- one key more is cut as the keys are, whatever the two tests answer: b and t
       go : (b : Bool) → chosen k ≡ b → (t : Bool) → list_any (same_key k) keys ≡ t → OneMore keys k (chosen k) (list_any (same_key k) keys)
       go b e t f = subst (λ c. OneMore keys k c (list_any (same_key k) keys)) (sym e) (subst (λ c. OneMore keys k b c) (sym f) (by b t e f))
 
@@ -63,8 +66,10 @@ module _ (chosen : KeyParts → Bool) where
   filter_keys keys (k ∷ more) =
       by (chosen k) refl ∙ ap (λ start. fold with_key start (filter chosen more)) (sym (filter_with_key keys k)) ∙ filter_keys (with_key keys k) more
     where
+      -- the chosen keys with more are the chosen ones of all, whether or not k is chosen
       by : (b : Bool) → chosen k ≡ b → fold with_key (filter chosen keys) (cond (chosen k) (k ∷ filter chosen more) (filter chosen more))
           ≡ fold with_key (fold with_key (filter chosen keys) (cond (chosen k) (k ∷ []) [])) (filter chosen more)
+      -- the next key is chosen, and comes in on both sides; or it is not, and comes in on neither
       by true e = ap (λ b. fold with_key (filter chosen keys) (cond b (k ∷ filter chosen more) (filter chosen more))) e
           ∙ sym (ap (λ b. fold with_key (fold with_key (filter chosen keys) (cond b (k ∷ []) [])) (filter chosen more)) e)
       by false e = ap (λ b. fold with_key (filter chosen keys) (cond b (k ∷ filter chosen more) (filter chosen more))) e
@@ -102,7 +107,7 @@ module _ (chosen : KeyParts → Bool) where
     concerns_cut : (e c : Observation KeyParts) → IsCutOf chosen e c → concerns key c ≡ concerns key e
     concerns_cut e c cut = ap (list_any (same_key key)) cut.1 ∙ among_chosen key is e.keys
 
-    -- keys among which one is are not none
+    -- a list of keys in which the key stands is not empty
     not_nil : (keys : List KeyParts) → list_any (same_key key) keys ≡ true → keys ≢ []
     not_nil keys any none = false≢true (sym (ap (list_any (same_key key)) none) ∙ any)
 
@@ -121,11 +126,12 @@ module _ (chosen : KeyParts → Bool) where
     events_cut (e ∷ es) [] zip = absurd zip
     events_cut (e ∷ es) (c ∷ cs) (here, rest) = go (concerns key c) refl (events_cut es cs rest)
       where
+        -- the key has the same events in both logs with one entry more, whether or not the entry concerns the key
         by : (b : Bool) → concerns key c ≡ b → events_for key cs ≡ events_for key es → events_with b c cs ≡ events_with b e es
         by true any same = ap₂ (λ f fs. f ∷ fs) (event_cut e c here any) same
         by false any same = same
 
-        -- with the test itself in place of what it says
+        -- the key has the same events in both logs with one entry more, where b is what the test of the key answers
         go : (b : Bool) → concerns key c ≡ b → events_for key cs ≡ events_for key es → events_with (concerns key c) c cs ≡ events_with (concerns key e) e es
         go b any same = ap (λ t. events_with t c cs) any ∙ by b any same ∙ ap (λ t. events_with t e es) (sym any ∙ concerns_cut e c here)
 
@@ -145,6 +151,7 @@ module _ (chosen : KeyParts → Bool) where
           let f = (transaction_of (machine_of_key p.rules key)).figure in
           let same = events_cut es cs zip in (
             λ wide. let any = concerns_cut e c here ∙ wide.0 in (
+              -- the states over the chosen key's events are the same
               any,
               (
                 wide.1.0,
@@ -153,6 +160,7 @@ module _ (chosen : KeyParts → Bool) where
                 subst (λ event. All (StandsAfter f p (events_for key cs) event) wide.1.0) (sym (event_cut e c here any)) (subst (λ events. All (StandsAfter f p events e.event) wide.1.0) (sym same) wide.1.3),
               ),
             ),
+            -- the converse: too wide in the cut log is too wide in the whole log
             λ wide. (
               sym (concerns_cut e c here) ∙ wide.0,
               (
@@ -193,6 +201,7 @@ module _ (chosen : KeyParts → Bool) where
               let found = split_left es front c rest (subst (AllZip (IsCutOf chosen) es) is zip) in
               sound.1 found.0 found.1 found.2 found.3 ((wide_cut found.0 front found.1 c found.4 found.5).1 wide),
         ),
+        -- the converse: in no trouble in the cut log is in no trouble in the whole log
         λ sound. (
           (runs_cut es cs zip).1 sound.0,
           λ front e rest is wide.

@@ -30,6 +30,7 @@ record At (chosen : KeyParts → Bool) (done back : List (Observation KeyParts))
   pub cut : Item
   pub others : List Item
   pub cuts_are : cuts ≡ before ++ cut ∷ others
+  -- what was observed of the entries before it, of it, and of those after it
   pub so_far : List (Observation KeyParts)
   pub e : Observation KeyParts
   pub more : List (Observation KeyParts)
@@ -38,6 +39,7 @@ record At (chosen : KeyParts → Bool) (done back : List (Observation KeyParts))
   pub c : Observation KeyParts
   pub cut_more : List (Observation KeyParts)
   pub cs_are : cs ≡ cut_so_far ++ c ∷ cut_more
+  -- in both logs it has the number n
   pub front_long : length front ≡ n
   pub before_long : length before ≡ n
   pub so_far_long : length so_far ≡ n
@@ -53,7 +55,7 @@ at_place chosen done back items cuts [] cs seen saw cut n low = absurd (omega (a
 at_place chosen done back [] cuts (e ∷ es) cs seen saw cut n low = absurd seen
 at_place chosen done back (item ∷ items) [] (e ∷ es) cs seen saw cut n low = absurd cut
 at_place chosen done back (item ∷ items) (i ∷ cuts) (e ∷ es) [] seen saw cut n low = absurd saw
--- the first place
+-- at the first place stand the first entries of both logs
 at_place chosen done back (item ∷ items) (i ∷ cuts) (e ∷ es) (c ∷ cs) seen saw cut zero low =
     record {
       front = [];
@@ -63,6 +65,7 @@ at_place chosen done back (item ∷ items) (i ∷ cuts) (e ∷ es) (c ∷ cs) se
       before = [];
       cut = i;
       others = cuts;
+      -- what is observed of the first entries
       cuts_are = refl;
       so_far = [];
       e = e;
@@ -72,6 +75,7 @@ at_place chosen done back (item ∷ items) (i ∷ cuts) (e ∷ es) (c ∷ cs) se
       c = c;
       cut_more = cs;
       cs_are = refl;
+      -- nothing comes before them
       front_long = refl;
       before_long = refl;
       so_far_long = refl;
@@ -84,6 +88,7 @@ at_place chosen done back (item ∷ items) (i ∷ cuts) (e ∷ es) (c ∷ cs) se
 at_place chosen done back (item ∷ items) (i ∷ cuts) (e ∷ es) (c ∷ cs) seen saw cut (suc n) low =
     let at = at_place chosen (done ++ e ∷ []) (back ++ c ∷ []) items cuts es cs seen.1 saw.1 cut.1 n (omega (arith, low)) in
     record {
+      -- the first entries come before it
       front = item ∷ at.front;
       item = at.item;
       rest = at.rest;
@@ -92,6 +97,7 @@ at_place chosen done back (item ∷ items) (i ∷ cuts) (e ∷ es) (c ∷ cs) se
       cut = at.cut;
       others = at.others;
       cuts_are = ap (λ xs. i ∷ xs) at.cuts_are;
+      -- what is observed of the first entries comes before
       so_far = e ∷ at.so_far;
       e = at.e;
       more = at.more;
@@ -100,6 +106,7 @@ at_place chosen done back (item ∷ items) (i ∷ cuts) (e ∷ es) (c ∷ cs) se
       c = at.c;
       cut_more = at.cut_more;
       cs_are = ap (λ xs. c ∷ xs) at.cs_are;
+      -- the number is one more than in the logs without their first entries
       front_long = let long = at.front_long in omega (arith, long);
       before_long = let long = at.before_long in omega (arith, long);
       so_far_long = let long = at.so_far_long in omega (arith, long);
@@ -112,6 +119,7 @@ at_place chosen done back (item ∷ items) (i ∷ cuts) (e ∷ es) (c ∷ cs) se
 -- a log that is cut has as many entries as the whole log
 cut_long : (chosen : KeyParts → Bool) (done back : List (Observation KeyParts)) (items cuts : List Item) (es cs : List (Observation KeyParts)) → AreSeen done items es
     → AreSeen back cuts cs → IsCutLog chosen items es cuts → length cs ≡ length es
+-- where one of the lists ends, all end; c and i are the entry and the item of the log that is cut
 cut_long chosen done back [] [] [] [] seen saw cut = refl
 cut_long chosen done back [] [] [] (c ∷ cs) seen saw cut = absurd saw
 cut_long chosen done back [] (i ∷ cuts) [] cs seen saw cut = absurd cut
@@ -129,6 +137,7 @@ same_fault xs ys item e c sees saw = by item.action refl sees saw
     message : (a : Action) → item.action ≡ a → SeenAs xs item c a → e.fault ≡ c.fault
     message a is seen = ap (λ f. f.fault) (observes_one xs item e c sees (subst (SeenAs xs item c) (sym is) seen))
 
+    -- the item is seen with the same fault in both logs, whatever its action is
     by : (a : Action) → item.action ≡ a → SeenAs xs item e a → SeenAs ys item c a → e.fault ≡ c.fault
     by Sent is one other = message Sent is other
     by Received is one other = message Received is other
@@ -146,32 +155,40 @@ faults_of : (p : Times) (chosen : KeyParts → Bool) (items cuts : List Item) (e
     → (n : ℕ) (fault : Fault) → Contains part (Malformed n fault) ↔ (Contains found (Malformed n fault) × StaysAt items cuts n)
 faults_of p chosen items cuts es cs close shut found part end fin seen saw cut whole some n fault = (into, λ h. from h.0 h.1)
   where
+    -- what is found in the part is found in the whole, and its message stays
     into : Contains part (Malformed n fault) → Contains found (Malformed n fault) × StaysAt items cuts n
     into has = by at.stays
       where
+        -- the entry of the part at which the fault is found
         there : (front : List (Observation KeyParts)) × (e : Observation KeyParts) × (more : List (Observation KeyParts)) × (cs ≡ front ++ e ∷ more) × IsFoundAt p front e (Malformed n fault)
         there = found_is p [] cuts shut cs part fin saw some (Malformed n fault) has
 
+        -- the whole has as many entries as the part
         low : length there.0 < length es
         low = let long = cut_long chosen [] [] items cuts es cs seen saw cut in let split = ap length there.3 in omega (arith, long, simp length-append at split)
 
+        -- the item and the entry of the whole at that place
         at : At chosen [] [] items cuts es cs (length there.0)
         at = at_place chosen [] [] items cuts es cs seen saw cut (length there.0) low
 
+        -- the entry of the part at that place is the one of the finding
         same : (at.cut_so_far ≡ there.0) × (at.c ≡ there.1)
         same = same_split at.cut_so_far at.cut_more there.0 there.2 at.c there.1 (sym at.cs_are ∙ there.3) at.cut_so_far_long
 
+        -- that entry has the fault
         fault_is : at.c.fault ≡ Some fault
         fault_is = ap (λ c. c.fault) same.1 ∙ there.4.1
 
+        -- the number of the finding is that of the place
         number : n ≡ length at.so_far + 1
         number = let long = at.so_far_long in let entry = there.4.0 in omega (arith, long, entry)
 
-        -- the item stays or is a mark, which has no fault
+        -- the finding of the fault is found and its item stays: else the item is a mark, which has no fault
         by : StaysOrIsMark chosen at.item at.e at.cut → Contains found (Malformed n fault) × StaysAt items cuts n
         by (inl (is, which)) = (
           found_at p [] items close es found end seen whole at.so_far at.e at.more at.es_are (Malformed n fault)
               (number, same_fault at.so_far at.cut_so_far at.item at.e at.c at.sees (subst (λ i. Sees at.cut_so_far i at.c) is at.saw) ∙ fault_is),
+          -- the entry stands at this place in both logs
           (
             at.front,
             at.item,
@@ -179,6 +196,7 @@ faults_of p chosen items cuts es cs close shut found part end fin seen saw cut w
             at.before,
             at.others,
             at.items_are,
+            -- as many items stand before the entry in the one log as in the other
             cuts_are is,
             let long = at.front_long in let entry = there.4.0 in omega (arith, long, entry),
             at.front_long ∙ sym at.before_long,
@@ -195,27 +213,35 @@ faults_of p chosen items cuts es cs close shut found part end fin seen saw cut w
     from : Contains found (Malformed n fault) → StaysAt items cuts n → Contains part (Malformed n fault)
     from has (front, item, rest, back, others, items_are, cuts_are, entry, long) = found_at p [] cuts shut cs part fin saw some at.cut_so_far at.c at.cut_more at.cs_are (Malformed n fault) (number, fault_is)
       where
+        -- the entry of the whole at which the fault is found
         there : (front : List (Observation KeyParts)) × (e : Observation KeyParts) × (more : List (Observation KeyParts)) × (es ≡ front ++ e ∷ more) × IsFoundAt p front e (Malformed n fault)
         there = found_is p [] items close es found end seen whole (Malformed n fault) has
 
+        -- the place lies within the entries
         low : length there.0 < length es
         low = let split = ap length there.3 in omega (arith, simp length-append at split)
 
+        -- the item and the entry of the part at that place
         at : At chosen [] [] items cuts es cs (length there.0)
         at = at_place chosen [] [] items cuts es cs seen saw cut (length there.0) low
 
+        -- the entry of the whole at that place is the one of the finding
         same : (at.so_far ≡ there.0) × (at.e ≡ there.1)
         same = same_split at.so_far at.more there.0 there.2 at.e there.1 (sym at.es_are ∙ there.3) at.so_far_long
 
+        -- the item at that place is the one that stays
         same_item : (at.front ≡ front) × (at.item ≡ item)
         same_item = same_split at.front at.rest front rest at.item item (sym at.items_are ∙ items_are) (let a = at.front_long in let b = there.4.0 in omega (arith, a, b, entry))
 
+        -- the item of the part at that place is the same item
         same_cut : (at.before ≡ back) × (at.cut ≡ item)
         same_cut = same_split at.before at.others back others at.cut item (sym at.cuts_are ∙ cuts_are) (let a = at.before_long in let b = there.4.0 in omega (arith, a, b, entry, long))
 
+        -- the number of the finding is that of the place in the part
         number : n ≡ length at.cut_so_far + 1
         number = let a = at.cut_so_far_long in let b = there.4.0 in omega (arith, a, b)
 
+        -- the entry of the part has the fault, too
         fault_is : at.c.fault ≡ Some fault
         fault_is =
             sym (same_fault at.so_far at.cut_so_far item at.e at.c (subst (λ i. Sees at.so_far i at.e) same_item.1 at.sees) (subst (λ i. Sees at.cut_so_far i at.c) same_cut.1 at.saw))

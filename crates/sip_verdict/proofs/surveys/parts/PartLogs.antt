@@ -25,11 +25,12 @@ cookie_compared : (branch : Option (List ℕ)) (text : List ℕ) → cookie_bran
 cookie_compared None text is = absurd (cc)
 cookie_compared (Some branch) text is = by (bytes_eq (take 7 (compared (Some branch))) (codes "z9hg4bk")) is
   where
+    -- a branch with the cookie is compared by its own bytes
     by : (b : Bool) → (if b then Some (compared (Some branch)) else None) ≡ Some text → compared (Some branch) ≡ text
     by true e = cc
     by false e = absurd (cc)
 
--- What follows is of part K of N of a log.
+-- What follows is of `part`, part K of N of a log.
 module _ (part : PartOf) where
   -- whether the branch of a key falls into the part
   abbrev Chosen : KeyParts → Bool
@@ -47,6 +48,7 @@ module _ (part : PartOf) where
       kept item cut e (falls_into part branch) (subst (All (λ key. Chosen key ≡ falls_into part branch)) (sym (ap (λ f. f.keys) is)) (All-nil (λ key. Chosen key ≡ falls_into part branch))) same
   message_part direction item cut e (has_no_cookie s says lacks is) branch tells same =
       kept item cut e (falls_into part branch) (subst (All (λ key. Chosen key ≡ falls_into part branch)) (sym (ap (λ f. f.keys) is)) (All-nil (λ key. Chosen key ≡ falls_into part branch))) same
+  -- all keys of the message have the branch of its top Via
   message_part direction item cut e (is_heard s keys says has concerns is) branch tells same =
       let told : branch ≡ compared s.via.branch = told_branch item.text s branch says tells in
       let all = All-weaker (λ key. cookie_branch s.via.branch ≡ Some key.branch) (λ key. Chosen key ≡ falls_into part branch)
@@ -62,6 +64,7 @@ module _ (part : PartOf) where
   item_part : (done : List (Observation KeyParts)) (item cut : Item) (e : Observation KeyParts) → Sees done item e → IsPartItem part item cut → StaysOrIsMark Chosen item e cut
   item_part done item cut e sees is_cut = by item.action refl sees is_cut
     where
+      -- the item stays or is a mark, whatever its action was
       by : (a : Action) → item.action ≡ a → SeenAs done item e a → CutSo item cut a → StaysOrIsMark Chosen item e cut
       by Sent is seen (branch, tells, same) = message_part way.Sent item cut e seen branch tells same
       by Received is seen (branch, tells, same) = message_part way.Received item cut e seen branch tells same

@@ -21,9 +21,11 @@ use Rattle.sip_verdict.proofs.surveys.parts.Cutting.{keys_cut, zip_push, split_l
 use Rattle.sip_verdict.proofs.surveys.parts.CutLogs.{log_cut}
 
 -- two splits of a list at the same place are the same split
+-- the one split is at x, with xs before it and us after it, and the other at y, with ys before it and vs after it
 pub same_split : {A : Type 0} (xs us ys vs : List A) (x y : A) → xs ++ x ∷ us ≡ ys ++ y ∷ vs → length xs ≡ length ys → (xs ≡ ys) × (x ≡ y)
 same_split {A} xs us ys vs x y is long = by (split_compare xs us ys vs x y is)
   where
+    -- the two splits are the same, since in the other two cases they have different lengths
     by : ((xs ≡ ys) × (x ≡ y)) ⊎ (((zs : List A) × (ys ≡ xs ++ x ∷ zs)) ⊎ ((zs : List A) × (xs ≡ ys ++ y ∷ zs))) → (xs ≡ ys) × (x ≡ y)
     by (inl h) = h
     by (inr (inl h)) = absurd (omega (arith, long, simp length-append at (ap length h.1)))
@@ -36,7 +38,7 @@ zip_long R [] (y ∷ ys) zip = absurd zip
 zip_long R (x ∷ xs) [] zip = absurd zip
 zip_long R (x ∷ xs) (y ∷ ys) zip = let rest = zip_long R xs ys zip.1 in omega (arith, rest)
 
--- What follows is of one kind of finding, and the property P of a key at an entry that it tells.
+-- What follows is of one kind of finding: `kind` makes it of an entry and a transaction, and P is the property of a key at an entry that it tells.
 module _ (p : Times) (kind : ℕ → ℕ → Finding) (P : List (Observation KeyParts) → Observation KeyParts → KeyParts → Type 0)
     (into : (front : List (Observation KeyParts)) (e : Observation KeyParts) (n t : ℕ) → IsFoundAt p front e (kind n t) → (n ≡ length front + 1) × HoldsOf (P front e) (keys_in (front ++ e ∷ [])) t)
     (from : (front : List (Observation KeyParts)) (e : Observation KeyParts) (t : ℕ) → HoldsOf (P front e) (keys_in (front ++ e ∷ [])) t → IsFoundAt p front e (kind (length front + 1) t))
@@ -48,9 +50,12 @@ module _ (p : Times) (kind : ℕ → ℕ → Finding) (P : List (Observation Key
   -- where the survey names the key at an entry, P holds of the key there
   named_holds : (items : List Item) (close : LogEnd) (es : List (Observation KeyParts)) (found : List Finding) (end : SurveyEnd) → AreSeen [] items es → IsSurveyAfter p [] items close found end →
       (key : KeyParts) (n : ℕ) → Names kind keys_in es found key n → Holds es key n
+  -- e is the entry, t the number and k the key that the survey names
   named_holds items close es found end seen survey key n (front, e, more, t, is, entry, (before, k, rest, are, named, number), has) =
+      -- the finding is at an entry c, with `back` before it, of which P holds for the key with the number t
       let (back, c, others, split, at) = found_is p [] items close es found end seen survey (kind n t) has in
       let both = into back c n t at in
+      -- it is the entry e, since both have the number n
       let same = same_split front more back others e c (sym is ∙ split) (omega (arith, entry, both.0)) in
       let mine : HoldsOf (P front e) (keys_in (front ++ e ∷ [])) t =
       subst (λ fs. HoldsOf (P fs e) (keys_in (fs ++ e ∷ [])) t) (sym same.0) (subst (λ d. HoldsOf (P back d) (keys_in (back ++ d ∷ [])) t) (sym same.1) both.1) in
@@ -73,6 +78,7 @@ module _ (p : Times) (kind : ℕ → ℕ → Finding) (P : List (Observation Key
           let (front, e, more, is, entry, at) = holds in
           let (back, c, rest, split, zipped, here) = split_right chosen key is_chosen p front cs e more (subst (λ xs. AllZip (IsCutOf chosen) xs cs) is zip) in
           (back, c, rest, split, entry ∙ ap (λ n. n + 1) (zip_long (IsCutOf chosen) front back zipped), (same front back e c zipped here).0 at),
+      -- the converse: P holds in the cut log, and so in the whole log
       λ holds.
           let (back, c, more, is, entry, at) = holds in
           let (front, e, rest, split, zipped, here) = split_left chosen key is_chosen p es back c more (subst (AllZip (IsCutOf chosen) es) is zip) in
@@ -87,6 +93,7 @@ module _ (p : Times) (kind : ℕ → ℕ → Finding) (P : List (Observation Key
           let (front, e, rest, split, zipped, here) = split_left chosen key is_chosen p es back c more (subst (AllZip (IsCutOf chosen) es) is zip) in
           let keys = keys_cut chosen (front ++ e ∷ []) (back ++ c ∷ []) (zip_push chosen front back e c zipped here) in
           (front, e, rest, t, split, entry ∙ ap (λ n. n + 1) (sym (zip_long (IsCutOf chosen) front back zipped)), subst (λ ks. HoldsOf (λ k. k ≡ key) ks t) keys named, has),
+      -- the converse: among the chosen keys it is named, and so in the cut log
       λ names.
           let (front, e, more, t, is, entry, named, has) = names in
           let (back, c, rest, split, zipped, here) = split_right chosen key is_chosen p front cs e more (subst (λ xs. AllZip (IsCutOf chosen) xs cs) is zip) in
@@ -112,6 +119,7 @@ pub part_is_whole : (p : Times) (chosen : KeyParts → Bool) (items cuts : List 
 part_is_whole p chosen items cuts es close shut found part end fin seen cut whole some key is n =
     let (cs, saw, zip) = log_cut chosen [] [] tt items es cuts seen cut in (
       named_cut p (λ n t. Breach n t) (Breaks p) (λ front e n t found. found) (λ front e t holds. (refl, holds)) (λ front e key breaks. breaks_known p front e key breaks.1) chosen key is
+          -- the claim is shown of breaches first, and then of what is undecided
           (λ front back e c zip here. (trouble_cut chosen key is p front back e c zip here).0) items cuts es cs close shut found part end fin seen saw zip whole some n,
       named_cut p (λ n t. Undecided n t) (Widens p) (λ front e n t found. found) (λ front e t holds. (refl, holds)) (λ front e key widens. concerned-among key front e widens.1.0) chosen key is
           (λ front back e c zip here. (trouble_cut chosen key is p front back e c zip here).1) items cuts es cs close shut found part end fin seen saw zip whole some n,

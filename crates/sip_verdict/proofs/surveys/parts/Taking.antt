@@ -17,6 +17,7 @@ pub part_item : (part : PartOf) (i cut : Item) (falls : Bool) → is_none (direc
     → cut ≡ (if falls then i else mark_of i) → IsPartItem part i cut
 part_item part i cut falls goes (branch, tells, same) is = by (direction_of i.action) goes
   where
+    -- the item is cut by its branch, since it has a direction and so a message
     by : (d : Option Direction) → is_none d ≡ false
         → MatchOption d (cut ≡ i) (λ direction. (b : List ℕ) × TellsBranch i.text b × (cut ≡ if falls_into part b then i else mark_of i))
     by None e = absurd (cc)

@@ -41,9 +41,9 @@ pub record AreMore (old t : Tabled) : Type 0 where
 pub none_more : (t : Tabled) → length t.sets ≡ length t.keys → AreMore t t
 none_more t long = record { times = refl; long = long; few = omega arith; among = λ key has. has; each = λ n key s at here. inl (at, here) }
 
--- What follows is of tables in which one key more was looked up.
+-- What follows is of the tables t, which are `old` with more keys, and of one key more, k, which was looked up and has the number n.
 module _ (old t : Tabled) (h : AreMore old t) (k : KeyParts) (n : ℕ) where
-  -- a key that differs from each of some keys is none of them
+  -- a key that differs from each of some keys is not among them
   absent : (ks : List KeyParts) → All (λ key. key ≢ k) ks → ¬ Contains ks k
   absent ks all (i, low, is) = all i k low is
 
@@ -58,12 +58,15 @@ module _ (old t : Tabled) (h : AreMore old t) (k : KeyParts) (n : ℕ) where
     each = λ i key s at here. by i key s (push_place t.keys k i key at) (push_place t.sets (start_of t.times k) i s here);
   })
     where
-      -- the key and its set are old ones, or the new one
+      -- the key and its set are old ones, or the new key and the set in which it starts
       by : (i : ℕ) (key : KeyParts) (s : AnySet) → (slice_get t.keys i ≡ Some key) ⊎ ((i ≡ length t.keys) × (k ≡ key)) → (slice_get t.sets i ≡ Some s) ⊎ ((i ≡ length t.sets) × (start_of t.times k ≡ s))
           → ((slice_get old.keys i ≡ Some key) × (slice_get old.sets i ≡ Some s)) ⊎ ((length old.keys ≤ i) × (s ≡ start_of old.times key) × ¬ Contains old.keys key)
+      -- key and set are old ones
       by i key s (inl a) (inl b) = h.each i key s a b
+      -- the one is old and the other new: no place is within the list and at its end
       by i key s (inl a) (inr b) = (let within = slice_get_within t.keys i key a in let same = h.long in absurd (omega (arith, b.0)))
       by i key s (inr a) (inl b) = (let within = slice_get_within t.sets i s b in let same = h.long in absurd (omega (arith, a.0)))
+      -- both are new: the place is past the old keys, the set starts by the old times, and no old key is this one
       by i key s (inr a) (inr b) = inr (
         (let low = h.few in omega (arith, a.0)),
         sym b.1 ∙ ap (λ q. start_of q k) h.times ∙ ap (start_of old.times) a.1,
@@ -71,6 +74,7 @@ module _ (old t : Tabled) (h : AreMore old t) (k : KeyParts) (n : ℕ) where
       )
 
 -- tables that have grown by keys have grown still after more keys were looked up
+-- ns are the numbers of the keys ks; t and u are the tables before and after these were looked up
 pub more_each : (old : Tabled) (ks : List KeyParts) (ns : List ℕ) (t u : Tabled) → AreMore old t → TouchesEach ks ns t u → AreMore old u
 more_each old [] [] t u h same = subst (AreMore old) (sym same) h
 more_each old [] (n ∷ ns) t u h touched = absurd touched
@@ -78,16 +82,20 @@ more_each old (k ∷ ks) [] t u h touched = absurd touched
 more_each old (k ∷ ks) (n ∷ ns) t u h (between, one, rest) = more_each old ks ns between u (one_more old t h k n between one) rest
 
 -- after a key was looked up, the keys are those that there were, with this one where it is new
+-- n is the number of the key k; t and u are the tables before and after it was looked up
 touched_key : (k : KeyParts) (n : ℕ) (t u : Tabled) → Touches k n t u → u.keys ≡ with_key t.keys k
 touched_key k n t u (inl (has, same)) =
+    -- the key was there, and the tables stay
     ap (λ x. x.keys) same
     ∙ sym (cond-true (list_any (same_key k) t.keys) t.keys (t.keys ++ k ∷ [])
     (contains-among k t.keys (n - 1, slice_get_within t.keys (n - 1) k has.1, get_or_from_slice_get t.keys (n - 1) k k has.1)))
 touched_key k n t u (inr (new, counts, is)) =
+    -- the key is new, and comes after the others
     ap (λ x. x.keys) is
     ∙ sym (cond-false (list_any (same_key k) t.keys) t.keys (t.keys ++ k ∷ []) (not_among k t.keys (λ (i, low, same). new i k low same)))
 
 -- after keys were looked up the keys are those that there were, and each new one once
+-- ns are the numbers of the keys ks; t and u are the tables before and after these were looked up
 pub touched_keys : (ks : List KeyParts) (ns : List ℕ) (t u : Tabled) → TouchesEach ks ns t u → u.keys ≡ fold with_key t.keys ks
 touched_keys [] [] t u same = ap (λ x. x.keys) same
 touched_keys [] (n ∷ ns) t u h = absurd h
@@ -95,21 +103,24 @@ touched_keys (k ∷ ks) [] t u h = absurd h
 touched_keys (k ∷ ks) (n ∷ ns) t u (between, one, rest) = touched_keys ks ns between u rest ∙ ap (λ keys. fold with_key keys ks) (touched_key k n t between one)
 
 -- an element of two lists, one after the other, is that of the first list where its place lies within that list
+-- xs and ys are the two lists, and x is the element at the place n
 pub front_place : {A : Type 0} (xs ys : List A) (n : ℕ) (x : A) → n < length xs → slice_get (xs ++ ys) n ≡ Some x → slice_get xs n ≡ Some x
 front_place [] ys n x low at = absurd (omega (arith, low))
 front_place (u ∷ xs) ys zero x low at = at
 front_place (u ∷ xs) ys (suc n) x low at = front_place xs ys n x (omega (arith, low)) at
 
 -- what holds of each element of the second list holds of one that stands past the first
+-- xs and ys are the two lists, and x is the element at the place n
 pub back_place : {A : Type 0} (P : A → Type 0) (xs ys : List A) (n : ℕ) (x : A) → length xs ≤ n → All P ys → slice_get (xs ++ ys) n ≡ Some x → P x
 back_place P [] ys n x low all at = All-place P ys n x at all
 back_place P (u ∷ xs) ys zero x low all at = absurd (omega (arith, low))
 back_place P (u ∷ xs) ys (suc n) x low all at = back_place P xs ys n x (omega (arith, low)) all at
 
--- What follows is of tables that track the entries es, and new keys, which are in no trouble.
+-- What follows is of the tables `old`, which track the entries es, and of new keys, which are in no trouble: `deaf` says which of the old are, `more` which
+-- of the new.
 module _ (texts : Texts) (es : List (Observation KeyParts)) (e : Observation KeyParts) (old : Tabled) (deaf more : List Bool) (tracks : TablesSurvey texts es old deaf) (long : length deaf ≡ length old.keys)
     (false_all : All (λ d. d ≡ false) more) (late : newest_moment es ≤ e.event.moment) where
-  -- a key that is none of the entries' is in no trouble, and the set that it starts with follows the entries
+  -- a key that no entry concerns is in no trouble, and the set that it starts with follows the entries
   new_follows : (key : KeyParts) (s : AnySet) → s ≡ start_of old.times key → ¬ Contains old.keys key → IsFollowed texts old.times es key s false
   new_follows key s is none =
       let p = old.times in
@@ -128,11 +139,13 @@ module _ (texts : Texts) (es : List (Observation KeyParts)) (e : Observation Key
   }
     where
       -- an old transaction is passing the entry
+      -- n is the place of the key, s its set and d whether it is deaf
       follows : (n : ℕ) (key : KeyParts) (s : AnySet) (d : Bool) → IsFollowed texts old.times es key s d → IsPassing texts old.times es e any b (n + 1) key s d
       follows n key s true (leads, unsound) = (leads_later texts old.times (machine_of_key old.times.rules key) [] (newest_moment es) e.event.moment s late leads, inl unsound)
       follows n key s false (ready, sound) = (sound, ready)
 
-      -- the transaction is an old one, or a new one
+      -- the transaction passes the entry, be it an old one or a new one
+      -- n is the place of the key, s its set and d whether it is deaf
       by : (n : ℕ) (key : KeyParts) (s : AnySet) (d : Bool) → slice_get (deaf ++ more) n ≡ Some d
           → ((slice_get old.keys n ≡ Some key) × (slice_get old.sets n ≡ Some s)) ⊎ ((length old.keys ≤ n) × (s ≡ start_of old.times key) × ¬ Contains old.keys key) → IsPassing texts old.times es e any b (n + 1) key s d
       by n key s d is (inl (at, here)) =
@@ -147,6 +160,7 @@ begun_same texts es e t b tracks long sets late fresh =
     begun texts es e t b.deaf.items [] tracks long (λ k d low. absurd (omega (arith, low))) late t b (none_more t sets) fresh (sym (append-nil b.deaf.items))
 
 -- where the keys of an entry were looked up, each transaction is still to hear it
+-- t and b are the tables and the trouble before the keys were looked up, and u and c those after
 pub begun_touched : (texts : Texts) (es : List (Observation KeyParts)) (e : Observation KeyParts) (t u : Tabled) (b c : Troubled) (more : List Bool) → TablesSurvey texts es t b.deaf.items → length b.deaf.items ≡ length t.keys
     → length t.sets ≡ length t.keys → newest_moment es ≤ e.event.moment → IsFresh b → c.deaf.items ≡ b.deaf.items ++ more → All (λ d. d ≡ false) more → c.broken.items ≡ b.broken.items → c.wide.items ≡ b.wide.items
     → (ks : List KeyParts) (ns : List ℕ) → TouchesEach ks ns t u → ArePassing texts t.times es e any u c

@@ -1,4 +1,5 @@
 -- What is known of the transactions of a survey after they have passed an entry, and what is found at it.
+-- In the lemmas d is whether a transaction is deaf, s its set, and x and y are two entries.
 use Rattle.std.proofs.Common.{◌≡◌, ◌≤◌, ◌+◌, ◌-◌, ◌⊎◌, inl, inr, ℕ, zero, suc, Bool, true, false, Some, List, [], ◌∷◌, ◌++◌, Contains, length, slice_get, All, append-nil, refl, sym, ap, ◌∙◌, subst, arith}
 use Rattle.std.proofs.lemmas.Option.{slice_get_within}
 use Rattle.std.proofs.lemmas.List.Elements.{All-contains}
@@ -32,9 +33,11 @@ use Rattle.sip_verdict.proofs.surveys.passing.Passing.{same_at}
 pub ordered_push : (es : List (Observation KeyParts)) (e : Observation KeyParts) → IsOrdered es → newest_moment es ≤ e.event.moment → IsOrdered (es ++ e ∷ [])
 ordered_push es e order late = ordered_append (λ a b. a.event.moment ≤ b.event.moment) es (e ∷ []) order (λ i j d low high. absurd (omega (arith, low, high))) across
   where
+    -- each entry is at most as late as the newest
     to : All (λ a. a.event.moment ≤ newest_moment es) es
     to = newest-to 0 es [] (subst IsOrdered (sym (append-nil es)) order)
 
+    -- a list of one element has only that one
     last : (y : Observation KeyParts) → (e ≡ y) ⊎ Contains [] y → e ≡ y
     last y (inl same) = same
     last y (inr none) = absurd (Contains-none y none)
@@ -63,11 +66,12 @@ module _ (P : KeyParts → Type 0) (keys : List KeyParts) where
       let place : length before ≡ n - 1 = omega (arith, number) in
       (key, ap (λ ks. slice_get ks (n - 1)) is ∙ subst (λ i. slice_get (before ++ key ∷ rest) i ≡ Some key) place (middle_place before key rest), holds, omega (arith, number))
 
--- What follows is of tables in which each transaction has passed the entry e.
+-- What follows is of the tables t, in which each transaction has passed the entry e after the entries es; b says which are in trouble.
 module _ (texts : Texts) (es : List (Observation KeyParts)) (e : Observation KeyParts) (t : Tabled) (b : Troubled) (p : Times) (order : IsOrdered es) (late : newest_moment es ≤ e.event.moment)
     (keys : t.keys ≡ keys_in (es ++ e ∷ [])) (sets : length t.sets ≡ length t.keys) (long : length b.deaf.items ≡ length t.keys) (h : ArePassing texts p es e (is_among []) t b) where
-  -- a transaction that was in trouble, or came into it at the entry e, is in trouble over the entries and e
+  -- a transaction that was in trouble, or came into it at the entry e, is not sound over the entries and e
   unsound : (n : ℕ) (key : KeyParts) → slice_get t.keys n ≡ Some key → ¬ (IsSound p es key) ⊎ (Contains b.broken.items (n + 1) ⊎ Contains b.wide.items (n + 1)) → ¬ (IsSound p (es ++ e ∷ []) key)
+  -- a transaction in trouble before is not sound with an entry more; one that broke has no run now; one that is too wide is followed no further
   unsound n key at (inl before) sound = before (sound_fewer p key es (e ∷ []) (ordered_push es e order late) sound)
   unsound n key at (inr (inl has)) sound =
       let own = h.broken (n + 1) has in
@@ -84,13 +88,15 @@ module _ (texts : Texts) (es : List (Observation KeyParts)) (e : Observation Key
     each = λ n key s d at here is. subst (λ q. IsFollowed texts q (es ++ e ∷ []) key s d) (sym times) (by n key s d at (h.each n key s d at here is));
   }
     where
-      -- of one transaction: in trouble, or in none
+      -- a transaction that passed the entry is followed after it, in trouble or not
+      -- n is the place of the key, s its set and d whether it is deaf
       by : (n : ℕ) (key : KeyParts) (s : AnySet) (d : Bool) → slice_get t.keys n ≡ Some key → IsPassing texts p es e (is_among []) b (n + 1) key s d → IsFollowed texts p (es ++ e ∷ []) key s d
       by n key s true at (leads, troubled) = (subst (λ m. LeadsOf texts p (machine_of_key p.rules key) [] m s) (sym (newest_moment-push es e)) leads, unsound n key at troubled)
       by n key s false at (sound, goes) =
           (goes.ready, sound_push p es e key sound goes.runs goes.narrow)
 
   -- each key has a set and a flag, of which it is known how they passed the entry
+  -- n is the place of the key, s its set and d whether it is deaf
   found_key : (n : ℕ) (key : KeyParts) → slice_get t.keys n ≡ Some key → (d : Bool) × (s : AnySet) × IsPassing texts p es e (is_among []) b (n + 1) key s d
   found_key n key at =
       let within = slice_get_within t.keys n key at in
@@ -106,6 +112,7 @@ module _ (texts : Texts) (es : List (Observation KeyParts)) (e : Observation Key
   all_broken : (n : ℕ) (key : KeyParts) → slice_get t.keys n ≡ Some key → Breaks p es e key → Contains b.broken.items (n + 1)
   all_broken n key at (sound, none) = let (d, s, g) = found_key n key at in by d s g
     where
+      -- the transaction has passed the entry, and breaks there, so its number is among the broken ones
       by : (d : Bool) (s : AnySet) → IsPassing texts p es e (is_among []) b (n + 1) key s d → Contains b.broken.items (n + 1)
       by true s (leads, inl before) = absurd (before sound)
       by true s (leads, inr (inl has)) = has
@@ -116,13 +123,15 @@ module _ (texts : Texts) (es : List (Observation KeyParts)) (e : Observation Key
   all_wide : (n : ℕ) (key : KeyParts) → slice_get t.keys n ≡ Some key → Widens p es e key → Contains b.wide.items (n + 1)
   all_wide n key at (sound, wide) = let (d, s, g) = found_key n key at in by d s g
     where
+      -- the transaction has passed the entry, and is too wide there, so its number is among the wide ones
       by : (d : Bool) (s : AnySet) → IsPassing texts p es e (is_among []) b (n + 1) key s d → Contains b.wide.items (n + 1)
       by true s (leads, inl before) = absurd (before sound)
       by true s (leads, inr (inl has)) = absurd ((one_key (Breaks p es e) n key at (h.broken (n + 1) has)).1 (wide_runs p es e key wide))
       by true s (leads, inr (inr has)) = has
       by false s (still, goes) = absurd (goes.narrow wide)
 
-  -- What follows is of the numbers of the transactions that came into trouble at the entry, in ascending order.
+  -- What follows is of the numbers of the transactions that came into trouble at the entry, in ascending order: `broken` have no run more, and `wide` are
+  -- followed no further.
   module _ (broken wide : List ℕ) (broken_is : AreAscending b.broken.items broken) (wide_is : AreAscending b.wide.items wide) where
     -- the numbers of the broken are those of the keys that break at the entry, each once and in order
     breaks : AreNumbers (Breaks p es e) t.keys broken

@@ -23,15 +23,17 @@ use Rattle.sip_verdict.proofs.tables.TablesPassing.{at_place}
 pub among_cons : (n number : ℕ) (ns : List ℕ) → n ≢ number → is_among (number ∷ ns) n ≡ is_among ns n
 among_cons n number ns differ = by (nat_eq n number) refl
   where
+    -- n is among all numbers exactly if it is among the others, since it is not the first
     by : (b : Bool) → nat_eq n number ≡ b → is_among (number ∷ ns) n ≡ is_among ns n
     by true same = absurd (differ ((unsigned_Decides n number).0 same))
     by false other = ap (λ b. b || is_among ns n) other
 
 -- two elements at the same place of a list are the same
+-- x and y are the elements at the place n
 pub same_at : {A : Type 0} (xs : List A) (n : ℕ) (x y : A) → slice_get xs n ≡ Some x → slice_get xs n ≡ Some y → x ≡ y
 same_at xs n x y a b = let both : Some x ≡ Some y = sym a ∙ b in cc
 
--- What follows is of one entry e after the entries es.
+-- What follows is of one entry e after the entries es, by the times p.
 module _ (texts : Texts) (p : Times) (es : List (Observation KeyParts)) (e : Observation KeyParts) where
   -- what is kept of each key: its set, beside these texts
   abbrev k : Keeping (KeyParts × AnySet)
@@ -42,6 +44,7 @@ module _ (texts : Texts) (p : Times) (es : List (Observation KeyParts)) (e : Obs
   waits_alike a b key s same h = subst (λ x. MatchBool x (IsReady k es (key, s)) (GoesOn p k es e (key, s))) same h
 
   -- a transaction passes the entry as before where more transactions came into trouble and it waits exactly as it did
+  -- v and w say which transactions still wait for the event, b and c which are in trouble; s is the set of the key
   pub stays : (v w : ℕ → Bool) (b c : Troubled) (number : ℕ) (key : KeyParts) (s : AnySet) (is_deaf : Bool) → v number ≡ w number
       → (Contains b.broken.items number ⊎ Contains b.wide.items number → Contains c.broken.items number ⊎ Contains c.wide.items number)
       → IsPassing texts p es e v b number key s is_deaf → IsPassing texts p es e w c number key s is_deaf
@@ -53,7 +56,8 @@ module _ (texts : Texts) (p : Times) (es : List (Observation KeyParts)) (e : Obs
   number_still : (P : KeyParts → Type 0) (keys new : List KeyParts) (number : ℕ) → new ≡ keys → IsNumberOf P keys number → IsNumberOf P new number
   number_still P keys new number same h = subst (λ ks. IsNumberOf P ks number) (sym same) h
 
-  -- What follows is of one transaction that passes the entry, while the others stay as they are.
+  -- What follows is of one transaction, by its number, that passes the entry, while the others stay as they are: the tables were t and are u.
+  -- v says which transactions had passed it before, and w which have now.
   module _ (t u : Tabled) (b : Troubled) (v w : ℕ → Bool) (number : ℕ) (given : IsGiven t number) (keys : u.keys ≡ t.keys)
       (others : (n : ℕ) → n ≢ number - 1 → v (n + 1) ≡ w (n + 1)) (h : ArePassing texts p es e v t b) where
     -- the place of the transaction with this number
@@ -64,7 +68,7 @@ module _ (texts : Texts) (p : Times) (es : List (Observation KeyParts)) (e : Obs
     next : number - 1 + 1 ≡ number
     next = (let low = given.low in omega arith)
 
-    -- What follows is of a transaction in no trouble that goes on.
+    -- What follows is of a transaction in no trouble that goes on; `after` is its set now.
     module _ (after : AnySet) (sets : u.sets ≡ slice_set t.sets (number - 1) after) (hearing : slice_get b.deaf.items (number - 1) ≡ Some false) where
       -- where the transaction goes on over the entry, all transactions are passing it still
       pub passed_on : w number ≡ false → ((key : KeyParts) → slice_get t.keys (number - 1) ≡ Some key → IsSound p es key × GoesOn p k es e (key, after)) → ArePassing texts p es e w u b
@@ -74,7 +78,8 @@ module _ (texts : Texts) (p : Times) (es : List (Observation KeyParts)) (e : Obs
         each = λ n key s d at here is. one n key s d (ap (λ ks. slice_get ks n) (sym keys) ∙ at) is (set_place t.sets place n after s (ap (λ xs. slice_get xs n) (sym sets) ∙ here));
       }
         where
-          -- of the transaction itself
+          -- the transaction itself has passed the entry
+          -- n is the place of the key, s its set and d whether it is deaf
           own : (n : ℕ) (key : KeyParts) (s : AnySet) (d : Bool) → slice_get t.keys n ≡ Some key → n ≡ place → after ≡ s → false ≡ d → IsPassing texts p es e w b (n + 1) key s d
           own n key s true at here same is = absurd (false≢true is)
           own n key s false at here same is =
@@ -82,13 +87,14 @@ module _ (texts : Texts) (p : Times) (es : List (Observation KeyParts)) (e : Obs
               let off : w (n + 1) ≡ false = ap w (omega (arith, here, next)) ∙ done in
               (g.0, waits_alike false (w (n + 1)) key s (sym off) (subst (λ x. GoesOn p k es e (key, x)) same g.1))
 
-          -- of the transaction itself, or of another one
+          -- each transaction is passing the entry: the one itself, and each other one as before
+          -- n is the place of the key, s its set and d whether it is deaf
           one : (n : ℕ) (key : KeyParts) (s : AnySet) (d : Bool) → slice_get t.keys n ≡ Some key → slice_get b.deaf.items n ≡ Some d
               → ((n ≡ place) × (after ≡ s)) ⊎ ((n ≢ place) × (slice_get t.sets n ≡ Some s)) → IsPassing texts p es e w b (n + 1) key s d
           one n key s d at is (inl (here, same)) = own n key s d at here same (same_at b.deaf.items n false d (ap (slice_get b.deaf.items) here ∙ hearing) is)
           one n key s d at is (inr (other, there)) = stays v w b b (n + 1) key s d (others n other) (λ among. among) (h.each n key s d at there is)
 
-    -- What follows is of a transaction that comes into trouble and starts anew.
+    -- What follows is of a transaction that comes into trouble and starts anew; c says which transactions are in trouble then.
     module _ (c : Troubled) (sets : (n : ℕ) (s : AnySet) → slice_get u.sets n ≡ Some s → ((n ≡ number - 1) × ((key : KeyParts) → slice_get t.keys (number - 1) ≡ Some key → LeadsOf texts p (machine_of_key p.rules key) [] e.event.moment s))
         ⊎ ((n ≢ number - 1) × (slice_get t.sets n ≡ Some s)))
         (deaf : c.deaf.items ≡ slice_set b.deaf.items (number - 1) true) where
@@ -102,7 +108,8 @@ module _ (texts : Texts) (p : Times) (es : List (Observation KeyParts)) (e : Obs
         each = λ n key s d at here is. one n key s d (ap (λ ks. slice_get ks n) (sym keys) ∙ at) (set_place b.deaf.items place n true d (ap (λ xs. slice_get xs n) (sym deaf) ∙ is)) (sets n s here);
       }
         where
-          -- of the transaction itself
+          -- the transaction itself is in trouble now, and its set starts anew
+          -- n is the place of the key, s its set and d whether it is deaf
           own : (n : ℕ) (key : KeyParts) (s : AnySet) (d : Bool) → slice_get t.keys n ≡ Some key → n ≡ place → true ≡ d
               → ((key : KeyParts) → slice_get t.keys place ≡ Some key → LeadsOf texts p (machine_of_key p.rules key) [] e.event.moment s) → IsPassing texts p es e w c (n + 1) key s d
           own n key s false at here is leads = absurd (false≢true (sym is))
@@ -110,13 +117,17 @@ module _ (texts : Texts) (p : Times) (es : List (Observation KeyParts)) (e : Obs
               let same : number ≡ n + 1 = omega (arith, here, next) in
               (leads key (ap (slice_get t.keys) (sym here) ∙ at), inr (subst (λ i. Contains c.broken.items i ⊎ Contains c.wide.items i) same among))
 
-          -- of the transaction itself, or of another one
+          -- each transaction is passing the entry: the one itself, and each other one as before
+          -- n is the place of the key, s its set and d whether it is deaf
           one : (n : ℕ) (key : KeyParts) (s : AnySet) (d : Bool) → slice_get t.keys n ≡ Some key → ((n ≡ place) × (true ≡ d)) ⊎ ((n ≢ place) × (slice_get b.deaf.items n ≡ Some d))
               → ((n ≡ place) × ((key : KeyParts) → slice_get t.keys place ≡ Some key → LeadsOf texts p (machine_of_key p.rules key) [] e.event.moment s)) ⊎ ((n ≢ place) × (slice_get t.sets n ≡ Some s))
               → IsPassing texts p es e w c (n + 1) key s d
+          -- the transaction itself is in trouble, and its set is the new one
           one n key s d at (inl (here, is)) (inl (same, leads)) = own n key s d at here is leads
+          -- one place is not that of the transaction and of another one
           one n key s d at (inl (here, is)) (inr (other, there)) = absurd (other here)
           one n key s d at (inr (other, is)) (inl (here, leads)) = absurd (other here)
+          -- another transaction, which is as before
           one n key s d at (inr (other, is)) (inr (also, there)) = stays v w b c (n + 1) key s d (others n other) (more (n + 1)) (h.each n key s d at there is)
 
       -- where the transaction breaks and is put among the broken, all are passing the entry still
@@ -126,11 +137,12 @@ module _ (texts : Texts) (p : Times) (es : List (Observation KeyParts)) (e : Obs
           (λ n has. by n (Contains-push_cases b.broken.items number n (subst (λ ns. Contains ns n) added has)))
           (λ n has. number_still (λ key. Widens p es e key × RunsOver p (es ++ e ∷ []) key) t.keys u.keys n keys (h.wide n (subst (λ ns. Contains ns n) kept has)))
         where
+          -- the numbers in trouble stay in trouble
           more : (n : ℕ) → Contains b.broken.items n ⊎ Contains b.wide.items n → Contains c.broken.items n ⊎ Contains c.wide.items n
           more n (inl has) = inl (subst (λ ns. Contains ns n) (sym added) (Contains-append_left b.broken.items (number ∷ []) n has))
           more n (inr has) = inr (subst (λ ns. Contains ns n) (sym kept) has)
 
-          -- the number is an old one of the broken, or the new one
+          -- each number of a broken transaction is that of a key that breaks: one of those before, or the new one
           by : (n : ℕ) → Contains b.broken.items n ⊎ (number ≡ n) → IsNumberOf (Breaks p es e) u.keys n
           by n (inl has) = number_still (Breaks p es e) t.keys u.keys n keys (h.broken n has)
           by n (inr same) = subst (IsNumberOf (Breaks p es e) u.keys) same
@@ -145,12 +157,12 @@ module _ (texts : Texts) (p : Times) (es : List (Observation KeyParts)) (e : Obs
           (λ n has. number_still (Breaks p es e) t.keys u.keys n keys (h.broken n (subst (λ ns. Contains ns n) kept has)))
           (λ n has. by n (Contains-push_cases b.wide.items number n (subst (λ ns. Contains ns n) added has)))
         where
-          -- a number that came into trouble is there still
+          -- the numbers in trouble stay in trouble
           more : (n : ℕ) → Contains b.broken.items n ⊎ Contains b.wide.items n → Contains c.broken.items n ⊎ Contains c.wide.items n
           more n (inl has) = inl (subst (λ ns. Contains ns n) (sym kept) has)
           more n (inr has) = inr (subst (λ ns. Contains ns n) (sym added) (Contains-append_left b.wide.items (number ∷ []) n has))
 
-          -- the number is an old one of the wide, or the new one
+          -- each number of a transaction that is followed no further is that of a key that widens: one of those before, or the new one
           by : (n : ℕ) → Contains b.wide.items n ⊎ (number ≡ n) → IsNumberOf (λ key. Widens p es e key × RunsOver p (es ++ e ∷ []) key) u.keys n
           by n (inl has) = number_still (λ key. Widens p es e key × RunsOver p (es ++ e ∷ []) key) t.keys u.keys n keys (h.wide n has)
           by n (inr same) = subst (IsNumberOf (λ key. Widens p es e key × RunsOver p (es ++ e ∷ []) key) u.keys) same

@@ -40,7 +40,7 @@ use Rattle.sip_verdict.proofs.tables.TablesPassing.{All-place}
 use Rattle.sip_verdict.proofs.tables.TablesTouching.{touches_elim, touches_times, have_numbers, slice_get-more, told_unheard, told_event, told_restart}
 use Rattle.sip_verdict.proofs.surveys.passing.Begun.{begun_same, begun_touched, touched_keys, front_place, back_place}
 
--- What follows shows that a set leads to the same runs beside a book with one message more.
+-- What follows shows that a set leads to the same runs beside the book `old` and beside `new`, which has one message more, by its number and its bytes.
 module _ (old new : Texts) (number : ℕ) (bytes : List ℕ) (p : Times) where
   -- a set of a machine leads to the same runs beside the book that has grown
   grown_leads : IsGrown old number bytes new → (machine : MachineKind) (events : List MachineEvent) (from : ℕ) (set : AnySet) → LeadsOf old p machine events from set → LeadsOf new p machine events from set
@@ -57,6 +57,7 @@ module _ (old new : Texts) (number : ℕ) (bytes : List ℕ) (p : Times) where
 pub grown_survey : (old new : Texts) (number : ℕ) (bytes : List ℕ) → IsGrown old number bytes new → (es : List (Observation KeyParts)) (t : Tabled) (deaf : List Bool) → TablesSurvey old es t deaf → TablesSurvey new es t deaf
 grown_survey old new number bytes grown es t deaf h = record { order = h.order; keys = h.keys; each = λ n key s d at here is. by key s d (h.each n key s d at here is) }
   where
+    -- a deaf transaction stays in trouble, and the set of any other one follows the same entries
     by : (key : KeyParts) (s : AnySet) (d : Bool) → IsFollowed old t.times es key s d → IsFollowed new t.times es key s d
     by key s true (leads, unsound) = (grown_leads old new number bytes t.times grown (machine_of_key t.times.rules key) [] (newest_moment es) s leads, unsound)
     by key s false (leads, sound) = (grown_leads old new number bytes t.times grown (machine_of_key t.times.rules key) _ (newest_moment es) s leads, sound)
@@ -72,13 +73,13 @@ Passes texts moment hearing t b u c =
     (p : Times) (es : List (Observation KeyParts)) (e : Observation KeyParts) → t.times ≡ p → newest_moment es ≤ moment → e.event.moment ≡ moment → AreTold texts t.keys moment hearing e
     → ArePassing texts p es e any t b → ArePassing texts p es e (is_among []) u c
 
--- What follows is of one item i of a log; `mid` is the book after it was observed.
+-- What follows is of one item i of a log: `old` is the book before it, and `mid` the book after it was observed.
 module _ (old mid : Texts) (number : ℕ) (bytes : List ℕ) (grown : IsGrown old number bytes mid) (i : Item) (moment : ℕ) (at : i.moment ≡ moment) where
-  -- this is told of the entry, and observed of it after any entries
+  -- the judge is told this of the item, and whatever entries come before it, what is observed of it agrees with that
   abbrev Tells : Observed → Type 0
   Tells told = (es : List (Observation KeyParts)) → (e : Observation KeyParts) × Sees es i e × IsObserved mid es i told e
 
-  -- What follows is of an item that brings no key: t and b are kept before it, u and c after it.
+  -- What follows is of an item that brings no key: before it the tables are t, and b says which transactions are in trouble; after it they are u and c.
   module _ (t u : Tabled) (b c : Troubled) (long : length b.deaf.items ≡ length t.keys) (sets : length t.sets ≡ length t.keys) (fresh : IsFresh b) (keys : u.keys ≡ t.keys) where
     -- an entry that concerns no transaction is taken
     silent_taken : (es : List (Observation KeyParts)) (e : Observation KeyParts) (fault : Option Fault) → Sees es i e → e.fault ≡ fault → e.event.moment ≡ moment → e.keys ≡ [] → Passes mid moment None t b u c
@@ -88,6 +89,7 @@ module _ (old mid : Texts) (number : ℕ) (bytes : List ℕ) (grown : IsGrown ol
       seen,
       fault_is,
       now,
+      -- the keys are those before, and each transaction passes the entry
       keys ∙ tracks.keys ∙ sym (keys_in-none es e none),
       passes t.times es e refl late now (told_unheard mid t.keys moment e now none)
           (begun_same mid es e t b (grown_survey old mid number bytes grown es t b.deaf.items tracks) long sets (subst (λ n. newest_moment es ≤ n) (sym now) late) fresh),
@@ -113,10 +115,12 @@ module _ (old mid : Texts) (number : ℕ) (bytes : List ℕ) (grown : IsGrown ol
     restart_taken event is above tells passes es tracks late =
         let (e, seen, e_is) = tells es in
         let all : e.keys ≡ keys_in es = ap (λ x. x.keys) e_is in
+        -- a restart has no message, and the book has none under 0
         let silent : [] ≡ text_of mid 0 = sym (text_of_none mid 0 (λ keeps. (let low = above 0 keeps in omega (arith, low)))) in
         let heard : e.event ≡ event_in mid event =
         ap (λ x. x.event) e_is ∙ ap (λ n. (restart_observation n []).event) at
         ∙ ap (λ text. record { moment = moment; action = Restart; text = text; kind = Request Other; reliable = false }) silent ∙ sym (ap (event_in mid) is) in
+        -- the restart has no fault, concerns all keys, and each transaction passes it
         let now : e.event.moment ≡ moment = ap (λ x. x.moment) heard ∙ ap (λ x. x.moment) is in (
           e,
           seen,
@@ -128,18 +132,21 @@ module _ (old mid : Texts) (number : ℕ) (bytes : List ℕ) (grown : IsGrown ol
         )
 
   -- a message that transactions hear is taken
+  -- t and b are the tables and the trouble before the entry, w and d those after its keys were looked up, and u and c those after the event was heard
   pub heard_taken : (event : NumberedEvent) (concerned : Concerned KeyParts) (numbers : Concerned ℕ) (t w u : Tabled) (b d c : Troubled) (more : List Bool) → length b.deaf.items ≡ length t.keys → length t.sets ≡ length t.keys → IsFresh b
       → d.deaf.items ≡ b.deaf.items ++ more → All (λ x. x ≡ false) more → d.broken.items ≡ b.broken.items → d.wide.items ≡ b.wide.items
       → TouchesEach (each concerned) (each numbers) t w → AllPairs (λ x y. x ≢ y) w.keys → u.keys ≡ w.keys → event.moment ≡ moment → is_all numbers ≡ false → Tells (told.Heard event concerned)
       → Passes mid moment (Some (record { event = event; concerned = numbers })) w d u c → (es : List (Observation KeyParts)) → TablesSurvey old es t b.deaf.items → newest_moment es ≤ moment
       → IsTaken mid t.times es i moment None u c
   heard_taken event concerned numbers t w u b d c more long sets fresh deaf false_all broken wide touched apart keys now some tells passes es tracks late =
+      -- the tables have the keys of the entry, and the same times
       let have = have_numbers (each concerned) (each numbers) t w touched in
       let times = touches_times (each concerned) (each numbers) t w touched in (
         seen,
         (let (e, observed, is) = tells es in subst (Sees es i) is observed),
         refl,
         now,
+        -- the keys are those before with those of the entry, and each transaction passes it
         keys ∙ touched_keys (each concerned) (each numbers) t w touched ∙ ap (λ ks. fold with_key ks (each concerned)) tracks.keys ∙ sym (keys_in-push es seen),
         passes t.times es seen times late now (told_event mid w.keys moment (record { event = event; concerned = numbers }) seen apart some have now refl)
             (begun_touched mid es seen t w b d more (grown_survey old mid number bytes grown es t b.deaf.items tracks) long sets (subst (λ n. newest_moment es ≤ n) (sym now) late) fresh deaf false_all broken wide
@@ -154,6 +161,7 @@ module _ (old mid : Texts) (number : ℕ) (bytes : List ℕ) (grown : IsGrown ol
 pub dropped_passing : (number : ℕ) (before new : Texts) (p : Times) (es : List (Observation KeyParts)) (e : Observation KeyParts) (t : Tabled) (b : Troubled) → DropsUnnamed t.sets number before new
     → ArePassing before p es e (is_among []) t b → ArePassing new p es e (is_among []) t b
 dropped_passing number before new p es e t b (inl same) h = subst (λ texts. ArePassing texts p es e (is_among []) t b) (sym same) h
+-- no transaction is newly in trouble, and each set leads to its runs beside the smaller book
 dropped_passing number before new p es e t b (inr (bytes, is, unnamed)) h =
     let passing = subst (λ texts. ArePassing texts p es e (is_among []) t b) is h in
     record {
@@ -162,10 +170,12 @@ dropped_passing number before new p es e t b (inr (bytes, is, unnamed)) h =
       each = λ n key s d at here deaf. by n key s d (All-place (λ set. ¬ Contains (numbers_of set) number) t.sets n s here unnamed) (passing.each n key s d at here deaf);
     }
   where
-    -- of one transaction, whose set does not name the message that was dropped
+    -- a transaction passes the entry beside the book without the dropped message too, since its set does not name that message
+    -- n is the place of the key, s its set and d whether it is deaf
     by : (n : ℕ) (key : KeyParts) (s : AnySet) (d : Bool) → ¬ Contains (numbers_of s) number → IsPassing (new ++ (number, bytes) ∷ []) p es e (is_among []) b (n + 1) key s d
         → IsPassing new p es e (is_among []) b (n + 1) key s d
     by n key s true none (leads, why) = (unnamed_leads number bytes new p (machine_of_key p.rules key) [] e.event.moment s none leads, why)
+    -- a transaction in no trouble goes on
     by n key s false none (sound, goes) = (
       sound,
       record {
@@ -177,6 +187,7 @@ dropped_passing number before new p es e t b (inr (bytes, is, unnamed)) h =
     )
 
 -- after keys were looked up, each last moment is on record, except those of the keys, which are to hear the event
+-- ns are the numbers of the keys ks; t and b are the tables and the trouble before these were looked up, and w and d those after
 pub watched_touched : (ks : List KeyParts) (ns : List ℕ) (t w : Tabled) (b d : Troubled) (more : List Bool) → TouchesEach ks ns t w → length t.sets ≡ length t.keys → AreWatched [] t b
     → d.deaf.items ≡ b.deaf.items ++ more → All (λ x. x ≡ false) more → length d.deaf.items ≡ length w.keys → AreWatched ns w d
 watched_touched ks ns t w b d more touched sets h deaf false_all long = record {
@@ -185,7 +196,7 @@ watched_touched ks ns t w b d more touched sets h deaf false_all long = record {
   silent = λ n is. by n (ap (λ ds. slice_get ds n) (sym deaf) ∙ is) (dec_le (length b.deaf.items) n);
 }
   where
-    -- only an old transaction is in trouble, since new ones are in none
+    -- the record of a transaction in trouble says that it has no last moment: only an old transaction is in trouble, since new ones are in none
     by : (n : ℕ) → slice_get (b.deaf.items ++ more) n ≡ Some true → Dec (length b.deaf.items ≤ n) → slice_get w.records n ≡ Some (Some None)
     by n is (yes low) = absurd (true≢false (back_place (λ x. x ≡ false) b.deaf.items more n true low false_all is))
     by n is (no high) =

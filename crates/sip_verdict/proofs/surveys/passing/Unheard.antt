@@ -9,7 +9,7 @@ use Rattle.sip_standard.specs.Times.{Times}
 use Rattle.sip_standard.specs.Observation.{Observation}
 use Rattle.sip_standard.specs.VerdictOf.{events_for, IsWideAt}
 
--- where an entry concerns the key, the key has an event
+-- where an entry concerns the key, the list of the key's events is not empty
 concerned_events : (key : KeyParts) (front : List (Observation KeyParts)) (e : Observation KeyParts) (rest : List (Observation KeyParts)) → list_any (same_key key) e.keys ≡ true → events_for key (front ++ e ∷ rest) ≡ [] → ⊥
 concerned_events key front e rest concerned none =
     let P = λ (f : Observation KeyParts). list_any (same_key key) f.keys in

@@ -25,9 +25,11 @@ use Rattle.sip_verdict.proofs.keys.KeyPassing.{in_time_goes, quiet_goes}
 use Rattle.sip_verdict.proofs.tables.TablesPassing.{at_place, All-place, given_still}
 
 -- where no transaction is due, no last moment on record is past
+-- rs are the records, and r is the one at the place n
 none_past : (moment : ℕ) (rs : Records) → option_map (λ index. index + 1) (position (is_overdue moment) rs) ≡ None → (n : ℕ) (r : Option (Option ℕ)) → slice_get rs n ≡ Some r → is_overdue moment r ≡ false
 none_past moment rs none n r at = not_passing (is_overdue moment r) (All-place (λ x. ¬ IsTrue (is_overdue moment x)) rs n r at (All-position_None (is_overdue moment) rs (unmapped (position (is_overdue moment) rs) none)))
   where
+    -- where no number comes of the index, there is no index
     unmapped : (o : Option ℕ) → option_map (λ index. index + 1) o ≡ None → o ≡ None
     unmapped None h = refl
     unmapped (Some i) h = absurd cc
@@ -37,7 +39,7 @@ decided : (b : Bool) → (b ≡ true) ⊎ (b ≡ false)
 decided true = inl refl
 decided false = inr refl
 
--- What follows is of the entry e at a moment until which each transaction that is in no trouble can wait.
+-- What follows is of the entry e at a moment until which each transaction that is in no trouble can wait: t are the tables, and b says which are in trouble.
 module _ (texts : Texts) (p : Times) (es : List (Observation KeyParts)) (e : Observation KeyParts) (moment : ℕ) (late : newest_moment es ≤ moment) (now : e.event.moment ≡ moment) (t : Tabled) (b : Troubled)
     (may : MayPass texts t moment) (none : due_of t moment ≡ None) (h : ArePassing texts p es e any t b) where
   -- what is kept of each key: its set, beside these texts
@@ -56,13 +58,14 @@ module _ (texts : Texts) (p : Times) (es : List (Observation KeyParts)) (e : Obs
     goes : (n : ℕ) (key : KeyParts) (s : AnySet) → slice_get t.keys n ≡ Some key → slice_get t.sets n ≡ Some s → is_among waits (n + 1) ≡ false → IsReady k es (key, s) → GoesOn p k es e (key, s)
     goes n key s at here other ready = by (others n key s at here other ready)
       where
+        -- the set has its last moment on record, and that is not past, so it goes on
         recorded : (r : Option (Option ℕ)) → slice_get t.records n ≡ Some r → concerns key e ≡ false → GoesOn p k es e (key, s)
         recorded None on apart = absurd (false≢true (sym other ∙ watched.recorded.each n s None here on))
         recorded (Some limit) on apart =
             in_time_goes texts p es e key s ready since (subst (λ i. moment_of s ≤ i) (sym now) (All-place (λ x. moment_of x ≤ moment) t.sets n s here may.order)) limit (watched.recorded.each n s (Some limit) here on)
             (ap (λ i. is_overdue i (Some limit)) now ∙ none_past moment t.records none n (Some limit) on) apart
 
-        -- the entry does not concern the key, or the key goes on anyway
+        -- the key goes on: the entry does not concern it, or it goes on anyway
         by : (concerns key e ≡ false) ⊎ GoesOn p k es e (key, s) → GoesOn p k es e (key, s)
         by (inr g) = g
         by (inl apart) = let r = at_place t.records n (let within = slice_get_within t.keys n key at in let long = watched.recorded.long in omega arith) in recorded r.0 r.1 apart
@@ -71,11 +74,12 @@ module _ (texts : Texts) (p : Times) (es : List (Observation KeyParts)) (e : Obs
     pub to_hear : ArePassing texts p es e (is_among waits) t b
     to_hear = record { broken = h.broken; wide = h.wide; each = λ n key s d at here is. one n key s d at here (h.each n key s d at here is) }
       where
+        -- a deaf transaction does not hear the entry, and any other one has passed it or waits
         one : (n : ℕ) (key : KeyParts) (s : AnySet) (d : Bool) → slice_get t.keys n ≡ Some key → slice_get t.sets n ≡ Some s → IsPassing texts p es e any b (n + 1) key s d → IsPassing texts p es e (is_among waits) b (n + 1) key s d
         one n key s true at here g = g
         one n key s false at here (sound, ready) = (sound, by (is_among waits (n + 1)) refl)
           where
-            -- whether the number is one of those that are to hear
+            -- the set is ready for the entry, or has gone on over it, as the number is one of those that are to hear or not
             by : (w : Bool) → is_among waits (n + 1) ≡ w → MatchBool w (IsReady k es (key, s)) (GoesOn p k es e (key, s))
             by true is = ready
             by false is = goes n key s at here is ready
@@ -86,7 +90,7 @@ pub mark_passes : (texts : Texts) (p : Times) (es : List (Observation KeyParts))
 mark_passes texts p es e moment late now t b may none told watched h =
     to_hear texts p es e moment late now t b may none h [] watched (λ n key s at here other ready. inl ((told n key at).concerned))
 
--- What follows is of an entry with an event: the transactions that do not hear it wait.
+-- What follows is of an entry with an event, `hearing`: the transactions that do not hear it wait, and `numbers` are those of the transactions that do.
 module _ (texts : Texts) (p : Times) (es : List (Observation KeyParts)) (e : Observation KeyParts) (moment : ℕ) (late : newest_moment es ≤ moment) (now : e.event.moment ≡ moment) (t : Tabled) (b : Troubled)
     (may : MayPass texts t moment) (none : due_of t moment ≡ None) (h : ArePassing texts p es e any t b) (hearing : Hearing) (told : AreTold texts t.keys moment (Some hearing) e) (hear : MayHear texts t moment hearing)
     (numbers : List ℕ) (hearers : AreHearers t hearing.concerned numbers) (watched : AreWatched numbers t b) where
@@ -95,10 +99,11 @@ module _ (texts : Texts) (p : Times) (es : List (Observation KeyParts)) (e : Obs
       → (concerns key e ≡ false) ⊎ GoesOn p (key_keeping texts p) es e (key, s)
   left n key s at here other ready = by (is_all hearing.concerned) refl
     where
+      -- the number is not among those that the entry concerns
       unnamed : is_among (each hearing.concerned) (n + 1) ≡ false
       unnamed = not_passing (is_among (each hearing.concerned) (n + 1)) (λ among. false≢true (sym other ∙ hearers.named (n + 1) among))
 
-      -- whether the event is a restart, which concerns all
+      -- the entry does not concern the key, or the key goes on, whether or not the event is a restart, which concerns all
       by : (a : Bool) → is_all hearing.concerned ≡ a → (concerns key e ≡ false) ⊎ GoesOn p (key_keeping texts p) es e (key, s)
       by false some = inl ((told n key at).concerned ∙ ap (λ a. a || is_among (each hearing.concerned) (n + 1)) some ∙ unnamed)
       by true all = inr (quiet_goes texts p es e key s ready (subst (λ i. newest_moment es ≤ i) (sym now) late)
@@ -115,6 +120,7 @@ module _ (texts : Texts) (p : Times) (es : List (Observation KeyParts)) (e : Obs
   event_concerns n key at among = ((told n key at).event, (told n key at).concerned ∙ hearers.heard (n + 1) among)
 
 -- an event that may be heard by tables may be heard by other tables with the same keys
+-- t and u are the tables, and h is the event as it may be heard
 pub hear_still : (texts : Texts) (t u : Tabled) (moment : ℕ) (h : Hearing) → u.keys ≡ t.keys → MayHear texts t moment h → MayHear texts u moment h
 hear_still texts t u moment h keys may =
     record { fits = may.fits; at = may.at; given = All-weaker (IsGiven t) (IsGiven u) (λ n g. given_still n t u keys g) (each h.concerned) may.given; apart = may.apart; restart = may.restart }

@@ -1,4 +1,5 @@
 -- What is on record of the transactions of a survey, and that an entry may pass them.
+-- In the lemmas t and u are the tables before and after, and b and c what was and is in trouble.
 use Rattle.std.proofs.Common.{◌≡◌, ◌≢◌, ◌≤◌, ◌<◌, ◌+◌, ◌-◌, ◌⊎◌, inl, inr, ℕ, true, false, Option, Some, None, List, ◌∷◌, All, length, slice_get, slice_set, sym, ap, ◌∙◌, subst, true≢false, arith}
 use Rattle.std.proofs.lemmas.List.{length-set}
 use Rattle.std.proofs.lemmas.List.Elements.{All-set}
@@ -20,7 +21,8 @@ use Rattle.sip_verdict.proofs.tables.TablesTouching.{start_at, start_known}
 none_some : {A : Type 0} (x : A) → Some None ≡ Some (Some x) → ⊥
 none_some x h = cc
 
--- What follows is of one transaction, the first of those that are still to hear the event.
+-- What follows is of one transaction of the tables t, the first of those that are still to hear the event: those of `waits` come after it.
+-- b says which transactions are in trouble.
 module _ (t : Tabled) (b : Troubled) (number : ℕ) (waits : List ℕ) (given : IsGiven t number) (h : AreWatched (number ∷ waits) t b) where
   -- the place of the transaction, which counts from 0
   abbrev place : ℕ
@@ -48,7 +50,8 @@ module _ (t : Tabled) (b : Troubled) (number : ℕ) (waits : List ℕ) (given : 
     silent = h.silent;
   }
     where
-      -- of one record: that of the transaction itself, or of another one
+      -- each record is right, that of the transaction itself and that of another one
+      -- n is the place of the transaction, s its set and r its record
       one : (n : ℕ) (s : AnySet) (r : Option (Option ℕ)) → slice_get t.records n ≡ Some r → IsOnRecord (number ∷ waits) (n + 1) s r → IsOnRecord waits (n + 1) s r
       one n s (Some limit) here kept = kept
       one n s None here kept = among_one (n + 1) number waits kept (λ same.
@@ -64,12 +67,13 @@ module _ (t : Tabled) (b : Troubled) (number : ℕ) (waits : List ℕ) (given : 
     silent = λ n is. ap (λ rs. slice_get rs n) records ∙ one n (set_place b.deaf.items place n true true (ap (λ ds. slice_get ds n) (sym deaf) ∙ is));
   }
     where
-      -- of one record: that of the transaction itself, or of another one
+      -- no last moment is on record of the transaction itself, nor of another one in trouble
       one : (n : ℕ) → ((n ≡ place) × (true ≡ true)) ⊎ ((n ≢ place) × (slice_get b.deaf.items n ≡ Some true)) → slice_get (slice_set t.records place (Some None)) n ≡ Some (Some None)
       one n (inl (same, same_too)) = ap (slice_get (slice_set t.records place (Some None))) same ∙ set_here t.records place (Some None) (let low = inside in let long = h.long in let as_long = h.recorded.long in omega arith)
       one n (inr (other, is)) = set_other t.records place n (Some None) (Some None) other (h.silent n is)
 
 -- where an overdue transaction comes into trouble and its last moment is taken off the record, all are watched still
+-- t and b are the tables and the trouble before, and u and c those after
 pub watched_released : (t u : Tabled) (b c : Troubled) (number : ℕ) (waits : List ℕ) → IsGiven t number → AreWatched waits t b → (after : AnySet) → IsAgendaOf None after → c.deaf.items ≡ slice_set b.deaf.items (number - 1) true
     → u.keys ≡ t.keys → u.sets ≡ slice_set t.sets (number - 1) after → u.records ≡ slice_set t.records (number - 1) (Some None) → AreWatched waits u c
 watched_released t u b c number waits given h after agenda deaf keys sets records =
@@ -81,6 +85,7 @@ pub anew_sets : (t u : Tabled) (number : ℕ) (mid : AnySet) (key : KeyParts) �
 anew_sets t u number mid key sets = sets ∙ set_twice t.sets (number - 1) mid (start_of t.times key)
 
 -- where the set of a transaction was replaced, each other set is as it was
+-- t and u are the tables before and after, and n is the place of another transaction
 pub others_still : (t u : Tabled) (number : ℕ) (after : AnySet) → IsGiven t number → u.sets ≡ slice_set t.sets (number - 1) after → (n : ℕ) → n + 1 ≢ number → slice_get u.sets n ≡ slice_get t.sets n
 others_still t u number after given sets n other =
     let low = given.low in ap (λ xs. slice_get xs n) sets ∙ set-other t.sets (number - 1) n after (λ same. other (omega (arith, same, low)))
@@ -94,10 +99,12 @@ passes_with texts t u place moment after may low known keys sets = record {
 }
 
 -- where an entry may pass tables, it may pass them with a set that starts anew
+-- t and u are the tables before and after, and q is the times by which the set starts
 pub passes_anew : (texts : Texts) (t u : Tabled) (place moment : ℕ) (key : KeyParts) (q : Times) → MayPass texts t moment → u.keys ≡ t.keys → u.sets ≡ slice_set t.sets place (start_of q key) → MayPass texts u moment
 passes_anew texts t u place moment key q may keys sets =
     passes_with texts t u place moment (start_of q key) may (let at = start_at q key in omega arith) (start_known texts q key) keys sets
 
 -- transactions that are watched while few are still to hear are watched while more are
+-- t and b are the tables and the trouble
 pub watched_more : (few more : List ℕ) (t : Tabled) (b : Troubled) → ((n : ℕ) → is_among few n ≡ true → is_among more n ≡ true) → AreWatched few t b → AreWatched more t b
 watched_more few more t b among h = record { long = h.long; recorded = recorded_more few more t among h.recorded; silent = h.silent }

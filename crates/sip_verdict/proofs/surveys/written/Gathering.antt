@@ -75,22 +75,24 @@ survey_without : (part : Option PartOf) (input : List ℕ) (end : SurveyEnd) →
 survey_without None input end lacks same = inl (lacks, refl, same)
 survey_without (Some part) input end lacks same = inl (lacks, refl, same)
 
--- What follows is of a survey that has read some items, and what it has found.
+-- What follows is of a survey, `s`, that has read some items of a log or of a part of it, and of what it has found; `now` is the state of its reader.
 module _ (part : Option PartOf) (start : Option (List ℕ)) (now : log.ReaderState) (s : Surveying) (found : List Finding) (read : SurveysRead part s found start now) where
   -- where one more item was read and taken, and these findings were made at it, the survey has read that item too
-  unfoldable pub found_on : (e cut : Entry) (new : log.ReaderState) → HasRead start s.tables.times (read.items ++ item e ∷ []) new → IsTaken part (item e) (item cut) → (k : Surveying) → k.tables.times ≡ s.tables.times
+  unfoldable pub found_on : (i : Item) (cut : Entry) (new : log.ReaderState) → HasRead start s.tables.times (read.items ++ i ∷ []) new → IsTaken part i (item cut) → (k : Surveying) → k.tables.times ≡ s.tables.times
       → (seen : Observation KeyParts) (here : List Finding) → Sees read.es (item cut) seen → AreFoundAt s.tables.times read.es seen here → SurveysFor k (read.es ++ seen ∷ [])
       → SurveysRead part k (found ++ here) start new
-  found_on e cut new more is_taken k times seen here observed are stands =
+  found_on i cut new more is_taken k times seen here observed are stands =
       let p = s.tables.times in
       record {
-        items = read.items ++ item e ∷ [];
+        items = read.items ++ i ∷ [];
         taken = read.taken ++ item cut ∷ [];
         es = read.es ++ seen ∷ [];
-        are_taken = taken_push part read.items read.taken (item e) (item cut) read.are_taken is_taken;
+        -- the entry is seen after the others, and the survey stands after it
+        are_taken = taken_push part read.items read.taken i (item cut) read.are_taken is_taken;
         seen = seen-push [] read.taken read.es (item cut) seen read.seen observed;
         follows = stands;
-        read = subst (λ t. HasRead start t (read.items ++ item e ∷ []) new) (sym times) more;
+        read = subst (λ t. HasRead start t (read.items ++ i ∷ []) new) (sym times) more;
+        -- with what comes later the findings are those of all
         front = λ rest close later end left.
             let after : IsSurveyAfter p (read.es ++ seen ∷ []) rest close later end = subst (λ t. IsSurveyAfter t (read.es ++ seen ∷ []) rest close later end) times left in
             let whole : IsSurveyAfter p [] (read.taken ++ item cut ∷ rest) close (found ++ (here ++ later)) end =
@@ -108,7 +110,7 @@ module _ (part : Option PartOf) (start : Option (List ℕ)) (now : log.ReaderSta
       → SurveysRead part k items start new
   gathered_on e cut new more is_taken k times items says =
       let (seen, here, observed, are, same, stands) = says read.es read.follows in
-      subst (λ fs. SurveysRead part k fs start new) (sym same) (found_on e cut new more is_taken k times seen here observed are stands)
+      subst (λ fs. SurveysRead part k fs start new) (sym same) (found_on (item e) cut new more is_taken k times seen here observed are stands)
 
   -- where the log ends after the items that were read, what was found is the survey of the input, or of the part
   pub gathered_of : (close : LogEnd) (end : SurveyEnd) → IsSurveyAfter s.tables.times read.es [] close [] end → (input : List ℕ) → LogSays input s.tables.times read.items close → IsSurveyIn part input found end
@@ -147,7 +149,7 @@ trouble-counted p front e (FaultOfLog entry reason) is none = is
 none-some : (n : ℕ) → None ≡ Some n → ⊥
 none-some n same = cc
 
--- the verdict on the entries of a log is of an entry above 0
+-- no verdict on the entries of a log is of the entry 0
 counted : (p : Times) (es : List (Observation KeyParts)) (items : List Item) (close : LogEnd) (v : Verdict) → IsVerdictAfter p es items close v → trouble_of v ≡ Some 0 → ⊥
 counted p es [] Clean v is none = none-some 0 (sym (ap trouble_of is) ∙ none)
 counted p es [] (Stops fault) v is none = let same = same_Some (length es + 1) 0 (sym (ap trouble_of is) ∙ none) in omega (arith, same)

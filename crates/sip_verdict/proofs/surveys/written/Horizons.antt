@@ -18,6 +18,7 @@ horizon_push m es e are later =
     let long = length-append es (e ∷ []) in
     let low = are.inside in
     let below = are.until_inside in
+    -- the first entries are the same, and their newest moment is
     record {
       inside = omega (arith, long, low);
       at = ap newest_moment (take-append-le m.number es (e ∷ []) are.inside) ∙ are.at;
@@ -25,7 +26,7 @@ horizon_push m es e are later =
       long_ago = by are.long_ago;
     }
   where
-    -- the horizon has no moment yet, or was long ago
+    -- after one entry more the horizon still has no moment, or was long ago
     by : (m.until ≡ 0) ⊎ IsLongAgo m.age m.until es → (m.until ≡ 0) ⊎ IsLongAgo m.age m.until (es ++ e ∷ [])
     by (inl none) = inl none
     by (inr ago) =
@@ -39,6 +40,7 @@ horizon_kept kept m es are =
     let long = long_kept kept es in
     let low = are.inside in
     let below = are.until_inside in
+    -- the first entries have the same newest moment, whichever transactions are remembered
     record {
       inside = omega (arith, long, low);
       at = same m.number ∙ are.at;
@@ -46,11 +48,11 @@ horizon_kept kept m es are =
       long_ago = by are.long_ago;
     }
   where
-    -- the first entries are as new, however their keys are forgotten
+    -- the newest moment of the first entries is the same, whichever keys are remembered
     same : (n : ℕ) → newest_moment (take n (remembered kept es)) ≡ newest_moment (take n es)
     same n = ap newest_moment (take-map (λ e. record { fault = e.fault; event = e.event; keys = filter kept e.keys }) n es) ∙ newest_kept kept (take n es)
 
-    -- the horizon has no moment yet, or was long ago
+    -- after some keys are forgotten the horizon still has no moment, or was long ago
     by : (m.until ≡ 0) ⊎ IsLongAgo m.age m.until es → (m.until ≡ 0) ⊎ IsLongAgo m.age m.until (remembered kept es)
     by (inl none) = inl none
     by (inr ago) =
@@ -63,6 +65,7 @@ pub horizon_left : (m n : Horizon) (es : List (Observation KeyParts)) → IsHori
 horizon_left m n es are age until number moment =
     let low = are.inside in
     let below = are.until_inside in
+    -- the first entries are the same, and their newest moment is
     record {
       inside = omega (arith, number, low);
       at = ap (λ i. newest_moment (take i es)) number ∙ are.at ∙ sym moment;
@@ -70,7 +73,7 @@ horizon_left m n es are age until number moment =
       long_ago = by are.long_ago;
     }
   where
-    -- the horizon has no moment yet, or was long ago
+    -- the new horizon has no moment, or was long ago, as the old one
     by : (m.until ≡ 0) ⊎ IsLongAgo m.age m.until es → (n.until ≡ 0) ⊎ IsLongAgo n.age n.until es
     by (inl none) = inl (until ∙ none)
     by (inr ago) = let before = ap (λ i. newest_moment (take i es)) until in inr (omega (arith, before, age, ago))
@@ -79,6 +82,7 @@ horizon_left m n es are age until number moment =
 pub came_long_ago : (m : Horizon) (es : List (Observation KeyParts)) → IsHorizonOf m es → m.until ≢ 0 → IsLongAgo m.age m.until es
 came_long_ago m es are some = by are.long_ago
   where
+    -- the horizon was long ago, since `until` is not 0
     by : (m.until ≡ 0) ⊎ IsLongAgo m.age m.until es → IsLongAgo m.age m.until es
     by (inl none) = absurd (some none)
     by (inr ago) = ago

@@ -45,7 +45,9 @@ pub remembers_none : (age : ℕ) (part : Option PartOf) (p : Times) (s : Surveyi
 remembers_none age part p s start now times stands read =
     record { items = []; es = []; times = times; follows = stands; read = read; front = λ rest close later end more told. told }
 
--- What follows is of a survey that has read some items and forgotten some transactions, what it has found, and its lines.
+-- What follows is of a survey, `s`, that has read some items and forgotten transactions whose last entry is older by `age` than the newest: `found` is what
+-- it has found,
+-- `lines` is what it has written, and `now` is the state of its reader.
 module _ (age : ℕ) (part : Option PartOf) (p : Times) (start : Option (List ℕ)) (now : log.ReaderState) (s : Surveying) (found : List Finding) (lines : List ℕ) (so : RemembersRead age part p s found lines start now) where
   -- where transactions may have been forgotten, one more item was read and surveyed, and its lines were written, the survey has read that item too
   pub remembers_on : (m : Horizon) → IsHorizonOf m so.es → m.age ≡ age
@@ -53,6 +55,7 @@ module _ (age : ℕ) (part : Option PartOf) (p : Times) (start : Option (List �
       → (f k : Surveying) (a b : Horizon) → f.tables.times ≡ s.tables.times → k.tables.times ≡ f.tables.times → f.moment ≤ k.moment
       → ((es : List (Observation KeyParts)) → SurveysFor s es → IsHorizonOf m es
       → (left : List (Observation KeyParts)) × IsLeftOf m.age s.tables.times es left × SurveysFor f left × IsHorizonOf a left)
+      -- what was found at the entry, and the lines that were written
       → HasRoom f.number (length f.tables.keys) → (items : List Finding)
       → ((es : List (Observation KeyParts)) → SurveysFor f es → (seen : Observation KeyParts) × (here : List Finding) × Sees es (item cut) seen
       × AreFoundAt f.tables.times es seen here × (items ≡ here) × SurveysFor k (es ++ seen ∷ []))
@@ -67,6 +70,7 @@ module _ (age : ℕ) (part : Option PartOf) (p : Times) (start : Option (List �
       let found_here : AreFoundAt p left seen items = subst (AreFoundAt p left seen) (sym same) (subst (λ t. AreFoundAt t left seen here) (f_times ∙ so.times) are) in
       let text_is : IsTextOf (left ++ seen ∷ []) items text = found_text k p left seen k_stands items text (λ g has. (found_here.1 g).0 has) are_lines in
       let has_room : HasRoom (length left) (length (keys_in left)) = subst (λ keys. HasRoom (length left) (length keys)) f_stands.follows.tracks.keys (subst (λ n. HasRoom n (length f.tables.keys)) f_stands.number room) in
+      -- f_now and k_now are the moments at which the survey stands before the entry and after it
       let f_now = f_stands.moment in
       let k_now = k_stands.moment in
       let newest = newest_moment-push left seen in (
@@ -77,6 +81,7 @@ module _ (age : ℕ) (part : Option PartOf) (p : Times) (start : Option (List �
           times = k_times ∙ f_times ∙ so.times;
           follows = k_stands;
           read = more;
+          -- with what comes later the text is that of the whole
           front = λ rest close later end further told.
               let whole : IsToldAfter age part p [] (so.items ++ item e ∷ rest) close (found ++ (items ++ later)) end (lines ++ (text ++ further)) =
               so.front (item e ∷ rest) close (items ++ later) end (text ++ further)
@@ -88,10 +93,12 @@ module _ (age : ℕ) (part : Option PartOf) (p : Times) (start : Option (List �
         notes (left ++ seen ∷ []) (horizon_push a left seen f_horizon (omega (arith, f_now, k_now, newest, moves))) k_stands,
       )
 
-  -- What follows is of the end of the survey, and its summary.
+  -- What follows is of the end of the survey: `counts` are what its lines count, `summary` is what it tells last, and `before`, `mid` and `after` are the
+  -- sink
+  -- before its lines, after them, and after the summary.
   module _ (counts : Counts) (summary : Summary) (before mid after : Option (List ℕ)) (told : AreTold found lines counts before mid)
       (findings : summary.findings ≡ counts.findings) (undecided : summary.undecided ≡ counts.undecided) where
-    -- this is told of the whole input
+    -- where the lines tell the findings of the whole input, and the last line is written, the survey of the input is written and summed up
     all_written : (end : SurveyEnd) → summary.end ≡ end → Appends mid after (end_text end counts.findings)
         → IfSome start (λ input. (items : List Item) × (close : LogEnd) × StreamSays input p items close × IsToldAfter age part p [] items close found end lines)
         → IfSome start (λ input. IsWrittenForgetting age part input summary before after)
@@ -99,6 +106,7 @@ module _ (age : ℕ) (part : Option PartOf) (p : Times) (start : Option (List �
         let text = lines ++ end_text end (length found) in
         IfSome-map start (λ input. (items : List Item) × (close : LogEnd) × StreamSays input p items close × IsToldAfter age part p [] items close found end lines)
         (λ input. IsWrittenForgetting age part input summary before after)
+        -- the findings have this text, and the summary sums them up
         (λ input w. record {
           found = found;
           text = text;
@@ -107,7 +115,7 @@ module _ (age : ℕ) (part : Option PartOf) (p : Times) (start : Option (List �
           written = Appends-trans before mid after lines (end_text end (length found)) told.written (subst (λ n. Appends mid after (end_text end n)) told.findings last);
         }) whole
 
-    -- these are all entries, and this is the end after them
+    -- where nothing is found or written after the entries that were read, what was found and written so far is all of the whole log
     at_end : (rest : List Item) (close : LogEnd) (end : SurveyEnd) → IsToldAfter age part p so.es rest close [] end [] → IsToldAfter age part p [] (so.items ++ rest) close found end lines
     at_end rest close end left =
         subst (IsToldAfter age part p [] (so.items ++ rest) close found end) (append-nil lines) (subst (λ fs. IsToldAfter age part p [] (so.items ++ rest) close fs end (lines ++ [])) (append-nil found) (so.front rest close [] end [] left))
@@ -126,11 +134,13 @@ module _ (age : ℕ) (part : Option PartOf) (p : Times) (start : Option (List �
         → ¬ (HasRoom f.number (length f.tables.keys)) → (number : ℕ) → number ≡ f.number + 1 → summary.end ≡ ended.LogFault number Limit → Appends mid after (end_text (ended.LogFault number Limit) counts.findings)
         → IfSome start (λ input. IsWrittenForgetting age part input summary before after)
     remembers_full m horizon_is aged e new more f a forgets no_room number next is last =
+        -- what is left after the forgetting fills the room
         let (left, left_is, f_stands, f_horizon) = forgets so.es so.follows horizon_is in
         let is_left : IsLeftOf age p so.es left = subst (λ t. IsLeftOf age t so.es left) so.times (subst (λ n. IsLeftOf n s.tables.times so.es left) aged left_is) in
         let full : ¬ (HasRoom (length left) (length (keys_in left))) =
         subst (λ keys. ¬ (HasRoom (length left) (length keys))) f_stands.follows.tracks.keys (subst (λ n. ¬ (HasRoom n (length f.tables.keys))) f_stands.number no_room) in
         let at : ended.LogFault number Limit ≡ ended.LogFault (length left + 1) Limit = ap (λ n. ended.LogFault n Limit) (next ∙ ap (λ n. n + 1) f_stands.number) in
+        -- the survey ends with the fault Limit at this number
         all_written (ended.LogFault number Limit) is last (IfSome-map start (λ input. (rest : List Item) × (close : LogEnd) × StreamSays input p ((so.items ++ item e ∷ []) ++ rest) close)
         (λ input. (items : List Item) × (close : LogEnd) × StreamSays input p items close × IsToldAfter age part p [] items close found (ended.LogFault number Limit) lines)
         (λ input w. (
@@ -158,6 +168,7 @@ pub remembers_header : (age : ℕ) (part : Option PartOf) (start : Option (List 
     → Appends before after (end_text (ended.LogFault 0 Header) counts.findings) → IfSome start (λ input. IsWrittenForgetting age part input summary before after)
 remembers_header age part start v counts summary before after is none no_findings no_undecided end findings undecided last =
     IfSome-map start (λ input. IsVerdictOf input v) (λ input. IsWrittenForgetting age part input summary before after)
+    -- nothing is found, and the text is the last line
     (λ input verdict. record {
       found = [];
       text = end_text summary.end 0;

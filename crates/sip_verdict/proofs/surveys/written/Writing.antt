@@ -8,6 +8,7 @@ use Rattle.sip_standard.specs.Key.{KeyParts}
 use Rattle.sip_standard.specs.Times.{Times}
 use Rattle.sip_part.specs.Part.{PartOf}
 use Rattle.sip_log.specs.declared.entry.Entry.{Entry}
+use Rattle.sip_standard.specs.LogEntry.{Item}
 use Rattle.sip_standard.specs.LogSays.{LogEnd, Clean, Stops, LogSays, line_feed}
 use Rattle.sip_log.specs.Told.{item}
 use Rattle.sip_log.proofs.answers.ReadingLemmas.{IfSome-map}
@@ -52,7 +53,8 @@ told_more found here lines text a b before mid after told counted written =
     let four = counted.undecided in
     record { findings = omega (arith, long, one, two); undecided = omega (arith, undecided, three, four); written = Appends-trans before mid after lines text told.written written }
 
--- where findings are counted, and one finding more is, all of them are counted
+-- where the findings were counted, and then one finding more, all of them are counted
+-- a counts before the findings, b after them, and c after the finding f more; o is what the code answers
 pub counted_more : (found : List Finding) (f : Finding) (a b c : Counts) (o : Option Counts) → AreCounted found a b → IfSome o (AreCounted (f ∷ []) b) → o ≡ Some c → AreCounted (found ++ f ∷ []) a c
 counted_more found f a b c o told one is =
     let next = subst (λ x. IfSome x (AreCounted (f ∷ []) b)) is one in
@@ -84,10 +86,11 @@ line_with-told : (s : Surveying) (f : Finding) (number : ℕ) (told : Option Tra
 line_with-told s f number told line tells is es stands P (before, key, rest, whole, holds, counts) =
     by told (subst (λ o. IfSome o (λ k. IsSomeAnd told (λ t. (t.key.now ≡ k) × IsFirstOf es k t.first t.branch.now × IsLastOf es k t.last))) at (tells es stands (omega (arith, counts)))) is
   where
+    -- the key stands at the place of its number
     at : slice_get (keys_in es) (number - 1) ≡ Some key
     at = ap (slice_get (keys_in es)) (let n : number - 1 ≡ length before = omega (arith, counts) in n) ∙ ap (λ ks. slice_get ks (length before)) whole ∙ middle_place before key rest
 
-    -- the survey has the transaction, and so the words of its line
+    -- the line has the words of the transaction, which the survey has
     by : (o : Option Transaction) → IsSomeAnd o (λ t. (t.key.now ≡ key) × IsFirstOf es key t.first t.branch.now × IsLastOf es key t.last) → line ≡ line_with f o
         → (words : List ℕ) × HoldsOf (AreWordsOf es words) (keys_in es) number × (line ≡ rendered (verdict_of f) ++ words ++ line_feed ∷ [])
     by None none same = absurd none
@@ -111,6 +114,7 @@ found_text s p es e stands (f ∷ found) text at (line, more, is, are, whole) =
     let here = at f (0, omega arith, refl) in (
       es ++ e ∷ [],
       [],
+      -- the first finding is of the newest entry, and so are the others
       line,
       more,
       sym (append-nil (es ++ e ∷ [])),
@@ -139,6 +143,7 @@ text_append es (f ∷ found) here a b (front, rest, line, lines, whole, counts, 
     (front, rest, line, lines ++ b, whole, counts, is, text_append es found here lines b more are, ap (λ t. t ++ b) text_is ∙ append_assoc line lines b)
 
 -- where the last line was written with these counts, the answer's sums are right, and P holds of them
+-- r is the result of the whole call, and Q what holds where it wrote all
 pub summed : {E Q : Type 0} {P : Summary → Type 0} (r : Result Summary E) (counts : Counts) (end : SurveyEnd)
     → IfOk r (λ s. (s.end ≡ end) × (s.findings ≡ counts.findings) × (s.undecided ≡ counts.undecided)) → OnOk r Q
     → ((s : Summary) → s.end ≡ end → s.findings ≡ counts.findings → s.undecided ≡ counts.undecided → Q → P s) → IfOk r P
@@ -160,28 +165,32 @@ pub record ToldSoFar (part : Option PartOf) (s : Surveying) (found : List Findin
 pub told_nothing : (part : Option PartOf) (s : Surveying) (start : Option (List ℕ)) (now : log.ReaderState) → SurveysRead part s [] start now → ToldSoFar part s [] [] start now
 told_nothing part s start now read = record { read = read; lines_are = refl }
 
--- What follows is of a survey that has read some items, what it has found, and its lines.
+-- What follows is of a survey, `s`, that has read some items: `found` is what it has found, `lines` what it has written, and `now` the state of its reader.
 module _ (part : Option PartOf) (start : Option (List ℕ)) (now : log.ReaderState) (s : Surveying) (found : List Finding) (lines : List ℕ) (told_so : ToldSoFar part s found lines start now) where
   -- what the survey has read so far
   abbrev pub read : SurveysRead part s found start now
   read = told_so.read
 
   -- where one more item was read and surveyed, and its lines were written, the survey has read and told that item too
-  pub surveys_on : (e cut : Entry) (new : log.ReaderState) → HasRead start s.tables.times (read.items ++ item e ∷ []) new → IsTaken part (item e) (item cut) → (k : Surveying) → k.tables.times ≡ s.tables.times
+  pub surveys_on : (i : Item) (cut : Entry) (new : log.ReaderState) → HasRead start s.tables.times (read.items ++ i ∷ []) new → IsTaken part i (item cut) → (k : Surveying) → k.tables.times ≡ s.tables.times
       → (items : List Finding)
+      -- what was found at the entry, and the lines of that
       → ((es : List (Observation KeyParts)) → SurveysFor s es → (seen : Observation KeyParts) × (here : List Finding) × Sees es (item cut) seen
       × AreFoundAt s.tables.times es seen here × (items ≡ here) × SurveysFor k (es ++ seen ∷ []))
       → (text : List ℕ) → AreLinesBy k items text → ToldSoFar part k (found ++ items) (lines ++ text) start new
   unfolding found_on
-  surveys_on e cut new more is_taken k times items says text are_lines =
+  surveys_on i cut new more is_taken k times items says text are_lines =
       let (seen, here, observed, are, same, stands) = says read.es read.follows in
+      -- the survey has read the item, and its lines are those before and these
       subst (λ fs. ToldSoFar part k (found ++ fs) (lines ++ text) start new) (sym same) (record {
-        read = found_on part start now s found read e cut new more is_taken k times seen here observed are stands;
+        read = found_on part start now s found read i cut new more is_taken k times seen here observed are stands;
         lines_are = text_append (read.es ++ seen ∷ []) found here lines text (text_more read.es (seen ∷ []) found lines told_so.lines_are)
             (found_text k s.tables.times read.es seen stands here text (λ f has. (are.1 f).0 has) (subst (λ fs. AreLinesBy k fs text) same are_lines));
       })
 
-  -- What follows is of the end of the survey, and its summary.
+  -- What follows is of the end of the survey: `counts` are what its lines count, `summary` is what it tells last, and `before`, `mid` and `after` are the
+  -- sink
+  -- before its lines, after them, and after the summary.
   module _ (counts : Counts) (summary : Summary) (before mid after : Option (List ℕ)) (told : AreTold found lines counts before mid)
       (findings : summary.findings ≡ counts.findings) (undecided : summary.undecided ≡ counts.undecided) where
     -- where the log ends after the items that were read, and the last line is written, the survey is written and summed up
@@ -192,6 +201,7 @@ module _ (part : Option PartOf) (start : Option (List ℕ)) (now : log.ReaderSta
         IfSome-map start (λ input. LogSays input s.tables.times read.items close) (λ input. IsWritten part input summary before after)
         (λ input says.
         let survey : IsSurveyIn part input found end = gathered_of part start now s found read close end left input says in
+        -- the survey is that of the input
         record {
           found = found;
           text = text;
@@ -219,6 +229,7 @@ pub surveys_header : (part : Option PartOf) (start : Option (List ℕ)) (v : Ver
     → Appends before after (end_text (ended.LogFault 0 Header) counts.findings) → IfSome start (λ input. IsWritten part input summary before after)
 surveys_header part start v counts summary before after is none no_findings no_undecided end findings undecided last =
     IfSome-map start (λ input. IsVerdictOf input v) (λ input. IsWritten part input summary before after)
+    -- nothing is found, and the text is the last line
     (λ input verdict. record {
       found = [];
       text = end_text summary.end 0;
@@ -243,6 +254,7 @@ all_told part S (Ok summary) start before after writes read = as_told part start
 all_told part S (Err e) start before after writes read = tt
 
 -- where a reader or a writer had not failed before, and an answer leaves that as it was, it has not failed after
+-- r is the answer, `old` and `new` say whether there was a failure before and after, and Q is what else the answer says
 pub still_fine : {A E : Type 0} (Q : Type 0) (r : Result A E) (old new : Bool) → OnOk r ((new ≡ old) × Q) → old ≡ false → OnOk r ((new ≡ false) × Q)
 still_fine Q (Ok a) old new fine before = (fine.0 ∙ before, fine.1)
 still_fine Q (Err e) old new fine before = tt

@@ -6,8 +6,8 @@ use Rattle.sip_verdict.proofs.sweeps.SweptBook.{within_keeps}
 use Rattle.sip_verdict.proofs.sweeping.judge_next.Goals as goal
 
 -- where no sweep is due yet, the judge follows the entries as it did, and the book has few enough messages
-pub returns-then-kept-left-clause-judged : goal.returns-then-kept-left-clause-judged
-returns-then-kept-left-clause-judged g c =
+pub returns-then-not-is_slow-clause-judged : goal.returns-then-not-is_slow-clause-judged
+returns-then-not-is_slow-clause-judged g c =
     let s = c.args.standing.now in
     let mid = c.judge.new.self in
     let e = c.args.entry.now in
@@ -24,7 +24,7 @@ returns-clause-may g c =
     let swept = c.in_ok-sweep.ensures in
     swept_take mid.book new.book mid.tables new.tables (e.number + 1) e.moment (rw c.in_default.is at c.in_ok-verdict.ensures.may) swept.may swept.recorded (within_keeps mid.book new.book swept.fewer) swept.keys
 
--- no more messages are left than there are entries
+-- the book keeps at most as many messages as there were entries
 pub returns-clause-left : goal.returns-clause-left
 returns-clause-left g c =
     let may = rw c.in_default.is at c.in_ok-verdict.ensures.may in
@@ -32,7 +32,7 @@ returns-clause-left g c =
     let high = c.kept-2.ensures.few (c.args.entry.now.number + 1) (λ n keeps. may.numbered n (fewer n keeps)) in
     omega (arith, high, c.requires.count)
 
--- an entry without keys leaves the book no more than it had
+-- after an entry without keys the book has no message that is new
 pub returns-clause-keyless : goal.returns-clause-keyless
 returns-clause-keyless g c none =
     let old = c.args.standing.now.book in
@@ -41,11 +41,13 @@ returns-clause-keyless g c none =
 
 -- after a sweep the judge follows the entries, and `left` is how many messages the book kept
 pub returns-clause-judged : goal.returns-clause-judged
+-- s is what stands before the entry e, `mid` after it, and `new` after the sweep
 returns-clause-judged g c =
     let s = c.args.standing.now in
     let mid = c.judge.new.self in
     let new = c.sweep.new.self in
     let e = c.args.entry.now in
+    -- `swept` says what a sweep keeps of what was judged
     let swept = c.in_ok-sweep.ensures in
     followed_swept s.book mid.book s.tables mid.tables c.in_ok-verdict.ensures.times e.number (item e) (rw c.in_default.is at c.in_ok-verdict.ensures.judged) new.book new.tables swept.times swept.tracks swept.named
     c.kept-2.result c.kept-2.ensures.kept c.args.left.now

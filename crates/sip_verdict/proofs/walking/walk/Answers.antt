@@ -35,6 +35,7 @@ loop-standing-init g c =
       fine = c.in_ok-opened.ensures.ok;
       on = reads.on;
       counts = sym (rw c.in-Ok.is at c.in_ok-opened.ensures.first).0;
+      -- no entry was read, and the aim is not entry 0
       few = omega arith;
       left = omega arith;
       before = λ n is.
@@ -63,12 +64,15 @@ judge_on-requires-clause-may g c =
 -- the entry is the aim, and what is listed of it is the answer
 pub returns-then-is_entry-2-clause-answer : goal.returns-then-is_entry-2-clause-answer
 returns-then-is_entry-2-clause-answer g c =
+    -- l is what stands at the start of the loop's turn; `start` is what the source had left at first
     let l = c.loop-standing in
     let start = g.R.Source.left c.args.reader.now in
+    -- `old` and `new` are how far the log was read, before the entry and after it
     let old : log.ReaderState = beside_source l.progress (g.R.Source.left l.reader) (g.R.Source.has_failed l.reader) in
     let new : log.ReaderState = beside_source c.read_next.new.progress (g.R.Source.left c.read_next.new.reader) (g.R.Source.has_failed c.read_next.new.reader) in
     let walks = l.invariant.walks in
     let moves = rw c.in-Entry.is at c.in_ok-entry.ensures.moves in
+    -- the entry's number is one more than the count so far, which is the aim, and the listing is that of its keys
     walks_listed c.args.aim start old l.count l.left l.standing.book l.standing.tables walks c.in-Entry.entry (moves.1.number_is ∙ ap (λ n. n + 1) (sym l.invariant.counts)) moves.1.order new
     ((rw c.in-Entry.is at c.in_ok-entry.ensures.gives) start l.standing.tables.times walks.items walks.read) c.in_ok-list-in-Entry.field-0 (c.is_entry-in-Entry.ensures.is c.if-is_entry-2.true) c.in_ok-list-in-Entry.ensures.listed
 
@@ -79,6 +83,7 @@ returns-in-Some-clause-answer g c =
     let start = g.R.Source.left c.args.reader.now in
     let old : log.ReaderState = beside_source l.progress (g.R.Source.left l.reader) (g.R.Source.has_failed l.reader) in
     let new : log.ReaderState = beside_source c.read_next.new.progress (g.R.Source.left c.read_next.new.reader) (g.R.Source.has_failed c.read_next.new.reader) in
+    -- the walk so far: what was read, and the judge before the entry and after it
     let walks = l.invariant.walks in
     let moves = rw c.in-Entry.is at c.in_ok-entry.ensures.moves in
     let now = c.judge_on.new in
@@ -93,6 +98,7 @@ loop-standing-preserved g c =
     let start = g.R.Source.left c.args.reader.now in
     let old : log.ReaderState = beside_source l.progress (g.R.Source.left l.reader) (g.R.Source.has_failed l.reader) in
     let new : log.ReaderState = beside_source c.read_next.new.progress (g.R.Source.left c.read_next.new.reader) (g.R.Source.has_failed c.read_next.new.reader) in
+    -- the entry has the next number, which is not that of the aim
     let walks = l.invariant.walks in
     let e = c.in-Entry.entry in
     let moves = subst (MovesOn l.progress c.read_next.new.progress) c.in-Entry.is c.in_ok-entry.ensures.moves in
@@ -102,12 +108,14 @@ loop-standing-preserved g c =
       fine = c.in_ok-entry.ensures.ok ∙ l.invariant.fine;
       on = moves.0;
       counts = sym moves.2;
+      -- one entry more was judged, and the next may be taken
       few = (let low = moves.4 in let count = moves.1.number_is in omega (arith, low, count));
       left = c.in_ok-verdict-in-Entry.ensures.left;
       before = λ n is.
           let low = l.invariant.before n is in
           let apart : e.number ≢ n = λ same. c.is_entry-in-Entry.ensures.is_not c.if-is_entry-2.false (is ∙ ap aim.Entry (sym same)) in
           omega (arith, low, apart, next);
+      -- the walk goes on over the entry
       may = subst (λ m. MayTake now.standing.book now.standing.tables (e.number + 1) m) (sym moves.3) (subst (λ (v : Option Verdict). IfNone v (MayTake now.standing.book now.standing.tables (e.number + 1) e.moment)) c.in_default.is c.in_ok-verdict-in-Entry.ensures.may);
       walks = walks_on c.args.aim start old l.count l.left l.standing.book l.standing.tables walks e next moves.1.order new
           (subst (WalkGives start l.standing.tables.times walks.items new) c.in-Entry.is (c.in_ok-entry.ensures.gives start l.standing.tables.times walks.items walks.read)) now.left now.standing.book now.standing.tables
@@ -117,6 +125,7 @@ loop-standing-preserved g c =
 -- where the log ends before the aim, the walk tells how many entries and transactions there were
 pub returns-in-End-clause-answer : goal.returns-in-End-clause-answer
 returns-in-End-clause-answer g c =
+    -- l is how the walk stands, start is the whole input, and old how far the log was read before this entry
     let l = c.loop-standing in
     let start = g.R.Source.left c.args.reader.now in
     let old : log.ReaderState = beside_source l.progress (g.R.Source.left l.reader) (g.R.Source.has_failed l.reader) in
@@ -127,6 +136,7 @@ returns-in-End-clause-answer g c =
 -- where the next entry cannot be read, the walk's answer is that fault
 pub returns-in-Fault-clause-answer : goal.returns-in-Fault-clause-answer
 returns-in-Fault-clause-answer g c =
+    -- l is how the walk stands, start is the whole input, and old how far the log was read before this entry
     let l = c.loop-standing in
     let start = g.R.Source.left c.args.reader.now in
     let old : log.ReaderState = beside_source l.progress (g.R.Source.left l.reader) (g.R.Source.has_failed l.reader) in

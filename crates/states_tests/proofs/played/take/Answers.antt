@@ -12,4 +12,4 @@ returns-clause-known c =
 -- the set has come to the moment of the entry
 pub returns-clause-order : goal.returns-clause-order
 returns-clause-order c =
-    moment-after c.args.entry.0 c.args.set.now c.take.new.self c.take.result (rw c.of-event.ensures at c.take.ensures.at) c.take.ensures.err c.requires.order
+    moment-after c.args.entry.0 c.args.set.now c.take.new.self c.take.result (rw c.in_ok-event.ensures.0 at c.take.ensures.at) c.take.ensures.err c.requires.order

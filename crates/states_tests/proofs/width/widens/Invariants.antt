@@ -4,5 +4,6 @@ use Rattle.sip_machine.specs.Owing.{owing_names}
 use Rattle.sip_machine.specs.inner.InviteServer.{invite_server_names}
 use Rattle.states_tests.proofs.width.widens.Given as goal
 
+-- the set has not come past the moment of the last send, and the book has what its states name
 abbrev pub invariant-loop-sends : goal.invariant-loop-sends
 invariant-loop-sends l = (l.set.moment ≤ l.first + l.sends) × All (Knows (owing_names invite_server_names) l.book) l.set.states

@@ -12,6 +12,7 @@ made : (c : In_ok-extend_from_slice) → let text = c.extend_from_slice.new.self
 made c =
     let branch = c.args.branch.now in
     let head = key_head Client (length branch) (length c.args.method.now) in
+    -- the role, the lengths and the branch, folded, stand before the method, with no sent-by
     let begun = c.fold.new.text.items in
     let begun_is : begun ≡ head ++ folded (branch ++ []) =
     c.fold.ensures ∙ ap folded (c.in_ok-text.ensures ∙ sym (append-nil (head ++ branch))) ∙ begun_folded Client (length branch) (length c.args.method.now) branch [] in
@@ -19,8 +20,10 @@ made c =
     (built Client branch [] [] c.args.method.now begun c.extend_from_slice.new.self.items begun_is
     (c.in_ok-extend_from_slice.ensures.items ∙ ap (λ text. text ++ c.args.method.now) (sym (append-nil begun))))
 
+-- the text that was made keeps what is always true of a key
 pub invariant_of-result : goal.invariant_of-result
 invariant_of-result c = (made (goal.at.invariant_of-result c).In_ok-extend_from_slice).1
 
+-- the key is that of the client with this branch and method
 pub returns : goal.returns
 returns c = (made (goal.at.returns c).In_ok-extend_from_slice).0

@@ -16,6 +16,7 @@ made c =
     let branch = c.args.branch.now in
     let host = c.args.host.now in
     let head = key_head Server (length branch) (length c.args.method.now) in
+    -- the role, the lengths, the branch and the host, folded, stand before the port and the method
     let begun = c.fold.new.text.items in
     let begun_is : begun ≡ head ++ folded (branch ++ host) =
     c.fold.ensures ∙ ap folded (c.in_ok-extend_from_slice.ensures.items ∙ ap (λ text. text ++ host) c.in_ok-text.ensures) ∙ begun_folded Server (length branch) (length c.args.method.now) branch host in
@@ -25,8 +26,10 @@ made c =
     (built Server branch host port c.args.method.now begun c.extend_from_slice-2.new.self.items begun_is
     (c.in_ok-extend_from_slice-2.ensures.items ∙ ap (λ text. text ++ c.args.method.now) ported))
 
+-- the text that was made keeps what is always true of a key
 pub invariant_of-result : goal.invariant_of-result
 invariant_of-result c = (made (goal.at.invariant_of-result c).In_ok-extend_from_slice-2).1
 
+-- the key is that of the server with this branch, sent-by and method
 pub returns : goal.returns
 returns c = (made (goal.at.returns c).In_ok-extend_from_slice-2).0

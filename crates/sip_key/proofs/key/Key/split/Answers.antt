@@ -4,6 +4,7 @@ use Rattle.sip_key.specs.inner.KeyText.{key_text}
 use Rattle.sip_key.proofs.KeyLemmas.{front-short, tells-read}
 use Rattle.sip_key.proofs.key.Key.split.Goals as goal
 
+-- the text begins with the length of the branch
 pub split_length-branch-requires : goal.split_length-branch-requires
 split_length-branch-requires c =
     front-short c.args.self.now c.self.inside.text.items c.deref.result.now (c.self.invariant ∙ ap key_text c.self.view_is) c.deref.ensures.value

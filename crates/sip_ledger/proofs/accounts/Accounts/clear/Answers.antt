@@ -1,6 +1,4 @@
-use Rattle.sip_ledger.proofs.Words.{[], arith, take-length}
-use Rattle.sip_ledger.proofs.account.AccountLemmas.{empty-account, empty-debts}
-use Rattle.sip_ledger.proofs.rows.SeenLemmas.{changed-to}
+use Rattle.sip_ledger.proofs.Lemmas.{arith, changed-to, empty-account, empty-debts, take-length, []}
 use Rattle.sip_ledger.proofs.accounts.Accounts.clear.Goals as goal
 
 -- the rows are accounts, since the empty account is one

@@ -1,5 +1,4 @@
-use Rattle.sip_ledger.proofs.Words.{take-length, owed_in}
-use Rattle.sip_ledger.proofs.rows.SeenLemmas.{account-at, changed-to}
+use Rattle.sip_ledger.proofs.Lemmas.{account-at, changed-to, owed_in, take-length}
 use Rattle.sip_ledger.proofs.accounts.Accounts.copy.Goals as goal
 
 -- the rows are accounts, since a copy of an account is one

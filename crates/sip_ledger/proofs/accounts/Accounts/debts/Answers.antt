@@ -1,5 +1,5 @@
-use Rattle.sip_ledger.proofs.Words.{take, ap, ◌∙◌, arith, take_all, IfOk-weaker, owed_in}
-use Rattle.sip_ledger.proofs.rows.SeenLemmas.{account-at, row-few}
+use Rattle.sip_ledger.proofs.Lemmas.{account-at, ap, arith, IfOk-weaker, owed_in, take, take_all, ◌∙◌}
+use Rattle.sip_ledger.proofs.rows.SeenLemmas.{row-few}
 use Rattle.sip_ledger.proofs.accounts.Accounts.debts.Goals as goal
 
 -- a row owes fewer debts than a number of 64 bits counts, so the first ones are all

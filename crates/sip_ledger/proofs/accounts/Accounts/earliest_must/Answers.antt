@@ -1,5 +1,4 @@
-use Rattle.sip_ledger.proofs.Words.{ap, ◌∙◌, List, Debt, debt_deadlines, earliest}
-use Rattle.sip_ledger.proofs.rows.SeenLemmas.{account-at}
+use Rattle.sip_ledger.proofs.Lemmas.{account-at, ap, Debt, debt_deadlines, earliest, List, ◌∙◌}
 use Rattle.sip_ledger.proofs.accounts.Accounts.earliest_must.Goals as goal
 
 -- what is told of the account is told of what the row owes

@@ -1,6 +1,4 @@
-use Rattle.sip_ledger.proofs.Words.{arith, ◌∙◌, ap, get_or, set, [], filter, counts_at}
-use Rattle.sip_ledger.proofs.lists.EachLemmas.{changing-more, on_ok}
-use Rattle.sip_ledger.proofs.rows.GainEachLemmas.{none-past}
+use Rattle.sip_ledger.proofs.Lemmas.{ap, arith, changing-more, counts_at, filter, get_or, none-past, on_ok, set, [], ◌∙◌}
 use Rattle.sip_ledger.proofs.accounts.Accounts.expire_each.Goals as goal
 
 -- no debt has expired, so all rows stay as they are

@@ -1,5 +1,4 @@
-use Rattle.sip_ledger.proofs.Words.{◌≡◌, ◌≤◌, filter, counts_at}
-use Rattle.sip_ledger.proofs.lists.EachLemmas.{changing}
+use Rattle.sip_ledger.proofs.Lemmas.{changing, counts_at, filter, ◌≡◌, ◌≤◌}
 use Rattle.sip_ledger.proofs.accounts.Accounts.expire_each.Given as goal
 
 -- the rows before the index have lost what is past

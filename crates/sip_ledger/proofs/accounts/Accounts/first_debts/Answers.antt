@@ -1,5 +1,4 @@
-use Rattle.sip_ledger.proofs.Words.{take, ap, ◌∙◌, IfOk-weaker}
-use Rattle.sip_ledger.proofs.rows.SeenLemmas.{account-at}
+use Rattle.sip_ledger.proofs.Lemmas.{account-at, ap, IfOk-weaker, take, ◌∙◌}
 use Rattle.sip_ledger.proofs.accounts.Accounts.first_debts.Goals as goal
 
 -- what the account owes first is what the row owes first

@@ -1,7 +1,4 @@
-use Rattle.sip_ledger.proofs.Words.{List, None, Some, subst, Debt, IsFirstPaid, PaysSome, holds, entries_of, entry_at}
-use Rattle.sip_ledger.proofs.gains.LeftLemmas.{left-kept, owed-left}
-use Rattle.sip_ledger.proofs.account.FirstLemmas.{first-account, none-account}
-use Rattle.sip_ledger.proofs.rows.SeenLemmas.{account-at}
+use Rattle.sip_ledger.proofs.Lemmas.{account-at, Debt, entries_of, entry_at, first-account, holds, IsFirstPaid, left-kept, List, None, none-account, owed-left, PaysSome, Some, subst}
 use Rattle.sip_ledger.proofs.accounts.Accounts.first_payable.Goals as goal
 
 -- the row is an account

@@ -1,5 +1,4 @@
-use Rattle.sip_ledger.proofs.Words.{filter, [], ◌∷◌, ◌++◌, counts_at}
-use Rattle.sip_ledger.proofs.rows.SeenLemmas.{changed-by, over-to, unchanged}
+use Rattle.sip_ledger.proofs.Lemmas.{changed-by, counts_at, filter, over-to, unchanged, [], ◌++◌, ◌∷◌}
 use Rattle.sip_ledger.proofs.accounts.Accounts.gain_and_expire.Goals as goal
 
 -- where memory was refused, the rows are accounts as before

@@ -1,5 +1,4 @@
-use Rattle.sip_ledger.proofs.Words.{List, ap, ◌∙◌, Debt, is_timely}
-use Rattle.sip_ledger.proofs.rows.SeenLemmas.{account-at}
+use Rattle.sip_ledger.proofs.Lemmas.{account-at, ap, Debt, is_timely, List, ◌∙◌}
 use Rattle.sip_ledger.proofs.accounts.Accounts.is_timely.Goals as goal
 
 -- what is told of the account is told of what the row owes

@@ -1,5 +1,4 @@
-use Rattle.sip_ledger.proofs.Words.{◌<◌, [], length, ◌∙◌, arith}
-use Rattle.sip_ledger.proofs.lists.KeepLemmas.{rise-above, rise-few, kept-more, kept-all}
+use Rattle.sip_ledger.proofs.Lemmas.{arith, kept-all, kept-more, length, rise-above, rise-few, [], ◌<◌, ◌∙◌}
 use Rattle.sip_ledger.proofs.accounts.Accounts.keep.Goals as goal
 
 -- the new place is not past the old one

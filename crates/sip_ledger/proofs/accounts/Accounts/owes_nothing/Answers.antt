@@ -1,5 +1,4 @@
-use Rattle.sip_ledger.proofs.Words.{owed_in}
-use Rattle.sip_ledger.proofs.rows.SeenLemmas.{account-at, owes-nothing}
+use Rattle.sip_ledger.proofs.Lemmas.{account-at, owed_in, owes-nothing}
 use Rattle.sip_ledger.proofs.accounts.Accounts.owes_nothing.Goals as goal
 
 -- an account owes nothing exactly where it has no debts

@@ -1,5 +1,4 @@
-use Rattle.sip_ledger.proofs.Words.{filter, counts_at, paid_by}
-use Rattle.sip_ledger.proofs.rows.SeenLemmas.{changed-by, unchanged}
+use Rattle.sip_ledger.proofs.Lemmas.{changed-by, counts_at, filter, paid_by, unchanged}
 use Rattle.sip_ledger.proofs.accounts.Accounts.pay_and_expire.Goals as goal
 
 -- where memory was refused, the rows are accounts as before

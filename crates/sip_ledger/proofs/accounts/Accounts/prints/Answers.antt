@@ -1,5 +1,4 @@
-use Rattle.sip_ledger.proofs.Words.{arith, inl, cases_lt, nat_tests, get_or_append_left, get_or_push, length_push}
-use Rattle.sip_ledger.proofs.rows.SeenLemmas.{account-at}
+use Rattle.sip_ledger.proofs.Lemmas.{account-at, arith, cases_lt, get_or_append_left, get_or_push, inl, length_push, nat_tests}
 use Rattle.sip_ledger.proofs.accounts.Accounts.prints.Goals as goal
 
 -- after one row more, the prints are those of what the rows up to it owe

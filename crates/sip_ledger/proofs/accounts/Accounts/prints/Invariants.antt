@@ -1,4 +1,4 @@
-use Rattle.sip_ledger.proofs.Words.{◌≡◌, ◌<◌, ◌≤◌, ◌+◌, ◌-◌, ◌⊎◌, ℕ, length, get_or, vec_capacity, debts_print, owed_in}
+use Rattle.sip_ledger.proofs.Lemmas.{debts_print, get_or, length, owed_in, vec_capacity, ℕ, ◌+◌, ◌-◌, ◌<◌, ◌≡◌, ◌≤◌, ◌⊎◌}
 use Rattle.sip_ledger.proofs.accounts.Accounts.prints.Given as goal
 
 -- the prints of the rows before the index are in the list

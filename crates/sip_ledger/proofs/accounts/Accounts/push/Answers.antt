@@ -1,6 +1,4 @@
-use Rattle.sip_ledger.proofs.Words.{[], arith}
-use Rattle.sip_ledger.proofs.account.AccountLemmas.{empty-account, empty-debts}
-use Rattle.sip_ledger.proofs.rows.SeenLemmas.{pushed-to}
+use Rattle.sip_ledger.proofs.Lemmas.{arith, empty-account, empty-debts, pushed-to, []}
 use Rattle.sip_ledger.proofs.accounts.Accounts.push.Goals as goal
 
 -- the rows with one more are accounts, since the empty account is one

@@ -1,5 +1,4 @@
-use Rattle.sip_ledger.proofs.Words.{owed_in}
-use Rattle.sip_ledger.proofs.rows.SeenLemmas.{account-at, pushed-to}
+use Rattle.sip_ledger.proofs.Lemmas.{account-at, owed_in, pushed-to}
 use Rattle.sip_ledger.proofs.accounts.Accounts.push_copy.Goals as goal
 
 -- the new row has the same account, and so it owes the same

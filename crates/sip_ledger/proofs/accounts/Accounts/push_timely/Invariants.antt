@@ -1,4 +1,4 @@
-use Rattle.sip_ledger.proofs.Words.{◌≡◌, ◌≤◌, ◌⊎◌, ◌++◌, filter, length, is_timely, from_to}
+use Rattle.sip_ledger.proofs.Lemmas.{filter, from_to, is_timely, length, ◌++◌, ◌≡◌, ◌≤◌, ◌⊎◌}
 use Rattle.sip_ledger.proofs.accounts.Accounts.push_timely.Given as goal
 
 -- the timely rows before the index stand after the others

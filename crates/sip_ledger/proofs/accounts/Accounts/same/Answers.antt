@@ -1,5 +1,4 @@
-use Rattle.sip_ledger.proofs.Words.{sym, ◌∙◌}
-use Rattle.sip_ledger.proofs.rows.SeenLemmas.{account-at}
+use Rattle.sip_ledger.proofs.Lemmas.{account-at, sym, ◌∙◌}
 use Rattle.sip_ledger.proofs.accounts.Accounts.same.Goals as goal
 
 -- two rows owe the same where their accounts do

@@ -1,5 +1,4 @@
-use Rattle.sip_ledger.proofs.Words.{◌≤◌, subst, All, Debt}
-use Rattle.sip_ledger.proofs.rows.NamedLemmas.{spanned}
+use Rattle.sip_ledger.proofs.Lemmas.{All, Debt, spanned, subst, ◌≤◌}
 use Rattle.sip_ledger.proofs.accounts.Accounts.span.Goals as goal
 
 -- the span of the gains holds all that the rows owe

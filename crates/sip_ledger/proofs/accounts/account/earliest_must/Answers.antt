@@ -1,6 +1,4 @@
-use Rattle.sip_ledger.proofs.Words.{arith}
-use Rattle.sip_ledger.proofs.account.AccountLemmas.{kept-from}
-use Rattle.sip_ledger.proofs.account.ToldLemmas.{leading}
+use Rattle.sip_ledger.proofs.Lemmas.{arith, kept-from, leading}
 use Rattle.sip_ledger.proofs.accounts.account.earliest_must.Goals as goal
 
 -- the first debt of the account is kept, where it has one

@@ -1,7 +1,4 @@
-use Rattle.sip_ledger.proofs.Words.{sym, arith}
-use Rattle.sip_ledger.proofs.account.AccountLemmas.{kept-passed}
-use Rattle.sip_ledger.proofs.account.ExpiringLemmas.{expired-rising}
-use Rattle.sip_ledger.proofs.rows.GainEachLemmas.{none-goes}
+use Rattle.sip_ledger.proofs.Lemmas.{arith, expired-rising, kept-passed, none-goes, sym}
 use Rattle.sip_ledger.proofs.accounts.account.expired.Goals as goal
 
 -- no deadline has passed
@@ -10,8 +7,8 @@ returns-then-all_count-clause-debts c =
     sym (none-goes c.args.gains.now c.args.strikes.now.items c.args.account c.args.moment c.requires.gained c.if-all_count.ensures)
 
 -- a place of the account is kept
-pub expired_at-requires-clause-kept : goal.expired_at-requires-clause-kept
-expired_at-requires-clause-kept c =
+pub expire-requires-clause-kept : goal.expire-requires-clause-kept
+expire-requires-clause-kept c =
     let was = c.loop-place.invariant in
     kept-passed c.loop-place.place c.requires.gained c.requires.account (omega (arith, c.requires.account.order, c.if-account.false)) was.low (omega (arith, c.loop-place-test.true, was.account.end))
 

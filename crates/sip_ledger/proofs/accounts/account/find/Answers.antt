@@ -1,7 +1,4 @@
-use Rattle.sip_ledger.proofs.Words.{length, arith, entries_of, owes_at}
-use Rattle.sip_ledger.proofs.account.AccountLemmas.{owed-within}
-use Rattle.sip_ledger.proofs.account.FindLemmas.{first-payable, none-pays_late, none-pays_struck, none-pays_to}
-use Rattle.sip_ledger.proofs.account.WithoutLemmas.{before-start}
+use Rattle.sip_ledger.proofs.Lemmas.{arith, before-start, entries_of, first-payable, length, none-pays_late, none-pays_struck, none-pays_to, owed-within, owes_at}
 use Rattle.sip_ledger.proofs.accounts.account.find.Goals as goal
 
 -- no place was looked at yet
@@ -22,6 +19,7 @@ loop-place-preserved-in-Some-struck_to c =
     let a = c.args.account in
     let some = rw c.own-own.ensures at c.in-Some-struck_to.ensures.some in
     let start = c.loop-place.invariant.0 in (
+      -- the next place that is looked at comes later, and nothing before it pays
       omega (arith, some.0, c.in-Some.ensures.next.order, start),
       none-pays_struck g s a c.args.message c.args.moment c.in-Some.place c.in-Some-struck_to.to
           (none-pays_to g s a c.args.message c.args.moment c.loop-place.from c.in-Some.place c.loop-place.invariant.1 c.in-Some.ensures.next.before) some.1,
@@ -36,6 +34,7 @@ returns-then-moment-entry-clause-found c =
     let a = c.args.account in
     let order = c.in-Some.ensures.next.order in
     let start = c.loop-place.invariant.0 in
+    -- none of the places before this one pays
     first-payable g s a c.args.message c.args.moment c.in-Some.place
     (none-pays_to g s a c.args.message c.args.moment c.loop-place.from c.in-Some.place c.loop-place.invariant.1 c.in-Some.ensures.next.before)
     (omega (arith, order, start)) c.if-account-place.false (c.requires.gained.messages c.args.message c.in-Some.place c.in-Some.ensures.next.left).message c.in-Some.ensures.next.left (rw c.own-own.ensures at c.in-None.ensures.none)
@@ -56,6 +55,7 @@ loop-place-preserved c =
     let s = c.args.strikes.now in
     let a = c.args.account in
     let start = c.loop-place.invariant.0 in (
+      -- nothing up to this place pays, and the search goes on after it
       omega (arith, c.in-Some.ensures.next.order, start),
       none-pays_late (entries_of g) (owes_at g s a) c.args.message c.args.moment c.in-Some.place
           (none-pays_to g s a c.args.message c.args.moment c.loop-place.from c.in-Some.place c.loop-place.invariant.1 c.in-Some.ensures.next.before) (rw c.entry.ensures at c.if-moment-entry.false),

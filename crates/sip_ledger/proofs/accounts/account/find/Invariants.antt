@@ -1,5 +1,4 @@
-use Rattle.sip_ledger.proofs.Words.{◌≤◌, ◌-◌, length, IsSeek, entries_of, owes_at}
-use Rattle.sip_ledger.proofs.account.FindLemmas.{NonePays}
+use Rattle.sip_ledger.proofs.Lemmas.{entries_of, IsSeek, length, NonePays, owes_at, ◌-◌, ◌≤◌}
 use Rattle.sip_ledger.proofs.accounts.account.find.Given as goal
 
 -- nothing that the account owes before the place is paid
@@ -7,5 +6,6 @@ abbrev pub invariant-loop-place : goal.invariant-loop-place
 invariant-loop-place l = (l.account.start ≤ l.from) × NonePays (entries_of l.gains) (owes_at l.gains l.strikes l.account) l.message l.moment l.from
     × IsSeek l.gains l.message l.seek
 
+-- each turn of the loop goes to a later place, and the gains end
 abbrev pub decreases-loop-place : goal.decreases-loop-place
 decreases-loop-place l = length (entries_of l.gains) - l.from

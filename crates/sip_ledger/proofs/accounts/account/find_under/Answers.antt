@@ -1,8 +1,4 @@
-use Rattle.std.proofs.Common.{◌+◌, subst, arith}
-use Rattle.sip_ledger.specs.Indexes.{holds}
-use Rattle.sip_ledger.specs.inner.Accounts.{IsFirstOf, entries_of, entry_at, owes_at, sooner}
-use Rattle.sip_ledger.proofs.account.FirstLemmas.{below, below-parts, found-kept, highest-first, left-next, newest-first, none-left, none-under, one-more}
-use Rattle.sip_ledger.proofs.lists.CountLemmas.{count_all, count_passed}
+use Rattle.sip_ledger.proofs.Lemmas.{arith, below-parts, count_all, count_passed, entries_of, entry_at, found-kept, highest-first, holds, left-next, newest-first, none-left, none-under, one-found, sooner, ◌+◌}
 use Rattle.sip_ledger.proofs.accounts.account.find_under.Goals.{then-left-message+else-is_newest+else-gains-message, else-left-message}
 use Rattle.sip_ledger.proofs.accounts.account.find_under.Goals as goal
 
@@ -38,51 +34,46 @@ pub returns-then-is_newest-clause-first : goal.returns-then-is_newest-clause-fir
 returns-then-is_newest-clause-first c =
     let g = c.args.gains.now in
     let s = c.args.strikes.now in
-    let owes = owes_at g s c.args.account in
-    let key = c.args.key in
-    let pairs = c.args.index.now in
-    let message = c.in-Some.message in
-    let after = left-next g s c.args.account pairs key c.args.moment c.loop-step.from c.loop-step.first c.loop-step.invariant.0 message c.in-Some.ensures.found
-    c.in-Some-message_from.left c.in-Some-message_from.ensures.found.0 c.in-Some-message_from.ensures.found.1 in
-    let here = subst (λ n. IsFirstOf (entries_of g) owes (below pairs key n) c.args.moment c.loop-step.first) c.if-left-message.true after in
-    let more = one-more g s c.args.account pairs key c.args.moment message c.loop-step.first c.find-place.result c.in-Some.ensures.found.is here c.find-place.ensures.found c.find-place.ensures.none in
-    rw c.sooner-first.ensures (newest-first g s c.args.account pairs key c.args.moment message c.requires.gained c.loop-step.first c.find-place.result c.find-place.ensures.found
+    let found = c.in-Some-message_from.ensures.found in
+    -- with the place that was found for this message the first of all up to it is known
+    let more = one-found g s c.args.account c.args.index.now c.args.key c.args.moment c.loop-step.from c.in-Some.message c.in-Some-message_from.left found.0 c.loop-step.first c.find-place.result c.loop-step.invariant.0
+    c.in-Some.ensures.found found.1 c.if-left-message.true c.find-place.ensures.found c.find-place.ensures.none in
+    rw c.sooner-first.ensures (newest-first g s c.args.account c.args.index.now c.args.key c.args.moment c.in-Some.message c.requires.gained c.loop-step.first c.find-place.result c.find-place.ensures.found
     (rw c.if-is_newest.true at c.is_newest.ensures) more)
 
+-- where the message found so far is less than the next one that is owed, it is the first of all
 pub returns-then-gains-message-clause-first : goal.returns-then-gains-message-clause-first
 returns-then-gains-message-clause-first c =
     let g = c.args.gains.now in
     let s = c.args.strikes.now in
-    let owes = owes_at g s c.args.account in
-    let key = c.args.key in
-    let pairs = c.args.index.now in
-    let message = c.in-Some.message in
-    let after = left-next g s c.args.account pairs key c.args.moment c.loop-step.from c.loop-step.first c.loop-step.invariant.0 message c.in-Some.ensures.found
-    c.in-Some-message_from.left c.in-Some-message_from.ensures.found.0 c.in-Some-message_from.ensures.found.1 in
-    let here = subst (λ n. IsFirstOf (entries_of g) owes (below pairs key n) c.args.moment c.loop-step.first) c.if-left-message.true after in
-    let more = one-more g s c.args.account pairs key c.args.moment message c.loop-step.first c.find-place.result c.in-Some.ensures.found.is here c.find-place.ensures.found c.find-place.ensures.none in
-    rw c.sooner-first.ensures (highest-first g s c.args.account pairs key c.args.moment message c.requires.gained (sooner c.loop-step.first c.find-place.result) c.if-gains-message.true more)
+    let found = c.in-Some-message_from.ensures.found in
+    -- with the place that was found for this message the first of all up to it is known
+    let more = one-found g s c.args.account c.args.index.now c.args.key c.args.moment c.loop-step.from c.in-Some.message c.in-Some-message_from.left found.0 c.loop-step.first c.find-place.result c.loop-step.invariant.0
+    c.in-Some.ensures.found found.1 c.if-left-message.true c.find-place.ensures.found c.find-place.ensures.none in
+    rw c.sooner-first.ensures (highest-first g s c.args.account c.args.index.now c.args.key c.args.moment c.in-Some.message c.requires.gained (sooner c.loop-step.first c.find-place.result) c.if-gains-message.true more)
 
 -- what was found so far is the first debt of the messages under the key that are below the next one
 pub loop-step-preserved : goal.loop-step-preserved
 loop-step-preserved c =
     let g = c.args.gains.now in
     let s = c.args.strikes.now in
-    let owes = owes_at g s c.args.account in
     let key = c.args.key in
     let pairs = c.args.index.now in
+    -- the next message under the key, and the next one that is owed
     let message = c.in-Some.message in
     let next = c.in-Some.ensures.found in
     let count = c.loop-step.invariant.1 in
     let found = c.in-Some-message_from.ensures.found.1 in
+    -- no message under the key was passed over on the way to the next one that is owed
     let after = left-next g s c.args.account pairs key c.args.moment c.loop-step.from c.loop-step.first c.loop-step.invariant.0 message next
     c.in-Some-message_from.left c.in-Some-message_from.ensures.found.0 found in
     elim c.if-left-message.branch [
       | then-left-message+else-is_newest+else-gains-message w ↦
-          let here = subst (λ n. IsFirstOf (entries_of g) owes (below pairs key n) c.args.moment c.loop-step.first) w.if-left-message.true after in
-          let more = one-more g s c.args.account pairs key c.args.moment message c.loop-step.first w.find-place.result next.is here w.find-place.ensures.found w.find-place.ensures.none in
+          let more = one-found g s c.args.account pairs key c.args.moment c.loop-step.from message c.in-Some-message_from.left c.in-Some-message_from.ensures.found.0 c.loop-step.first w.find-place.result
+          c.loop-step.invariant.0 next found w.if-left-message.true w.find-place.ensures.found w.find-place.ensures.none in
           let fewer = count_passed key c.loop-step.from (message + 1) message next.after (omega arith) pairs next.is in
           rw (w.first-is, w.sooner-first.ensures, w.from-is) (more, omega (arith, count, fewer))
+      -- the next message that is owed is a greater one, from which the search goes on
       | else-left-message w ↦
           let order = found.after.keys in
           let other = w.if-left-message.false in
@@ -90,5 +81,6 @@ loop-step-preserved c =
           rw (w.first-is, w.from-is) (after, omega (arith, count, fewer))
     ]
 
+-- where the search ends without an answer, at least `most` messages stand under the key
 pub returns-clause-told : goal.returns-clause-told
 returns-clause-told c = let count = c.loop-step.invariant.1 in omega (arith, count)

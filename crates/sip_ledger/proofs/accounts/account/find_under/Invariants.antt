@@ -1,8 +1,4 @@
-use Rattle.std.proofs.Common.{◌≤◌, ◌+◌}
-use Rattle.sip_ledger.specs.Indexes.{count_under}
-use Rattle.sip_ledger.specs.inner.Accounts.{IsFirstOf, entries_of, owes_at}
-use Rattle.sip_ledger.proofs.account.FirstLemmas.{below}
-use Rattle.sip_ledger.proofs.lists.CountLemmas.{count_from}
+use Rattle.sip_ledger.proofs.Lemmas.{below, count_from, count_under, entries_of, IsFirstOf, owes_at, ◌+◌, ◌≤◌}
 use Rattle.sip_ledger.proofs.accounts.account.find_under.Given as goal
 
 -- `first` is the first place that a message pays that stands under the key and is below `from`, if there is one; each step passed a number

@@ -1,6 +1,4 @@
-use Rattle.sip_ledger.proofs.Words.{arith, take_all}
-use Rattle.sip_ledger.proofs.account.AccountLemmas.{kept-from}
-use Rattle.sip_ledger.proofs.account.ToldLemmas.{told-all, told-first, told-more, told-none}
+use Rattle.sip_ledger.proofs.Lemmas.{arith, kept-from, take_all, told-all, told-first, told-more, told-none}
 use Rattle.sip_ledger.proofs.accounts.account.first_debts.Goals as goal
 
 -- no debt was told yet

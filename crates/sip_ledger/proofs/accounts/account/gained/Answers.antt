@@ -1,5 +1,4 @@
-use Rattle.sip_ledger.proofs.Words.{◌%◌, ◌+◌, ◌^◌, ap, refl, take-length}
-use Rattle.sip_ledger.proofs.account.GainedLemmas.{first-gain, more-gain}
+use Rattle.sip_ledger.proofs.Lemmas.{ap, first-gain, more-gain, refl, take-length, ◌%◌, ◌+◌, ◌^◌}
 use Rattle.sip_ledger.proofs.accounts.account.gained.Goals as goal
 
 -- the account owed nothing, so the place begins it

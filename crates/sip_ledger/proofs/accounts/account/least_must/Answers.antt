@@ -1,6 +1,4 @@
-use Rattle.sip_ledger.proofs.Words.{◌<◌, length, sym, ◌∙◌, arith, entries_of}
-use Rattle.sip_ledger.proofs.gains.LeftLemmas.{entries_long, left-kept, owed-left}
-use Rattle.sip_ledger.proofs.account.ToldLemmas.{least-first, least-first_due, least-found, least-last, least-passed}
+use Rattle.sip_ledger.proofs.Lemmas.{arith, entries_long, entries_of, least-first, least-first_due, least-found, least-last, least-passed, left-kept, length, owed-left, sym, ◌<◌, ◌∙◌}
 use Rattle.sip_ledger.proofs.accounts.account.least_must.Goals.{then-owes+else-gains, else-owes}
 use Rattle.sip_ledger.proofs.accounts.account.least_must.Goals as goal
 
@@ -30,6 +28,7 @@ loop-place-preserved c =
     let found = c.in-Some.ensures in
     let inside : c.in-Some.place < length (entries_of c.args.gains.now) = omega (arith, found.within.1, entries_long c.args.gains.now c.requires.gained.long) in
     elim c.if-owes.branch [
+      -- a place that is owed and must be sent is counted in, and any other place is passed over
       | then-owes+else-gains w ↦
           rw w.least-is (least-found c.args.gains.now c.args.strikes.now c.args.account c.loop-place.from c.in-Some.place w.earlier.result c.loop-place.least c.loop-place.invariant found.within.0 inside
           found.before found.is (sym c.owes.ensures ∙ w.if-owes.true) (rw w.entry.ensures at w.earlier.ensures) w.if-gains.false)

@@ -1,4 +1,4 @@
-use Rattle.sip_ledger.proofs.Words.{◌≡◌, ◌+◌, ◌-◌, ◌∙◌, drop, take, sym, ap, arith, drop-take}
+use Rattle.sip_ledger.proofs.Lemmas.{ap, arith, drop, drop-take, sym, take, ◌+◌, ◌-◌, ◌∙◌, ◌≡◌}
 use Rattle.sip_ledger.proofs.accounts.account.own.Goals as goal
 
 -- the slice between two places is what is left of the front up to the second one

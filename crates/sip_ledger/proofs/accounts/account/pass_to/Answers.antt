@@ -1,5 +1,4 @@
-use Rattle.sip_ledger.proofs.Words.{arith}
-use Rattle.sip_ledger.proofs.account.AccountLemmas.{kept-passed}
+use Rattle.sip_ledger.proofs.Lemmas.{arith, kept-passed}
 use Rattle.sip_ledger.proofs.accounts.account.pass_to.Goals as goal
 
 -- the places between are kept, since the account owes something that was gained before them

@@ -1,6 +1,4 @@
-use Rattle.sip_ledger.proofs.Words.{refl, rules, ◌≡◌, ◌≢◌, ◌∙◌, sym, arith, false≢true}
-use Rattle.sip_ledger.proofs.account.AccountLemmas.{kept-from}
-use Rattle.sip_ledger.proofs.account.ToldLemmas.{alike-debts, at-apart, at-more, at-start, end-other, end-same, rest-same}
+use Rattle.sip_ledger.proofs.Lemmas.{alike-debts, arith, at-apart, at-more, at-start, end-other, end-same, false≢true, kept-from, refl, rest-same, rules, sym, ◌∙◌, ◌≡◌, ◌≢◌}
 use Rattle.sip_ledger.proofs.accounts.account.same.Goals.{then-loop-at-test+else-beside-other, else-loop-at-test}
 use Rattle.sip_ledger.proofs.accounts.account.same.Goals as goal
 
@@ -33,7 +31,7 @@ loop-at-preserved c =
 pub returns-then-shares_rest : goal.returns-then-shares_rest
 returns-then-shares_rest c = (λ _. rest-same c.requires.one c.requires.other c.loop-at.invariant c.if-at-beside.true c.if-shares_rest.ensures, λ _. refl)
 
--- the next debts of the two differ, so the two owe not the same
+-- the next debts of the two differ, so the two do not owe the same
 pub returns-then-ne : goal.returns-then-ne
 returns-then-ne c =
     let apart : c.debt_for.result ≢ c.debt_for-in-loop-at.result = search rules in (

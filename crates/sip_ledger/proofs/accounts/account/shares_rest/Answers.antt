@@ -1,4 +1,4 @@
-use Rattle.sip_ledger.proofs.account.ToldLemmas.{on-true, shares-rest}
+use Rattle.sip_ledger.proofs.Lemmas.{on-true, shares-rest}
 use Rattle.sip_ledger.proofs.accounts.account.shares_rest.Goals as goal
 
 -- no strike of either account goes past the place, so both owe all that comes after it

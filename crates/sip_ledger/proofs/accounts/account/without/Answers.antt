@@ -1,20 +1,5 @@
-use Rattle.sip_ledger.proofs.Words.{◌≡◌, ◌+◌, ◌∙◌, ap, refl, arith, take-length, Entry, worth_of}
-use Rattle.sip_ledger.proofs.gains.LeftLemmas.{entries_long, left-kept, owed-left}
-use Rattle.sip_ledger.proofs.account.AccountLemmas.{owed-within}
-use Rattle.sip_ledger.proofs.account.WithoutLemmas.{without-first, without-last, without-middle}
+use Rattle.sip_ledger.proofs.Lemmas.{ap, arith, Entry, owed-within, refl, take-length, without-first, without-last, without-middle, worth_of, ◌+◌, ◌∙◌, ◌≡◌}
 use Rattle.sip_ledger.proofs.accounts.account.without.Goals as goal
-
--- the place comes before the end of the account
-pub overflow_sub-rest : goal.overflow_sub-rest
-overflow_sub-rest c = omega (arith, owed-within c.args.gains.now c.args.strikes.now.items c.args.account c.args.place c.requires.owed)
-
--- what the account owes is kept
-pub entry-entry-requires-clause-kept : goal.entry-entry-requires-clause-kept
-entry-entry-requires-clause-kept c = left-kept c.args.gains.now c.args.place c.requires.gained (owed-left c.args.gains.now c.args.strikes.now.items c.args.account c.args.place c.requires.owed)
-
--- the place after this one is not past the end of the account
-pub next-start-requires-clause-from : goal.next-start-requires-clause-from
-next-start-requires-clause-from c = omega (arith, owed-within c.args.gains.now c.args.strikes.now.items c.args.account c.args.place c.requires.owed)
 
 -- without its first place the account begins with the next one
 pub returns-then-place-account : goal.returns-then-place-account
@@ -33,10 +18,6 @@ returns-then-rest-eq1 c =
     (c.worth.ensures ∙ ap (λ (e : Entry). worth_of e.message e.deadline) c.entry-entry.ensures) refl in
     record { kept = take-length c.args.strikes.now.items; account = new.0; owed = new.1; soft = refl }
 
--- the place alone is struck, and it is kept
-pub put-requires-clause-kept : goal.put-requires-clause-kept
-put-requires-clause-kept c = grind (arith, entries_long, left-kept, owed-left, owed-within, without-first, without-last, without-middle)
-
 -- without a place in its midst the account has one strike more
 pub returns-clause-account : goal.returns-clause-account
 returns-clause-account c =
@@ -48,7 +29,3 @@ pub returns-clause-owed : goal.returns-clause-owed
 returns-clause-owed c =
     (without-middle c.args.gains.now c.args.strikes.now.items c.put.new.strikes.items c.args.account c.in_ok-struck.struck c.args.place c.worth.result _ c.requires.account c.requires.owed
     c.if-place-account.false c.in_ok-struck.ensures.struck (c.worth.ensures ∙ ap (λ (e : Entry). worth_of e.message e.deadline) c.entry-entry.ensures) refl).1
-
--- the place comes before the end of the account
-pub overflow_add-after : goal.overflow_add-after
-overflow_add-after c = grind (arith, entries_long, left-kept, owed-left, owed-within, without-first, without-last, without-middle)

@@ -1,5 +1,4 @@
-use Rattle.sip_ledger.proofs.Words.{◌≤◌, IfSome, IsGainAt, accounts_debts}
-use Rattle.sip_ledger.proofs.rows.GainEachLemmas.{HaveGained}
+use Rattle.sip_ledger.proofs.Lemmas.{accounts_debts, HaveGained, IfSome, IsGainAt, ◌≤◌}
 use Rattle.sip_ledger.proofs.accounts.each.gain_some.Given as goal
 
 -- the rows before the index owe one debt more, and the last of them gained it at the place

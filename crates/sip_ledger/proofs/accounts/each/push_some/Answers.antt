@@ -1,6 +1,4 @@
-use Rattle.sip_ledger.proofs.Words.{◌+◌, inl, sym, subst, arith, AreAccounts, account_debts, accounts_debts}
-use Rattle.sip_ledger.proofs.account.AccountLemmas.{debts_length}
-use Rattle.sip_ledger.proofs.rows.PaidLemmas.{ArePaidTo, account-there, paid-grown, paid-next}
+use Rattle.sip_ledger.proofs.Lemmas.{account-there, account_debts, accounts_debts, AreAccounts, ArePaidTo, arith, debts_length, inl, paid-grown, paid-next, subst, sym, ◌+◌}
 use Rattle.sip_ledger.proofs.accounts.each.push_some.Goals as goal
 
 -- the row is an account
@@ -29,6 +27,7 @@ loop-row-preserved c =
     let k = c.loop-row.row in
     let one = c.loop-row.strikes.items in
     let new = c.paid.new.strikes.items in
+    -- the strikes that came in leave the rows before it as they were
     let at = account-there k c.index.result.now c.loop-row.invariant.3 (omega (arith, long, c.requires.to)) c.index.ensures in
     let grown = paid-grown new c.paid.ensures.kept c.loop-row.invariant.3 in
     let next = paid-next (account_debts g one c.index.result.now) c.in_ok-left.left grown c.in_ok-left.ensures.account c.in_ok-left.ensures.debts at.1 low (omega (arith, long, c.requires.to)) in (

@@ -1,5 +1,4 @@
-use Rattle.sip_ledger.proofs.Words.{◌≤◌, ◌⊎◌, IsSeek, accounts_debts}
-use Rattle.sip_ledger.proofs.rows.PaidLemmas.{ArePaidTo}
+use Rattle.sip_ledger.proofs.Lemmas.{accounts_debts, ArePaidTo, IsSeek, ◌≤◌, ◌⊎◌}
 use Rattle.sip_ledger.proofs.accounts.each.push_some.Given as goal
 
 -- what is left to the paid rows before the index stands after the others

@@ -1,4 +1,4 @@
-use Rattle.sip_ledger.proofs.gains.LetGoLemmas.{kept-less}
+use Rattle.sip_ledger.proofs.Lemmas.{kept-less}
 use Rattle.sip_ledger.proofs.accounts.left.let_go.Goals as goal
 
 -- one gain more has gone that no account owes

@@ -1,5 +1,4 @@
-use Rattle.sip_ledger.proofs.Words.{◌<◌, length, arith, Strike}
-use Rattle.sip_ledger.proofs.strikes.MovedLemmas.{appended-fewer, appended-more}
+use Rattle.sip_ledger.proofs.Lemmas.{appended-fewer, appended-more, arith, length, Strike, ◌<◌}
 use Rattle.sip_ledger.proofs.accounts.moved.append_some.Goals as goal
 use Rattle.sip_ledger.proofs.accounts.moved.append_some.Goals.{then-strikes_some+in_ok-push, else-strikes_some}
 

@@ -1,4 +1,4 @@
-use Rattle.sip_ledger.proofs.Words.{take, AreAppended}
+use Rattle.sip_ledger.proofs.Lemmas.{AreAppended, take}
 use Rattle.sip_ledger.proofs.accounts.moved.append_some.Given as goal
 
 -- the strikes before the index are written, but for those that strike nothing that is left

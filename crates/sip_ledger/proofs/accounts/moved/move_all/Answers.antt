@@ -1,5 +1,4 @@
-use Rattle.sip_ledger.proofs.Words.{◌<◌, length, arith, Account}
-use Rattle.sip_ledger.proofs.strikes.MovedLemmas.{moved-more, moved-none}
+use Rattle.sip_ledger.proofs.Lemmas.{Account, arith, length, moved-more, moved-none, ◌<◌}
 use Rattle.sip_ledger.proofs.accounts.moved.move_all.Goals as goal
 
 -- no account is moved yet

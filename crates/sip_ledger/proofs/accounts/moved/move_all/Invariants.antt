@@ -1,4 +1,4 @@
-use Rattle.sip_ledger.proofs.Words.{take, AreMoved}
+use Rattle.sip_ledger.proofs.Lemmas.{AreMoved, take}
 use Rattle.sip_ledger.proofs.accounts.moved.move_all.Given as goal
 
 -- the rows before the index are moved

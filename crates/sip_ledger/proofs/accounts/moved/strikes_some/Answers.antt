@@ -1,5 +1,4 @@
-use Rattle.sip_ledger.proofs.Words.{arith, OnFalse_from, ltb-false}
-use Rattle.sip_ledger.proofs.strikes.MovedLemmas.{strikes-none}
+use Rattle.sip_ledger.proofs.Lemmas.{arith, ltb-false, OnFalse_from, strikes-none}
 use Rattle.sip_ledger.proofs.accounts.moved.strikes_some.Goals as goal
 
 -- the strike strikes something if it reaches the first place that is left

@@ -1,4 +1,4 @@
-use Rattle.sip_ledger.proofs.Words.{◌≡◌, ◌<◌, ◌≤◌, ℕ, false, holds}
+use Rattle.sip_ledger.proofs.Lemmas.{false, holds, ℕ, ◌<◌, ◌≡◌, ◌≤◌}
 use Rattle.sip_ledger.proofs.accounts.strikes.are_others.Given as goal
 
 -- none of the gains looked at so far is of the message

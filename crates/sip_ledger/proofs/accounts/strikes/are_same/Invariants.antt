@@ -1,4 +1,4 @@
-use Rattle.sip_ledger.proofs.Words.{◌≡◌, take}
+use Rattle.sip_ledger.proofs.Lemmas.{take, ◌≡◌}
 use Rattle.sip_ledger.proofs.accounts.strikes.are_same.Given as goal
 
 -- the strikes before the index are the same in both lists

@@ -1,4 +1,4 @@
-use Rattle.sip_ledger.proofs.Words.{◌≡◌, ◌≤◌, ◌++◌, filter, nat_lt, from_to}
+use Rattle.sip_ledger.proofs.Lemmas.{filter, from_to, nat_lt, ◌++◌, ◌≡◌, ◌≤◌}
 use Rattle.sip_ledger.proofs.accounts.strikes.copy_some.Given as goal
 
 -- the strikes before the index are written, but for those that end at the start or before it

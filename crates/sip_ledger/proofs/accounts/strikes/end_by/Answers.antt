@@ -1,10 +1,5 @@
-use Rattle.sip_ledger.proofs.Words.{arith, Strike}
-use Rattle.sip_ledger.proofs.strikes.StrikeLemmas.{none-struck, struck-by_end, struck-more}
+use Rattle.sip_ledger.proofs.Lemmas.{arith, Strike, struck-by_end, struck-more}
 use Rattle.sip_ledger.proofs.accounts.strikes.end_by.Goals as goal
-
--- no strike strikes nothing
-pub loop-strike-init : goal.loop-strike-init
-loop-strike-init c = λ m k _. none-struck m k
 
 -- one strike more does not go past the place either
 pub loop-strike-preserved : goal.loop-strike-preserved

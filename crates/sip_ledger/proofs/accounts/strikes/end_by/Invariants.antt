@@ -1,4 +1,4 @@
-use Rattle.sip_ledger.proofs.Words.{◌≡◌, ◌≤◌, ℕ, false, take, is_struck}
+use Rattle.sip_ledger.proofs.Lemmas.{false, is_struck, take, ℕ, ◌≡◌, ◌≤◌}
 use Rattle.sip_ledger.proofs.accounts.strikes.end_by.Given as goal
 
 -- none of the strikes before the index goes past the place

@@ -1,4 +1,4 @@
-use Rattle.sip_ledger.proofs.Words.{◌≡◌}
+use Rattle.sip_ledger.proofs.Lemmas.{◌≡◌}
 use Rattle.sip_ledger.proofs.accounts.strikes.lengthen.Given as goal
 
 -- no strike has been made longer yet

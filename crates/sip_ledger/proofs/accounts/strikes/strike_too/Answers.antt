@@ -1,5 +1,4 @@
-use Rattle.sip_ledger.proofs.Words.{◌∙◌, arith, with_items_is}
-use Rattle.sip_ledger.proofs.strikes.StrikeLemmas.{longer-too, more-too}
+use Rattle.sip_ledger.proofs.Lemmas.{arith, longer-too, more-too, with_items_is, ◌∙◌}
 use Rattle.sip_ledger.proofs.accounts.strikes.strike_too.Goals as goal
 
 -- a new strike strikes the place alone

@@ -1,4 +1,4 @@
-use Rattle.sip_ledger.proofs.Words.{◌≡◌, false, take, is_struck}
+use Rattle.sip_ledger.proofs.Lemmas.{false, is_struck, take, ◌≡◌}
 use Rattle.sip_ledger.proofs.accounts.strikes.struck_to.Given as goal
 
 -- none of the strikes before the index strikes the message at the place

@@ -1,5 +1,4 @@
-use Rattle.sip_ledger.proofs.Words.{subst, IsFirstFrom, NoneFrom}
-use Rattle.sip_ledger.proofs.lists.IndexLemmas.{range-first, range-none}
+use Rattle.sip_ledger.proofs.Lemmas.{IsFirstFrom, NoneFrom, range-first, range-none, subst}
 use Rattle.sip_ledger.proofs.index.Index.first_from.Goals as goal
 
 -- the first pair in the range is the first number under the key

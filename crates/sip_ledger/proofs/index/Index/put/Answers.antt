@@ -1,8 +1,7 @@
-use Rattle.sip_ledger.proofs.Words.{◌≡◌, ◌==◌, ◌&&◌, cond, true, ◌∙◌, subst, holds}
-use Rattle.sip_ledger.proofs.lists.IndexLemmas.{at-pair}
+use Rattle.sip_ledger.proofs.Lemmas.{at-pair, cond, holds, subst, true, ◌&&◌, ◌==◌, ◌∙◌, ◌≡◌}
 use Rattle.sip_ledger.proofs.index.Index.put.Goals as goal
 
--- of all pairs of a key and a number this one alone comes in
+-- the index has this pair of a key and a number besides, and no other new one
 pub returns-clause-ok : goal.returns-clause-ok
 unfolding holds
 returns-clause-ok c k n =

@@ -1,5 +1,4 @@
-use Rattle.sip_ledger.proofs.Words.{◌≡◌, ◌≤◌, ℕ, true, subst, sym, true≢false, holds}
-use Rattle.sip_ledger.proofs.lists.IndexLemmas.{none-held, span-held}
+use Rattle.sip_ledger.proofs.Lemmas.{holds, none-held, span-held, subst, sym, true, true≢false, ℕ, ◌≡◌, ◌≤◌}
 use Rattle.sip_ledger.proofs.index.Index.span.Goals as goal
 
 -- no number stands under any key

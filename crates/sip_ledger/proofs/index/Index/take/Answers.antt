@@ -1,8 +1,7 @@
-use Rattle.sip_ledger.proofs.Words.{◌≡◌, ◌==◌, ◌&&◌, cond, false, ◌∙◌, subst, holds}
-use Rattle.sip_ledger.proofs.lists.IndexLemmas.{at-pair}
+use Rattle.sip_ledger.proofs.Lemmas.{at-pair, cond, false, holds, subst, ◌&&◌, ◌==◌, ◌∙◌, ◌≡◌}
 use Rattle.sip_ledger.proofs.index.Index.take.Goals as goal
 
--- of all pairs of a key and a number this one alone is gone
+-- the index lacks this pair of a key and a number, and has all others
 pub returns : goal.returns
 unfolding holds
 returns c k n =

@@ -9,12 +9,15 @@ use Rattle.sip_log.proofs.progress.Progress.next_into.Goals as goal
 pub returns-in-Ok : goal.returns-in-Ok
 returns-in-Ok g c =
     let inside = c.self.inside in
+    -- left is what the source had left before the call, and left2 after it; failed and failed2 say whether it had failed
     let left = g.R.Source.left c.args.source.now in
     let failed = g.R.Source.has_failed c.args.source.now in
     let left2 = g.R.Source.left c.entry.new.source in
     let failed2 = g.R.Source.has_failed c.entry.new.source in
+    -- the place had read nothing yet, so its fields are those of a place at the start
     let stage : inside.stage ≡ code.Fresh = sym c.replace.ensures.value ∙ c.in-Fresh.is in
     let fits = subst (λ s. FitsStage s inside.params inside.count inside.last) stage c.self.invariant.1 in
+    -- `old` is the reader before the call, which had read nothing
     let old : ProgressState = record { stage = stage_of inside.stage; held = held_at inside.stage; format = inside.format; times = inside.params; count = inside.count; last = inside.last } in
     subst (λ (p : ProgressState). Nexts (beside_source p left failed) (beside_source c.entry.new.self left2 failed2) c.entry.result) c.self.view_is
     (fresh-step old c.entry.new.self left left2 failed failed2 c.in_ok-window-in-Fresh.window (ap held_at stage ∙ sym c.in_ok-window-in-Fresh.ensures) _ _ c.in-Ok.header.0 c.in-Ok.header.1 c.entry.result
@@ -24,12 +27,15 @@ returns-in-Ok g c =
 pub returns-in-Err : goal.returns-in-Err
 returns-in-Err g c =
     let inside = c.self.inside in
+    -- left is what the source had left before the call, and left2 after it; failed and failed2 say whether it had failed
     let left = g.R.Source.left c.args.source.now in
     let failed = g.R.Source.has_failed c.args.source.now in
     let left2 = g.R.Source.left c.read_header.new.source in
     let failed2 = g.R.Source.has_failed c.read_header.new.source in
+    -- the place had read nothing yet, so its fields are those of a place at the start
     let stage : inside.stage ≡ code.Fresh = sym c.replace.ensures.value ∙ c.in-Fresh.is in
     let fits = subst (λ s. FitsStage s inside.params inside.count inside.last) stage c.self.invariant.1 in
+    -- `old` is the reader before the call, which had read nothing, and `new` the one after it
     let old : ProgressState = record { stage = stage_of inside.stage; held = held_at inside.stage; format = inside.format; times = inside.params; count = inside.count; last = inside.last } in
     let new : ProgressState = record { stage = stage_of c.replace.new.dest; held = held_at c.replace.new.dest; format = inside.format; times = inside.params; count = inside.count; last = inside.last } in
     subst (λ (p : ProgressState). Nexts (beside_source p left failed) (beside_source new left2 failed2) (Err c.in-Err.error)) c.self.view_is
@@ -44,9 +50,11 @@ returns-in-Entries g c =
     let failed = g.R.Source.has_failed c.args.source.now in
     let left2 = g.R.Source.left c.entry-in-Entries.new.source in
     let failed2 = g.R.Source.has_failed c.entry-in-Entries.new.source in
+    -- before the call the reader held a window on the entries
     let window = c.in-Entries.window in
     let stage : inside.stage ≡ code.Entries window = sym c.replace.ensures.value ∙ c.in-Entries.is in
     let fits = subst (λ s. FitsStage s inside.params inside.count inside.last) stage c.self.invariant.1 in
+    -- `old` is the reader before the call
     let old : ProgressState = record { stage = stage_of inside.stage; held = held_at inside.stage; format = inside.format; times = inside.params; count = inside.count; last = inside.last } in
     subst (λ (p : ProgressState). Nexts (beside_source p left failed) (beside_source c.entry-in-Entries.new.self left2 failed2) c.entry-in-Entries.result) c.self.view_is
     (entries-step old c.entry-in-Entries.new.self left left2 failed failed2 window (ap held_at stage) c.entry-in-Entries.result

@@ -18,6 +18,7 @@ returns-in-Ok g c =
     let left2 = prepend_known (items c.read_header.new.window) (g.R.Source.left c.read_header.new.source) in
     let before = g.R.Source.has_failed c.args.source.now in
     let after = g.R.Source.has_failed c.read_header.new.source in
+    -- what comes in the unread input is the header with this format and these times
     let format = c.in-Ok.header.0 in
     let p = c.in-Ok.header.1 in (
       refl,
@@ -28,6 +29,7 @@ returns-in-Ok g c =
 -- where the header has a fault, this fault is what came
 pub returns-in-Err : goal.returns-in-Err
 returns-in-Err g c =
+    -- `left` and `left2` are what the source has left before and after the header, and `before` and `after` whether it had failed
     let window = c.in_ok-window.window in
     let left = g.R.Source.left c.args.source.now in
     let left2 = g.R.Source.left c.read_header.new.source in

@@ -14,9 +14,11 @@ returns-clause-reads g c =
     let n = c.in_ok-count.count in
     let fills = c.in_ok-count.ensures.bytes in
     let within : w.end ≤ length bytes = omega (arith, c.deref_mut.ensures.len) in
+    -- `put` is the buffer with the bytes that came at the end of the window
     let put = put_mid w.end (length bytes - w.end) bytes buf in
     let len : length put ≡ w.bytes.len = search (rules, places) in
     record {
+      -- `came` are the n bytes that were read; the window now holds what it held, and these
       came = take n buf;
       held_is = ap (λ (t : List ℕ). slice_range t w.start (w.end + n)) (with_items_is w.bytes put len)
           ∙ grown bytes buf w.start w.end (length bytes - w.end) n w.ordered within fills.0
@@ -29,6 +31,7 @@ returns-clause-reads g c =
 pub returns-clause-end : goal.returns-clause-end
 unfolding returns-clause-reads
 returns-clause-end g c = λ none room.
+    -- w is the window before, and buf the room in it that was filled: there was some, and no byte came
     let w = c.args.self.now in
     let reads = returns-clause-reads g c in
     let buf = c.fill.new.buf in

@@ -14,6 +14,7 @@ invariant_of-self-in-Err c =
     let runs = c.place_newest.new.runs.items in
     let message : KeptMessage = record { number = c.args.entry; bytes = c.in_ok-bytes-in-Err.bytes } in
     let newest : Loose = record { hash = c.hash-hash.result; gap = c.in-Err.gap } in
+    -- the book has the message after all others, and the gap for its place
     let added = texts_split c.push.new.self.items kept message c.in_ok-push-in-Err.ensures.items ∙ ap (λ bytes. texts_of kept ++ (c.args.entry, bytes) ∷ []) c.in_ok-bytes-in-Err.ensures in
     let order = rw c.deref.ensures.value at c.in_ok-place_newest.ensures.ok.1 in
     let gap = rw (c.deref-2.ensures.value, c.deref-3.ensures.value) at c.in-Err.ensures.gap in

@@ -11,6 +11,7 @@ use Rattle.sip_machine.proofs.book.Book.bytes.Goals as goal
 pub returns-in-Ok : goal.returns-in-Ok
 returns-in-Ok c =
     let at = c.in-Ok.ensures.position (λ k. k.number) (answers_always _ _ _ (λ f a r g called. search rules)) in
+    -- the message that was found has the number that was asked for, so its bytes are those of this number
     let same = ranked c.index.result.now.number c.args.number Equal (sym (rw (c.deref.ensures.value, ← c.index.ensures) at (at c.index.result.now))) in
     let found = text_of-kept (λ k. (k.number, k.bytes.items)) c.self.inside.kept.items c.in-Ok.position c.index.result.now c.self.invariant.0.rising
     (rw c.deref.ensures.value at c.in-Ok.ensures.bound) c.index.ensures in
@@ -20,6 +21,7 @@ returns-in-Ok c =
 -- where the binary search finds nothing, no message has this number
 pub returns-in-Err : goal.returns-in-Err
 returns-in-Err c =
+    -- the numbers of the kept messages rise, so a search by halves that finds nothing says that none is the number
     let number = c.args.number in
     let kept = c.self.inside.kept.items in
     let parted = (rw c.deref.ensures.value at (c.in-Err.ensures.position (λ k. k.number) (answers_always _ _ _ (λ f a r g called. search rules))))

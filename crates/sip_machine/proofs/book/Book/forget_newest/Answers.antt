@@ -15,6 +15,7 @@ invariant_of-self c =
 -- where no message was forgotten, the book is right as before
 pub invariant_of-self-in_default : goal.invariant_of-self-in_default
 invariant_of-self-in_default c =
+    -- the texts are as they were, and so are the runs; the Tos are among those before
     let texts = texts_of c.self.inside.kept.items in
     let tos = c.drop_newest.new.self in
     let same = sym (ap texts_of c.in_default.ensures.none) in
@@ -32,6 +33,7 @@ invariant_of-self-in-Some c =
     let runs = c.self.inside.order.items in
     let tos = c.drop_newest.new.self in
     let newest = c.in-Some.newest in
+    -- the newest message has no place yet, and its To is the last one
     let some : is_some c.self.inside.loose ≡ true = search rules in
     let below = c.are_below.ensures (search rules) in
     let is = texts_split old new newest c.in-Some.ensures.some.1 ∙ ap (λ n. texts_of new ++ (n, newest.bytes.items) ∷ []) c.in-Some.ensures.some.0 in

@@ -10,7 +10,7 @@ invariant_of-self c =
     let put = c.put_to.ensures texts (rw c.self.view_is c.requires.kept) (rw c.self.view_is c.requires.read) c.self.invariant.2 in
     (c.self.invariant.0, c.self.invariant.1, subst (AreTos texts) (sym c.begins_with_all.ensures) put)
 
--- the same, where the other messages of the call need no To beside them
+-- the Tos are right too where those of the other kept messages are not put beside them
 pub invariant_of-self-else-begins_with_all : goal.invariant_of-self-else-begins_with_all
 invariant_of-self-else-begins_with_all c =
     let texts = texts_of c.self.inside.kept.items in

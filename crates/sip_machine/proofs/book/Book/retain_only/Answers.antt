@@ -28,13 +28,16 @@ loosened-self-inside-requires-clause-order c =
     let numbers = c.args.numbers.now in
     let book = c.self.invariant.0 in
     let kept : All (Keeps texts) numbers = rw c.self.view_is c.requires.kept in
+    -- the messages that are kept are those with the numbers
     let is = c.keep_only.ensures ∙ merged_is numbers texts c.requires.rising book.rising kept in
     let old = places_of c.self.inside.order.items in
     let now = places_of c.move_all.new.runs.items in
+    -- the places are those of the kept messages, moved
     let front = ap texts_of (c.placed-kept.ensures ∙ ap (placed loose) c.deref.ensures.value) ∙ placed_texts loose c.self.inside.kept.items in
     let places = c.move_all.ensures.places ∙ ap₂ (λ ts ns. filter_map (moved ts ns) old) front c.placed.ensures in
     let stand = stand_placed texts c.self.inside.order.items c.self.inside.loose c.self.invariant.1 in
     let before = subst (λ b. IsOrder (placed b texts) old) (sym c.is_some-is_loose.ensures) stand.order in
+    -- the places that are left are in order, since the old ones were
     let order = retained_order loose texts numbers book c.requires.rising kept old before in
     rw (c.deref-2.ensures.value, c.deref-3.ensures.value) (record {
       order = subst (λ ts. IsOrder (placed loose ts) now) (sym is) (subst (IsOrder (placed loose (only numbers texts))) (sym places) order);
@@ -49,6 +52,7 @@ invariant_of-self c =
     let numbers = c.args.numbers.now in
     let book = c.self.invariant.0 in
     let kept : All (Keeps texts) numbers = rw c.self.view_is c.requires.kept in
+    -- the messages that are left are a book, in the order of the places, and the Tos are theirs
     let is = c.keep_only.ensures ∙ merged_is numbers texts c.requires.rising book.rising kept in (
       subst IsBook (sym is) (IsBook-only texts numbers book c.requires.rising kept),
       rw (c.deref-2.ensures.value, c.deref-3.ensures.value) at c.loosened-self-inside.ensures,

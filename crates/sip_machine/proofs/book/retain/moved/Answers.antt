@@ -7,12 +7,14 @@ use Rattle.sip_machine.specs.inner.Retain.{place_among}
 use Rattle.sip_machine.proofs.texts.RetainLemmas.{place_at, place_none, never_falls}
 use Rattle.sip_machine.proofs.book.retain.moved.Goals as goal
 
+-- the binary search found the number, so its place among those that are kept is the new one
 pub returns-in-Ok : goal.returns-in-Ok
 returns-in-Ok c = grind (arith, searched, never_falls, place_at)
 
 -- where the binary search finds nothing, the number of this place is not among those that are kept
 pub returns-in-Err : goal.returns-in-Err
 returns-in-Err c =
+    -- n is the number of the place; the numbers before where the search ended are less than n, and those from there on are greater
     let numbers = c.args.numbers.now in
     let n = c.number_at-number.result in
     let found = rw c.in-Err.is at (searched numbers n c.binary_search.result c.binary_search.ensures.position (never_falls numbers c.requires)) in

@@ -5,6 +5,7 @@ use Rattle.sip_machine.specs.inner.Order.{full_hash}
 use Rattle.sip_machine.proofs.hashed.Hashed.is.Goals as goal
 
 -- where the hashes of two texts differ, the texts do
+-- a and b are the texts, and s is whether their bytes are equal
 others-differ : (a b : List ℕ) → (full_hash a ≡ full_hash b → ⊥) → (s : Bool) → bytes_eq a b ≡ s → false ≡ s
 others-differ a b other true same = absurd (other (ap full_hash ((bytes_decides a b).0 same)))
 others-differ a b other false same = refl

@@ -21,7 +21,7 @@ returns-in_default-2-clause-finds c =
     let fault = rw c.in_default-2.is at c.in_ok-invite.ensures in
     λ k d low pays. says-no_fault (text_of c.args.book.now c.args.request) pays.0.1 fault.0 pays.0.4 fault.1
 
--- an ACK that is none for the INVITE pays no debt
+-- an ACK that does not belong to the INVITE pays no debt
 pub returns-then-not-is_ack_for-clause-finds : goal.returns-then-not-is_ack_for-clause-finds
 returns-then-not-is_ack_for-clause-finds c =
     λ k d low pays. AckOf-none _ _ _ c.in-Some.ack c.in-Some-2.invite c.is_ack_for.result
@@ -37,6 +37,7 @@ returns-clause-finds c =
     let to = c.of-to.ensures ∙ c.in_ok-to.ensures ∙ ap (λ a. solid a.0) c.to.ensures in
     IfOk-weaker c.first_with_to.result _ _ (λ index finds.
     FindsFirst-same (HasTo texts c.of-to.result t) (PaysDebt texts ack invite t) t (owed_in c.args.dues.now c.args.row) index (λ k d low.
+    -- an ACK with the To of the response belongs to it exactly if it is one for the INVITE
     let response = text_of texts (get_or (owed_in c.args.dues.now c.args.row) k d).message in
     let by_to = AckOf-by_to ack invite response c.in-Some.ack c.in-Some-2.invite c.is_ack_for.result
     (rw (c.in-Some.is, c.number.ensures) at c.in_ok-ack.ensures) (rw c.in-Some-2.is at c.in_ok-invite.ensures) c.is_ack_for.ensures c.if-not-is_ack_for.false c.of-to.result to in

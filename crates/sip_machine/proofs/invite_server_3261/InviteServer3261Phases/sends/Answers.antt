@@ -22,6 +22,7 @@ pub returns-in_ok-sent-in-In : goal.returns-in_ok-sent-in-In
 returns-in_ok-sent-in-In c =
     let texts = c.args.book.now in
     let e = c.args.event.now in
+    -- the code of the response is no success, since the test of it failed
     let other : ¬ (IsSuccess c.in-Response.code) = λ success. true≢false (sym (c.is_success.ensures.1 success) ∙ c.if-is_success.false) in
     rw (c.in-In.is, c.within.ensures)
     (sent-within c.args.self.now texts c.in-In.phase c.in-In.again c.in-Response.code e.kind (event_in texts e) c.in_ok-sent-in-In.sent c.in-Response.ensures other

@@ -3,7 +3,7 @@ use Rattle.std.proofs.Common.{◌∙◌, ap, sym, subst, append_assoc}
 use Rattle.sip_machine.specs.Owes.{owed_in, owes_names}
 use Rattle.sip_machine.specs.Owing.{owing_names}
 use Rattle.sip_machine.proofs.pools.PoolLemmas.{in-phases, in-rows, state-here}
-use Rattle.sip_machine.proofs.acks.ToLemmas.{on_ok}
+use Rattle.sip_ledger.proofs.lists.EachLemmas.{on_ok}
 use Rattle.sip_machine.proofs.owing.AnyMachine.names.Goals as goal
 
 -- the index is one of the phases
@@ -21,6 +21,7 @@ returns-clause-ok g c = λ d.
     let names = g.M.Phases.names in
     let p = c.index.result.now in
     let owes = owed_in c.pool.inside.dues c.args.at in
+    -- the state at the index is the phase there with what its row owes
     let here = state-here c.pool.inside.phases.items c.pool.inside.dues c.args.pool.now c.args.at p d c.pool.view_is c.requires c.index.ensures in
     let old = c.args.out.now.items in
     let x = get_or c.args.pool.now c.args.at d in

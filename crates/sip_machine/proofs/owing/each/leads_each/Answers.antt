@@ -6,7 +6,7 @@ use Rattle.sip_machine.specs.inner.Effects.{LeadsFrom}
 use Rattle.sip_machine.proofs.pools.CoversLemmas.{found-none, found-run, slice-kept, before-more}
 use Rattle.sip_machine.proofs.owing.each.leads_each.Goals as goal
 
--- of no state nothing was found yet
+-- before the loop no state was asked, and nothing was found
 pub loop-at-init : goal.loop-at-init
 loop-at-init g c =
     let m = g.M.Phases in
@@ -39,6 +39,7 @@ loop-at-preserved g c =
     let texts = c.args.book.now in
     let e = event_in texts c.args.event.now in
     let P = LeadsFrom m.figure (m.times c.args.machine.now) m.seen texts e in
+    -- what was found before the run, and what the run leads to, is found of all up to its end
     let (at_le, has) = c.loop-at.invariant in
     let order = c.run_end-end.ensures.order in
     let le = c.requires.count in (

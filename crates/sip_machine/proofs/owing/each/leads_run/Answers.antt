@@ -46,6 +46,7 @@ returns-then-is_past-clause-gives g c =
     let xs = c.args.pool.now in
     let some = from_to c.args.from c.args.to xs in
     let p = m.times c.args.machine.now in
+    -- the states of the run have one phase, which has closed before the moment
     let run = in-run m.names m.in_range c.args.book.now c.pool.inside.phases.items c.pool.inside.dues c.args.pool.now c.args.from c.args.to c.index.result.now c.pool.view_is c.index.ensures
     c.requires.from c.requires.to c.requires.known c.requires.in_range c.requires.same in
     let closed = rw (c.moment.ensures, c.closes.ensures texts) at c.if-is_past.ensures in (
@@ -64,6 +65,7 @@ returns-in-None-clause-gives g c =
     let xs = c.args.pool.now in
     let some = from_to c.args.from c.args.to xs in
     let p = m.times c.args.machine.now in
+    -- the states of the run have one phase, which has no row
     let run = in-run m.names m.in_range c.args.book.now c.pool.inside.phases.items c.pool.inside.dues c.args.pool.now c.args.from c.args.to c.index.result.now c.pool.view_is c.index.ensures
     c.requires.from c.requires.to c.requires.known c.requires.in_range c.requires.same in
     ([], sym (append-nil xs), leads-none m.figure p m.seen m.names m.in_range texts e c.index.result.now some run.same c.requires.known c.requires.in_range (rw c.in-None.is at c.in_ok-turn.ensures))
@@ -71,6 +73,7 @@ returns-in-None-clause-gives g c =
 -- where a row of the phase takes the event, each state whose debts are in time is pushed as the row leads it
 pub returns-in-Some-clause-gives : goal.returns-in-Some-clause-gives
 returns-in-Some-clause-gives g c =
+    -- m is the machine, p its times and e the event; xs are the states of the pool and `some` those of the run, whose phase is q
     let m = g.M.Phases in
     let texts = c.args.book.now in
     let e = event_in texts c.args.event.now in
@@ -78,9 +81,11 @@ returns-in-Some-clause-gives g c =
     let some = from_to c.args.from c.args.to xs in
     let q = c.index.result.now in
     let p = m.times c.args.machine.now in
+    -- the states of the run have one phase, whose timers are not past
     let run = in-run m.names m.in_range c.args.book.now c.pool.inside.phases.items c.pool.inside.dues c.args.pool.now c.args.from c.args.to c.index.result.now c.pool.view_is c.index.ensures
     c.requires.from c.requires.to c.requires.known c.requires.in_range c.requires.same in
     let timers = rw (c.moment.ensures, c.closes.ensures texts) at c.if-is_past.ensures in
+    -- the states that are in time are led, and stand for what the row leads to
     let led = map (led_by p e.moment c.in-Some.turn) (filter (λ x. is_timely e.moment x.owes) some) in
     let covers = leads-some m.figure p m.seen m.names m.in_range texts e q some run.same c.requires.known c.requires.in_range c.in-Some.turn timers (rw c.in-Some.is at c.in_ok-turn.ensures) in
     on_ok_weaker c.push_led_each.result (λ (is : c.push_led_each.new.self ≡ xs ++ led). (led, is, covers))

@@ -12,6 +12,7 @@ use Rattle.sip_machine.proofs.owing.each.receives_each.Goals as goal
 -- what the states take of a received message is what the rows lead to, since receiving pays nothing
 pub returns-clause-gives : goal.returns-clause-gives
 returns-clause-gives g c =
+    -- P holds of a state and of what it leads to, and `some` are the states that are asked
     let m = g.M.Phases in
     let texts = c.args.book.now in
     let p = m.times c.args.machine.now in
@@ -19,6 +20,7 @@ returns-clause-gives g c =
     let P = LeadsFrom m.figure p m.seen texts e in
     let old = c.args.pool.now in
     let some = take c.args.count old in
+    -- what is found by the rows is what the states take
     on_ok_weaker c.leads_each.result
     (λ (has : HasFound (owing_names m.names) (OwingInRange m.in_range) (owing_seen m.seen) texts P some old c.leads_each.new.pool).
     let (added, is, covers) = has in (

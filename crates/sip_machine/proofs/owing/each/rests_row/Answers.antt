@@ -3,14 +3,14 @@ use Rattle.std.specs.Option.{option_map}
 use Rattle.std.proofs.Common.{sym, subst, append-nil}
 use Rattle.std.proofs.lemmas.Result.{on_ok_weaker}
 use Rattle.sip_machine.specs.NumberedEvent.{event_in}
-use Rattle.sip_machine.specs.Owing.{at_rest, owing_seen, owing_names, OwingInRange}
+use Rattle.sip_machine.specs.Owing.{owing_seen, owing_names, OwingInRange}
 use Rattle.sip_machine.specs.Rules.{Knows}
 use Rattle.sip_machine.specs.Limits.{IsWithin}
 use Rattle.sip_machine.specs.FigureRules.{until_of}
 use Rattle.sip_machine.specs.inner.Single.{AnswersOne}
 use Rattle.sip_machine.specs.inner.Effects.{Rests, RestsFrom, rests_at, unexpired_at}
 use Rattle.sip_machine.proofs.pools.PoolLemmas.{holds-here, in-phases, in-rows, state-here}
-use Rattle.sip_machine.proofs.pools.CoversLemmas.{Covers-none, Covers-one, before-either}
+use Rattle.sip_machine.proofs.pools.CoversLemmas.{Covers-none, Covers-one}
 use Rattle.sip_machine.proofs.steps.OwingEachLemmas.{lasting-answers}
 use Rattle.sip_machine.proofs.owing.each.rests_row.Goals as goal
 
@@ -49,8 +49,10 @@ returns-then-is_past-clause-gives g c = λ d.
     let texts = c.args.book.now in
     let p = m.times c.args.machine.now in
     let e = event_in texts c.args.event.now in
+    -- x is the state at the index, of which the code has read the phase and the debts (`here`)
     let x = get_or c.args.pool.now c.args.at d in
     let here = state-here c.pool.inside.phases.items c.pool.inside.dues c.args.pool.now c.args.at c.index.result.now d c.pool.view_is c.requires.at c.index.ensures in
+    -- x cannot wait until the moment of the event e, so no state y is to be given
     let past = subst (λ x. ¬ (IsWithin e.moment (until_of m.figure p (owing_seen m.seen texts x)))) here (rw (c.moment.ensures, c.until.ensures texts) at c.if-is_past.ensures) in
     ([], sym (append-nil c.args.pool.now), Covers-none (owing_names m.names) (OwingInRange m.in_range) (owing_seen m.seen) texts (RestsFrom m.figure p m.seen texts e x) (λ y h. past h.0))
 
@@ -62,21 +64,19 @@ returns-clause-gives g c = λ d.
     let p = m.times c.args.machine.now in
     let e = event_in texts c.args.event.now in
     let x = get_or c.args.pool.now c.args.at d in
+    -- the state at the index can wait until the moment or not
     let here = state-here c.pool.inside.phases.items c.pool.inside.dues c.args.pool.now c.args.at c.index.result.now d c.pool.view_is c.requires.at c.index.ensures in
     let within = subst (λ x. IsWithin e.moment (until_of m.figure p (owing_seen m.seen texts x))) here (rw (c.moment.ensures, c.until.ensures texts) at c.if-is_past.ensures) in
     let rested = option_map (λ rest. rests_at e.moment rest x) c.in_ok-rest.rest in
+    -- what it gives without a row is one state at most
     let one = subst (λ x. AnswersOne (owing_names m.names) (OwingInRange m.in_range) (owing_seen m.seen) texts
     (Rests m.figure e (owing_seen m.seen texts (unexpired_at e.moment x))) (option_map (λ rest. rests_at e.moment rest x) c.in_ok-rest.rest)) here c.in_ok-rest.ensures.gives in
     let covers = Covers-one (owing_names m.names) (OwingInRange m.in_range) (owing_seen m.seen) texts (RestsFrom m.figure p m.seen texts e x) rested
     (lasting-answers m.figure p m.seen m.names m.in_range texts e.moment x (Rests m.figure e (owing_seen m.seen texts (unexpired_at e.moment x))) rested within one) in
+    -- the state that was found was pushed
     on_ok_weaker c.push_rested.result (λ (is : c.push_rested.new.self ≡ c.args.pool.now ++ option_to_list rested). (option_to_list rested, is, covers))
     (rw (c.in_ok-rest.ensures.same, c.pool.view_is, c.moment-2.ensures) at c.push_rested.ensures.ok d)
 
 -- the old states are as they were
 pub returns-clause-before : goal.returns-clause-before
-returns-clause-before g c =
-    let d = at_rest c.index.result.now in
-    let rested = option_to_list (option_map (λ rest. rests_at c.args.event.now.moment rest (get_or c.args.pool.now c.args.at d)) c.in_ok-rest.rest) in
-    before-either c.push_rested.result c.args.pool.now rested c.push_rested.new.self
-    (rw (c.in_ok-rest.ensures.same, c.pool.view_is, c.moment-2.ensures) at c.push_rested.ensures.ok d)
-    (rw (c.in_ok-rest.ensures.same, c.pool.view_is) at c.push_rested.ensures.err)
+returns-clause-before g c = rw (c.in_ok-rest.ensures.same, c.pool.view_is) at c.push_rested.ensures.before

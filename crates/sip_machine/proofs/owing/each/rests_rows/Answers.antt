@@ -18,6 +18,7 @@ loop-at-init g c =
     let m = g.M.Phases in
     let texts = c.args.book.now in
     let e = event_in texts c.args.event.now in
+    -- no state was asked, and nothing was pushed
     let P = RestsFrom m.figure (m.times c.args.machine.now) m.seen texts e in (
       omega arith,
       omega (arith, c.requires.from),
@@ -53,12 +54,14 @@ loop-at-preserved g c =
     let P = RestsFrom m.figure (m.times c.args.machine.now) m.seen texts e in
     let old = c.args.pool.now in
     let at = c.loop-at.at in
+    -- what was found so far stands after the old states
     let (from_le, to_le, (found, is, covers)) = c.loop-at.invariant in
     let below = c.loop-at-test.true in
     let le = c.requires.to in
     let low : at < length old = omega (arith, below, le) in
     let d = some-at old at low in
     let x = get_or old at d in
+    -- the next old state is still at its index, and what it gives was pushed
     let here : get_or c.loop-at.pool at d ≡ x = ap (λ ys. get_or ys at d) is ∙ get_or_append_left old found d at low in
     let (added, new_is, gives) = c.in_ok-rests_row.ensures.gives d in
     let covers_more = subst (λ s. Covers (owing_names m.names) (OwingInRange m.in_range) (owing_seen m.seen) texts (P s) added) here gives in (

@@ -40,6 +40,7 @@ returns-then-is_past-clause-gives g c =
     let xs = c.args.pool.now in
     let some = from_to c.args.from c.args.to xs in
     let p = m.times c.args.machine.now in
+    -- the states of the run have one phase, which has closed before the moment
     let run = in-run m.names m.in_range c.args.book.now c.pool.inside.phases.items c.pool.inside.dues c.args.pool.now c.args.from c.args.to c.index.result.now c.pool.view_is c.index.ensures
     c.requires.from c.requires.to c.requires.known c.requires.in_range c.requires.same in
     let closed = rw (c.moment.ensures, c.closes.ensures texts) at c.if-is_past.ensures in (
@@ -52,6 +53,7 @@ returns-then-is_past-clause-gives g c =
 -- each state that can pay the message and is in time is pushed with that debt paid
 pub returns-in-Some-clause-gives : goal.returns-in-Some-clause-gives
 returns-in-Some-clause-gives g c =
+    -- m is the machine, p its times and e the event; xs are the states of the pool and `some` those of the run, whose phase is q
     let m = g.M.Phases in
     let texts = c.args.book.now in
     let e = event_in texts c.args.event.now in
@@ -59,11 +61,13 @@ returns-in-Some-clause-gives g c =
     let some = from_to c.args.from c.args.to xs in
     let q = c.index.result.now in
     let p = m.times c.args.machine.now in
+    -- the states of the run have one phase, which does not stay by itself
     let run = in-run m.names m.in_range c.args.book.now c.pool.inside.phases.items c.pool.inside.dues c.args.pool.now c.args.from c.args.to c.index.result.now c.pool.view_is c.index.ensures
     c.requires.from c.requires.to c.requires.known c.requires.in_range c.requires.same in
     let timers = rw (c.moment.ensures, c.closes.ensures texts) at c.if-is_past.ensures in
     let stays = rw c.kind.ensures at c.stays.ensures texts in
     let moves : ¬ (m.figure.Stays (m.seen texts q) e.kind) = λ holds. true≢false (sym (stays.1 holds) ∙ c.if-stays.false) in
+    -- the states that can pay the message have paid it, and stand for what is left without a row
     let message = c.in-Some.message in
     let paid = map (repaid_at e.moment message) (filter (λ x. list_any (is_payable message e.moment) x.owes && is_timely e.moment x.owes) some) in
     let covers = rests-paid m.figure p m.seen m.names m.in_range texts e q some run.same c.requires.known c.requires.in_range message timers moves (rw c.in-Some.is at c.pays.ensures) in

@@ -7,7 +7,7 @@ use Rattle.sip_machine.specs.FigureRules.{TakeOf}
 use Rattle.sip_machine.proofs.pools.CoversLemmas.{HasFound, found-none, found-run, slice-kept, before-more}
 use Rattle.sip_machine.proofs.owing.each.sends_each.Goals as goal
 
--- of no state nothing was found yet
+-- before the loop no state was asked, and nothing was found
 pub loop-at-init : goal.loop-at-init
 loop-at-init g c =
     let m = g.M.Phases in
@@ -40,6 +40,7 @@ loop-at-preserved g c =
     let texts = c.args.book.now in
     let e = event_in texts c.args.event.now in
     let P = λ (x : CodeOwing g.row.M-Phase.Denot). TakeOf m.figure (m.times c.args.machine.now) (owing_seen m.seen texts x) e in
+    -- what was found before the run, and what the run takes, is found of all up to its end
     let (at_le, has) = c.loop-at.invariant in
     let order = c.run_end-end.ensures.order in
     let le = c.requires.count in (
@@ -55,6 +56,7 @@ returns-clause-gives g c =
     let texts = c.args.book.now in
     let e = event_in texts c.args.event.now in
     let (at_le, has) = c.loop-at.invariant in
+    -- the loop has asked as many states as it was to ask
     let all : c.loop-at.at ≡ c.args.count = omega (arith, at_le, c.loop-at-test.false) in
     subst (λ n. HasFound (owing_names m.names) (OwingInRange m.in_range) (owing_seen m.seen) texts (λ x. TakeOf m.figure (m.times c.args.machine.now) (owing_seen m.seen texts x) e)
     (take n c.args.pool.now) c.args.pool.now c.loop-at.pool) all has

@@ -11,5 +11,6 @@ invariant-loop-at g l =
     (l.at ≤ l.count) × HasFound (owing_names g.M.Phases.names) (OwingInRange g.M.Phases.in_range) (owing_seen g.M.Phases.seen) l.book
     (λ x. TakeOf g.M.Phases.figure (g.M.Phases.times l.machine) (owing_seen g.M.Phases.seen l.book x) (event_in l.book l.event)) (take l.at l.initial.pool) l.initial.pool l.pool
 
+-- each turn of the loop asks some more of the `count` states
 abbrev pub decreases-loop-at : goal.decreases-loop-at
 decreases-loop-at g l = l.count - l.at

@@ -30,19 +30,23 @@ returns-clause-gives g c =
     let texts = c.args.book.now in
     let p = m.times c.args.machine.now in
     let e = event_in texts c.args.event.now in
+    -- P is what a row leads to, and Q what is given without a row
     let P = LeadsFrom m.figure p m.seen texts e in
     let Q = RestsFrom m.figure p m.seen texts e in
     let old = c.args.pool.now in
     let mid = c.leads_run.new.pool in
     let some = from_to c.args.from c.args.to old in
+    -- what the rows lead to stands after the old states
     let (added, mid_is, covers) = c.in_ok-leads_run.ensures.gives in
     let slice = slice-old c.args.from c.args.to old added mid mid_is c.requires.to in
     on_ok_weaker c.rests_run.result
     (λ (has : HasFound (owing_names m.names) (OwingInRange m.in_range) (owing_seen m.seen) texts Q (from_to c.args.from c.args.to mid) mid c.rests_run.new.pool).
+    -- what the states give without a row stands after that
     let (more, new_is, rests) = has in
     let rests_old = subst (λ xs. Covers (owing_names m.names) (OwingInRange m.in_range) (owing_seen m.seen) texts (FromSome Q xs) more) slice rests in (
       added ++ more,
       new_is ∙ ap (λ xs. xs ++ more) mid_is ∙ append_assoc old added more,
+      -- what was led and what rests together are what the states take
       Covers-same (owing_names m.names) (OwingInRange m.in_range) (owing_seen m.seen) texts (λ y. FromSome P some y ⊎ FromSome Q some y)
           (FromSome (λ x. TakeOf m.figure p (owing_seen m.seen texts x) e) some)
           (λ y.

@@ -9,7 +9,7 @@ use Rattle.sip_machine.proofs.pools.CoversLemmas.{HasFound, found-none, found-mo
 use Rattle.sip_machine.proofs.pools.PoolLemmas.{some-at}
 use Rattle.sip_machine.proofs.owing.each.steps_each.Goals as goal
 
--- of no state nothing was found yet
+-- before the loop no state was asked, and nothing was found
 pub loop-at-init : goal.loop-at-init
 loop-at-init g c =
     let m = g.M.Phases in
@@ -38,12 +38,14 @@ loop-at-preserved g c =
     let P = λ (x : CodeOwing g.row.M-Phase.Denot). TakeOf m.figure (m.times c.args.machine.now) (owing_seen m.seen texts x) e in
     let old = c.args.pool.now in
     let at = c.loop-at.at in
+    -- what was found so far stands after the old states
     let (found, is, covers) = c.loop-at.invariant in
     let below = c.loop-at-test.true in
     let le = c.requires.count in
     let low : at < length old = omega (arith, below, le) in
     let d = some-at old at low in
     let x = get_or old at d in
+    -- the next old state is still at its index, and what it takes was pushed
     let here : get_or c.loop-at.pool at d ≡ x = ap (λ ys. get_or ys at d) is ∙ get_or_append_left old found d at low in
     let (added, new_is, gives) = c.in_ok-successors.ensures.ok d in
     let stands = subst (λ s. StandFor (owing_names m.names) (OwingInRange m.in_range) (owing_seen m.seen) texts (P s) added) here gives in
@@ -56,6 +58,7 @@ pub returns-clause-gives : goal.returns-clause-gives
 returns-clause-gives g c =
     let m = g.M.Phases in
     let texts = c.args.book.now in
+    -- the loop ends where `at` is the count, so what it has found is of all states that were to be asked
     let at = c.loop-at.at in
     let all : at ≡ c.args.count = omega arith in
     subst (λ n. HasFound (owing_names m.names) (OwingInRange m.in_range) (owing_seen m.seen) texts

@@ -6,6 +6,7 @@ use Rattle.sip_machine.proofs.owing.each.turn_of.Goals as goal
 -- for a received message the turn is that of the machine's row for what it receives
 pub returns-in_ok-turn-in-Received : goal.returns-in_ok-turn-in-Received
 returns-in_ok-turn-in-Received g c = λ owes known fits.
+    -- the turn of a message without a row leaves the phase as it is
     let m = g.M.Phases in
     let texts = c.args.book.now in
     rw c.unwrap_or.ensures
@@ -16,6 +17,7 @@ returns-in_ok-turn-in-Received g c = λ owes known fits.
 -- for a sent message the turn is that of the machine's row for what it sends
 pub returns-in-Sent : goal.returns-in-Sent
 returns-in-Sent g c =
+    -- the turn answers the row of what is sent, from each state of this phase
     let m = g.M.Phases in
     let texts = c.args.book.now in
     IfOk-weaker c.sends.result _ _

@@ -1,4 +1,4 @@
-use Rattle.std.proofs.Common.{◌∙◌, sym, true≢false}
+use Rattle.sip_machine.proofs.Words.{◌∙◌, sym, true≢false}
 use Rattle.sip_machine.proofs.pools.FirstLemmas.{first-more, first-again, Any-here}
 use Rattle.sip_machine.proofs.pool.Pool.first_of_few.Goals as goal
 use Rattle.sip_machine.proofs.pool.Pool.first_of_few.Goals.{then-not-is_among+in_ok-push, else-not-is_among}
@@ -11,6 +11,7 @@ loop-at-preserved g c =
     let rows = c.loop-at.rows.items in
     let first = c.loop-at.invariant in
     let among = rw c.deref.ensures.value at c.is_among.ensures in
+    -- the state has no equal among the first ones, or it has one
     elim c.if-not-is_among.branch [
       | then-not-is_among+in_ok-push w ↦
           rw (w.rows-is, w.in_ok-push.ensures.items)

@@ -1,5 +1,4 @@
-use Rattle.std.specs.Prelude.{◌≡◌, ◌<◌, ◌-◌, ℕ, get_or, length}
-use Rattle.sip_machine.specs.Pools.{AreFirstOnes}
+use Rattle.sip_machine.proofs.Words.{◌≡◌, ◌<◌, ◌-◌, ℕ, get_or, length, AreFirstOnes}
 use Rattle.sip_machine.proofs.pool.Pool.first_of_many.Given as goal
 
 -- the rows are the first of equal states before the index, and the slots have their prints

@@ -1,4 +1,4 @@
-use Rattle.std.specs.Prelude.{take}
+use Rattle.sip_machine.proofs.Words.{take}
 use Rattle.sip_machine.proofs.pools.FirstLemmas.{IsNew}
 use Rattle.sip_machine.proofs.pool.Pool.is_among.Given as goal
 

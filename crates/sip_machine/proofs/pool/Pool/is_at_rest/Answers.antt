@@ -1,5 +1,4 @@
-use Rattle.std.specs.Prelude.{◌≡◌, get_or}
-use Rattle.std.proofs.Common.{◌∙◌, sym, ap, true≢false}
+use Rattle.sip_machine.proofs.Words.{◌≡◌, get_or, ◌∙◌, sym, ap, true≢false}
 use Rattle.sip_machine.proofs.pools.PoolLemmas.{state-at}
 use Rattle.sip_machine.proofs.pool.Pool.is_at_rest.Goals as goal
 

@@ -1,5 +1,4 @@
-use Rattle.std.specs.Prelude.{◌≡◌}
-use Rattle.std.proofs.Common.{◌∙◌, sym, ap, true≢false}
+use Rattle.sip_machine.proofs.Words.{◌≡◌, ◌∙◌, sym, ap, true≢false}
 use Rattle.sip_machine.proofs.pools.PoolLemmas.{state-at}
 use Rattle.sip_machine.proofs.pool.Pool.is_same.Goals as goal
 
@@ -9,6 +8,7 @@ returns-else-eq g c = λ d.
     let p = c.index.result.now in
     let q = c.index-2.result.now in
     let is_x = state-at c.self.inside.phases.items c.self.inside.dues c.args.self.now c.args.at p d c.self.view_is c.requires.at in
+    -- equal states would have one phase
     let is_y = state-at c.self.inside.phases.items c.self.inside.dues c.args.self.now c.args.other q d c.self.view_is c.requires.other in (
       λ equal. absurd (true≢false (sym equal ∙ c.if-eq.false)),
       λ alike.

@@ -1,4 +1,4 @@
-use Rattle.std.proofs.Common.{◌∙◌, sym, ap}
+use Rattle.sip_machine.proofs.Words.{◌∙◌, sym, ap}
 use Rattle.sip_machine.proofs.pools.PoolLemmas.{state-at}
 use Rattle.sip_machine.proofs.pool.Pool.phase.Goals as goal
 

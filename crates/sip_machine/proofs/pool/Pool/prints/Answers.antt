@@ -1,7 +1,4 @@
-use Rattle.std.specs.Prelude.{◌≡◌, ◌<◌, ◌≤◌, ◌+◌, ◌-◌, [], get_or, length}
-use Rattle.std.proofs.Common.{ap, arith, sym, ◌∙◌}
-use Rattle.std.proofs.lemmas.List.{with_items_is}
-use Rattle.sip_machine.specs.Owing.{CodeOwing}
+use Rattle.sip_machine.proofs.Words.{◌≡◌, ◌<◌, ◌≤◌, ◌+◌, ◌-◌, [], get_or, length, ap, arith, sym, ◌∙◌, with_items_is, CodeOwing}
 use Rattle.sip_machine.proofs.pools.FirstLemmas.{mixed-run, mixed-all}
 use Rattle.sip_machine.proofs.pools.PoolLemmas.{beside-length, state-at}
 use Rattle.sip_machine.proofs.pools.PoolEachLemmas.{some-at}
@@ -15,6 +12,7 @@ loop-at-preserved g c =
     let xs = c.args.self.now in
     let old = c.in_ok-prints.prints.items in
     let (from, within, mixing) = c.loop-at.invariant in
+    -- the run of one phase goes from `at` up to `to`
     let order = c.run_end-end.ensures.order in
     let high = order.1 in
     let at = c.loop-at.at in
@@ -22,10 +20,12 @@ loop-at-preserved g c =
     let p = c.index.result.now in (
       omega (arith, from, order.0),
       omega (arith, high),
+      -- the hash of this phase was mixed into the prints of the run
       rw (with_items_is c.loop-at.prints c.mix.new.prints (c.mix.auto.prints ∙ c.deref_mut.ensures.len)) (
           mixed-run g.P.Hash.hash_input phases c.args.from old c.loop-at.prints.items c.mix.new.prints (at - c.args.from) (to - c.args.from) c.hash_of.result p mixing (rw c.deref_mut.ensures.value at c.mix.ensures) c.hash_of.ensures
           (omega (arith, order.0))
           (λ k q above below inside.
+          -- the phase at each place of the run is the one whose hash was mixed
           let x : CodeOwing g.row.P.Denot = record { phase = q; owes = [] } in
           let there : c.args.from + k < length xs = omega (arith, below, high) in
           let here : at < length xs = omega (arith, order.0, high) in

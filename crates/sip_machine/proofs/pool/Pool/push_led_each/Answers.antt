@@ -1,18 +1,6 @@
-use Rattle.std.specs.Prelude.{◌≡◌, ◌++◌, List, filter, map}
-use Rattle.std.proofs.Common.{◌∙◌, ap, ap₂, arith}
-use Rattle.sip_ledger.specs.declared.debt.Debt.{Debt}
-use Rattle.sip_ledger.specs.Debts.{counts_at, is_timely}
-use Rattle.sip_ledger.specs.Lists.{from_to}
-use Rattle.sip_ledger.proofs.lists.EachLemmas.{on_ok}
-use Rattle.sip_machine.specs.Owing.{changed_debts}
-use Rattle.sip_machine.specs.inner.Effects.{led_by}
-use Rattle.sip_machine.specs.inner.Pools.{beside}
-use Rattle.sip_machine.proofs.pools.PoolLemmas.{beside-length}
+use Rattle.sip_machine.proofs.Words.{◌≡◌, ◌++◌, List, filter, map, refl, ◌∙◌, ap₂, arith, Debt, counts_at, is_timely, from_to, on_ok, changed_debts, led_by, beside}
 use Rattle.sip_machine.proofs.pools.PoolEachLemmas.{pushed-is, mapped-behind, behind-size}
 use Rattle.sip_machine.proofs.pool.Pool.push_led_each.Goals as goal
-
-pub push_timely-requires : goal.push_timely-requires
-push_timely-requires g c = grind (arith, beside-length)
 
 -- the states between the indices whose debts are in time are pushed once more, as the turn leads them
 pub returns-clause-ok : goal.returns-clause-ok
@@ -21,12 +9,14 @@ returns-clause-ok g c =
     let t = c.args.moment in
     let p = c.args.params.now in
     let leads : List Debt → List Debt = λ owes. changed_debts p t c.args.turn.change (filter (counts_at t) owes) in
+    -- the rows whose debts are in time are pushed, changed as the row of the machine says
     let some = filter (is_timely t) (from_to c.args.from c.args.to rows) in
     let led = on_ok c.lead_each-led.result _ (rw c.is_err.ensures.value at c.if-is_err.false) c.lead_each-led.ensures.ok in
     let dues_is : c.lead_each-led.new.dues ≡ rows ++ map leads some
     = mapped-behind leads rows some c.push_timely.new.self c.lead_each-led.new.dues c.len-before.result c.in_ok-push_timely.ensures.ok c.len-before.ensures led in
+    -- as many phases are pushed as rows
     let count = behind-size rows (map leads some) c.lead_each-led.new.dues c.len.result dues_is c.len.ensures in
     let phases_is = on_ok c.push_phases.result _ (rw c.is_err-else-is_err.ensures.value at c.if-is_err-2.false) c.push_phases.ensures.ok in
     ap₂ beside phases_is dues_is
-    ∙ pushed-is c.args.turn.phase leads (is_timely t) c.self.inside.phases.items rows c.args.from c.args.to _ c.self.invariant (omega (arith, count, c.len-before.ensures))
-    ∙ ap (λ xs. xs ++ map (led_by p t c.args.turn) (filter (λ x. is_timely t x.owes) (from_to c.args.from c.args.to xs))) c.self.view_is
+    ∙ pushed-is c.args.turn.phase leads (led_by p t c.args.turn) (is_timely t) c.self.inside.phases.items rows c.args.self.now c.args.from c.args.to _ c.self.view_is c.self.invariant
+    (omega (arith, count, c.len-before.ensures)) (λ k x low. refl)

@@ -1,6 +1,4 @@
-use Rattle.std.specs.Prelude.{IfOk}
-use Rattle.std.proofs.Common.{sym, ap, subst}
-use Rattle.sip_ledger.specs.Runs.{AreRuns}
+use Rattle.sip_machine.proofs.Words.{IfOk, sym, ap, subst, AreRuns}
 use Rattle.sip_machine.proofs.pools.PoolLemmas.{state-at}
 use Rattle.sip_machine.proofs.pool.Pool.runs.Goals as goal
 

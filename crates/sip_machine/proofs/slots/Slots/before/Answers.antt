@@ -16,6 +16,7 @@ last_from-requires c =
 -- the newest row of the slot before this one with the same print is the last such row of all
 pub returns : goal.returns
 returns c =
+    -- s are the slots, `newest` the newest row of each, `kept` the print of each row with the older row of its slot, and x that of the row `at`
     let s = c.args.self.now in
     let at = c.args.at in
     let newest = c.self.inside.newest.items in
@@ -23,6 +24,7 @@ returns c =
     let x = c.index-kept.result.now in
     let are : AreSlots s = subst AreSlots c.self.view_is c.self.invariant in
     let low = c.requires in
+    -- the print and the older row of the pair are those that the slots tell
     let print = pair-print newest kept s at x c.self.view_is low c.index-kept.ensures in
     let older = pair-older newest kept s at x c.self.view_is low c.index-kept.ensures in
     rw print (c.last_from.ensures at (omega (arith, low)) (rw (sym print, sym older) (are.older_is at low)))

@@ -6,6 +6,7 @@ use Rattle.sip_machine.proofs.slots.Slots.last_from.Goals as goal
 -- no row between this one and the older one of its slot has the print
 pub loop-next-preserved : goal.loop-next-preserved
 loop-next-preserved c =
+    -- s are the slots, `newest` the newest row of each, `kept` the print of each row with the older row of its slot, and x that of the row `at`
     let s = c.args.self.now in
     let at = c.loop-next.next - 1 in
     let some = c.loop-next-test.true in
@@ -13,11 +14,13 @@ loop-next-preserved c =
     let kept = c.self.inside.kept.items in
     let x = c.index-kept.result.now in
     let are : AreSlots s = subst AreSlots c.self.view_is c.self.invariant in
+    -- the row that is looked at leads to an older one of its slot
     let low : at < length s.prints = omega (arith, some, c.loop-next.invariant.0) in
     let print = pair-print newest kept s at x c.self.view_is low c.index-kept.ensures in
     let older = pair-older newest kept s at x c.self.view_is low c.index-kept.ensures in
     let within = (are.older_is at low).within in (
       omega (arith, older, within, low),
+      -- no row between the two has the print
       λ limit low_limit is.
           rw (sym older)
           (reached-more s c.args.print limit c.loop-next.next at are low_limit (c.loop-next.invariant.1 limit low_limit is) (omega (arith, some)) (λ same. c.if-kept-print.false (sym print ∙ same))),

@@ -20,9 +20,11 @@ invariant_of-self c =
     let old = c.self.inside.hashes in
     let new = c.drop_note.new.hashes in
     let at = rw (c.in-Some.is, c.deref.ensures.value) at c.last.ensures.value in
+    -- the last To is the one with this number, and the others have lesser numbers
     let same : last.number ≡ c.args.number = omega arith in
     let lower = subst (λ n. All (λ to. to.number < c.args.number) (take (n - 1) tos)) (sym c.self.inside.list.ok.0) (front_below tos c.args.number last c.self.invariant.0 at same) in
     let stood = All-take (λ to. IsUnder old (full_hash to.text) to.number) left tos c.self.invariant.1 in
+    -- each of the others still stands under its hash
     let under : AreUnder new (take left tos) = λ k d low.
     let to = get_or (take left tos) k d in
     let less = lower k d low in

@@ -1,4 +1,5 @@
 use Rattle.sip_machine.proofs.tos.Tos.hashes.Goals as goal
 
+-- the hashes that are kept are those of the Tos
 pub returns-in-Some : goal.returns-in-Some
 returns-in-Some c = rw (← c.self.view_is) (rw c.in-Some.is at c.self.invariant.1)

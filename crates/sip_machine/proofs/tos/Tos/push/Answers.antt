@@ -17,6 +17,7 @@ invariant_of-self-2 c =
     let tos = c.self.inside.list.items in
     let to : To = record { number = c.args.number; text = c.args.text } in
     let P = λ (t : To). IsUnder c.note.new.hashes (full_hash t.text) t.number in
+    -- the new To stands under its hash, and so do the others
     let noted = rw c.hash.ensures at c.in_ok-note.ensures.ok in
     let under : All P tos = λ k d low.
     put-keeps (full_hash c.args.text) c.args.number c.self.inside.hashes c.note.new.hashes noted (full_hash (get_or tos k d).text) (get_or tos k d).number (c.self.invariant.1 k d low) in

@@ -8,9 +8,11 @@ use Rattle.sip_masks.proofs.masks.Masks.long_run.Goals as goal
 -- the first bit of the word is the first byte that is not plain, so the run ends there
 pub returns-then-word-ne0 : goal.returns-then-word-ne0
 returns-then-word-ne0 c =
+    -- l is what stands at the word that the loop has come to: q is the first place that the word tells of
     let text = c.self.inside.text.now in
     let l = c.loop-self in
     let word = c.word_at-word.result in
+    -- the bits of the word say which bytes are not plain from q on, and all are plain between the place asked for, p, and q
     let found = stops-at is_plain is_other (λ x. refl) refl text 64 c.args.p l.q word (omega (arith, c.if-word-ne0.true)) c.word_at-word.type_inv
     (λ j h. c.word_at-word.ensures j h ∙ c.self.invariant.others_mark (l.q + j) (omega (arith, h, l.invariant.1))) (λ j from below. absurd (omega (arith, from, below))) l.invariant.0 l.invariant.2 l.invariant.1 in
     subst (λ t. l.q - c.args.p + trailing_zeros w64 word ≡ prefix_len is_plain (drop c.args.p t)) c.self.view_is (omega (arith, found, l.invariant.0))

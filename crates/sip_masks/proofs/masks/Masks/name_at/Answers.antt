@@ -15,19 +15,21 @@ is_ordinary_name-requires c =
     let all = ap (prefix_len is_plain) (take_rest text p) ∙ ap (λ t. prefix_len is_plain (drop p t)) c.text.ensures in
     omega (arith, all, c.in_ok-len.ensures.0)
 
--- the plain bytes at p are an ordinary name
+-- where the plain bytes at p are an ordinary name, the answer is how many they are
 pub returns-then-is_ordinary_name : goal.returns-then-is_ordinary_name
 returns-then-is_ordinary_name c =
     let len = c.in_ok-len.len in
     let p = c.args.p in
+    -- the window at p is what the text has from p on, so the first len bytes there are an ordinary name
     let name =
     subst (λ t. OrdinaryName (take len (drop p t)) × (32 ≤ length (drop p t))) c.text.ensures
     (subst (λ w. OrdinaryName (take len w) × (32 ≤ length w)) (take_rest c.text.result.now p) (c.is_ordinary_name.ensures.0 c.if-is_ordinary_name.true)) in
     (c.in_ok-len.ensures.0, name.0, name.1)
 
--- no ordinary name stands at p, since the plain bytes there are none
+-- no ordinary name stands at p, since the plain bytes there are no ordinary name
 pub returns-else-is_ordinary_name : goal.returns-else-is_ordinary_name
 returns-else-is_ordinary_name c len begins =
+    -- p is the place and n how many plain bytes stand there, as the code has counted; `name` would be the ordinary name
     let p = c.args.p in
     let n = c.in_ok-len.len in
     let name : OrdinaryName (take n (drop p c.args.self.now)) = subst (λ k. OrdinaryName (take k (drop p c.args.self.now))) (begins.0 ∙ sym c.in_ok-len.ensures.0) begins.1 in

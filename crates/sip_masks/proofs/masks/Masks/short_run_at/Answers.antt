@@ -13,6 +13,7 @@ returns c =
     let p = c.args.p in
     let word = c.word_at-word.result in
     let within : p ≤ length text = omega (arith, ap length c.self.view_is, c.requires) in
+    -- the run ends at the place that the lowest bit tells
     let found = stops-at is_plain is_other (λ x. refl) refl text 64 p p word (omega (arith, c.if-word-eq0.false)) c.word_at-word.type_inv
     (λ j h. c.word_at-word.ensures j h ∙ c.self.invariant.others_mark (p + j) (omega (arith, h, within))) (λ j from below. absurd (omega (arith, from, below))) (omega arith) (λ k from below. absurd (omega (arith, from, below))) within in (
       subst (λ t. trailing_zeros w64 word ≡ prefix_len is_plain (drop p t)) c.self.view_is (omega (arith, found)),
@@ -22,6 +23,7 @@ returns c =
 -- where the word has no bit, the run is 64 bytes or longer
 pub returns-then-word-eq0 : goal.returns-then-word-eq0
 returns-then-word-eq0 c =
+    -- p is the place; the word tells of 64 bytes from there on, of which none is other than plain
     let text = c.self.inside.text.now in
     let p = c.args.p in
     let within : p ≤ length text = omega (arith, ap length c.self.view_is, c.requires) in

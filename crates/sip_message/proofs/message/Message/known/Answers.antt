@@ -3,5 +3,6 @@ use Rattle.sip_message.specs.Reads.{Reads}
 use Rattle.sip_message.proofs.lemmas.says.Reading.{keeps-reads}
 use Rattle.sip_message.proofs.message.Message.known.Goals as goal
 
+-- a message keeps what it was read from
 pub returns : goal.returns
-returns c = subst (λ r. (bytes : List ℕ) × Reads bytes r) c.self.view_is (keeps-reads c.self.invariant.keeps)
+returns c = subst (λ r. (bytes : List ℕ) × Reads bytes r) c.self.view_is (keeps-reads c.self.invariant.0.keeps)

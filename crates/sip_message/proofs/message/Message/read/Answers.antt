@@ -17,13 +17,19 @@ body_len-requires c =
     said-digits fields (option_copied c.read_ordinary.new.asked.content_length) (fields-rows h.others fields h.are_fields) of.content_length
 
 -- where the head and the body are ordinary, the parts that were found are those of the bytes
-pub new-requires : goal.new-requires
-new-requires c =
+pub new-requires-clause-keeps : goal.new-requires-clause-keeps
+new-requires-clause-keeps c =
     let h = rw c.in-Some.is at c.in_ok-start.ensures.head in
     let of = rw c.in-Some.is at c.in_ok-start.ensures.asked in
     let whole = ordinary-whole c.in-Some.start c.read_ordinary.new.asked c.unwrap-via.result c.unwrap-from.result c.unwrap-to.result c.unwrap-call_id.result c.unwrap-cseq.result h of
     c.unwrap-via.ensures c.unwrap-from.ensures c.unwrap-to.ensures c.unwrap-call_id.ensures c.unwrap-cseq.ensures c.in-Some-body_len.ensures.1 in
     found-keeps (element c.unwrap-via.result) (cseq_parts c.unwrap-cseq.result) whole.found whole.says_via whole.says_cseq
+
+-- no value of an ordinary head is folded
+pub new-requires-clause-no_folds : goal.new-requires-clause-no_folds
+new-requires-clause-no_folds c =
+    let h = rw c.in-Some.is at c.in_ok-start.ensures.head in
+    λ _. h.no_folds
 
 -- where the head and the body are ordinary, the message is what the bytes are read as
 pub returns : goal.returns

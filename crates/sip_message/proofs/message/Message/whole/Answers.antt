@@ -21,19 +21,21 @@ use Rattle.sip_message.proofs.lemmas.message.Stages.{begun, begins, settled, fau
 use Rattle.sip_message.proofs.lemmas.says.Reading.{fault-says}
 use Rattle.sip_message.proofs.message.Message.whole.Goals as goal
 
+-- without an empty line the bytes have no head, and this is their fault
 pub returns-in_default : goal.returns-in_default
 returns-in_default c = fault-says _ _ (stopped _ (c.in_default.ensures, refl) refl)
 
+-- where the head has a line end of one byte, this is the fault of the bytes
 pub returns-then-not-is_clean : goal.returns-then-not-is_clean
 returns-then-not-is_clean c = fault-says _ _ (passes _ c.in-Some.ensures.0 (stopped _ ((λ _ clean. absurd (search rules)), refl) refl))
 
--- where the start line is none, this is the fault of the bytes
+-- where the first line is no start line, this is the fault of the bytes
 pub returns-in_default-read_start : goal.returns-in_default-read_start
 returns-in_default-read_start c =
     let b = begins c.in-Some.ensures.0 (c.is_clean.ensures.0 c.if-not-is_clean.false) c.cut_first.ensures in
     fault-says _ _ (begun b.1 (stopped _ (c.in_default-read_start.ensures, refl) refl))
 
--- a line of the head is at fault
+-- where a line of the head is at fault, this is the fault of the bytes
 pub returns-in_err-fields : goal.returns-in_err-fields
 returns-in_err-fields c =
     let b = begins c.in-Some.ensures.0 (c.is_clean.ensures.0 c.if-not-is_clean.false) c.cut_first.ensures in
@@ -52,6 +54,7 @@ returns-in_err-named c =
 -- where the body has a fault, and nothing before it has, this is the fault of the bytes
 pub returns-in_err-body : goal.returns-in_err-body
 returns-in_err-body c =
+    -- b says how the bytes begin, as a message; each part before the body has no fault, and the fault of the body stops the reading
     let b = begins c.in-Some.ensures.0 (c.is_clean.ensures.0 c.if-not-is_clean.false) c.cut_first.ensures in
     let fault = c.in_err-body.field-0.0 in
     faulted c.args.bytes.now fault c.from_residual-in_err-body.result c.from_residual-in_err-body.ensures.0 c.from_residual-in_err-body.ensures.1
@@ -65,6 +68,7 @@ read_body-requires-clause-rows c =
     let b = begins c.in-Some.ensures.0 (c.is_clean.ensures.0 c.if-not-is_clean.false) c.cut_first.ensures in
     subst (λ xs. AllByRecursion (λ f. Row f.name f.value) (map field_parts xs)) (sym c.deref-2.ensures.value) (fields-rows b.0 (fields_parts c.in_ok-fields.fields) (read-fields 1 b.0 (fields_parts c.in_ok-fields.fields) (c.in_ok-fields.ensures.fields b.0 b.2)))
 
+-- the head has a Via, so its value was kept when its field was read
 pub unwrap-via-requires : goal.unwrap-via-requires
 unwrap-via-requires c =
     via-some (fields_parts c.in_ok-fields.fields) c.in_ok-fields.kept c.in_ok-named.named.via.now c.in_ok-fields.ensures.kept (subst (λ xs. IsFirstOf (values known_name.Via (map field_parts xs)) c.in_ok-named.named.via.now) c.deref.ensures.value c.in_ok-named.ensures.stand.via)
@@ -74,13 +78,15 @@ pub unwrap-cseq-requires : goal.unwrap-cseq-requires
 unwrap-cseq-requires c =
     cseq-some (fields_parts c.in_ok-fields.fields) c.in_ok-fields.kept c.in_ok-named.named.cseq.now c.in_ok-fields.ensures.kept (subst (λ xs. IsFirstOf (values known_name.CSeq (map field_parts xs)) c.in_ok-named.named.cseq.now) c.deref.ensures.value c.in_ok-named.ensures.stand.cseq)
 
+-- what was kept of the Via is what its field says
 pub read_body-requires-clause-via : goal.read_body-requires-clause-via
 read_body-requires-clause-via c =
     via-is (fields_parts c.in_ok-fields.fields) c.in_ok-fields.kept c.in_ok-named.named.via.now c.unwrap-via.result c.in_ok-fields.ensures.kept (subst (λ xs. IsFirstOf (values known_name.Via (map field_parts xs)) c.in_ok-named.named.via.now) c.deref.ensures.value c.in_ok-named.ensures.stand.via) c.unwrap-via.ensures
 
 -- what was found are the parts of the bytes, so a message can be made of them
-pub new-requires : goal.new-requires
-new-requires c =
+pub new-requires-clause-keeps : goal.new-requires-clause-keeps
+new-requires-clause-keeps c =
+    -- b tells that the head has these lines; the other parts are what each call has found
     let b = begins c.in-Some.ensures.0 (c.is_clean.ensures.0 c.if-not-is_clean.false) c.cut_first.ensures in
     let found : Found c.args.bytes.now c.in-Some.rest.now c.cut_first.result.0.now (start_parts c.in-Some-read_start.start) (fields_parts c.in_ok-fields.fields) (names_of c.in_ok-named.named) c.in_ok-body.body.now = record {
       head = c.in-Some.head.now;
@@ -88,6 +94,7 @@ new-requires c =
       is_begun = b.1;
       is_start = c.in-Some-read_start.ensures.0;
       are_fields = c.in_ok-fields.ensures.fields b.0 b.2;
+      -- the named fields and the body are those of the bytes
       are_names = subst (λ xs. NamesOf (map field_parts xs) (gives (names_parts c.in_ok-named.named))) c.deref.ensures.value c.in_ok-named.ensures.names;
       is_body = subst (λ xs. BodyOf (start_parts c.in-Some-read_start.start) ((names_parts c.in_ok-named.named).1) ((names_parts c.in_ok-named.named).0.1) (content_length (map field_parts xs)) c.in-Some.rest.now (gives c.in_ok-body.body.now)) c.deref-2.ensures.value c.in_ok-body.ensures;
       stand = subst (λ xs. Stand (map field_parts xs) (names_of c.in_ok-named.named)) c.deref.ensures.value c.in_ok-named.ensures.stand;
@@ -99,6 +106,7 @@ new-requires c =
 -- what was found are the parts of the bytes, so the message is what the bytes are read as
 pub returns : goal.returns
 returns c =
+    -- b tells that the head has these lines; the other parts are what each call has found
     let b = begins c.in-Some.ensures.0 (c.is_clean.ensures.0 c.if-not-is_clean.false) c.cut_first.ensures in
     let found : Found c.args.bytes.now c.in-Some.rest.now c.cut_first.result.0.now (start_parts c.in-Some-read_start.start) (fields_parts c.in_ok-fields.fields) (names_of c.in_ok-named.named) c.in_ok-body.body.now = record {
       head = c.in-Some.head.now;
@@ -106,6 +114,7 @@ returns c =
       is_begun = b.1;
       is_start = c.in-Some-read_start.ensures.0;
       are_fields = c.in_ok-fields.ensures.fields b.0 b.2;
+      -- the named fields and the body are those of the bytes
       are_names = subst (λ xs. NamesOf (map field_parts xs) (gives (names_parts c.in_ok-named.named))) c.deref.ensures.value c.in_ok-named.ensures.names;
       is_body = subst (λ xs. BodyOf (start_parts c.in-Some-read_start.start) ((names_parts c.in_ok-named.named).1) ((names_parts c.in_ok-named.named).0.1) (content_length (map field_parts xs)) c.in-Some.rest.now (gives c.in_ok-body.body.now)) c.deref-2.ensures.value c.in_ok-body.ensures;
       stand = subst (λ xs. Stand (map field_parts xs) (names_of c.in_ok-named.named)) c.deref.ensures.value c.in_ok-named.ensures.stand;

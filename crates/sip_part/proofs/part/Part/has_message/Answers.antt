@@ -4,7 +4,7 @@ use Rattle.sip_standard.specs.Case.{folded}
 use Rattle.sip_part.proofs.Told.{plain_told}
 use Rattle.sip_part.proofs.part.Part.has_message.Goals as goal
 
--- the branch stands plainly in the message
+-- where a branch stands plainly in the message, it tells whether the message falls into the part
 pub returns-in-Some : goal.returns-in-Some
 returns-in-Some c =
     let plain = c.in-Some.branch.now in

@@ -12,6 +12,7 @@ loop-at-preserved c =
     let i = c.loop-at.at in
     let (y, there) = some_at xs i (omega (arith, c.requires)) in
     elim c.if-flags-at.branch [
+      -- the record is appended where its flag is set, and left out otherwise
       | then-flags-at+in_ok-push_record w ↦
           let x = w.index.result.now in
           let is : x ≡ get_or xs i x = w.index.ensures ∙ ap (λ l. get_or l i x) c.self.view_is in

@@ -1,6 +1,7 @@
 use Rattle.std.proofs.Common.{◌≡◌, true, length, All}
 use Rattle.sip_states.proofs.marks.Marks.all.Given as goal
 
+-- `index` indices have both marks, and there are no other marks yet
 abbrev pub invariant-loop-index : goal.invariant-loop-index
 invariant-loop-index l =
     record {

@@ -1,6 +1,7 @@
 use Rattle.sip_states.proofs.due.MarksLemmas.{front_marked, front_once, narrower}
 use Rattle.sip_states.proofs.marks.Marks.named.Goals as goal
 
+-- the first indices in the order are those that are named
 pub returns-clause-members : goal.returns-clause-members
 returns-clause-members c =
     let order = c.self.inside.order.items in
@@ -8,6 +9,7 @@ returns-clause-members c =
     let named = c.self.inside.named in
     λ index. rw (c.deref.ensures.value, ← c.self.view_is) (front_marked order places named (narrower order places c.self.inside.moved named c.self.invariant.0 c.self.invariant.1) index)
 
+-- no index stands twice in the order
 pub returns-clause-once : goal.returns-clause-once
 returns-clause-once c =
     let order = c.self.inside.order.items in

@@ -5,6 +5,7 @@ use Rattle.sip_states.specs.inner.Marks.{Marked, marks}
 use Rattle.sip_states.proofs.due.MarksLemmas.{exchanged, marked_beside, marked_less, marked_still, narrower, place_low}
 use Rattle.sip_states.proofs.marks.Marks.unmark_named.Goals as goal
 
+-- with one mark less the marks fit the order: the named ones stand first, and then the other moved ones
 pub invariant_of-self : goal.invariant_of-self
 invariant_of-self c =
     let order = c.self.inside.order.items in
@@ -12,6 +13,7 @@ invariant_of-self c =
     let named = c.self.inside.named in
     let moved = c.self.inside.moved in
     let is = c.self.invariant.0 in
+    -- p is the place of the index, which is among the named ones
     let low : c.args.index < length places = rw (← c.self.view_is, length-map) at c.requires in
     let p = c.index.result.now in
     let at : p ≡ get_or places c.args.index 0 = c.index.ensures ∙ get_or_default places c.args.index p 0 low in
@@ -20,12 +22,14 @@ invariant_of-self c =
     let less = c.self.invariant.1 in
     rw (c.exchange.ensures.order, c.exchange.ensures.places) (exchanged order places moved is p (named - 1) p_low (omega (arith, c.if-place-self.true, few, less)) moved few, omega (arith, less))
 
+-- the index was named: it changes places with the last one that is, and it alone is named no more
 pub returns-then-place-self-clause-named : goal.returns-then-place-self-clause-named
 returns-then-place-self-clause-named c =
     let order = c.self.inside.order.items in
     let places = c.self.inside.places.items in
     let named = c.self.inside.named in
     let moved = c.self.inside.moved in
+    -- p is the place of the index
     let low : c.args.index < length places = rw (← c.self.view_is, length-map) at c.requires in
     let p = c.index.result.now in
     let at : p ≡ get_or places c.args.index 0 = c.index.ensures ∙ get_or_default places c.args.index p 0 low in
@@ -33,6 +37,7 @@ returns-then-place-self-clause-named c =
     ∙ marked_less order places named (narrower order places moved named c.self.invariant.0 c.self.invariant.1) c.args.index p low at c.if-place-self.true
     ∙ ap (λ (m : Marked). set m.named c.args.index false) c.self.view_is
 
+-- the two indices that change places are both moved, so the marks of the moved ones stay
 pub returns-then-place-self-clause-moved : goal.returns-then-place-self-clause-moved
 returns-then-place-self-clause-moved c =
     let order = c.self.inside.order.items in
@@ -41,6 +46,7 @@ returns-then-place-self-clause-moved c =
     let moved = c.self.inside.moved in
     let is = c.self.invariant.0 in
     let low : c.args.index < length places = rw (← c.self.view_is, length-map) at c.requires in
+    -- p is the place of the index, which is among the named ones
     let p = c.index.result.now in
     let at : p ≡ get_or places c.args.index 0 = c.index.ensures ∙ get_or_default places c.args.index p 0 low in
     let p_low = place_low order places moved is c.args.index p low at in
@@ -51,11 +57,13 @@ returns-then-place-self-clause-moved c =
     ∙ marked_beside order places moved moved p (named - 1) is p_low (omega (arith, under, few, less)) (lt-ltb p moved (omega (arith, under, less)) ∙ sym (lt-ltb (named - 1) moved (omega (arith, under, less))))
     ∙ ap (λ (m : Marked). m.moved) c.self.view_is
 
+-- the index was not named before, so the marks of the named ones stay
 pub returns-else-place-self-clause-named : goal.returns-else-place-self-clause-named
 returns-else-place-self-clause-named c =
     let places = c.self.inside.places.items in
     let named = c.self.inside.named in
     let low : c.args.index < length places = rw (← c.self.view_is, length-map) at c.requires in
+    -- p is the place of the index, which is not among the named ones
     let p = c.index.result.now in
     let at : p ≡ get_or places c.args.index 0 = c.index.ensures ∙ get_or_default places c.args.index p 0 low in
     rw (← c.self.view_is) (marked_still places named c.args.index false low (le-ltb (get_or places c.args.index 0) named (omega (arith, sym at, c.if-place-self.false))))

@@ -8,12 +8,14 @@ use Rattle.sip_states.specs.Naming.{MayName}
 use Rattle.sip_states.proofs.keyed.NamesLemmas.{none_more, may_not_name}
 use Rattle.sip_states.proofs.state_set.StateSet.may_name.Goals as goal
 
+-- no state was looked at yet
 pub loop-at-init : goal.loop-at-init
 loop-at-init g c any = omega (arith, any.2)
 
 -- no state up to here names the message
 pub loop-at-preserved : goal.loop-at-preserved
 loop-at-preserved g c =
+    -- xs are the states of the set; d stands for no state; the state that was looked at may not name the message
     let xs = c.args.self.now.states in
     let same : length c.self.inside.states ≡ length xs = ap (λ h. length h.states) c.self.view_is in
     let low : c.loop-at.at < length xs = omega (arith, same) in
@@ -25,6 +27,7 @@ loop-at-preserved g c =
 -- the state that was found is a state of the set that names the message
 pub returns-then-state_may_name-clause-may : goal.returns-then-state_may_name-clause-may
 returns-then-state_may_name-clause-may g c =
+    -- xs are the states of the set; d stands for no state
     let xs = c.args.self.now.states in
     let same : length c.self.inside.states ≡ length xs = ap (λ h. length h.states) c.self.view_is in
     let low : c.loop-at.at < length xs = omega (arith, same) in

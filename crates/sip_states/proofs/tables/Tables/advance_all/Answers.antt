@@ -30,6 +30,7 @@ invariant_of-self g c =
       inv.2 ∙ sym size,
       marked_still (λ s. numbers_of s ≡ []) c.args.moment some.0 c.self.inside.marks.named (values c.self.inside.sets) (values c.advance_each.new.sets) inv.3 (λ n has. (c.named.ensures.members n).0 (some.1 n has)) some.2,
       inv.4 ∙ sym size,
+      -- the sets without the second mark are still quiet
       record {
         quiet = marked_still IsQuietSet c.args.moment some.0 c.self.inside.marks.moved (values c.self.inside.sets) (values c.advance_each.new.sets) inv.5.quiet
             (λ n has. inv.5.within n ((c.named.ensures.members n).0 (some.1 n has))) some.2;
@@ -40,6 +41,7 @@ invariant_of-self g c =
 -- the marks are right for the sets after the sweep
 pub invariant_of-self-2 : goal.invariant_of-self-2
 invariant_of-self-2 g c =
+    -- `inv` is the invariant of the tables before; the sets are as many as before (`size`), and each has waited (`up`)
     let inv = c.self.invariant in
     let size = c.in_ok-advance_each.ensures.size in
     let up = c.in_ok-advance_each.ensures.ok in (
@@ -48,6 +50,7 @@ invariant_of-self-2 g c =
       rw c.unmark_silent.ensures.same (c.unmark_silent.ensures.long ∙ inv.2 ∙ sym size),
       rw c.unmark_silent.ensures.same c.unmark_silent.ensures.marked,
       rw (c.unmark_silent.ensures.same, c.unmark_silent.ensures.moved) (inv.4 ∙ sym size),
+      -- the sets without the second mark are still quiet
       rw (c.unmark_silent.ensures.same, c.unmark_silent.ensures.moved) (record {
         quiet = marked_still IsQuietSet c.args.moment c.named.result.now c.self.inside.marks.moved (values c.self.inside.sets) (values c.advance_each.new.sets) inv.5.quiet
             (λ n has. inv.5.within n ((c.named.ensures.members n).0 has)) up;
@@ -82,6 +85,7 @@ returns-clause-ok g c =
       keys = c.in_ok-advance_each.ensures.keys;
       records = refl;
       long = up.long;
+      -- a marked set has waited, and waiting does not change another one
       each = marked_advance c.args.moment c.named.result.now c.self.inside.marks.named (values sets) (values c.advance_each.new.sets)
           (c.self.invariant.2 ∙ sym (length-values_of sets.entries)) c.self.invariant.3 c.named.ensures.members up;
     }))
@@ -96,6 +100,7 @@ returns-clause-err g c =
       keys = c.in_ok-advance_each.ensures.keys;
       records = refl;
       long = up.long;
+      -- a marked set has waited, and waiting does not change another one
       each = λ n a b was is. inl (marked_advance c.args.moment c.named.result.now c.self.inside.marks.named (values sets) (values c.advance_each.new.sets)
           (c.self.invariant.2 ∙ sym (length-values_of sets.entries)) c.self.invariant.3 c.named.ensures.members up n a b was is);
     }))

@@ -8,7 +8,7 @@ use Rattle.sip_states.specs.inner.Marks.{IsMarked}
 use Rattle.sip_states.proofs.lists.Kept.{all_marked, kept_few, kept_keys, kept_long, kept_values}
 use Rattle.sip_states.proofs.tables.Tables.keep.Goals as goal
 
--- no more places are kept in the agenda than flags are true
+-- the agenda keeps at most as many places as flags are true
 pub all-requires : goal.all-requires
 all-requires g c =
     let few = kept_few c.args.flags.now c.self.inside.agenda in
@@ -22,6 +22,7 @@ invariant_of-self g c =
     let es = c.self.inside.sets.entries in
     let marks = c.in_ok-marks.marks.named in
     let moved = c.in_ok-marks.marks.moved in
+    -- as many sets, records and marks are left as flags are true
     let size : index_map_len c.keep_entries.new.map ≡ length (kept_of flags es) = ap length c.keep_entries.ensures in
     let few = kept_few flags es in
     let long : length c.in_ok-agenda.agenda ≡ index_map_len c.keep_entries.new.map =
@@ -31,6 +32,7 @@ invariant_of-self g c =
       omega (arith, size, few, c.self.invariant.0),
       long,
       marks_long,
+      -- each index has both marks
       λ index set at unmarked. absurd (false≢true (all_marked marks c.in_ok-marks.ensures.named index false unmarked)),
       moved_long,
       record {
@@ -44,6 +46,7 @@ invariant_of-self g c =
 -- the keys, the sets and the records are those whose flag is set, in their order
 pub returns-clause-ok : goal.returns-clause-ok
 returns-clause-ok g c =
+    -- es are the entries, each a key and its set, and flags those that are kept
     let flags = c.args.flags.now in
     let es = c.self.inside.sets.entries in
     rw (← c.self.view_is) (λ i. record {

@@ -30,6 +30,7 @@ loop-index-preserved g c =
     let i = c.loop-index.index-index in
     let items = c.named-index-items.result.now in
     let index = get_or items i 0 in
+    -- the numbers of the next marked set are appended
     let low : i < length items = omega arith in
     let at : slice_get t.sets index ≡ Some c.index.result.now = ap (λ (u : Tabled). slice_get u.sets index) (sym c.self.view_is) ∙ c.index.ensures in
     appends_more (numbers_at t.sets) items i 0 [] c.loop-index.found.items c.names.new.out.items low c.loop-index.invariant
@@ -44,6 +45,7 @@ returns-clause-ok g c =
     let items = c.named-index-items.result.now in
     let all = take_all c.loop-index.index-index items (omega arith) in
     let found = subst (λ indices. AppendsAll (flat_map (numbers_at t.sets) indices) [] c.loop-index.found.items) all c.loop-index.invariant in
+    -- the marked sets name the same as all sets
     let named : (n : ℕ) → Contains (flat_map (numbers_at t.sets) items) n ↔ Contains (flat_map numbers_of t.sets) n
     = subst (λ (u : Tabled). (n : ℕ) → Contains (flat_map (numbers_at u.sets) items) n ↔ Contains (flat_map numbers_of u.sets) n) c.self.view_is
     (marked_names items c.self.inside.marks.named (values sets) (c.self.invariant.2 ∙ sym (length-values_of sets.entries)) c.self.invariant.3 c.named-index-items.ensures.members) in

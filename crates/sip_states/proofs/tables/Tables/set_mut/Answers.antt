@@ -17,6 +17,7 @@ invariant_of-self-lent g c w =
     let marks = c.self.inside.marks.named in
     let moved = c.self.inside.marks.moved in
     let index = c.args.number - 1 in
+    -- both marks of the index are set, and the others are as they were
     let marked : AreMarked (slice_set marks index true) (values (with_value_at sets index w))
     = rw (values_of-set_value_at sets.entries index w) (marked_set (λ s. numbers_of s ≡ []) marks (values sets) index w inv.3) in
     let moves : AreMoved (slice_set moved index true) (slice_set marks index true) (values (with_value_at sets index w)) = rw (values_of-set_value_at sets.entries index w) (record {

@@ -14,6 +14,7 @@ returns g c =
     let items = c.moved-index-items.result.now in
     let all = take_all c.loop-index.index-index items (omega arith) in
     let numbers = c.loop-index.invariant ∙ ap (map (λ index. index + 1)) all in
+    -- the indices with the second mark stand once in the order, and the other sets are quiet
     let inv = c.self.invariant in
     let t : Tabled = record { times = c.self.inside.params; keys = keys sets; sets = values sets; records = c.self.inside.agenda } in
     subst (λ u. AreToRestart u c.loop-index.numbers.items) c.self.view_is

@@ -20,14 +20,17 @@ invariant_of-self-2 g c =
     let sets = t.sets in
     let new = c.find_or_start.new.sets in
     let set = start_of t.params c.args.key in
+    -- the key stands after the others, with the set that it starts with
     let high : length sets.entries ≤ c.in_ok-index.index = omega (arith, c.if-index-count.false, c.len-count.ensures.len) in
     let entries = (fresh-index t.params c.args.key c.in_ok-index.index sets.entries new.entries c.in_ok-index.ensures.ok high).2 in
     let size : index_map_len new ≡ index_map_len sets + 1 = ap length entries ∙ length-append sets.entries ((c.args.key, set) ∷ []) in
     let room : length (keys sets) < most_keys = subst (λ (t : Tabled). length t.keys < most_keys) (sym c.self.view_is) c.requires in
     let many = length-keys_of sets.entries in
+    -- the agenda and the marks have one place more
     let agenda : length c.push_index.new.agenda ≡ length t.agenda + 1 = ap length c.in_default.ensures.agenda ∙ length-append t.agenda (None ∷ []) in
     let marks : length c.push_index.new.marks.named ≡ length t.marks.named + 1 = ap length c.in_default.ensures.marks ∙ length-append t.marks.named (false ∷ []) in
     let after : values new ≡ values sets ++ set ∷ [] = ap values_of entries ∙ map-append (λ e. e.1) sets.entries ((c.args.key, set) ∷ []) in
+    -- the new set needs no mark, since it names nothing and is quiet
     let marked : AreMarked c.push_index.new.marks.named (values new)
     = rw (c.in_default.ensures.marks, after) (marked_push (λ s. numbers_of s ≡ []) t.marks.named (values sets) set (inv.2 ∙ sym (length-values_of sets.entries)) inv.3 (start_names t.params c.args.key)) in
     let moved : length c.push_index.new.marks.moved ≡ length t.marks.moved + 1 = ap length c.in_default.ensures.moved ∙ length-append t.marks.moved (false ∷ []) in
@@ -43,6 +46,7 @@ invariant_of-self-in-Err g c =
     let t = c.self.inside in
     let sets = t.sets in
     let set = start_of t.params c.args.key in
+    -- the key stood after the others, and the cut takes it away
     let high : length sets.entries ≤ c.in_ok-index.index = omega (arith, c.if-index-count.false, c.len-count.ensures.len) in
     let entries = (fresh-index t.params c.args.key c.in_ok-index.index sets.entries c.find_or_start.new.sets.entries c.in_ok-index.ensures.ok high).2 in
     let back : c.truncate.new.self.entries ≡ sets.entries

@@ -25,6 +25,7 @@ invariant_of-self g c =
     let marks = c.in_ok-marks.marks.named in
     let moved = c.in_ok-marks.marks.moved in
     let size = c.in_err-advance_each.ensures.size in
+    -- there are as many marks as sets, and all are set
     let marks_long = c.in_ok-marks.ensures.long.0 ∙ c.len.ensures.len ∙ sym size in
     let moved_long = c.in_ok-marks.ensures.long.1 ∙ c.len.ensures.len ∙ sym size in (
       subst (λ n. n ≤ most_keys) (sym size) c.self.invariant.0,
@@ -32,6 +33,7 @@ invariant_of-self g c =
       marks_long,
       λ index set at unmarked. absurd (false≢true (all_marked marks c.in_ok-marks.ensures.named index false unmarked)),
       moved_long,
+      -- each set has its second mark too
       record {
         quiet = λ index set at unmarked. absurd (false≢true (all_marked moved c.in_ok-marks.ensures.moved index false unmarked));
         within = marked_within marks moved (marks_long ∙ sym moved_long) c.in_ok-marks.ensures.moved;
@@ -44,6 +46,7 @@ invariant_of-self-2 g c =
     let marks = c.in_ok-marks.marks.named in
     let moved = c.in_ok-marks.marks.moved in
     let size = c.in_ok-advance_each.ensures.size in
+    -- there are as many marks as sets, and all are set
     let marks_long = c.in_ok-marks.ensures.long.0 ∙ c.len.ensures.len ∙ sym size in
     let moved_long = c.in_ok-marks.ensures.long.1 ∙ c.len.ensures.len ∙ sym size in (
       subst (λ n. n ≤ most_keys) (sym size) c.self.invariant.0,
@@ -51,6 +54,7 @@ invariant_of-self-2 g c =
       marks_long,
       λ index set at unmarked. absurd (false≢true (all_marked marks c.in_ok-marks.ensures.named index false unmarked)),
       moved_long,
+      -- each set has its second mark too
       record {
         quiet = λ index set at unmarked. absurd (false≢true (all_marked moved c.in_ok-marks.ensures.moved index false unmarked));
         within = marked_within marks moved (marks_long ∙ sym moved_long) c.in_ok-marks.ensures.moved;
@@ -72,6 +76,7 @@ returns-in_err-advance_each-clause-err g c =
 -- every set has waited until the moment
 pub returns-clause-ok : goal.returns-clause-ok
 returns-clause-ok g c =
+    -- `up` says that the marked sets have waited until the moment, and marks are the flags of all sets, each of which is set
     let up = c.in_ok-advance_each.ensures.ok in
     let sets = c.self.inside.sets in
     let marks = c.in_ok-marks.marks.moved in
@@ -80,6 +85,7 @@ returns-clause-ok g c =
       keys = c.in_ok-advance_each.ensures.keys;
       records = refl;
       long = up.long;
+      -- each set is marked, and each marked set has waited
       each = all_advance c.args.moment c.moved.result.now marks (values sets) (values c.advance_each.new.sets)
           (c.in_ok-marks.ensures.long.1 ∙ c.len.ensures.len ∙ sym (length-values_of sets.entries)) c.in_ok-marks.ensures.moved c.moved.ensures.members up;
     })

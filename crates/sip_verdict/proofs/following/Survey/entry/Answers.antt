@@ -10,6 +10,7 @@ use Rattle.sip_verdict.proofs.following.Survey.entry.Goals as goal
 -- the entry may come next
 pub find_next-taken-requires-clause-may : goal.find_next-taken-requires-clause-may
 find_next-taken-requires-clause-may g c =
+    -- s is what the survey holds, e the entry, and `next` says that it may follow
     let s = c.self.inside in
     let e = c.args.entry.now in
     let is = c.self.view_is in
@@ -40,6 +41,7 @@ returns-in-Ok-clause-found g c = λ es surveys.
     let e = c.args.entry.now in
     let is = c.self.view_is in
     let comes = c.requires (ap (λ j. j.failed) (sym is) ∙ c.if-self.false) in
+    -- what was found at the entry, which was appended
     let (seen, here, observed, found, added, follows) =
     c.in-Ok.ensures.found es (subst (λ j. AreSurveyed j.texts j.tables j.deaf j.left es) (sym is) surveys.follows) (comes.next ∙ ap (λ n. n + 1) surveys.number) (omega (arith, comes.order, surveys.moment)) in (
       seen,
@@ -47,6 +49,7 @@ returns-in-Ok-clause-found g c = λ es surveys.
       observed,
       subst (λ j. AreFoundAt j.tables.times es seen here) is found,
       added,
+      -- the survey stands after one entry more
       record {
         goes_on = c.if-self.false;
         number = comes.next ∙ ap (λ n. n + 1) surveys.number ∙ sym (length_push es seen);
@@ -57,8 +60,10 @@ returns-in-Ok-clause-found g c = λ es surveys.
       },
     )
 
+-- the entry brings at most two new keys
 pub returns-in-Ok-clause-keys : goal.returns-in-Ok-clause-keys
 returns-in-Ok-clause-keys g c = subst (λ j. length c.find_next-taken.new.standing.tables.keys ≤ length j.tables.keys + 2) c.self.view_is c.in-Ok.ensures.keys
 
+-- after an entry without keys the book has no message that is new
 pub returns-in-Ok-clause-keyless : goal.returns-in-Ok-clause-keyless
 returns-in-Ok-clause-keyless g c none = subst (λ j. All (Contains j.texts) c.find_next-taken.new.standing.book) c.self.view_is (c.in-Ok.ensures.keyless none)

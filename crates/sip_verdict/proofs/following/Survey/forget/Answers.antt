@@ -14,6 +14,7 @@ returns-in-Ok-clause-forgets g c = λ es surveys.
     (sym surveys.moment ∙ ap (λ j. j.moment) (sym is)) in (
       kept,
       subst (λ j. ForgetsUpTo c.args.until j.tables.times es kept) is forgets,
+      -- the survey has as many entries as before, and the same newest moment
       record {
         goes_on = c.if-self.false;
         number = ap (λ j. j.number) is ∙ surveys.number ∙ sym (long_kept kept es);
@@ -24,5 +25,6 @@ returns-in-Ok-clause-forgets g c = λ es surveys.
       subst (λ j. AreMany (IsStillNamed j.tables.times (remembered kept es)) (length c.forget-forgotten.new.standing.book)) is many,
     )
 
+-- the book has no message that is new
 pub returns-in-Ok-clause-fewer : goal.returns-in-Ok-clause-fewer
 returns-in-Ok-clause-fewer g c = subst (λ j. All (Contains j.texts) c.forget-forgotten.new.standing.book) c.self.view_is c.in-Ok.ensures.fewer

@@ -12,6 +12,7 @@ returns g c = λ es surveys low.
     let n = c.args.number - 1 in
     let key = c.in_ok-key.key.now in
     let h = c.in_ok-history.history.now in
+    -- the keys are those of the entries, and each history is that of the key under its number
     let keys = ap (λ j. j.tables.keys) is ∙ surveys.follows.tracks.keys in
     let told = subst (λ j. AreHistories es j.histories) (sym is) surveys.histories in
     let at : slice_get s.standing.tables.keys n ≡ Some key = search rules in

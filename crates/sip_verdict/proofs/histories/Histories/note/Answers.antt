@@ -11,6 +11,7 @@ returns-then-index-len-clause-noted c =
     let inside : c.args.number - 1 < length old = omega (arith, c.if-index-len.true, c.len.ensures) in
     inl (record {
       before = before;
+      -- the history under the number is written anew, and only its last entry is another one
       after = record { branch = before.branch; first = before.first; last = c.args.entry.now.number };
       was = slice_get-get_or old (c.args.number - 1) _ inside ∙ ap Some (sym c.index_mut.ensures.value);
       is = refl;
@@ -25,6 +26,7 @@ returns-clause-noted c =
     let number = c.args.entry.now.number in
     inr (record {
       begun = record { branch = c.in_ok-branch.branch; first = number; last = number };
+      -- the new history stands after the others
       beyond = omega (arith, c.if-index-len.false, c.len.ensures);
       is = c.in_ok-push.ensures.items;
       branch = subst (λ t. SpellsBranch t c.in_ok-branch.branch.items) c.as_slice.ensures.value c.in_ok-branch.ensures;

@@ -13,5 +13,6 @@ returns-then-not-may_name-clause-book g c =
       | inr gone ↦ inr (gone.0, gone.1, all_unnamed c.args.number c.args.concerned t unnamed.0 c.requires.others unnamed.1)
     ]
 
+-- the message may not be named, so no set names it
 pub returns-then-not-may_name-clause-named : goal.returns-then-not-may_name-clause-named
 returns-then-not-may_name-clause-named g c named = absurd (false≢true (sym c.if-not-may_name.true ∙ c.may_name.ensures.may.1 named))

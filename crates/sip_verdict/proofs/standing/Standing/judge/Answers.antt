@@ -5,6 +5,7 @@ use Rattle.sip_verdict.proofs.sweeps.SweptBook.{same_within}
 use Rattle.sip_verdict.proofs.sweeps.NewestLemmas.{known_unnamed, dropped_judged, dropped_take, dropped_within}
 use Rattle.sip_verdict.proofs.standing.Standing.judge.Goals as goal
 
+-- the sets of other keys do not name the newest message
 pub drop_unnamed-requires-clause-others : goal.drop_unnamed-requires-clause-others
 drop_unnamed-requires-clause-others g c some n set among at =
     known_unnamed c.args.self.now.book c.args.entry.now.number c.requires.may.numbered set (c.in_ok-taken.ensures.others some n set among at)
@@ -25,6 +26,7 @@ returns-clause-keyless g c none =
     let new = c.drop_unnamed.new.self in
     subst (λ b. All (Contains b) new.book) (c.in_ok-taken.ensures.keyless none) (dropped_within mid.tables.sets c.args.entry.now.number mid.book new.book c.drop_unnamed.ensures.book)
 
+-- after an entry without keys the book has no message that is new
 pub returns-in-Some-clause-keyless : goal.returns-in-Some-clause-keyless
 returns-in-Some-clause-keyless g c none = same_within c.args.self.now.book c.take.new.self.book (c.in_ok-taken.ensures.keyless none)
 
@@ -35,6 +37,7 @@ returns-clause-judged g c = λ es tracks counts newest.
     let p = c.args.self.now.tables.times in
     let mid = c.take.new.self in
     let new = c.drop_unnamed.new.self in
+    -- what was judged before the message was dropped
     let (e, seen, judged, have) = c.in_ok-taken.ensures.judged es tracks counts newest in (
       e,
       seen,

@@ -13,6 +13,7 @@ returns-in_ok-text-in-None g c = record {
       let s = c.args.self.now in
       let new = c.take.new.self in
       let e = c.args.entry.now in
+      -- the entry was taken, and no transaction is in trouble
       let taken = c.in_ok-taken in
       let seen = taken.ensures.judged es tracks counts order in
       let may = rw c.in-None.is at taken.ensures.may in
@@ -20,6 +21,7 @@ returns-in_ok-text-in-None g c = record {
       let judged = rw c.in-None.is at seen.2 in (
         seen.0,
         seen.1,
+        -- the text is that of the keys that the entry concerns
         (
           judged.0.good,
           entry_text (first_entry ((items ++ item e ∷ []) ++ more)) new.book (stay_numbered (items ++ item e ∷ []) more new.book grown) s.tables.times es seen.0 new.tables may.passes.known may.passes.long c.in_ok-text-in-None.ensures.apart judged

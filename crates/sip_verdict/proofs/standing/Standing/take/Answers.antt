@@ -29,6 +29,7 @@ pass-requires-in-Restart-clause-hear g c =
     λ h is. subst (MayHear c.observe.new.book c.args.self.now.tables e.moment) (ap (λ b. b.now) (same_Some _ h is))
     (may_restart c.observe.new.book e.moment c.restart-event.result c.args.self.now.tables c.restart-event.ensures c.requires.limit)
 
+-- each last moment is on record as before
 pub pass-requires-in-Restart-clause-recorded : goal.pass-requires-in-Restart-clause-recorded
 pass-requires-in-Restart-clause-recorded g c = c.requires.may.recorded
 
@@ -54,6 +55,7 @@ returns-in_ok-verdict-in-Restart-clause-numbered g c =
 -- the verdict after a restart is that of what is observed of the entry
 pub returns-in_ok-verdict-in-Restart-clause-judged : goal.returns-in_ok-verdict-in-Restart-clause-judged
 returns-in_ok-verdict-in-Restart-clause-judged g c =
+    -- s is what stands before the restart e, whose book did not change
     let s = c.args.self.now in
     let e = c.args.entry.now in
     let same = (rw c.in-Restart.is at c.in_ok-told.ensures.kept).0 in
@@ -96,6 +98,7 @@ returns-in_ok-verdict-in-Unheard-clause-may g c =
 -- where no transaction hears the entry, the book is as it was, and its numbers stay those of the entries
 pub returns-in_ok-verdict-in-Unheard-clause-numbered : goal.returns-in_ok-verdict-in-Unheard-clause-numbered
 returns-in_ok-verdict-in-Unheard-clause-numbered g c =
+    -- s is what stands before the entry e; nothing is heard of it, and the book stays
     let s = c.args.self.now in
     let e = c.args.entry.now in
     let kept = rw c.in-Unheard.is at c.in_ok-told.ensures.kept in
@@ -136,11 +139,13 @@ returns-in_ok-verdict-in-Heard-clause-may g c =
 -- the message that was kept has the number of the first entry with its bytes
 pub returns-in_ok-verdict-in-Heard-clause-numbered : goal.returns-in_ok-verdict-in-Heard-clause-numbered
 returns-in_ok-verdict-in-Heard-clause-numbered g c =
+    -- s is what stands before the entry e; the book is `mid` with its message, and `new` after it has passed
     let s = c.args.self.now in
     let e = c.args.entry.now in
     let mid = c.observe.new.book in
     let kept = rw c.in-Heard.is at c.in_ok-told.ensures.kept in
     let new = c.pass-in-Heard.new.self.book in
+    -- the book did not change as the entry passed, unless there is a verdict
     unless_trouble (StaysNumbered (item e) e.number s.book new) c.in_ok-verdict-in-Heard.verdict
     (subst (StaysNumbered (item e) e.number s.book) (sym c.in_ok-verdict-in-Heard.ensures.book)
     (numbered_heard (item e) e.number c.in-Heard.event.number s.book mid kept.0 kept.1 kept.2 kept.3 c.requires.may.numbered c.known.ensures kept.4))
@@ -160,6 +165,7 @@ returns-in_ok-verdict-in-Heard-clause-judged g c = λ es tracks counts newest.
     let s = c.args.self.now in
     let e = c.args.entry.now in
     let new = c.pass-in-Heard.new.self in
+    -- the entry concerns some keys, and the verdict is that of the transactions that hear it
     let some = c.in_ok-concerned-in-Heard.ensures.same ∙ (rw c.in-Heard.is at c.in_ok-told.ensures.heard).3 in
     let h = heard_judged c.in_ok-verdict-in-Heard.verdict s.book c.observe.new.book new.book e.number e.bytes.items (rw c.in-Heard.is at c.in_ok-told.ensures.kept).4 (item e) e.moment e.number
     c.in-Heard.event c.in-Heard.concerned c.in_ok-concerned-in-Heard.concerned s.tables c.touch_each.new.tables new.tables
@@ -183,6 +189,7 @@ returns-in-Fault-clause-others g c =
     let s = c.args.self.now in
     others_known s.book concerned.None None s.tables s.tables c.requires.may.passes.known (λ n none. refl) (λ n some among. refl)
 
+-- a restart concerns all transactions, so there are no others
 pub returns-in_ok-verdict-in-Restart-clause-others : goal.returns-in_ok-verdict-in-Restart-clause-others
 returns-in_ok-verdict-in-Restart-clause-others g c some = absurd (false≢true (sym some))
 

@@ -19,6 +19,7 @@ up_to-some (suc n) low none = omega (arith, ap length none, length-append (up_to
 -- the text of one transaction more is appended
 pub loop-number-preserved : goal.loop-number-preserved
 loop-number-preserved g c =
+    -- t are the tables, n is the number of the transaction whose text is appended, and old and new are the text at the start and now
     let t = c.args.self.now.tables in
     let n = c.loop-number.number in
     let old = string_bytes c.new-text.result in
@@ -30,17 +31,20 @@ loop-number-preserved g c =
 -- the text is that of all transactions, in the order of their numbers
 pub returns : goal.returns
 returns g c =
+    -- t are the tables, of which all keys have been told
     let t = c.args.self.now.tables in
     let n = c.loop-number.number in
     let fresh = c.new-text.ensures.bytes in
     let counted = c.len-count.ensures in
     let is_text : (text : List ℕ) → AppendsEach t (up_to (length t.keys)) (string_bytes c.new-text.result) text → IsTextOf t (up_to (length t.keys)) text =
     λ text each. text_of_some t (up_to (length t.keys)) text (up_to-some (length t.keys) (omega arith)) (subst (λ old. AppendsEach t (up_to (length t.keys)) old text) fresh each) in
+    -- the loop ended before the last number was passed, or right after the last text
     elim c.loop-number-test.branch [
       | else-loop-number-test w ↦
           let last : n - 1 ≡ length t.keys = omega arith in
           rw w.text-is (is_text (string_bytes c.loop-number.text)
           (subst (λ k. AppendsEach t (up_to k) (string_bytes c.new-text.result) (string_bytes c.loop-number.text)) last c.loop-number.invariant))
+      -- the last text was appended in this turn of the loop
       | then-loop-number-test+in_ok-push_one+else-number-count w ↦
           let last : n ≡ length t.keys = omega arith in
           let new = string_bytes w.push_one.new.text in

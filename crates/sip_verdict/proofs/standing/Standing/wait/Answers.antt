@@ -16,6 +16,7 @@ returns-clause-recorded g c =
 -- after all sets have waited, the tables track the same entries, and each transaction that is over has a quiet set
 pub returns-clause-surveyed : goal.returns-clause-surveyed
 returns-clause-surveyed g c =
+    -- s is what stood before, and u are the tables after the wait
     let s = c.args.self.now in
     let u = c.wait_all.new.self in
     let waited = c.in_ok-wait_all.ensures.ok in

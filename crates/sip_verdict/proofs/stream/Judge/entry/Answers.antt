@@ -16,6 +16,7 @@ judge_next-requires-clause-may g c =
 -- where the entry brings no verdict, the judge stands after it
 pub returns-in-Ok-None-clause-judged : goal.returns-in-Ok-None-clause-judged
 returns-in-Ok-None-clause-judged g c es stands =
+    -- e is the entry, which comes next by its number, and `now` is what the judge holds after it
     let e = c.args.entry.now in
     let is = c.self.view_is in
     let comes = c.requires (ap (λ j. j.stage) (sym is) ∙ c.in-Open.is) in
@@ -25,7 +26,7 @@ returns-in-Ok-None-clause-judged g c es stands =
     stands_on c.args.self.now now e next refl refl c.in-Open.is es stands
     ((rw c.in-Ok-None.field-0-is at c.in-Ok-None.ensures.judged) es (subst (λ j. AreFollowed j.texts j.tables j.left es) (sym is) stands.follows) (next ∙ ap (λ n. n + 1) stands.number) (omega (arith, comes.order, stands.moment)))
 
--- an entry without keys leaves the book no more than it had
+-- after an entry without keys the book has no message that is new
 pub returns-in-Ok-None-clause-keyless : goal.returns-in-Ok-None-clause-keyless
 returns-in-Ok-None-clause-keyless g c none = subst (λ j. All (Contains j.texts) c.judge_next.new.standing.book) c.self.view_is (c.in-Ok-None.ensures.keyless none)
 
@@ -38,7 +39,7 @@ returns-in-Ok-Some-clause-judged g c es stands =
     (omega (arith, comes.order, stands.moment)) in
     (h.0, h.1, h.2)
 
--- an entry without keys leaves the book no more than it had
+-- after an entry without keys the book has no message that is new
 pub returns-in-Ok-Some-clause-keyless : goal.returns-in-Ok-Some-clause-keyless
 returns-in-Ok-Some-clause-keyless g c none = subst (λ j. All (Contains j.texts) c.judge_next.new.standing.book) c.self.view_is (c.in-Ok-Some.ensures.keyless none)
 

@@ -2,6 +2,7 @@ use Rattle.std.proofs.Common.{◌≡◌, ◌+◌, ◌++◌, ◌∷◌, [], ◌�
 use Rattle.std.proofs.lemmas.List.Elements.{All-nil, All-push}
 use Rattle.sip_verdict.proofs.troubled.Troubled.grow.Goals as goal
 
+-- no flag was added yet
 pub loop-init : goal.loop-init
 loop-init c = record { long = sym (c.len-counter.ensures ∙ c.args.self.now.deaf.ok.0); deaf = ([], sym (append-nil c.args.self.now.deaf.items), All-nil (λ d. d ≡ false)); broken = refl; wide = refl }
 
@@ -13,6 +14,7 @@ loop-preserved c =
     let pushed = c.in_ok-push.ensures.items in
     record {
       long = ap length pushed ∙ length-append c.loop.self.deaf.items (false ∷ []) ∙ ap (λ n. n + 1) old.long;
+      -- the flags grew by one more that is false
       deaf = (
         more ++ false ∷ [],
         pushed ∙ ap (λ ds. ds ++ false ∷ []) old.deaf.1 ∙ append_assoc c.args.self.now.deaf.items more (false ∷ []),

@@ -1,6 +1,7 @@
 use Rattle.std.proofs.Common.{◌≡◌, ◌++◌, Bool, false, List, All, length}
 use Rattle.sip_verdict.proofs.troubled.Troubled.grow.Given as goal
 
+-- there are `counter` flags: the old ones, and new ones that are all false
 abbrev pub invariant-loop : goal.invariant-loop
 invariant-loop l =
     record {

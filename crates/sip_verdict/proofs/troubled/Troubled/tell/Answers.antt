@@ -23,6 +23,7 @@ returns-clause-told c =
     let broken = c.keep_ascending.new.numbers.items in
     let wide = c.keep_ascending-2.new.numbers.items in
     let old = c.args.found.now.items in
+    -- the breaches were appended, and then what is undecided
     let first = c.in_ok-push_breaches.ensures.pushed ∙ ap (λ ns. old ++ map (λ transaction. Breach entry transaction) ns) c.as_slice.ensures.value in
     let second = c.in_ok-push_undecided.ensures.pushed ∙ ap (λ ns. c.push_breaches.new.found.items ++ map (λ transaction. Undecided entry transaction) ns) c.as_slice-2.ensures.value in (
       broken,

@@ -1,4 +1,4 @@
-use Rattle.sip_ledger.proofs.Words.{ap, sym, ◌∙◌, OnTrue_from, Flags}
+use Rattle.sip_ledger.proofs.Lemmas.{ap, Flags, OnTrue_from, sym, ◌∙◌}
 use Rattle.sip_ledger.proofs.accounts.gains.Gains.is_newest.Goals as goal
 
 -- the place is kept

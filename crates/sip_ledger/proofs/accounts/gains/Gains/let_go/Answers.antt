@@ -1,6 +1,4 @@
-use Rattle.sip_ledger.proofs.Words.{◌≡◌, ◌-◌, ◌==◌, ◌&&◌, ℕ, false, cond, length, set, refl, ap, ◌∙◌, eq-eqb, no_flags, holds}
-use Rattle.sip_ledger.proofs.gains.FlagLemmas.{flags-let_go}
-use Rattle.sip_ledger.proofs.gains.LeftLemmas.{gains-let_go}
+use Rattle.sip_ledger.proofs.Lemmas.{ap, cond, eq-eqb, false, flags-let_go, gains-let_go, holds, length, no_flags, refl, set, ℕ, ◌&&◌, ◌-◌, ◌==◌, ◌∙◌, ◌≡◌}
 use Rattle.sip_ledger.proofs.accounts.gains.Gains.let_go.Goals as goal
 
 -- without the gain at the place, the indexes lack it, and the others are as they were
@@ -10,6 +8,7 @@ returns c =
     let place = c.args.place in
     let len : c.len.result ≡ length g.entries.items = c.len.ensures ∙ g.entries.ok.0 in
     let messages = rw c.entry-message.ensures at c.take.ensures in
+    -- the place stands no more among those that must be sent
     let must : holds c.take-2.new.self 0 place ≡ false =
     c.take-2.ensures 0 place ∙ ap (λ b. cond (0 == 0 && b) false (holds g.musts 0 place)) (eq-eqb place place refl) in
     let all = gains-let_go g _ place c.requires.gained refl refl refl refl messages c.take-2.ensures

@@ -1,5 +1,4 @@
-use Rattle.sip_ledger.proofs.Words.{refl, true}
-use Rattle.sip_ledger.proofs.gains.LeftLemmas.{none-entries, none-gained}
+use Rattle.sip_ledger.proofs.Lemmas.{none-entries, none-gained, refl, true}
 use Rattle.sip_ledger.proofs.accounts.gains.Gains.new.Goals as goal
 
 -- no entries and empty indices are gains

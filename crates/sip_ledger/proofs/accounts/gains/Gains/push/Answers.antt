@@ -1,7 +1,4 @@
-use Rattle.sip_ledger.proofs.Words.{nat_le, leb-true, ◌≡◌, ◌+◌, ◌++◌, ◌∷◌, [], ap, refl, rules, true, ◌∙◌, arith, common_steps, Flags, Gains, Entry, holds}
-use Rattle.sip_ledger.proofs.gains.FlagLemmas.{flags-more, flags-same}
-use Rattle.sip_ledger.proofs.gains.LeftLemmas.{entries_long, gains-more, gains-same}
-use Rattle.sip_ledger.proofs.rows.SeenLemmas.{on-error}
+use Rattle.sip_ledger.proofs.Lemmas.{ap, arith, common_steps, entries_long, Entry, Flags, flags-more, flags-same, Gains, gains-more, gains-same, holds, leb-true, nat_le, on-error, refl, rules, true, [], ◌++◌, ◌+◌, ◌∙◌, ◌∷◌, ◌≡◌}
 use Rattle.sip_ledger.proofs.accounts.gains.Gains.push.Goals as goal
 
 -- more room for entries leaves the gains as they are
@@ -39,10 +36,12 @@ returns c =
     let new : Gains = record { entries = c.push_reserved.new.self; flags = c.push_reserved-2.new.self; end = g.end + 1; messages = c.note.new.messages; musts = c.note.new.musts; rises = c.rise-rises.result; highest = c.max-self.result } in
     let end = c.if-self.false in
     let small = c.requires.small in
+    -- the entry and its flags stand after the others
     let entries : new.entries.items ≡ g.entries.items ++ e ∷ [] = c.push_reserved.ensures.items ∙ ap (λ l. l ++ e ∷ []) c.reserve.ensures.items in
     let flags : new.flags.items ≡ g.flags.items ++ f ∷ [] = c.push_reserved-2.ensures.items ∙ ap (λ l. l ++ f ∷ []) c.reserve-2.ensures.items in
     let all = gains-more g new c.args.debt c.requires entries refl (omega (arith, end, small)) c.in_ok-note.ensures.ok (rw c.deref.ensures.value at c.rise-rises.ensures)
     (omega (arith, c.max-self.ensures)) (omega (arith, c.max-self.ensures))
+    -- a gain is the newest of its kind where no kept message is greater
     (flags-more g new c.args.debt (nat_le g.highest c.args.debt.message) c.requires.flags
     (λ newest k kept. let low = c.requires.highest k kept in omega (arith, low, leb-true g.highest c.args.debt.message newest)) c.requires.long (entries_long g c.requires.long) entries flags refl) in
     record { gained = all.0; ok = all.1; err = tt }

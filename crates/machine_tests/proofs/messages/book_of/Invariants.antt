@@ -1,6 +1,0 @@
-use Rattle.std.specs.Prelude.{ℕ, ◌≤◌}
-use Rattle.sip_machine.specs.Texts.{Keeps}
-use Rattle.machine_tests.proofs.messages.book_of.Given as goal
-
-abbrev pub invariant-loop-number : goal.invariant-loop-number
-invariant-loop-number l = (n : ℕ) → Keeps l.book n → n ≤ l.last

@@ -1,6 +1,0 @@
-use Rattle.sip_ledger.proofs.Words.{IsClearedTo}
-use Rattle.sip_ledger.proofs.accounts.left.clear_to.Given as goal
-
--- no gain before the place is left
-abbrev pub invariant-loop-place : goal.invariant-loop-place
-invariant-loop-place l = IsClearedTo l.place l.strikes l.rows l.fn.gains l.gains

@@ -1,7 +1,0 @@
-use Rattle.std.proofs.Common.{arith}
-use Rattle.sip_machine.proofs.debts.DuesEachLemmas.{kept-none}
-use Rattle.sip_machine.proofs.dues.Dues.keep.Goals as goal
-use Rattle.sip_machine.proofs.dues.Dues.keep.Goals.{in-Blank, in-WithAccounts}
-
-pub returns : goal.returns
-returns c = grind (arith, kept-none)

@@ -61,6 +61,7 @@ split_text es (f ∷ here) later lines (front, rest, line, more, is, long, of, o
 text_here : (es after : Entries) (found : List Finding) (text : List ℕ) → ((f : Finding) → Contains found f → entry_of f ≡ length es) → IsTextOf (es ++ after) found text → IsTextOf es found text
 text_here es after [] text at none = none
 text_here es after (f ∷ found) text at (front, rest, line, more, is, long, of, others, whole) =
+    -- the finding is of the newest entry, so that the entries up to its own are es
     let number = at f (0, omega arith, refl) in
     let same : front ≡ es = sym (take_at front rest (length es) (long ∙ number)) ∙ ap (take (length es)) (sym is) ∙ take_at es after (length es) refl in
     (front, [], line, more, sym same ∙ sym (append-nil front), long, of, text_here es after found more (λ g has. at g (suc has.0, omega (arith, has.1), has.2)) others, whole)
@@ -139,6 +140,7 @@ never_after : (age : ℕ) (part : Option PartOf) (p : Times) (es : Entries) (ite
 -- no item is left
 never_after age part p es [] [] Clean found end after lines are few keys is seen text = (is, subst (λ fs. IsTextOf (es ++ after) fs lines) is.0 text)
 never_after age part p es [] [] (Stops fault) found end after lines are few keys is seen text = (is, subst (λ fs. IsTextOf (es ++ after) fs lines) is.0 text)
+-- as many items are taken and seen as there are, so that no list is longer
 never_after age part p es [] (x ∷ taken) close found end after lines are few keys is seen text = absurd are
 never_after age part p es (item ∷ items) [] close found end after lines are few keys is seen text = absurd are
 never_after age part p es (item ∷ items) (x ∷ taken) close found end [] lines are few keys is seen text = absurd seen
@@ -177,6 +179,7 @@ never_after age part p es (item ∷ items) (x ∷ taken) close found end (f ∷ 
 
 -- a log that stops after 1,000,000 entries stops for no other fault than their number
 cut_off : (format : Format) (count last : ℕ) (rest : List ℕ) (fault : LogReason) → most_entries ≤ count → EndsWith format count last rest (Stops fault) → fault ≡ Limit
+-- the log stops at its limit; or there are fewer entries than the most, which cannot be
 cut_off format count last rest fault many (some, inl (most, same)) = same
 cut_off format count last rest fault many (some, inr (under, at)) = absurd (under many)
 
@@ -222,6 +225,7 @@ whole_taken (item ∷ items) = (refl, whole_taken items)
 -- the log of a part is taken of the whole, item by item
 part_taken : (part : PartOf) (items cuts : List Item) → IsPartLog part items cuts → AreTaken (Some part) items cuts × (length cuts ≡ length items)
 part_taken part [] [] is = (tt, refl)
+-- neither list is longer than the other
 part_taken part [] (x ∷ cuts) is = absurd is
 part_taken part (item ∷ items) [] is = absurd is
 part_taken part (item ∷ items) (x ∷ cuts) (one, is) = let more = part_taken part items cuts is in ((one, more.0), ap suc more.1)
@@ -252,12 +256,14 @@ item_one part item a b one other = by (direction_of item.action) one other
   where
     -- two items that are cut of one item are the same, whether or not it has a message
     by : (direction : Option Direction) → IsPartAs part item a direction → IsPartAs part item b direction → a ≡ b
+    -- an item without a message stays; one with a message is cut by its branch, of which a message tells only one
     by None is are = is ∙ sym are
     by (Some d) (branch, tells, is) (told, also, are) = is ∙ ap (λ t. if falls_into part t then item else mark_of item) (one_told item.text branch told tells also) ∙ sym are
 
 -- a part has one log
 part_one : (part : PartOf) (items cuts others : List Item) → IsPartLog part items cuts → IsPartLog part items others → cuts ≡ others
 part_one part [] [] [] is are = refl
+-- no list is longer than another
 part_one part [] [] (x ∷ others) is are = absurd are
 part_one part [] (x ∷ cuts) others is are = absurd is
 part_one part (item ∷ items) [] others is are = absurd is

@@ -76,6 +76,7 @@ module _ (old t : Tabled) (h : AreMore old t) (k : KeyParts) (n : ℕ) where
 -- tables that have grown by keys have grown still after more keys were looked up
 -- ns are the numbers of the keys ks; t and u are the tables before and after these were looked up
 pub more_each : (old : Tabled) (ks : List KeyParts) (ns : List ℕ) (t u : Tabled) → AreMore old t → TouchesEach ks ns t u → AreMore old u
+-- there are as many keys as numbers; each key that was looked up is one step
 more_each old [] [] t u h same = subst (AreMore old) (sym same) h
 more_each old [] (n ∷ ns) t u h touched = absurd touched
 more_each old (k ∷ ks) [] t u h touched = absurd touched
@@ -148,8 +149,10 @@ module _ (texts : Texts) (es : List (Observation KeyParts)) (e : Observation Key
       -- n is the place of the key, s its set and d whether it is deaf
       by : (n : ℕ) (key : KeyParts) (s : AnySet) (d : Bool) → slice_get (deaf ++ more) n ≡ Some d
           → ((slice_get old.keys n ≡ Some key) × (slice_get old.sets n ≡ Some s)) ⊎ ((length old.keys ≤ n) × (s ≡ start_of old.times key) × ¬ Contains old.keys key) → IsPassing texts old.times es e any b (n + 1) key s d
+      -- an old transaction stands at its place, with its flag, and is followed as before
       by n key s d is (inl (at, here)) =
           follows n key s d (tracks.each n key s d at here (front_place deaf more n d (let within = slice_get_within old.keys n key at in omega arith) is))
+      -- a new one comes after the old ones, so that its flag is a new one, and says that it is in no trouble
       by n key s d is (inr (low, start, none)) =
           follows n key s d (subst (IsFollowed texts old.times es key s) (sym (back_place (λ x. x ≡ false) deaf more n d (omega arith) false_all is)) (new_follows key s start none))
 

@@ -44,7 +44,9 @@ use Rattle.sip_verdict.proofs.surveys.passing.Begun.{begun_same, begun_touched, 
 module _ (old new : Texts) (number : ℕ) (bytes : List ℕ) (p : Times) where
   -- a set of a machine leads to the same runs beside the book that has grown
   grown_leads : IsGrown old number bytes new → (machine : MachineKind) (events : List MachineEvent) (from : ℕ) (set : AnySet) → LeadsOf old p machine events from set → LeadsOf new p machine events from set
+  -- the book has not grown
   grown_leads (inl same) machine events from set leads = subst (λ texts. LeadsOf texts p machine events from set) (sym same) leads
+  -- the book has one message more: the set's states name messages of the old book, which stand under the same numbers in the new one
   grown_leads (inr more) machine events from set (s, is, leads) =
       let m = meaning_of machine in
       subst (λ texts. LeadsOf texts p machine events from set) (sym more) (
@@ -59,6 +61,7 @@ grown_survey old new number bytes grown es t deaf h = record { order = h.order; 
   where
     -- a deaf transaction stays in trouble, and the set of any other one follows the same entries
     by : (key : KeyParts) (s : AnySet) (d : Bool) → IsFollowed old t.times es key s d → IsFollowed new t.times es key s d
+    -- the set of a deaf transaction leads to the runs over no event
     by key s true (leads, unsound) = (grown_leads old new number bytes t.times grown (machine_of_key t.times.rules key) [] (newest_moment es) s leads, unsound)
     by key s false (leads, sound) = (grown_leads old new number bytes t.times grown (machine_of_key t.times.rules key) _ (newest_moment es) s leads, sound)
 
@@ -198,7 +201,9 @@ watched_touched ks ns t w b d more touched sets h deaf false_all long = record {
   where
     -- the record of a transaction in trouble says that it has no last moment: only an old transaction is in trouble, since new ones are in none
     by : (n : ℕ) → slice_get (b.deaf.items ++ more) n ≡ Some true → Dec (length b.deaf.items ≤ n) → slice_get w.records n ≡ Some (Some None)
+    -- the place is that of a new transaction, and each new flag says that it is in no trouble
     by n is (yes low) = absurd (true≢false (back_place (λ x. x ≡ false) b.deaf.items more n true low false_all is))
+    -- the place is that of an old one, whose record stays where it is as new ones are put after it
     by n is (no high) =
         touches_elim (λ x. slice_get x.records n ≡ Some (Some None)) (λ x key at. slice_get-more x.records (None ∷ []) n (Some None) at) ks ns t w
         (h.silent n (front_place b.deaf.items more n true (omega (arith, high)) is)) touched

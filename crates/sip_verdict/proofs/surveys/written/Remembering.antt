@@ -45,9 +45,8 @@ pub remembers_none : (age : ℕ) (part : Option PartOf) (p : Times) (s : Surveyi
 remembers_none age part p s start now times stands read =
     record { items = []; es = []; times = times; follows = stands; read = read; front = λ rest close later end more told. told }
 
--- What follows is of a survey, `s`, that has read some items and forgotten transactions whose last entry is older by `age` than the newest: `found` is what
--- it has found,
--- `lines` is what it has written, and `now` is the state of its reader.
+-- What follows is of a survey, `s`, that has read some items and may have forgotten transactions whose last entry came `age` milliseconds before the newest:
+-- `found` is what it has found, `lines` is what it has written, and `now` is the state of its reader.
 module _ (age : ℕ) (part : Option PartOf) (p : Times) (start : Option (List ℕ)) (now : log.ReaderState) (s : Surveying) (found : List Finding) (lines : List ℕ) (so : RemembersRead age part p s found lines start now) where
   -- where transactions may have been forgotten, one more item was read and surveyed, and its lines were written, the survey has read that item too
   pub remembers_on : (m : Horizon) → IsHorizonOf m so.es → m.age ≡ age
@@ -93,9 +92,8 @@ module _ (age : ℕ) (part : Option PartOf) (p : Times) (start : Option (List �
         notes (left ++ seen ∷ []) (horizon_push a left seen f_horizon (omega (arith, f_now, k_now, newest, moves))) k_stands,
       )
 
-  -- What follows is of the end of the survey: `counts` are what its lines count, `summary` is what it tells last, and `before`, `mid` and `after` are the
-  -- sink
-  -- before its lines, after them, and after the summary.
+  -- What follows is of the end of the survey: `counts` are what its lines count, `summary` is what it tells last, and `before`, `mid` and `after` are what
+  -- the sink has before its lines, after them, and after the last line.
   module _ (counts : Counts) (summary : Summary) (before mid after : Option (List ℕ)) (told : AreTold found lines counts before mid)
       (findings : summary.findings ≡ counts.findings) (undecided : summary.undecided ≡ counts.undecided) where
     -- where the lines tell the findings of the whole input, and the last line is written, the survey of the input is written and summed up

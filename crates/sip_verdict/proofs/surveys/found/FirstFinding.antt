@@ -92,7 +92,7 @@ module _ (p : Times) (es : List (Observation KeyParts)) (e : Observation KeyPart
 
   -- where an entry is the first in trouble, its verdict is the first finding there
   trouble_first : AllSound p es → (v : Verdict) → HasTrouble p es e v → (later : List Finding) (end : SurveyEnd) → v ≡ verdict_in (here ++ later) end
-  -- a verdict of no entry is no trouble at one
+  -- a legal log and a fault of the log are no trouble at an entry
   trouble_first sound (verdicts.Legal n t) trouble later end = absurd trouble
   trouble_first sound (verdicts.LogFault n r) trouble later end = absurd trouble
   trouble_first sound (verdicts.Malformed n a) trouble later end =

@@ -136,6 +136,7 @@ module _ (chosen : KeyParts → Bool) where
       where
         -- the key has the same events in both logs with one entry more, whether or not the entry concerns the key
         by : (b : Bool) → concerns key c ≡ b → events_for key cs ≡ events_for key es → events_with b c cs ≡ events_with b e es
+        -- an entry that concerns the key has the same event in both logs; one that does not brings none in either
         by true any same = ap₂ (λ f fs. f ∷ fs) (event_cut e c here any) same
         by false any same = same
 

@@ -45,7 +45,7 @@ pub remembers_none : (age : ℕ) (part : Option PartOf) (p : Times) (s : Surveyi
 remembers_none age part p s start now times stands read =
     record { items = []; es = []; times = times; follows = stands; read = read; front = λ rest close later end more told. told }
 
--- What follows is of a survey, `s`, that has read some items and may have forgotten transactions whose last entry came `age` milliseconds before the newest:
+-- What follows is of a survey, `s`, that has read some items and may have forgotten transactions whose last entry came at least `age` milliseconds ago:
 -- `found` is what it has found, `lines` is what it has written, and `now` is the state of its reader.
 module _ (age : ℕ) (part : Option PartOf) (p : Times) (start : Option (List ℕ)) (now : log.ReaderState) (s : Surveying) (found : List Finding) (lines : List ℕ) (so : RemembersRead age part p s found lines start now) where
   -- where transactions may have been forgotten, one more item was read and surveyed, and its lines were written, the survey has read that item too

@@ -64,6 +64,7 @@ module _ {X S : Type 0} (names : S → List ℕ) (InRange : S → Type 0) (seen 
 -- the book keeps the messages that the set names, and the moment of the set is that until which it waited
 waited_known : (texts : Texts) → IsBook texts → (moment : ℕ) (old new : AnySet) → SetWaits moment old new → IsKnownSet texts old → IsKnownSet texts new × (moment_of new ≡ moment)
 waited_known texts book moment old new waits known =
+    -- s is the set before the wait, by its machine, and t after it; the states of t stand for runs, so that the book has what they name
     let (machine, s, is) = some_machine old in
     let (t, new_is, waited) = of_sets (λ X M S m s u. HasWaited m moment s u) machine s new (subst (λ o. SetWaits moment o new) is waits) in
     let stand = waited.states texts book (of_set (λ X M S m s. IsKnown m texts s) machine s (subst (IsKnownSet texts) is known)) in
@@ -223,6 +224,7 @@ module _ (texts : Texts) (book : IsBook texts) (t u : Tabled) (moment : ℕ) (wa
 
         -- the set of a transaction that is over is quiet: the transaction is in trouble, idle again, or ended
         by : (n : ℕ) (old new : AnySet) → slice_get t.sets n ≡ Some old → slice_get u.sets n ≡ Some new → (key : KeyParts) (d : Bool) → IsFollowed texts t.times es key old d → IsOver t.times es key → IsQuietSet new
+        -- the set of a deaf transaction leads to the runs over no event, which stand in idle
         by n old new was at key true (leads, unsound) over = idle n old new was at (machine_of_key t.times.rules key) [] leads (idle_begun (machine_of_key t.times.rules key) t.times (newest_moment es))
         by n old new was at key false (leads, sound) (inl unsound) = absurd (unsound sound)
         by n old new was at key false (leads, sound) (inr (inl again)) = idle n old new was at (machine_of_key t.times.rules key) (events_for key es) leads again

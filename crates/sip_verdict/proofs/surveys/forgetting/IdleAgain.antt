@@ -100,7 +100,7 @@ module _ {X : Type 0} (f : Figure X) (p : Times) (lasts : (m : ℕ) → Lasts f 
         go : Dec (m ≤ h) → (m ≤ h → Stands f p more h x) → Stands f p more n x
         go (yes late) before = waits more h n x (before late) low lasting
         go (no early) before =
-            -- m comes before the wait begins: no later event is left, so the run over the old events stands at m in x, which is idle and as new
+            -- the wait begins before m: there is no later event, so the run over the old events stands at m in x, which is idle and as new
             let nil : more ≡ [] = none more is from (omega (arith, early)) in
             let here : Stands f p old m x = waits old h m x (subst (λ es. Stands f p es h x) (is ∙ ap (λ ys. old ++ ys) nil ∙ append-nil old) stands) (omega (arith, early)) (lasts_earlier f p x m n high lasting) in
             subst (λ es. Stands f p es n x) (sym nil) (subst (Stands f p [] n) (sym (only x here)) (new n))

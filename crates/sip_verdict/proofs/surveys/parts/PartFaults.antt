@@ -165,7 +165,7 @@ faults_of p chosen items cuts es cs close shut found part end fin seen saw cut w
         there : (front : List (Observation KeyParts)) × (e : Observation KeyParts) × (more : List (Observation KeyParts)) × (cs ≡ front ++ e ∷ more) × IsFoundAt p front e (Malformed n fault)
         there = found_is p [] cuts shut cs part fin saw some (Malformed n fault) has
 
-        -- the whole has as many entries as the part
+        -- the place lies within the whole, which has as many entries as the part
         low : length there.0 < length es
         low = let long = cut_long chosen [] [] items cuts es cs seen saw cut in let split = ap length there.3 in omega (arith, long, simp length-append at split)
 

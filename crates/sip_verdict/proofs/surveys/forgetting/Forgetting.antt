@@ -148,6 +148,7 @@ module _ (p : Times) (key : KeyParts) (old : List (Observation KeyParts)) (again
     -- at a later entry the key breaks, or is followed no further, exactly where it does over the later entries alone
     pub found_new : (front : List (Observation KeyParts)) (e : Observation KeyParts) → order_of (front ++ e ∷ []) → (Breaks p (old ++ front) e key ↔ Breaks p front e key) × (Widens p (old ++ front) e key ↔ Widens p front e key)
     found_new front e order =
+        -- in no trouble before, a run over the entry, too wide at it: each is so over all entries exactly if it is so over the later ones
         let so_far = sound_new front (order_front front (e ∷ []) order) in
         let runs = runs_new front e order in
         let wide = wide_new front e order in (

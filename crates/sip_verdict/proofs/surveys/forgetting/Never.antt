@@ -159,6 +159,7 @@ never_after age part p es (item ∷ items) (x ∷ taken) close found end (f ∷ 
       inr (
         (omega arith, omega arith),
         (
+          -- x is the item as it is taken, e what is seen of it, `here` and `later` what is found at it and after it, and s.text and s.more the lines of both
           x,
           e,
           here,
@@ -170,6 +171,7 @@ never_after age part p es (item ∷ items) (x ∷ taken) close found end (f ∷ 
           sees,
           are,
           text_here (es ++ e ∷ []) after here s.text (λ g has. number_here p es e g ((are.1 g).0 has)) s.first,
+          -- the findings and the lines are those of this item and those of the later ones, which are told in the same way
           both,
           s.whole,
           never_after age part p (es ++ e ∷ []) items taken close later end after s.more more (omega arith) (omega arith) left (subst (λ x. AreSeen (es ++ x ∷ []) taken after) same seen) s.second,

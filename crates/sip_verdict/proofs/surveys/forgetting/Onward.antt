@@ -401,6 +401,7 @@ module _ (key : KeyParts) where
         at now now_left later (x ∷ front) [] e f rest more split other long = absurd (omega (arith, long))
         -- the two entries are later ones in both logs
         at now now_left later (x ∷ front) (y ∷ back) e f rest more split other long =
+            -- the next entries g and h are the first ones before e and f; put after the old entries, they leave e and f among what comes later
             let is : g ≡ x = cc in
             let is_left : h ≡ y = cc in
             let tail : es ≡ front ++ e ∷ rest = cc in

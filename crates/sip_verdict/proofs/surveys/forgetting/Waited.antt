@@ -165,6 +165,7 @@ module _ (texts : Texts) (book : IsBook texts) (t u : Tabled) (moment : ℕ) (wa
   waited_recorded recorded = record {
     long = ap length waited.records ∙ recorded.long ∙ sym (ap length waited.keys);
     each = λ n new r at here.
+        -- the records did not change in the wait, so that r is right for the set before it
         let (old, was) = before n new at in
         let there : slice_get t.records n ≡ Some r = ap (λ rs. slice_get rs n) (sym waited.records) ∙ here in
         go n r old new was at (recorded.each n old r was there);
@@ -197,6 +198,7 @@ module _ (texts : Texts) (book : IsBook texts) (t u : Tabled) (moment : ℕ) (wa
       order = tracks.order;
       keys = waited.keys ∙ tracks.keys;
       each = λ n key new d at here is.
+          -- the set that stood at the place before the wait followed the entries, and so does the one after it
           let (old, was) = before n new here in
           subst (λ q. IsFollowed texts q es key new d) (sym waited.times)
           (follows n old new was here key d (tracks.each n key old d (ap (λ ks. slice_get ks n) (sym waited.keys) ∙ at) was is));

@@ -271,6 +271,7 @@ module _ (es : Entries) (e : Observation KeyParts) (b c : Histories) (number : �
     long = notes_long number text ks ns t w b.each.items c.each.items touched t_long notes ∙ ap length w_keys;
     restart = (let long = length-append es (e ∷ []) in let low = h.restart in omega (arith, same_restart));
     each = λ n key k at here.
+        -- the key stands at n in the new tables (`there`), and the entry concerns it exactly if its number was noted (`is`)
         let there : slice_get w.keys n ≡ Some key = ap (λ xs. slice_get xs n) w_keys ∙ at in
         let is : is_of key e ≡ is_among ns (n + 1) = ap (list_any (same_key key)) keys ∙ same_numbers w.keys apart ns ks (have_numbers ks ns t w touched) n key there in
         by n key k (is_among ns (n + 1)) is (notes_at number text ks ns t w b.each.items c.each.items touched t_long notes n k here) (old_or_new n key there);

@@ -61,6 +61,7 @@ module _ (texts : Texts) (book : IsBook texts) (t u : Tabled) (moment : ℕ) (ad
     order = tracks.order;
     keys = advances.keys ∙ tracks.keys;
     each = λ n key new d at here is.
+        -- the set that stood at the place before the wait followed the entries, and so does the one after it, beside the kept messages
         let (old, was) = before texts book t u moment advances may numbers up same n new here in
         subst (λ q. IsFollowed (only numbers texts) q es key new d) (sym advances.times)
         (follows n old new was here key d (tracks.each n key old d (ap (λ ks. slice_get ks n) (sym advances.keys) ∙ at) was is));
@@ -112,6 +113,7 @@ module _ (texts : Texts) (book : IsBook texts) (t u : Tabled) (moment : ℕ) (ad
   -- a message under a number that some set names is named by a transaction in no trouble
   from_number : (text : List ℕ) → IsNumberOf texts (flat_map numbers_of u.sets) text → IsStillNamed p es text
   from_number text (number, has, text_is) =
+      -- the number is named by the set `new` at the place n, where the key has the set `old` from before the wait and the flag d
       let (new, (n, inside, is), in_set) = Contains-from_flat_map numbers_of u.sets number has in
       let there : slice_get u.sets n ≡ Some new = slice_get-get_or u.sets n new inside ∙ ap Some is in
       let (key, at) = at_place t.keys n (let long = may.long in let as_long = advances.long in omega (arith, inside)) in

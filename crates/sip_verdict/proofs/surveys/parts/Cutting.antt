@@ -212,6 +212,7 @@ module _ (chosen : KeyParts → Bool) where
         λ sound. (
           (runs_cut es cs zip).0 sound.0,
           λ front c rest is wide.
+              -- an entry at which the key was too wide in the cut log stands for one of the whole log, at which it would be too wide
               let found = split_left es front c rest (subst (AllZip (IsCutOf chosen) es) is zip) in
               sound.1 found.0 found.1 found.2 found.3 ((wide_cut found.0 front found.1 c found.4 found.5).1 wide),
         ),
@@ -219,6 +220,7 @@ module _ (chosen : KeyParts → Bool) where
         λ sound. (
           (runs_cut es cs zip).1 sound.0,
           λ front e rest is wide.
+              -- an entry at which the key was too wide in the whole log has one that stands for it, at which it would be too wide
               let found = split_right front cs e rest (subst (λ xs. AllZip (IsCutOf chosen) xs cs) is zip) in
               sound.1 found.0 found.1 found.2 found.3 ((wide_cut front found.0 e found.1 found.4 found.5).0 wide),
         ),

@@ -49,6 +49,7 @@ module _ (old t : Tabled) (h : AreMore old t) (k : KeyParts) (n : ℕ) where
 
   -- tables that have grown by keys have grown by them and by one more that was looked up
   one_more : (u : Tabled) → Touches k n t u → AreMore old u
+  -- the key was known, and the tables stay; or it is new, and comes at the end with the set that it starts with
   one_more u (inl known) = subst (AreMore old) (sym known.1) h
   one_more u (inr (new, counts, is)) = subst (AreMore old) (sym is) (record {
     times = h.times;
@@ -125,6 +126,7 @@ module _ (texts : Texts) (es : List (Observation KeyParts)) (e : Observation Key
   new_follows : (key : KeyParts) (s : AnySet) → s ≡ start_of old.times key → ¬ Contains old.keys key → IsFollowed texts old.times es key s false
   new_follows key s is none =
       let p = old.times in
+      -- the key is not among those of the entries, so that it has no event
       let silent = new_key key es (not_among key (keys_in es) (λ has. none (subst (λ ks. Contains ks key) (sym tracks.keys) has))) in (
         subst (LeadsOf texts p (machine_of_key p.rules key) (events_for key es) (newest_moment es)) (sym is)
             (subst (λ events. LeadsOf texts p (machine_of_key p.rules key) events (newest_moment es) (start_of p key)) (sym silent) (starts texts p key (newest_moment es))),

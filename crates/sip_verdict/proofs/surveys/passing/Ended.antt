@@ -138,6 +138,7 @@ module _ (texts : Texts) (es : List (Observation KeyParts)) (e : Observation Key
     breaks = (
       broken_is.0,
       λ n. (
+        -- a number among them is that of a key that breaks, and the number of each key that breaks is among them
         λ has. number_holds (Breaks p es e) t.keys n (h.broken n ((broken_is.1 n).0 has)),
         λ holds. let (key, at, is, next) = holds_at (Breaks p es e) t.keys n holds in (broken_is.1 n).1 (subst (Contains b.broken.items) next (all_broken (n - 1) key at is)),
       ),
@@ -148,6 +149,7 @@ module _ (texts : Texts) (es : List (Observation KeyParts)) (e : Observation Key
     widens = (
       wide_is.0,
       λ n. (
+        -- a number among them is that of a key that is followed no further, and the number of each such key is among them
         λ has. let own = h.wide n ((wide_is.1 n).0 has) in number_holds (Widens p es e) t.keys n (record { low = own.low; key = own.key; at = own.at; holds = own.holds.0 }),
         λ holds. let (key, at, is, next) = holds_at (Widens p es e) t.keys n holds in (wide_is.1 n).1 (subst (Contains b.wide.items) next (all_wide (n - 1) key at is)),
       ),

@@ -110,6 +110,7 @@ module _ (texts : Texts) (p : Times) (es : List (Observation KeyParts)) (e : Obs
       released more among broken wide = record {
         broken = broken;
         wide = wide;
+        -- the flag at a place is the new one or an old one, and so is the set
         each = λ n key s d at here is. one n key s d (ap (λ ks. slice_get ks n) (sym keys) ∙ at) (set_place b.deaf.items place n true d (ap (λ xs. slice_get xs n) (sym deaf) ∙ is)) (sets n s here);
       }
         where

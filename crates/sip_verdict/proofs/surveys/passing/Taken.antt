@@ -184,6 +184,7 @@ dropped_passing number before new p es e t b (inr (bytes, is, unnamed)) h =
       record {
         runs = goes.runs;
         narrow = goes.narrow;
+        -- its set leads to the same runs, and stands for the same last states, beside the book without the message
         ready = unnamed_leads number bytes new p (machine_of_key p.rules key) (events_for key (es ++ e ∷ [])) (newest_moment (es ++ e ∷ [])) s none goes.ready;
         stands = λ concerned. unnamed_stands number bytes new p (machine_of_key p.rules key) (events_for key es) e.event s none (goes.stands concerned);
       },

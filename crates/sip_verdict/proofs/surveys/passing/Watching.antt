@@ -38,6 +38,7 @@ module _ (t : Tabled) (b : Troubled) (number : ℕ) (waits : List ℕ) (given : 
   watched_on u after limit agenda hearing keys sets records = record {
     long = h.long ∙ ap length (sym keys);
     recorded = settled t number waits given.low after limit agenda h.recorded u keys sets records;
+    -- a transaction in trouble is another one, since this one hears; so its record is as it was
     silent = λ n deaf. ap (λ rs. slice_get rs n) records
         ∙ set_other t.records place n (Some limit) (Some None) (λ same. true≢false (same_Some true false (sym deaf ∙ ap (slice_get b.deaf.items) same ∙ hearing))) (h.silent n deaf);
   }
@@ -66,6 +67,7 @@ module _ (t : Tabled) (b : Troubled) (number : ℕ) (waits : List ℕ) (given : 
   watched_off u c after agenda deaf keys sets records = record {
     long = ap length deaf ∙ length-set b.deaf.items place true ∙ h.long ∙ ap length (sym keys);
     recorded = settled t number waits given.low after None agenda h.recorded u keys sets records;
+    -- a transaction in trouble is this one now, or was in trouble before
     silent = λ n is. ap (λ rs. slice_get rs n) records ∙ one n (set_place b.deaf.items place n true true (ap (λ ds. slice_get ds n) (sym deaf) ∙ is));
   }
     where

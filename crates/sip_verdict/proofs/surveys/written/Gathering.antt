@@ -97,6 +97,7 @@ module _ (part : Option PartOf) (start : Option (List ℕ)) (now : log.ReaderSta
         read = subst (λ t. HasRead start t (read.items ++ i ∷ []) new) (sym times) more;
         -- with what comes later the findings are those of all
         front = λ rest close later end left.
+            -- what is found at the later items comes after what is found at this one (`whole`), which is then put into brackets with what was found before
             let after : IsSurveyAfter p (read.es ++ seen ∷ []) rest close later end = subst (λ t. IsSurveyAfter t (read.es ++ seen ∷ []) rest close later end) times left in
             let whole : IsSurveyAfter p [] (read.taken ++ item cut ∷ rest) close (found ++ (here ++ later)) end =
             read.front (item cut ∷ rest) close (here ++ later) end (seen, here, later, observed, refl, are, after) in

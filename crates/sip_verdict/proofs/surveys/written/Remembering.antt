@@ -82,6 +82,7 @@ module _ (age : ℕ) (part : Option PartOf) (p : Times) (start : Option (List �
           read = more;
           -- with what comes later the text is that of the whole
           front = λ rest close later end further told.
+              -- what is found and written later comes after what is found and written here (`whole`), which is then put into brackets with what came before
               let whole : IsToldAfter age part p [] (so.items ++ item e ∷ rest) close (found ++ (items ++ later)) end (lines ++ (text ++ further)) =
               so.front (item e ∷ rest) close (items ++ later) end (text ++ further)
               (left, is_left, inr (has_room, (item cut, seen, items, later, text, further, is_taken, observed, found_here, text_is, refl, refl, told))) in

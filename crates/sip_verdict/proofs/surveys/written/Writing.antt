@@ -121,6 +121,7 @@ found_text s p es e stands (f ∷ found) text at (line, more, is, are, whole) =
       -- the first finding is of the newest entry, and so are the others
       line,
       more,
+      -- the entries up to the finding's own are all entries; the line is its line there, and the rest of the text is of the other findings
       sym (append-nil (es ++ e ∷ [])),
       length-append es (e ∷ []) ∙ sym (at_entry f here),
       is p es e stands here,

@@ -27,6 +27,7 @@ IsFrom m e = m ≤ e.moment
 module _ {X : Type 0} (f : Figure X) (p : Times) (lasts : (m : ℕ) → Lasts f p (quiet f.idle) m) (has_no_end : (m : ℕ) → ¬ (MayEnd f p (quiet f.idle) m)) where
   -- no event of a run is after the moment at which the run stands
   events_to : (events : List MachineEvent) (m : ℕ) (y : Owing X) → Stands f p events m y → All (IsTo m) events
+  -- the run has taken no event; or it has waited or ended since it took them; or it takes the last one at the moment at which it stands
   events_to events m y begins = All-nil (IsTo 0)
   events_to events m y (waits evs h k x stands low lasting) = All-weaker (IsTo h) (IsTo k) (λ e to. omega (arith, to, low)) evs (events_to evs h x stands)
   events_to events m y (ends evs h x stands may) = events_to evs h x stands

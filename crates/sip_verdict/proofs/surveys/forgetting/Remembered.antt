@@ -121,6 +121,7 @@ module _ (kept : KeyParts → Bool) where
     -- where ys are the entries xs cut to the key, ys and further entries cut to the key are xs and these entries cut to the key
     zip_append : (xs ys : List (Observation KeyParts)) → AllZip (IsCutOf (same_key key)) xs ys → (more : List (Observation KeyParts)) → AllZip (IsCutOf (same_key key)) (xs ++ more) (ys ++ remembered (same_key key) more)
     zip_append [] [] zip more = zip_remembered (same_key key) more
+    -- neither list is longer than the other
     zip_append [] (y ∷ ys) zip more = absurd zip
     zip_append (x ∷ xs) [] zip more = absurd zip
     zip_append (x ∷ xs) (y ∷ ys) zip more = (zip.0, zip_append xs ys zip.1 more)

@@ -60,6 +60,7 @@ found_at p done (item ∷ items) close (g ∷ es) found end (sees, seen) (h, her
 pub found_is : (p : Times) (done : List (Observation KeyParts)) (items : List Item) (close : LogEnd) (es : List (Observation KeyParts)) (found : List Finding) (end : SurveyEnd) → AreSeen done items es →
     IsSurveyAfter p done items close found end → (f : Finding) → Contains found f → (front : List (Observation KeyParts)) × (e : Observation KeyParts) × (more : List (Observation KeyParts)) × (es ≡ front ++ e ∷ more)
     × IsFoundAt p (done ++ front) e f
+-- no item is left, and nothing is found
 found_is p done [] Clean es found end seen survey f has = absurd (Contains-none f (subst (λ fs. Contains fs f) survey.0 has))
 found_is p done [] (Stops fault) es found end seen survey f has = absurd (Contains-none f (subst (λ fs. Contains fs f) survey.0 has))
 -- each item has its entry

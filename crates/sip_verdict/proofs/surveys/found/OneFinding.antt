@@ -17,7 +17,7 @@ sound_fewer p key front more order (runs, narrow) = (
 -- a transaction that broke at an entry, or is followed no further from it, is in trouble after it, whatever entries come
 pub stays_in_trouble : (p : Times) (key : KeyParts) (front : List (Observation KeyParts)) (e : Observation KeyParts) (more : List (Observation KeyParts))
     → AllPairs (λ a b. a.event.moment ≤ b.event.moment) (front ++ e ∷ more) → Breaks p front e key ⊎ Widens p front e key → ¬ (IsSound p (front ++ e ∷ more) key)
--- it has no run up to e, so that it would be in trouble there too
+-- in no trouble over all entries it would have a run over those up to e too, but it broke there
 stays_in_trouble p key front e more order (inl breaks) sound =
     let one : front ++ e ∷ more ≡ (front ++ e ∷ []) ++ more = sym (append_assoc front (e ∷ []) more) in
     breaks.1 (sound_fewer p key (front ++ e ∷ []) more (subst (AllPairs (λ a b. a.event.moment ≤ b.event.moment)) one order) (subst (λ es. IsSound p es key) one sound)).0

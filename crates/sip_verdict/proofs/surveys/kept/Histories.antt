@@ -200,6 +200,7 @@ module _ (entry : ℕ) (text : List ℕ) where
   -- ns are the numbers of the keys ks; t and u are the tables before and after these were looked up
   pub notes_long : (ks : List KeyParts) (ns : List ℕ) (t u : Tabled) (old new : List History) → TouchesEach ks ns t u → length old ≡ length t.keys → NotesEach entry text ns old new → length new ≡ length u.keys
   notes_long [] [] t u old new same long is = ap length is ∙ long ∙ ap (λ x. length x.keys) (sym same)
+  -- there are as many keys as numbers
   notes_long [] (n ∷ ns) t u old new touched long notes = absurd touched
   notes_long (k ∷ ks) [] t u old new touched long notes = absurd touched
   notes_long (k ∷ ks) (n ∷ ns) t u old new (between, one, rest) long (mid, note, notes) = notes_long ks ns between u mid new rest (note_long k n t between old mid one long note).0 notes
@@ -337,6 +338,7 @@ message_says es i e says seen key of =
 -- ns are the numbers of the keys ks; t and u are the tables before and after these were looked up
 pub touched_low : (ks : List KeyParts) (ns : List ℕ) (t u : Tabled) → TouchesEach ks ns t u → All (λ n. 0 < n) ns
 touched_low [] [] t u same = All-nil (λ n. 0 < n)
+-- there are as many keys as numbers
 touched_low [] (n ∷ ns) t u touched = absurd touched
 touched_low (k ∷ ks) [] t u touched = absurd touched
 touched_low (k ∷ ks) (n ∷ ns) t u (between, one, rest) = All-cons (λ i. 0 < i) n ns (low one) (touched_low ks ns between u rest)

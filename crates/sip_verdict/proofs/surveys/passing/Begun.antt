@@ -100,6 +100,7 @@ touched_key k n t u (inr (new, counts, is)) =
 -- ns are the numbers of the keys ks; t and u are the tables before and after these were looked up
 pub touched_keys : (ks : List KeyParts) (ns : List ℕ) (t u : Tabled) → TouchesEach ks ns t u → u.keys ≡ fold with_key t.keys ks
 touched_keys [] [] t u same = ap (λ x. x.keys) same
+-- there are as many keys as numbers
 touched_keys [] (n ∷ ns) t u h = absurd h
 touched_keys (k ∷ ks) [] t u h = absurd h
 touched_keys (k ∷ ks) (n ∷ ns) t u (between, one, rest) = touched_keys ks ns between u rest ∙ ap (λ keys. fold with_key keys ks) (touched_key k n t between one)

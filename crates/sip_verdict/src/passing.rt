@@ -139,6 +139,7 @@ fn restart<H: BuildHasher>(
     ensures heard { IfOk result (λ outcome. MayPass book.now tables.new event.now.moment
         × ((numbers : List ℕ) × AreHearers tables.old Concerned.All numbers × HearsEach book.now event.now numbers tables.old others tables.new outcome)) }
 {
+    // The transactions that a restart may change hear it; those that it leaves quiet need not hear the next one.
     let numbers = tables.to_restart()?;
     let outcome = hear_all(tables, book, numbers.as_slice(), event, others)?;
     tables.restarted();

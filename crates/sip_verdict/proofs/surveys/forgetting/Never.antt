@@ -276,8 +276,10 @@ part_one part (item ∷ items) (x ∷ cuts) (y ∷ others) (one, is) (other, are
 -- where nothing is forgotten, the survey of a part and its text are among those of a survey that may forget
 pub never_part : (age : ℕ) (part : PartOf) (input : List ℕ) (found : List Finding) (end : SurveyEnd) (text : List ℕ) → end ≢ LogFault (most_entries + 1) Limit → IsPartToldOf part input found end text → IsToldForgetting age (Some part) input found end text
 -- p and q are the times of the log by the survey and by what is told, and es are the entries that were observed
+-- the input has no header by both, so nothing was found, and the text is the last line alone
 never_part age part input found end text other (inl (lacks, none, ended), (es, inl (also, empty), (lines, are, whole))) =
     inl (lacks, none, ended, whole ∙ ap (λ l. l ++ end_text end (length found)) (subst (λ fs. IsTextOf es fs lines) none are) ∙ ap (λ fs. end_text end (length fs)) none)
+-- both cannot be: by one the input has no header, and by the other it has one
 never_part age part input found end text other (inl (lacks, none, ended), (es, inr (q, others, last, taken, says, cut, seen), told)) = absurd (lacks says.format q _ says.header)
 never_part age part input found end text other (inr (p, items, close, cuts, says, cut, is), (es, inl (lacks, empty), told)) = absurd (lacks says.format p _ says.header)
 -- both surveys are of entries of the part

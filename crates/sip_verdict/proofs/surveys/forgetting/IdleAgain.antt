@@ -111,7 +111,7 @@ module _ {X : Type 0} (f : Figure X) (p : Times) (lasts : (m : ℕ) → Lasts f 
       where
         -- the run over the later events stands in z at e, whether e is the last of them or there are none
         go : (more ≡ []) ⊎ ((front : List MachineEvent) × (d : MachineEvent) × (more ≡ front ++ d ∷ [])) → ((front : List MachineEvent) → evs ≡ old ++ front → All (IsFrom m) front → Stands f p front e.moment x) → Stands f p more e.moment z
-        -- no later event was taken, so e is the last one, at the moment m
+        -- there is no later event, so e is the last of the old ones, at the moment m
         go (inl nil) before =
             -- all events are old ones, so e is not after m; and z is idle, which is where a new run begins
             let whole : evs ++ e ∷ [] ≡ old = is ∙ ap (λ ys. old ++ ys) nil ∙ append-nil old in

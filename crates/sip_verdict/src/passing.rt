@@ -45,7 +45,7 @@ impl Outcome {
         ensures { result ≡ first_of self other }
     {
         match (self, other) {
-            // Where one group is fine, the outcome is the other's. No run comes before too many states, and then the smaller number comes first.
+            // Where one group is fine, the outcome is the other's. To have no run comes before too many states; of two alike the smaller number comes first.
             (Outcome::Fine, one) | (one, Outcome::Fine) => one,
             (Outcome::NoRun(one), Outcome::NoRun(two)) => Outcome::NoRun(one.min(two)),
             (Outcome::NoRun(one), _) | (_, Outcome::NoRun(one)) => Outcome::NoRun(one),

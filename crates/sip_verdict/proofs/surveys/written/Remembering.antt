@@ -49,6 +49,7 @@ remembers_none age part p s start now times stands read =
 -- `found` is what it has found, `lines` is what it has written, and `now` is the state of its reader.
 module _ (age : ℕ) (part : Option PartOf) (p : Times) (start : Option (List ℕ)) (now : log.ReaderState) (s : Surveying) (found : List Finding) (lines : List ℕ) (so : RemembersRead age part p s found lines start now) where
   -- where transactions may have been forgotten, one more item was read and surveyed, and its lines were written, the survey has read that item too
+  -- m is the horizon before; f and a are the survey and the horizon after what was due was forgotten, and k and b those after the entry
   pub remembers_on : (m : Horizon) → IsHorizonOf m so.es → m.age ≡ age
       → (e cut : Entry) (new : log.ReaderState) → HasStreamed start p (so.items ++ item e ∷ []) new → IsTaken part (item e) (item cut)
       → (f k : Surveying) (a b : Horizon) → f.tables.times ≡ s.tables.times → k.tables.times ≡ f.tables.times → f.moment ≤ k.moment
@@ -65,6 +66,7 @@ module _ (age : ℕ) (part : Option PartOf) (p : Times) (start : Option (List �
       -- what is left after the forgetting, and what is seen and found at the entry
       let (left, left_is, f_stands, f_horizon) = forgets so.es so.follows horizon_is in
       let (seen, here, observed, are, same, k_stands) = says left f_stands in
+      -- what is left, the findings at the entry, their lines and the room are as the definition asks, by the times and the age of the whole survey
       let is_left : IsLeftOf age p so.es left = subst (λ t. IsLeftOf age t so.es left) so.times (subst (λ n. IsLeftOf n s.tables.times so.es left) aged left_is) in
       let found_here : AreFoundAt p left seen items = subst (AreFoundAt p left seen) (sym same) (subst (λ t. AreFoundAt t left seen here) (f_times ∙ so.times) are) in
       let text_is : IsTextOf (left ++ seen ∷ []) items text = found_text k p left seen k_stands items text (λ g has. (found_here.1 g).0 has) are_lines in
@@ -128,6 +130,7 @@ module _ (age : ℕ) (part : Option PartOf) (p : Times) (start : Option (List �
         (λ input says. (so.items, close, says, subst (λ is. IsToldAfter age part p [] is close found end lines) (append-nil so.items) (at_end [] close end (left, refl)))) logs)
 
     -- the survey has no room for the entry that comes next
+    -- m is the horizon before; f and a are the survey and the horizon after what was due was forgotten
     pub remembers_full : (m : Horizon) → IsHorizonOf m so.es → m.age ≡ age → (e : Entry) (new : log.ReaderState) → HasStreamed start p (so.items ++ item e ∷ []) new → (f : Surveying) (a : Horizon)
         → ((es : List (Observation KeyParts)) → SurveysFor s es → IsHorizonOf m es → (left : List (Observation KeyParts)) × IsLeftOf m.age s.tables.times es left × SurveysFor f left × IsHorizonOf a left)
         → ¬ (HasRoom f.number (length f.tables.keys)) → (number : ℕ) → number ≡ f.number + 1 → summary.end ≡ ended.LogFault number Limit → Appends mid after (end_text (ended.LogFault number Limit) counts.findings)

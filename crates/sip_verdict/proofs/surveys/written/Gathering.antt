@@ -81,6 +81,7 @@ survey_without (Some part) input end lacks same = inl (lacks, refl, same)
 -- What follows is of a survey, `s`, that has read some items of a log or of a part of it, and of what it has found; `now` is the state of its reader.
 module _ (part : Option PartOf) (start : Option (List ℕ)) (now : log.ReaderState) (s : Surveying) (found : List Finding) (read : SurveysRead part s found start now) where
   -- where one more item was read and taken, and these findings were made at it, the survey has read that item too
+  -- i is the item and `cut` the entry as which it is taken; `new` is the state of the reader and k the survey after it
   unfoldable pub found_on : (i : Item) (cut : Entry) (new : log.ReaderState) → HasRead start s.tables.times (read.items ++ i ∷ []) new → IsTaken part i (item cut) → (k : Surveying) → k.tables.times ≡ s.tables.times
       → (seen : Observation KeyParts) (here : List Finding) → Sees read.es (item cut) seen → AreFoundAt s.tables.times read.es seen here → SurveysFor k (read.es ++ seen ∷ [])
       → SurveysRead part k (found ++ here) start new
@@ -107,6 +108,7 @@ module _ (part : Option PartOf) (start : Option (List ℕ)) (now : log.ReaderSta
       }
 
   -- where the findings at the next entry are put after those so far, the survey has read that entry too
+  -- e is the entry and `cut` the one as which it is taken; `new` is the state of the reader and k the survey after it, and `items` are all findings then
   pub gathered_on : (e cut : Entry) (new : log.ReaderState) → HasRead start s.tables.times (read.items ++ item e ∷ []) new → IsTaken part (item e) (item cut) → (k : Surveying) → k.tables.times ≡ s.tables.times
       → (items : List Finding)
       → ((es : List (Observation KeyParts)) → SurveysFor s es → (seen : Observation KeyParts) × (here : List Finding) × Sees es (item cut) seen

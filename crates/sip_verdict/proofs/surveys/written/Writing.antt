@@ -177,6 +177,8 @@ module _ (part : Option PartOf) (start : Option (List ℕ)) (now : log.ReaderSta
   read = told_so.read
 
   -- where one more item was read and surveyed, and its lines were written, the survey has read and told that item too
+  -- i is the item and `cut` the entry as which it is taken; `new` is the state of the reader and k the survey after it; `items` and `text` are the
+  -- findings at it and their lines
   pub surveys_on : (i : Item) (cut : Entry) (new : log.ReaderState) → HasRead start s.tables.times (read.items ++ i ∷ []) new → IsTaken part i (item cut) → (k : Surveying) → k.tables.times ≡ s.tables.times
       → (items : List Finding)
       -- what was found at the entry, and the lines of that

@@ -223,10 +223,12 @@ module _ (key : KeyParts) where
     Alike front e back f = (Breaks p front e key ↔ Breaks p back f key) × (Widens p front e key ↔ Widens p back f key)
 
     -- two logs in which the key fares as in a third one are alike
+    -- e, c and f are the entries after `front`, `mid` and `back`
     through : (front mid back : Entries) (e c f : Observation KeyParts) → Alike front e mid c → Alike back f mid c → Alike front e back f
     through front mid back e c f a b = ((λ h. b.0.1 (a.0.0 h), λ h. a.0.1 (b.0.0 h)), (λ h. b.1.1 (a.1.0 h), λ h. a.1.1 (b.1.0 h)))
 
     -- where both logs stand for the same entries when other keys are left out, the same is found of the key
+    -- e, c and f are the entries after `front`, `mid` and `back`
     alike_by : (front mid back : Entries) (e c f : Observation KeyParts) → AllZip (IsCutOf (same_key key)) front mid → AllZip (IsCutOf (same_key key)) back mid → IsCutOf (same_key key) e c → IsCutOf (same_key key) f c
         → Alike front e back f
     alike_by front mid back e c f fronts backs first second =

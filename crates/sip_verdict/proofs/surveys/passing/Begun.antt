@@ -60,6 +60,7 @@ module _ (old t : Tabled) (h : AreMore old t) (k : KeyParts) (n : ℕ) where
   })
     where
       -- the key and its set are old ones, or the new key and the set in which it starts
+      -- i is the place of the key, and s its set
       by : (i : ℕ) (key : KeyParts) (s : AnySet) → (slice_get t.keys i ≡ Some key) ⊎ ((i ≡ length t.keys) × (k ≡ key)) → (slice_get t.sets i ≡ Some s) ⊎ ((i ≡ length t.sets) × (start_of t.times k ≡ s))
           → ((slice_get old.keys i ≡ Some key) × (slice_get old.sets i ≡ Some s)) ⊎ ((length old.keys ≤ i) × (s ≡ start_of old.times key) × ¬ Contains old.keys key)
       -- key and set are old ones

@@ -1,4 +1,5 @@
 -- One transaction of a survey hears the event of an entry, or has waited too long for it.
+-- In the lemmas n is the place of a key, s its set, and d whether it is deaf.
 use Rattle.std.proofs.Common.{◌≡◌, ◌≢◌, ◌≤◌, ◌<◌, ◌+◌, ◌-◌, ◌⊎◌, inl, inr, ℕ, Bool, true, false, Option, Some, None, List, [], ◌∷◌, ◌++◌, MatchBool, length, slice_get, slice_set, slice_index_or, refl, sym, ap, ◌∙◌, subst, true≢false, arith}
 use Rattle.std.proofs.lemmas.Option.{slice_get-get_or}
 use Rattle.sip_standard.specs.Key.{KeyParts}

@@ -1,4 +1,5 @@
 -- The transactions of a survey that do not hear an entry's event wait, once none is overdue.
+-- In the lemmas n is the place of a key, s its set, and d whether it is deaf.
 use Rattle.std.proofs.Common.{◌≡◌, ◌≤◌, ◌+◌, ◌⊎◌, ◌||◌, inl, inr, ℕ, Bool, true, false, Option, Some, None, List, [], IsTrue, MatchBool, position, slice_get, refl, sym, ap, ◌∙◌, subst, arith}
 use Rattle.std.specs.Option.{option_map}
 use Rattle.std.proofs.lemmas.Bool.{false≢true}

@@ -1,5 +1,5 @@
 -- What the transactions of a survey are after an entry of each kind.
--- In the lemmas n is the place of a key, s its set, and d whether it is deaf.
+-- Where a lemma looks at one transaction, n is the place of its key, s its set, and d whether it is deaf.
 use Rattle.std.proofs.Common.{◌≡◌, ◌≢◌, ◌≤◌, ◌<◌, ◌+◌, inl, inr, ℕ, Bool, true, false, Option, Some, None, List, [], ◌∷◌, ◌++◌, All, AllPairs, Contains, length, slice_get, refl, sym, ap, ◌∙◌, subst, true≢false, arith}
 use Rattle.std.specs.Prelude.{fold}
 use Rattle.std.proofs.Math.Decide.{dec_le}

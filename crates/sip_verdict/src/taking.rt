@@ -36,7 +36,7 @@ pub(crate) fn read_taken<R: Source>(
     ensures ok { OnOk result (R.has_failed reader.new ≡ R.has_failed reader.old) }
     ensures io { IsErrOf result JudgeError.Io → R.has_failed reader.new ≡ true }
 {
-    // Of a part, an entry that stands whole among the bytes that were read is taken there; any other one is read first, and then cut.
+    // Of a part, an entry with a message that stands whole among the bytes that were read is taken there; any other one is read, and then cut.
     if let Some(part) = part {
         if let Some(ahead) = progress.ahead() {
             let entry = take_ahead(alloc, part, &ahead, buffer)?;

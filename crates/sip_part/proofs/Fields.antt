@@ -1,5 +1,7 @@
 -- Where a plain branch is found in a message that is read, it is the branch of the top Via: from one field to the bytes of the message.
 -- In the lemmas b is the branch that is found, n the number of a line, f a field, and s what a message says; as Bools s and o are what two tests say.
+-- Of a reading in steps `passes` is a step that gave a value, with the next one, and `stopped` one that stops at a fault, so that nothing is read.
+-- Of bytes 58 is the colon, 13 CR and 10 LF.
 use Rattle.std.proofs.Common.{◌≡◌, ◌∙◌, ◌⊎◌, inl, inr, ℕ, ◌+◌, List, [], ◌∷◌, ◌++◌, Bool, Some, None, drop, filter, flat_map, map, cond, ◌&&◌, if◌then◌else◌, nat_eq, true, false, refl, sym, ap, subst, append_assoc, arith}
 use Rattle.std.proofs.lemmas.Bool.{eqb-true, false_from_ne_true}
 use Rattle.std.specs.Prelude.{codes, bytes_eq, nat_lt}
@@ -104,11 +106,11 @@ token_of x u is many = (x ∷ [], u, (x, is, refl), many, refl)
 field_found : (n : ℕ) (line rest b : List ℕ) (f : SaidField) → FieldSays n line (gives f) → via_branch (line ++ (13 ∷ rest)) ≡ Some b → Found b f
 field_found n line rest b f says found = by (via_spelled (line ++ (13 ∷ rest)) b found)
   where
-    -- "Via" is a token
+    -- "Via" is a token: 86 is V, 105 i and 97 a
     full_word : Token (codes "Via")
     full_word = token_of 86 (codes "ia") refl ((105 ∷ []) ∷ (97 ∷ []) ∷ [], ((105, refl, refl), ((97, refl, refl), tt)), refl)
 
-    -- "v" is a token
+    -- "v", which is 118, is a token
     short_word : Token (codes "v")
     short_word = token_of 118 [] refl ([], tt, refl)
 
@@ -144,6 +146,7 @@ other_name name compact full = by (bytes_eq name (codes "v")) (bytes_eq name (co
     by false false false false false is = full
 
 -- a byte that is no v in either case has no v as its lower case
+-- 118 is v and 86 V; the capital letters are those from 65 up to 91, and each has its small one 32 above it
 lower_v : (x : ℕ) → is_among "vV" x ≡ false → nat_eq (to_ascii_lowercase x) 118 ≡ false
 lower_v x other = false_from_ne_true (nat_eq (to_ascii_lowercase x) 118) (λ is. by (nat_lt x 65) (nat_lt x 91) (eqb-true (to_ascii_lowercase x) 118 is))
   where
@@ -211,15 +214,18 @@ line_found n line rest b more f fs via vias says passed found tells on = by (ope
 
     -- the claim holds whether or not the text opens with the name of a Via
     by : (opens : Bool) → opens_via text ≡ opens → branch_at (if opens then Some text else via_line text) ≡ Some b → via.branch ≡ Some b
+    -- the branch is found in this line, whose field is a Via, and its value is the first
     by true is at =
         let here = field_found n line (10 ∷ tail) b f says at in
         top_found b f.value (said_values "via" fs) via vias here.first (subst (λ vs. ViasTell vs (via ∷ vias)) (first_value f fs here.named) tells)
+    -- the search passes over this line, whose field is no Via, so that the values of Via are those of the fields after it
     by false is at =
         on (sym (ap branch_at (passed.over tail)) ∙ at) (subst (λ vs. ViasTell vs (via ∷ vias)) (later_value f fs (other_field n line (13 ∷ (10 ∷ tail)) f says is)) tells)
 
 -- where a branch is found from the first of these lines on, it is the branch of the first Via of their fields
 lines_found : (n : ℕ) (others : List (List ℕ)) (rest b : List ℕ) (fields : List SaidField) (via : SaidVia) (vias : List SaidVia) → Many Unit (Ended others) → AllByRecursion Folded others → FieldsSay n others (gives fields)
     → branch_at (line_from (Ended others ++ (13 ∷ rest))) ≡ Some b → ViasTell (said_values "via" fields) (via ∷ vias) → via.branch ≡ Some b
+-- without lines there is no field, and so no top Via
 lines_found n [] rest b fields via vias clean folds says found tells =
     let list : fields ≡ [] = cc in
     let none : via ∷ vias ≡ [] = subst (λ fs. ViasTell (said_values "via" fs) (via ∷ vias)) list tells in absurd (cc)

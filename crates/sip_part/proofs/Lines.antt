@@ -1,4 +1,5 @@
 -- The search for the first line that begins as a Via does goes on from one line to the next.
+-- Of bytes 13 is CR, 10 LF, 32 SP and 9 HTAB.
 use Rattle.std.proofs.Common.{◌≡◌, ◌∙◌, ℕ, ◌+◌, ◌<◌, length, drop, List, [], ◌∷◌, ◌++◌, Bool, true, false, Option, Some, None, ◌&&◌, ◌||◌, not, nat_eq, if◌then◌else◌, refl, sym, ap, inl, inr, append_assoc, arith}
 use Rattle.std.proofs.lemmas.Bool.{eqb-true}
 use Rattle.std.specs.Prelude.{codes, ◌==◌}
@@ -73,6 +74,7 @@ OnFrom us more = (line : List ℕ) → concat us ≡ line ++ (13 ∷ (10 ∷ mor
 
 -- a line that begins with a CRLF is passed over where what comes after it is
 pass_end : (us : List (List ℕ)) (line more : List ℕ) → AllByRecursion Unit us → 13 ∷ (10 ∷ concat us) ≡ line ++ (13 ∷ (10 ∷ more)) → Folded line → OnFrom us more → Passed line more
+-- the line ends at this CRLF, or it has more bytes: one alone cannot be, since the LF of the unit would be a CR
 pass_end us [] more all same folded on = let rest : concat us ≡ more = cc in record { over = λ tail. refl; clean = (us, all, sym rest) }
 pass_end us (x ∷ []) more all same folded on = let odd : ◌≡◌ {A = ℕ} 10 13 = cc in absurd (omega (arith, odd))
 -- the line goes on after the CRLF with what follows it
@@ -99,6 +101,7 @@ no_end b plain = by (nat_eq b 13) (nat_eq b 10) plain
 
 -- a line that begins with a byte that is neither CR nor LF is passed over where what comes after it is
 pass_byte : (b : ℕ) (us : List (List ℕ)) (line more : List ℕ) → (not (nat_eq b 13) && not (nat_eq b 10)) ≡ true → b ∷ concat us ≡ line ++ (13 ∷ (10 ∷ more)) → Folded line → OnFrom us more → Passed line more
+-- the line is not empty: the byte would else be the CR of the line's CRLF
 pass_byte b us [] more plain same folded on =
     let odd : b ≡ 13 = cc in let e : false ≡ true = ap (λ x. not (nat_eq x 13) && not (nat_eq x 10)) (sym odd) ∙ plain in absurd (cc)
 -- the line goes on after the byte with what follows it
@@ -113,6 +116,7 @@ pass_byte b us (x ∷ line) more plain same folded on =
 
 -- the search passes over each folded line of a clean head
 pub pass_line : (us : List (List ℕ)) (line more : List ℕ) → AllByRecursion Unit us → concat us ≡ line ++ (13 ∷ (10 ∷ more)) → Folded line → Passed line more
+-- without units there is no CRLF, with which the line ends; the first unit is a CRLF or a byte
 pass_line [] [] more all is folded = absurd (cc)
 pass_line [] (x ∷ line) more all is folded = absurd (cc)
 pass_line (unit ∷ us) line more (inl crlf, all) is folded = pass_end us line more all (ap (λ t. t ++ concat us) (sym crlf) ∙ is) folded (λ later. pass_line us later more all)

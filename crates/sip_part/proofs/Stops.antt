@@ -1,4 +1,5 @@
 -- Where the search stops as it passes over the value of a Via.
+-- Of bytes 44 is the comma, 59 the semicolon and 13 CR.
 use Rattle.std.proofs.Common.{◌≡◌, ◌∙◌, ℕ, zero, suc, ◌<◌, Bool, true, false, ◌||◌, List, [], ◌∷◌, length, drop, nat_eq, if◌then◌else◌, refl, sym, ap, arith}
 use Rattle.std.proofs.lemmas.Bool.{false_from_ne_true, eqb-true, eq-eqb}
 use Rattle.memchr.specs.Find.{Nowhere, Passes, is_byte3}

@@ -55,7 +55,7 @@ module _ (texts : Texts) (t : Tabled) (es : List (Observation KeyParts)) (from :
         run-stands t.times (machine_of_key t.times.rules key) (events_for key es) moment
         (in_time_some texts t.times (machine_of_key t.times.rules key) (events_for key es) (newest_moment es) s leads limit (recorded.each n s (Some limit) here on) moment newest low is)
 
-  -- each key has a set and a last moment on record
+  -- each key has a set
   set_of_key : (n : ℕ) (key : KeyParts) → slice_get t.keys n ≡ Some key → (s : AnySet) × (slice_get t.sets n ≡ Some s)
   set_of_key n key at = at_place t.sets n (let within = slice_get_within t.keys n key at in let long = may.long in omega arith)
 

@@ -89,7 +89,7 @@ silent_kept old new entry stays same = go entry.action refl
     go Mark is = same
     go Restart is = (same, silent_none (item entry) stays)
 
--- an entry whose message went some way is neither a mark nor a restart
+-- an entry whose message went some way is no mark
 pub going : (action : Action) (direction : Direction) → direction_of action ≡ Some direction → action ≡ Mark → ⊥
 going action direction goes mark = let e : None ≡ Some direction = sym (ap direction_of mark) ∙ goes in cc
 

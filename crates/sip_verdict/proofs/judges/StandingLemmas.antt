@@ -71,6 +71,7 @@ module _ (old new : Texts) (number : ℕ) (bytes : List ℕ) where
   grown_may grown t moment may = record { order = may.order; known = All-weaker (IsKnownSet old) (IsKnownSet new) (grown_known grown) t.sets may.known; long = may.long }
 
   -- each number of a book that has grown is above 0
+  -- the book is as before, or one message more has the number
   grown_some : IsGrown old number bytes new → 0 < number → ((n : ℕ) → Keeps old n → 0 < n) → (n : ℕ) → Keeps new n → 0 < n
   grown_some (inl same) some above n keeps = above n (subst (λ texts. Keeps texts n) same keeps)
   grown_some (inr more) some above n keeps = elim (Keeps-grow_cases old number bytes n (subst (λ texts. Keeps texts n) more keeps)) [ inl k ↦ above n k | inr e ↦ omega (arith, some, e) ]

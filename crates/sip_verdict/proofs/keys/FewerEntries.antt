@@ -1,4 +1,6 @@
 -- A run over entries in the order of their moments gives a run over the first of them.
+-- In the lemmas `front` are the first entries and `more` those after them; `from` says that no entry is before a moment, and `order` that none is before an
+-- earlier one.
 use Rattle.std.proofs.Common.{◌≡◌, ◌≤◌, ℕ, List, [], ◌∷◌, ◌++◌, All, map, ap, ◌∙◌, subst, arith}
 use Rattle.std.specs.Prelude.{filter, fold, AllPairs}
 use Rattle.std.proofs.lemmas.List.{map-append}

@@ -106,6 +106,7 @@ module _ (old new : Texts) (t u : Tabled) (left rest : ℕ) (e : Entry) where
 
 -- the verdict of trouble at the entry e after these entries names the number of e
 trouble_at : (p : Times) (es : List (Observation KeyParts)) (e : Observation KeyParts) (v : Verdict) → HasTrouble p es e v → trouble_of v ≡ Some (length es + 1)
+-- only the fault of a message, a breach and what is undecided tell of trouble at an entry, each with the entry's number
 trouble_at p es e (Legal whole transactions) is = absurd is
 trouble_at p es e (Malformed entry fault) is = ap Some is.0
 trouble_at p es e (Breach entry transaction) is = ap Some is.0
@@ -114,6 +115,7 @@ trouble_at p es e (FaultOfLog entry reason) is = absurd is
 
 -- where a walk ends with the verdict of trouble before its aim, this verdict is what is listed
 listed_trouble : (v : Verdict) (k : ℕ) → trouble_of v ≡ Some k → listed_after v ≡ Stopped v
+-- a legal log has no trouble, and every other verdict is listed as it is
 listed_trouble (Legal whole transactions) k at = cc
 listed_trouble (Malformed entry fault) k at = refl
 listed_trouble (Breach entry transaction) k at = refl
@@ -216,6 +218,7 @@ module _ (way : Aim) (start : Option (List ℕ)) (now : log.ReaderState) (count 
     listed_at : (listing : Listing)
         → ((more : List Item) → (seen : Observation KeyParts) × Sees walks.es (item e) seen × IsListedEntry t.times (first_entry ((walks.items ++ item e ∷ []) ++ more)) walks.es seen listing)
         → IfSome start (λ input. IsListingOf input e.number listing)
+    -- what is listed of an entry that stands in the log is never that it is not there
     listed_at NoEntry says = absurd (says []).2
     -- an entry in trouble: the verdict on the log is what is listed
     listed_at (Stopped v) says =

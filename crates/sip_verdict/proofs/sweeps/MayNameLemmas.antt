@@ -1,4 +1,5 @@
 -- When a message may be named by the transactions that an entry concerns.
+-- An `Any` gives the element (.1), its place (.0, with .2 and .3, that it stands there), and that P holds of it (.4).
 use Rattle.std.proofs.Common.{◌≡◌, ◌-◌, ◌⊎◌, inl, inr, ℕ, true, false, Some, [], ◌∷◌, List, Contains, slice_get, refl, sym, ◌∙◌, subst, arith}
 use Rattle.std.specs.Prelude.{◌↔◌}
 use Rattle.std.specs.List.{Any}

@@ -95,6 +95,7 @@ module _ (texts : Texts) (p : Times) (es : List (Observation KeyParts)) (e : Obs
             -- the key has a run and is not too wide, and its set leads on
             let passed = h.passed refl n x.0 x.1 key there.1 refl in
             record { runs = says.0; narrow = says.1; ready = passed.0; stands = passed.1 }
+    -- where a key is in trouble, the first such key among those that have passed is the first of all
     halfway_all (all.NoRun number) h = first (λ key. ¬ HasOne key) number h.same h.says
     halfway_all (all.TooWide number) h = (
       subst (All HasOne) (sym (names h.same)) (All-places HasOne keys (λ n key at. h.says.0 n key at refl)),
@@ -135,6 +136,7 @@ module _ (texts : Texts) (p : Times) (es : List (Observation KeyParts)) (e : Obs
 
     -- of the one key, its own outcome says what the event left of its runs
     own_says : (o : Outcome) → IsOwnOutcome number o → IsPassed p k es e (mine.0, own.after) o → Says HasOne (IsWideAt p es e) keys (λ n. n ≡ place) o
+    -- g says how the key passed, and the claim is of the key at this place alone: no key before it is at the place
     own_says all.Fine is g = λ n key at same. (subst HasOne (mine_is n key at same) g.runs, λ wide. g.narrow (subst (IsWideAt p es e) (sym (mine_is n key at same)) wide))
     own_says (all.NoRun told) is g = record { place = place; counts = is ∙ sym next; key = mine.0; at = mine.1; holds = g; earlier = λ n key low at same. absurd (omega (arith, low, same)) }
     own_says (all.TooWide told) is g = (

@@ -43,6 +43,7 @@ All-places P xs each n d low = let x = at_place xs n low in subst P (sym (get_or
 
 -- where x and y stand at the same place of two lists, the pair of them stands there in both lists side by side
 pub zip-place : {A B : Type 0} (xs : List A) (ys : List B) (n : ℕ) (x : A) (y : B) → slice_get xs n ≡ Some x → slice_get ys n ≡ Some y → slice_get (zip xs ys) n ≡ Some (x, y)
+-- a list that ends before the place has no element there
 zip-place [] ys n x y a b = absurd cc
 zip-place (u ∷ xs) [] n x y a b = absurd cc
 zip-place (u ∷ xs) (v ∷ ys) zero x y a b = cc
@@ -51,6 +52,7 @@ zip-place (u ∷ xs) (v ∷ ys) (suc n) x y a b = zip-place xs ys n x y a b
 -- a pair at a place of two lists side by side has the two elements that stand there
 -- z is the pair at the place n of the lists xs and ys
 pub place-zip : {A B : Type 0} (xs : List A) (ys : List B) (n : ℕ) (z : A × B) → slice_get (zip xs ys) n ≡ Some z → (slice_get xs n ≡ Some z.0) × (slice_get ys n ≡ Some z.1)
+-- a list that ends before the place has no element there
 place-zip [] ys n z at = absurd cc
 place-zip (u ∷ xs) [] n z at = absurd cc
 place-zip (u ∷ xs) (v ∷ ys) zero z at = let same : (u, v) ≡ z = cc in (ap (λ w. Some w.0) same, ap (λ w. Some w.1) same)
@@ -106,6 +108,7 @@ first_apart number ns apart = list_any_none (nat_eq number) ns (λ k d low. diff
 
 -- a set that has heard leaves the keys and the other sets as they were
 pub leaves_keys : (number : ℕ) (after : AnySet) (outcome : Outcome) (t u : Tabled) → Leaves number after outcome t u → u.keys ≡ t.keys
+-- in trouble or not, only the place of the set is written, and its record where it goes on
 leaves_keys number after all.Fine t u h = ap (λ x. x.keys) h.2
 leaves_keys number after (all.NoRun told) t u h = ap (λ x. x.keys) h
 leaves_keys number after (all.TooWide told) t u h = ap (λ x. x.keys) h

@@ -40,6 +40,7 @@ touched_elim Q more key number old new holds (inr h) = subst Q (sym h.2) (more o
 -- what holds of tables, and of them with any key more, holds after several keys were looked up
 -- Q is what holds of tables, and ns are the numbers of the keys ks
 pub touches_elim : (Q : Tabled → Type 0) → ((t : Tabled) (key : KeyParts) → Q t → Q (with_key t key)) → (ks : List KeyParts) (ns : List ℕ) (old new : Tabled) → Q old → TouchesEach ks ns old new → Q new
+-- no key is left, or one is looked up and then the others; there are as many numbers as keys
 touches_elim Q more [] [] old new holds same = subst Q (sym same) holds
 touches_elim Q more [] (n ∷ ns) old new holds h = absurd h
 touches_elim Q more (k ∷ ks) [] old new holds h = absurd h
@@ -55,6 +56,7 @@ long_more t key long = length-append t.sets (start_of t.times key ∷ []) ∙ ap
 
 -- keys that are looked up bring at most one new key each
 pub touches_few : (ks : List KeyParts) (ns : List ℕ) (old new : Tabled) → TouchesEach ks ns old new → length new.keys ≤ length old.keys + length ks
+-- no key is left; there are as many numbers as keys; a key that is known brings none, and a new one brings itself
 touches_few [] [] old new same = let long = ap (λ t. length t.keys) same in omega arith
 touches_few [] (n ∷ ns) old new h = absurd h
 touches_few (k ∷ ks) [] old new h = absurd h
@@ -165,6 +167,7 @@ module _ (texts : Texts) (p : Times) where
   -- what is kept of keys is kept when keys are looked up one after another, and of these too
   pub kept_each : (es : List (Observation KeyParts)) (keys ks : List KeyParts) (ns : List ℕ) (old new : Tabled) → old.times ≡ p → length old.sets ≡ length old.keys → TouchesEach ks ns old new
       → AreKept (key_keeping texts p) es keys (transactions_of old) → AreKept (key_keeping texts p) es (fold keyed.with_key keys ks) (transactions_of new)
+  -- no key is left, or one is looked up and then the others; there are as many numbers as keys
   kept_each es keys [] [] old new times long same kept = subst (λ t. AreKept (key_keeping texts p) es keys (transactions_of t)) (sym same) kept
   kept_each es keys [] (n ∷ ns) old new times long h kept = absurd h
   kept_each es keys (k ∷ ks) [] old new times long h kept = absurd h
@@ -187,6 +190,7 @@ slice_get-last (u ∷ xs) x = slice_get-last xs x
 
 -- keys that were looked up have their numbers
 pub have_numbers : (ks : List KeyParts) (ns : List ℕ) (old new : Tabled) → TouchesEach ks ns old new → HaveNumbers new.keys ns ks
+-- there are as many numbers as keys; the first has its number, and keeps it when the others are looked up
 have_numbers [] [] old new h = tt
 have_numbers [] (n ∷ ns) old new h = absurd h
 have_numbers (k ∷ ks) [] old new h = absurd h

@@ -1,4 +1,5 @@
 -- Each input has a verdict: none is without.
+-- In the proofs `never` says that what is claimed is false, from which a contradiction is drawn.
 use Rattle.std.proofs.Common.{◌≡◌, ◌⊎◌, inl, inr, ◌+◌, ℕ, Bool, true, false, Option, Some, None, List, [], ◌∷◌, ◌++◌, length, All, refl, sym, ap, subst, arith, MatchOption}
 use Rattle.std.proofs.lemmas.List.Elements.{All-nil, All-cons, All-head, All-tail}
 use Rattle.sip_standard.specs.declared.fault.Fault.{Fault}

@@ -10,6 +10,7 @@ use Rattle.sip_verdict.specs.LegalLog.{IsFormed}
 
 -- a message that is observed without a fault is of the grammar
 formed : (direction : Direction) (item : Item) (e : Observation KeyParts) → e.fault ≡ None → ObservesMessage direction item e → IsFormed direction item.text
+-- with a fault of the bytes, or without the cookie, the observation would have a fault; so the message was heard
 formed direction item e none (has_fault fault has is) = let h : Some fault ≡ None = sym (ap (λ x. x.fault) is) ∙ none in cc
 formed direction item e none (has_no_cookie s says lacks is) = let h : Some no_cookie ≡ None = sym (ap (λ x. x.fault) is) ∙ none in cc
 formed direction item e none (is_heard s keys says fine concerns is) = (s, says, fine)

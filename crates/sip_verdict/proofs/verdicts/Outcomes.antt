@@ -122,6 +122,7 @@ module _ (Runs Wide : KeyParts → Type 0) (keys : List KeyParts) where
 -- where the join of two outcomes is no trouble, both are no trouble
 pub both_fine : (a b : Outcome) → first_of a b ≡ all.Fine → (a ≡ all.Fine) × (b ≡ all.Fine)
 both_fine all.Fine b h = (refl, h)
+-- where one of the two is trouble, the join is trouble
 both_fine (all.NoRun i) all.Fine h = absurd cc
 both_fine (all.NoRun i) (all.NoRun j) h = absurd cc
 both_fine (all.NoRun i) (all.TooWide j) h = absurd cc

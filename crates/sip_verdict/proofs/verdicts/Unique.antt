@@ -54,6 +54,7 @@ module _ (p : Times) (front : List (Observation KeyParts)) (e : Observation KeyP
 
   -- an entry that is in no trouble has no verdict of trouble
   pub fine_no_trouble : (v : Verdict) → IsFine p front e → HasTrouble p front e v → ⊥
+  -- only a breach, what is undecided and the fault of a message are verdicts of trouble, and each denies what an entry in no trouble has
   fine_no_trouble (Legal n t) f h = h
   fine_no_trouble (Malformed n fault) f h = let a : None ≡ Some fault = sym f.formed ∙ h.1 in cc
   fine_no_trouble (Breach n t) f h = first_not_run Runs keys t h.2 f.runs
@@ -62,6 +63,7 @@ module _ (p : Times) (front : List (Observation KeyParts)) (e : Observation KeyP
 
   -- two verdicts of trouble at one entry are the same
   pub trouble_is_one : (v w : Verdict) → HasTrouble p front e v → HasTrouble p front e w → v ≡ w
+  -- the fault of a message is the one that is observed, and where there is one, neither of the others is told
   trouble_is_one (Malformed n f) (Malformed k g) a b = let s : Some f ≡ Some g = sym a.1 ∙ b.1 in let s' : n ≡ k = a.0 ∙ sym b.0 in cc
   trouble_is_one (Malformed n f) (Breach k t) a b = let s : Some f ≡ None = sym a.1 ∙ b.1 in cc
   trouble_is_one (Malformed n f) (Undecided k t) a b = let s : Some f ≡ None = sym a.1 ∙ b.1 in cc

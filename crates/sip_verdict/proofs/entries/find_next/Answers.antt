@@ -1,3 +1,4 @@
+-- `mid` is what stands after the entry was taken, before the sweep, and `new` what stands after the sweep; `swept` is what the sweep promises.
 use Rattle.std.proofs.Common.{◌≤◌, ◌+◌, ◌++◌, ◌∷◌, [], ◌∙◌, All, Contains, length, slice_get, sym, ap, subst, arith}
 use Rattle.sip_verdict.proofs.sweeps.FollowedLemmas.{swept_take}
 use Rattle.sip_verdict.proofs.keys.Keys.{newest_moment-push}

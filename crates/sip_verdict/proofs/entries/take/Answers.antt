@@ -1,3 +1,5 @@
+-- s is what stands before the entry, and e the entry; of histories, e is what is observed of it, and `told` says that they were right before it.
+-- The entry is one that no transaction hears (Unheard), has a fault, is a restart, or is heard by some; `passed` is what the passing promises.
 use Rattle.std.proofs.Common.{◌+◌, None, [], ◌||◌, length, ap, inl, refl, sym, ◌∙◌, subst, arith}
 use Rattle.std.proofs.lemmas.Option.{same_Some}
 use Rattle.sip_machine.specs.Texts.{Keeps}
@@ -145,6 +147,7 @@ returns-in_ok-pass_each-in-Restart-clause-taken g c = λ es fresh tracks late.
     let s = c.args.standing.now in
     let e = c.args.entry.now in
     let same = (rw c.in-Restart.is at c.in_ok-told.ensures.kept).0 in
+    -- no number of the book is 0, under which the event of a restart would have its message; and a restart has none
     restart_taken s.book c.observe.new.book e.number e.bytes.items (inl same) (item e) e.moment refl s.tables c.pass_each-in-Restart.new.tables c.args.troubled.now c.pass_each-in-Restart.new.troubled
     c.requires.watched.long c.requires.may.passes.long fresh c.in_ok-pass_each-in-Restart.ensures.keys c.restart-event.result c.restart-event.ensures (λ n keeps. c.requires.may.some n (subst (λ b. Keeps b n) same keeps)) (rw c.in-Restart.is at c.in_ok-told.ensures.observed) c.in_ok-pass_each-in-Restart.ensures.passed es tracks late
 

@@ -1,3 +1,5 @@
+-- `old` is what stands before, s after all sets have waited, `mid` without what the flags drop, and `new` after the sweep.
+-- `long` says that there is a flag for each transaction, and `apart` that the keys all differ.
 use Rattle.std.proofs.Common.{◌≡◌, ◌≤◌, ◌+◌, ◌∙◌, Bool, List, All, Contains, length, slice_get, sym, ap, subst, refl, arith, []}
 use Rattle.sip_states.specs.Kept.{kept_of, kept_tables}
 use Rattle.sip_states.specs.Tables.{Tabled}

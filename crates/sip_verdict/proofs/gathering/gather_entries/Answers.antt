@@ -1,3 +1,4 @@
+-- l is how the loop stands, `old` and `new` how far the log was read before the next entry and after it, and `start` the input.
 use Rattle.std.proofs.Common.{◌∙◌, None, refl, sym, subst, rules, arith}
 use Rattle.std.proofs.lemmas.Option.{same_Some}
 use Rattle.sip_log.specs.Reading as log

@@ -13,6 +13,7 @@ use Rattle.sip_verdict.proofs.gathering.survey_bytes.Goals as goal
 -- after the header nothing was read; from there on the loop finds what the whole log has
 pub returns-in-Ok-clause-survey : goal.returns-in-Ok-clause-survey
 returns-in-Ok-clause-survey g c =
+    -- `start` is the input, `state` how far it was read, `read` says that its header was read, and `times` that the survey has the header's times
     let start = Some c.args.bytes.now in
     let state : ProgressState → log.ReaderState = λ place. beside_source place (Some c.read_header.new.reader.now) false in
     let read = rw c.in-Ok.is at c.in_ok-params.ensures.reads in

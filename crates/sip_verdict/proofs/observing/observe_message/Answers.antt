@@ -74,6 +74,7 @@ returns-clause-kept c =
     let i = item c.args.entry.now in
     let seen = returns-clause-observed c [] in
     let kept = event_kept i c.in-Ok.message c.add.new.self c.of-event.result c.in_ok-number.number _ c.of-event.ensures c.in_ok-number.ensures.ok.0 (c.in_ok-number.ensures.ok.1 ∙ c.as_slice-2.ensures.value) in
+    -- `some`: the message concerns some key, since the keys that are seen of it are those that it concerns, and these are not none
     let some = concerns_some i (each c.in-Ok-keys_of.concerned) seen.0 seen.1 (ap (λ o. o.keys) seen.2) (each_some c.in-Ok-keys_of.concerned c.in-Ok-keys_of.ensures.3 c.in_default.not-None) in
     -- the entry was sent, received or failed, and concerns some key
     rw c.keep_to.ensures (

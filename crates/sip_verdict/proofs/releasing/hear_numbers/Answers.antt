@@ -1,3 +1,4 @@
+-- i is the place of the next number; `heard` is what the call for it promises, and `old` what held at the start of this turn of the loop.
 use Rattle.std.proofs.Common.{◌+◌, ◌∙◌, drop, get_or, subst, arith}
 use Rattle.sip_verdict.specs.inner.TablesTracking.{is_among}
 use Rattle.sip_verdict.specs.inner.Surveying.{AreWatched, ArePassing}

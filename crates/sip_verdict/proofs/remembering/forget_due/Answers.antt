@@ -15,6 +15,7 @@ returns-clause-left g c = λ es stands horizon_is.
       remembered kept es,
       inr (m.until, kept, came_long_ago m es horizon_is due.0, forgets, refl),
       left_stands,
+      -- the horizon is as before but for `left`, how many transactions are left
       horizon_left m (record { age = m.age; until = m.until; number = m.number; moment = m.moment; left = c.transactions-horizon.result }) (remembered kept es) (horizon_kept kept m es horizon_is) refl refl refl refl,
     )
 

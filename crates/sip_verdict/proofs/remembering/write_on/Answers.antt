@@ -1,3 +1,5 @@
+-- l is how the loop stands, and p the times; `old` and `new` are how far the log was read before the next entry and after it. `told` is what was told so
+-- far; `before`, `mid` and `after` are what was written at first, so far, and with the last line.
 use Rattle.std.proofs.Common.{◌≡◌, ◌+◌, ◌∙◌, List, [], ◌++◌, length, false, refl, ap, sym, subst, rules, arith}
 use Rattle.std.specs.Prelude.{IsTrue}
 use Rattle.std.proofs.lemmas.Bool.{false≢true}

@@ -1,3 +1,4 @@
+-- l is how the loop stands, and `start` the input; `old` and `new` are how far the log was read before the next entry and after it.
 use Rattle.std.proofs.Common.{◌+◌, ◌∙◌, ◌++◌, ◌∷◌, [], Some, refl, sym, subst, arith}
 use Rattle.std.specs.Io.KnownBytes.{Appends}
 use Rattle.sip_standard.specs.LogSays.{line_feed}

@@ -1,3 +1,4 @@
+-- t are the tables, and `number` is that of the message; `two` are the own transaction and the cancelled one.
 use Rattle.std.proofs.Common.{◌≡◌, [], inl, inr, true, false, All, refl, sym, subst, ◌∙◌, arith}
 use Rattle.std.specs.Prelude.{◌↔◌, IsTrue}
 use Rattle.std.proofs.lemmas.Bool.{false≢true}

@@ -1,3 +1,4 @@
+-- s is the survey, and l how the loop stands; `put` is what the call promises that writes the next finding, with its line.
 use Rattle.std.proofs.Common.{◌<◌, ◌∙◌, ◌++◌, length, take, sym, subst, arith}
 use Rattle.std.proofs.KnownBytes.{Appends-trans}
 use Rattle.std.proofs.lemmas.List.{take_more}

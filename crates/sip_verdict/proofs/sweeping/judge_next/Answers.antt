@@ -1,3 +1,4 @@
+-- s is what stands before the entry e, `mid` after it, and `new` after the sweep; `swept` is what the sweep promises.
 use Rattle.std.proofs.Common.{◌≤◌, ◌+◌, Contains, length, arith}
 use Rattle.std.proofs.lemmas.List.Elements.{All-contains, All-weaker}
 use Rattle.sip_log.specs.Told.{item}

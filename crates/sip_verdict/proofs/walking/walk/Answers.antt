@@ -1,3 +1,4 @@
+-- l is how the loop stands, and `start` the input; `old` and `new` are how far the log was read before the next entry and after it, and `moves` says so.
 use Rattle.std.proofs.Common.{◌≡◌, ◌≢◌, ◌+◌, ◌∙◌, Option, sym, ap, subst, arith}
 use Rattle.std.specs.Prelude.{IfNone}
 use Rattle.sip_standard.specs.declared.verdict.Verdict.{Verdict}

@@ -1,3 +1,4 @@
+-- `is` says that the fields of the survey are those of what it holds, and `comes` that the entry may come next; s is what it holds, and e the entry.
 use Rattle.std.proofs.Common.{◌≤◌, ◌+◌, ◌∙◌, All, Contains, length, sym, ap, subst, arith}
 use Rattle.std.proofs.lemmas.List.{length_push}
 use Rattle.sip_log.specs.Told.{item}

@@ -1,3 +1,4 @@
+-- `is` says that the fields of the survey are those of what it holds.
 use Rattle.std.proofs.Common.{◌∙◌, All, Contains, length, sym, ap, subst}
 use Rattle.sip_verdict.specs.Forgetting.{ForgetsUpTo, remembered}
 use Rattle.sip_verdict.specs.Named.{AreMany}

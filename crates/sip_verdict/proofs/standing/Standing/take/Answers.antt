@@ -1,3 +1,5 @@
+-- s is what stands before the entry, and e the entry: it is a restart, is heard by no transaction (Unheard), has a fault, or is heard by some.
+-- `passed` is what the passing answers and promises, and `kept` says which message the book has more.
 use Rattle.std.proofs.Common.{[], ◌||◌, Some, None, ◌∙◌, ap, inl, length, refl, arith, subst, sym}
 use Rattle.std.proofs.lemmas.Bool.{false≢true}
 use Rattle.std.proofs.lemmas.Option.{same_Some}

@@ -1,3 +1,4 @@
+-- `is` says that the fields of the judge are those of what it holds, `comes` that the entry may come next, and `stands` that the judge has taken es.
 use Rattle.std.proofs.Common.{◌+◌, ◌∙◌, All, Contains, refl, sym, ap, subst, arith}
 use Rattle.sip_verdict.specs.Judging.{Judging, AreFollowed, MayComeNext}
 use Rattle.sip_verdict.proofs.judges.JudgeLemmas.{may_take_next, stands_on}

@@ -68,6 +68,7 @@ via_spelled field b found = by (starts_with nat_eq field (codes "Via:")) (starts
         → (if s then branch_in (from_stop (drop 4 field)) else if o then branch_in (from_stop (drop 2 field)) else None) ≡ Some b → Spelled (codes "Via") field b ⊎ Spelled (codes "v") field b
     by true o is other f = inl (record { rest = drop 4 field; is = starts_is field (codes "Via:") is; found = f })
     by false true is other f = inr (record { rest = drop 2 field; is = starts_is field (codes "v:") other; found = f })
+    -- with neither of the two at its front, the field has no plain branch
     by false false is other f = absurd (cc)
 
 -- the field is a Via, and the first element of its value has the branch b
@@ -172,12 +173,14 @@ other_field number line rest f (passes named (n, r, (is_token, n_is), more, line
     ap (λ g. bytes_eq g.name (codes "via")) field
     ∙ ap (λ t. bytes_eq (full_name (folded t)) (codes "via")) n_is
     ∙ named_other n (r ++ rest) is_token (sym (ap opens_via (ap (λ t. t ++ rest) line_is ∙ append_assoc n r rest)) ∙ opens)
+-- a line whose value or name has a fault says no field
 other_field number line rest f (passes named is (stopped fault stops_at e)) opens = absurd (cc)
 other_field number line rest f (stopped fault stops_at e) opens = absurd (cc)
 
 -- where the first value of Via has the branch b in its first element, the top Via has it
 top_found : (b value : List ℕ) (values : List (List ℕ)) (via : SaidVia) (others : List SaidVia) → ((v : SaidVia) (vias : List SaidVia) → ViasSay (v ∷ vias) value → v.branch ≡ Some b)
     → ViasTell (value ∷ values) (via ∷ others) → via.branch ≡ Some b
+-- no value of Via is without an element; the first element of the first value is the top Via
 top_found b value values via others first ([], more, says, later, same) = absurd says
 top_found b value values via others first (v ∷ vias, more, says, later, same) = let e : via ≡ v = cc in ap (λ x. x.branch) e ∙ first v vias says
 
@@ -236,6 +239,7 @@ lines_found n (line ∷ more) rest b fields via vias clean (fold, folds) (passes
     let on = passed line more clean fold in
     line_found n line rest b more f fs via vias f_is on (subst (λ t. branch_at (line_from t) ≡ Some b) (ended_on line more (13 ∷ rest)) found)
     (subst (λ gs. ViasTell (said_values "via" gs) (via ∷ vias)) list tells) (lines_found (n + 1) more rest b fs via vias on.clean folds fs_is)
+-- lines of which one has a fault say no fields
 lines_found n (line ∷ more) rest b fields via vias clean folds (passes f f_is (stopped fault stops_at e)) found tells = absurd (cc)
 lines_found n (line ∷ more) rest b fields via vias clean folds (stopped fault stops_at e) found tells = absurd (cc)
 
@@ -264,10 +268,12 @@ bytes_found bytes b told s (passes cut cut_is (passes clean is_clean (first, oth
     let flat : bytes ≡ Ended (first ∷ others) ++ (13 ∷ rest) =
     cut_is.whole ∙ sym (append_assoc cut_is.front (codes "\r\n") (13 ∷ rest)) ∙ ap (λ t. t ++ (13 ∷ rest)) (sym cut_is.head_is ∙ lines.whole) in
     told_found bytes rest first others b told s (subst (Many Unit) lines.whole is_clean) lines.folded flat (cut.1) tells found tell
+-- bytes without the end of a head, or with a CR or LF alone in it, tell no message
 bytes_found bytes b told s (passes cut cut_is (stopped fault stops_at e)) found tell = absurd (cc)
 bytes_found bytes b told s (stopped fault stops_at e) found tell = absurd (cc)
 
 -- the plain branch of a message that is read is that of its top Via
 pub led_found : (bytes b : List ℕ) (s : Said) → Says bytes (gives s) → led_branch bytes ≡ Some b → s.via.branch ≡ Some b
 led_found bytes b s (passes told tells (said, fields, e)) found = let same : s ≡ said = cc in ap (λ x. x.via.branch) same ∙ bytes_found bytes b told said tells found fields
+-- bytes that stop at a fault say no message
 led_found bytes b s (stopped fault stops_at e) found = absurd (cc)

@@ -50,6 +50,7 @@ Folded line = (u v : List ℕ) → line ≡ u ++ (codes "\r\n" ++ v) → OpensBl
 
 -- a text that opens with a blank does not begin as a Via does
 blank_no_via : (text rest : List ℕ) → OpensBlank text → opens_via (text ++ rest) ≡ false
+-- the text is not empty, since it opens with a blank
 blank_no_via [] rest blank = absurd blank
 blank_no_via (b ∷ text) rest blank = by (nat_eq b 32) (nat_eq b 9) refl refl blank
   where
@@ -57,6 +58,7 @@ blank_no_via (b ∷ text) rest blank = by (nat_eq b 32) (nat_eq b 9) refl refl b
     by : (x y : Bool) → nat_eq b 32 ≡ x → nat_eq b 9 ≡ y → (x || y) ≡ true → is_among "vV" b ≡ false
     by true y one two is = ap (is_among "vV") (eqb-true b 32 one)
     by false true one two is = ap (is_among "vV") (eqb-true b 9 two)
+    -- the byte is one of the two, since it is a blank
     by false false one two is = absurd (cc)
 
 -- the rest of a folded line is a folded line
@@ -95,6 +97,7 @@ no_end b plain = by (nat_eq b 13) (nat_eq b 10) plain
   where
     -- where neither x nor y holds, y does not
     by : (x y : Bool) → (not x && not y) ≡ true → y ≡ false
+    -- the test says that neither of the two holds
     by true y is = absurd (cc)
     by false true is = absurd (cc)
     by false false is = refl

@@ -45,6 +45,7 @@ wsp_opens b is = by (nat_eq b 32) (nat_eq b 9) refl refl is
     by : (x y : Bool) → nat_eq b 32 ≡ x → nat_eq b 9 ≡ y → (x || y) ≡ true → Opens b
     by true y one two is = inl (eqb-true b 32 one)
     by false true one two is = inr (inl (eqb-true b 9 two))
+    -- the byte is one of the two, since it is a blank
     by false false one two is = absurd (cc)
 
 -- blanks of one or more begin with a byte that may begin blanks
@@ -246,6 +247,7 @@ param_seen t b found = by (starts_with nat_eq t (codes "branch=")) (opens_other 
     -- the claim holds whether "branch=" follows the semicolon, or what a branch that is spelled otherwise may begin with, or neither
     by : (s o : Bool) → starts_with nat_eq t (codes "branch=") ≡ s → opens_other t ≡ o → (if s then token_at (drop 7 t) else if o then None else branch_in t) ≡ Some b → Seen b t
     by true o is other f = inl (starts_is t (codes "branch=") is, f)
+    -- the search ends, and finds nothing, where the parameter opens as a branch that is spelled otherwise may
     by false true is other f = absurd (cc)
     by false false is other f = inr (other, f)
 
@@ -262,6 +264,7 @@ lower_b x is = by (nat_lt x 65) (nat_lt x 91) is
 
 -- a parameter with the name branch, in any case, opens as a branch may
 named_opens : (name rest : List ℕ) → AnyCase "branch" name → opens_other (name ++ rest) ≡ true
+-- the name is not empty, and its first byte in lower case is b
 named_opens [] rest any = absurd (cc)
 named_opens (x ∷ name) rest any = let e : to_ascii_lowercase x ∷ folded name ≡ codes "branch" = any in let first : to_ascii_lowercase x ≡ 98 = cc in lower_b x first
 
@@ -407,6 +410,7 @@ first_more p ps b X (inr (is, x)) on = ap (λ q. first_some (q ∷ ps)) is ∙ o
 -- where a search finds b from parameters on, and nothing after them, b is the first branch among the parameters
 params_found : (find : List ℕ → Option (List ℕ)) (params : List (Option (List ℕ))) (text tail b : List ℕ) → Search find b → NoToken tail → (find tail ≡ Some b → ⊥) → (branch_in tail ≡ Some b → ⊥) → Params params text
     → find (text ++ tail) ≡ Some b → first_some params ≡ Some b
+-- without a parameter the branch would be found after them, where nothing is
 params_found find [] text tail b search ends none never is found = absurd (none (subst (λ t. find (t ++ tail) ≡ Some b) is found))
 -- u is the first ";" (m, with its blanks) and its parameter, and v the others
 params_found find (p ∷ ps) text tail b search ends none never (u, v, (m, param, mark, says, u_is), more, whole) found =

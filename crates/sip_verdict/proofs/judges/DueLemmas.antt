@@ -43,6 +43,7 @@ module _ (texts : Texts) (t : Tabled) (es : List (Observation KeyParts)) (from :
 
     -- a key whose last moment on record is past has no run that stands at the moment
     late : (r : Option (Option ℕ)) → slice_get t.records n ≡ Some r → is_overdue moment r ≡ true → ¬ Runs key
+    -- a key without a record is not overdue
     late None on is = absurd (false≢true is)
     late (Some limit) on is = λ run.
         overdue_none texts t.times (machine_of_key t.times.rules key) (events_for key es) (newest_moment es) s leads limit (recorded.each n s (Some limit) here on) moment newest low is
@@ -50,6 +51,7 @@ module _ (texts : Texts) (t : Tabled) (es : List (Observation KeyParts)) (from :
 
     -- a key whose last moment on record is not past has a run that stands at the moment
     in_time : (r : Option (Option ℕ)) → slice_get t.records n ≡ Some r → is_overdue moment r ≡ false → Runs key
+    -- each key has a last moment on record
     in_time None on is = absurd (false≢true (recorded.each n s None here on))
     in_time (Some limit) on is =
         run-stands t.times (machine_of_key t.times.rules key) (events_for key es) moment
@@ -74,6 +76,7 @@ module _ (texts : Texts) (t : Tabled) (es : List (Observation KeyParts)) (from :
       -- where no record is found overdue, none is
       nothing : (found : Option ℕ) → position (is_overdue moment) t.records ≡ found → option_map (λ i. i + 1) found ≡ None → (n : ℕ) (r : Option (Option ℕ)) → slice_get t.records n ≡ Some r → is_overdue moment r ≡ false
       nothing None is e n r on = not_passing (is_overdue moment r) (All-place (λ x. ¬ (IsTrue (is_overdue moment x))) t.records n r on (All-position_None (is_overdue moment) t.records is))
+      -- the search found none, as is given
       nothing (Some i) is e n r on = absurd cc
 
   -- where each transaction can wait until the moment, no last moment is past

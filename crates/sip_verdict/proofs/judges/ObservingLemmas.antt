@@ -102,6 +102,7 @@ pub going_says : (action : Action) (direction : Direction) → direction_of acti
 going_says Sent direction goes = refl
 going_says Received direction goes = refl
 going_says Failed direction goes = refl
+-- a mark and a restart go no way
 going_says Mark direction goes = cc
 going_says Restart direction goes = cc
 
@@ -153,6 +154,7 @@ event_kept item r texts event number bytes is keeps text = let same : number ≡
 -- where there is no branch there is no key
 pub no_keys : {A B : Type 0} (own other : A → B) (cancels : Bool) (branch : Option A) → branch ≡ None
     → option_to_list (option_map own branch) ++ option_to_list (if cancels then option_map other branch else None) ≡ []
+-- there is no branch, and so neither an own key nor a cancelled one
 no_keys own other cancels (Some x) none = absurd cc
 no_keys own other true None none = refl
 no_keys own other false None none = refl
@@ -161,11 +163,13 @@ no_keys own other false None none = refl
 no_branch : {A B : Type 0} (own other : A → B) (cancels : Bool) (branch : Option A)
     → option_to_list (option_map own branch) ++ option_to_list (if cancels then option_map other branch else None) ≡ [] → branch ≡ None
 no_branch own other cancels None none = refl
+-- with a branch there would be the own key
 no_branch own other cancels (Some x) none = absurd cc
 
 -- a request that lacks the cookie has no branch
 lacks_branch : {A : Type 0} (sends : Bool) (branch : Option A) → (sends && not (is_some branch)) ≡ true → branch ≡ None
 lacks_branch sends None lacks = refl
+-- a branch that is there has the cookie, and so a request with it lacks none
 lacks_branch true (Some x) lacks = absurd (false≢true lacks)
 lacks_branch false (Some x) lacks = absurd (false≢true lacks)
 
@@ -194,6 +198,7 @@ pub went : (action : Action) → has_message action ≡ true → (direction : Di
 went Sent says = (way.Sent, refl)
 went Received says = (way.Received, refl)
 went Failed says = (way.Sent, refl)
+-- a mark and a restart have no message
 went Mark says = absurd (false≢true says)
 went Restart says = absurd (false≢true says)
 
@@ -212,6 +217,7 @@ concerns_some i keys e seen are some (f, f_seen, none) = some (sym are ∙ ap (�
 -- a message that concerns some transactions, and not all, concerns at least one key
 pub each_some : {T : Type 0} (c : Concerned T) → is_all c ≡ false → c ≢ concerned.None → each c ≢ []
 each_some concerned.None named some none = some refl
+-- with an own key the list of keys is not empty, and the case of all is left out by what is given
 each_some (concerned.Own own) named some none = cc
 each_some (concerned.OwnAndCancelled own cancelled) named some none = cc
 each_some concerned.All named some none = absurd (false≢true (sym named))

@@ -122,6 +122,7 @@ module _ (ks : List KeyParts) (ns : List ℕ) (old new : Tabled) (touched : Touc
     where
       -- a last moment that is on record is so, too, where those of the entry's keys may be missing
       waits_more : (n : ℕ) (set : AnySet) (r : Option (Option ℕ)) → IsOnRecord [] (n + 1) set r → IsOnRecord ns (n + 1) set r
+      -- no last moment is missing, where no set is still to hear
       waits_more n set None h = absurd (false≢true h)
       waits_more n set (Some limit) h = h
 
@@ -153,11 +154,13 @@ text_of_none (kept ∷ texts) n none = go (kept.0 == n) refl (text_of_none texts
   where
     -- a number that the book does not keep has no text, whether or not the first message has the number
     go : (b : Bool) → (kept.0 == n) ≡ b → text_of texts n ≡ [] → cond b kept.1 (text_of texts n) ≡ []
+    -- the book would keep the number, which it does not
     go true same rest = absurd (none (subst (Contains (map (λ k. k.0) (kept ∷ texts))) ((unsigned_Decides kept.0 n).0 same) (Contains-here kept.0 (map (λ k. k.0) texts))))
     go false differ rest = rest
 
 -- where an entry does not concern all, those that it names are listed
 pub listed_each : (count : ℕ) (numbers : Concerned ℕ) → is_all numbers ≡ false → listed count numbers ≡ each numbers
+-- each case but that of all has the same list by both
 listed_each count concerned.None some = refl
 listed_each count (concerned.Own own) some = refl
 listed_each count (concerned.OwnAndCancelled own cancelled) some = refl
@@ -167,6 +170,7 @@ listed_each count concerned.All some = absurd (false≢true (sym some))
 -- ns are the numbers of the keys ks among all keys, and n is the number of k
 have_more : (all : List KeyParts) (ns : List ℕ) (ks : List KeyParts) (n : ℕ) (k : KeyParts) → HaveNumbers all ns ks → 0 < n → slice_get all (n - 1) ≡ Some k → HaveNumbers all (ns ++ n ∷ []) (ks ++ k ∷ [])
 have_more all [] [] n k have low at = (low, at, tt)
+-- there are as many numbers as keys
 have_more all [] (key ∷ ks) n k have low at = absurd have
 have_more all (m ∷ ns) [] n k have low at = absurd have
 have_more all (m ∷ ns) (key ∷ ks) n k (some, there, rest) low at = (some, there, have_more all ns ks n k rest low at)
@@ -204,6 +208,7 @@ may_next (Some x) old mid last t u v number moment bytes may grown few keys book
 -- ns are the numbers of the keys ks in the tables t
 pub are_given : (t : Tabled) (ns : List ℕ) (ks : List KeyParts) → HaveNumbers t.keys ns ks → All (IsGiven t) ns
 are_given t [] ks h = All-nil (IsGiven t)
+-- there are as many numbers as keys
 are_given t (n ∷ ns) [] h = absurd h
 are_given t (n ∷ ns) (k ∷ ks) (low, at, rest) =
     All-cons (IsGiven t) n ns (let within = slice_get_within t.keys (n - 1) k at in record { low = low; high = omega arith }) (are_given t ns ks rest)
@@ -296,6 +301,7 @@ module _ (verdict : Option Verdict) (old mid last : Texts) (number : ℕ) (bytes
 -- the number at a place of the numbers stands for the key at the same place of the keys
 -- ns are the numbers of the keys ks among all keys, i is the place, and k the key there; d stands for no number
 number_at : (all : List KeyParts) (ns : List ℕ) (ks : List KeyParts) → HaveNumbers all ns ks → (i d : ℕ) → i < length ns → (k : KeyParts) × (slice_get ks i ≡ Some k) × (slice_get all (get_or ns i d - 1) ≡ Some k)
+-- no place is in an empty list, and there are as many numbers as keys; the place is the first or a later one
 number_at all [] ks h i d low = absurd (omega arith)
 number_at all (n ∷ ns) [] h i d low = absurd h
 number_at all (n ∷ ns) (k ∷ ks) h zero d low = (k, refl, h.1)

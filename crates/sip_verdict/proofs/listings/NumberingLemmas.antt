@@ -34,6 +34,7 @@ chosen false number x y more some = more some
 
 -- bytes that an item carries keep the number of their first entry when more entries come
 pub entry_from-kept : (number : ℕ) (items more : List Item) (text : List ℕ) → entry_from number items text ≢ 0 → entry_from number (items ++ more) text ≡ entry_from number items text
+-- no item carries the bytes where there is none; the first item that carries them is the same with more items after it
 entry_from-kept number [] more text some = absurd (some refl)
 entry_from-kept number (i ∷ items) more text some =
     chosen (carries i text) number (entry_from (number + 1) items text) (entry_from (number + 1) (items ++ more) text) (λ found. entry_from-kept (number + 1) items more text found) some
@@ -133,5 +134,6 @@ appends_more t (m ∷ ns) n old mid new (between, first, rest) one = (between, f
 
 -- the listings of one transaction or more, appended to nothing, are the text of these transactions
 pub text_of_some : (t : Tabled) (ns : List ℕ) (text : List ℕ) → ns ≢ [] → AppendsEach t ns [] text → IsTextOf t ns text
+-- there is a transaction, by what is given
 text_of_some t [] text some appends = absurd (some refl)
 text_of_some t (n ∷ ns) text some appends = appends

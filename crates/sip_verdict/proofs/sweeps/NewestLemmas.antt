@@ -163,6 +163,7 @@ dropped_within sets number texts_before new (inr (bytes, is, unnamed)) = λ k d 
 -- where none of the transactions with these numbers names a message, none of their sets does
 these_unnamed : (message : ℕ) (t : Tabled) (numbers : List ℕ) → All (NamesNot t message) numbers → (n : ℕ) (set : AnySet) → is_among numbers (n + 1) ≡ true → slice_get t.sets n ≡ Some set
     → ¬ Contains (numbers_of set) message
+-- no number is among none; a set is that of the first number, or of one of the others
 these_unnamed message t [] none n set among at = absurd (false≢true among)
 these_unnamed message t (m ∷ ms) none n set among at =
     elim (eqb_tells (n + 1) m) [

@@ -171,6 +171,7 @@ module _ (texts : Texts) (p : Times) (es : List (Observation KeyParts)) (e : Obs
             let g : GoesOn p k es e (mine.0, own.after) = subst (IsPassed p k es e (mine.0, own.after)) (both_fine outcome one fine).1 left in
             subst (λ x. IsReady k (es ++ e ∷ []) x × IsStanding k es e x) (λ i. (mine_is n key at a.0 i, a.1 i)) (g.ready, g.stands)
         go (inr b) (inl old) = h.passed (both_fine outcome one fine).0 n key s at b.1 old
+        -- the set would stand at the place of the one that heard, and not there
         go (inr b) (inr same) = absurd (b.0 same)
 
     -- after the set has heard the event, the other sets that are to hear it are ready, and the outcome is joined with its own
@@ -215,6 +216,7 @@ module _ (texts : Texts) (p : Times) (es : List (Observation KeyParts)) (e : Obs
 
     -- a key whose last moment on record is past has no run over the entries and e
     late : (r : Option (Option ℕ)) → slice_get t.records n ≡ Some r → is_overdue moment r ≡ true → ¬ RunsOver p (es ++ e ∷ []) key
+    -- a key without a record is not overdue
     late None on is = absurd (false≢true is)
     late (Some limit) on is = λ run.
         overdue_none texts p (machine_of_key p.rules key) (events_for key es) (newest_moment es) s leads limit (recorded.each n s (Some limit) here on) moment newest low is
@@ -222,6 +224,7 @@ module _ (texts : Texts) (p : Times) (es : List (Observation KeyParts)) (e : Obs
 
     -- a key whose last moment is not past, and that is not to hear the event, goes on over e
     in_time : (r : Option (Option ℕ)) → slice_get t.records n ≡ Some r → is_overdue moment r ≡ false → is_among numbers (n + 1) ≡ false → GoesOn p (key_keeping texts p) es e (key, s)
+    -- only a key that is to hear the event lacks a record
     in_time None on is other = absurd (false≢true (sym other ∙ recorded.each n s None here on))
     in_time (Some limit) on is other = elim (others n key s at here other) [ inl apart ↦ waits_on apart | inr goes ↦ goes ]
       where

@@ -29,6 +29,7 @@ use Rattle.sip_verdict.proofs.verdicts.Outcomes.{both_fine}
 
 -- a list has an element at each place
 pub at_place : {A : Type 0} (xs : List A) (n : ℕ) → n < length xs → (x : A) × (slice_get xs n ≡ Some x)
+-- no place is in an empty list; the place is the first, or a later one
 at_place [] n low = absurd (omega arith)
 at_place (x ∷ xs) zero low = (x, refl)
 at_place (x ∷ xs) (suc n) low = at_place xs n (omega arith)
@@ -129,6 +130,7 @@ settles_leaves number after t u s = (s.limit, subst (IsAgendaOf s.limit) same s.
 
 -- where its transaction is in trouble, a set that has heard stands with its number, and nothing else changes
 pub trouble_leaves : (number : ℕ) (after : AnySet) (outcome : Outcome) (t : Tabled) → outcome ≢ all.Fine → Leaves number after outcome t (with_set t number after)
+-- the outcome is trouble, by what is given; then only the set is written
 trouble_leaves number after all.Fine t trouble = absurd (trouble refl)
 trouble_leaves number after (all.NoRun told) t trouble = refl
 trouble_leaves number after (all.TooWide told) t trouble = refl
@@ -147,6 +149,7 @@ module _ (t : Tabled) (number : ℕ) (ns : List ℕ) (low : 0 < number) (after :
       -- the last moment of the set is on record, whether the set stands at the place of the number or elsewhere
       go : ((n ≡ number - 1) × (after ≡ s)) ⊎ ((n ≢ number - 1) × (slice_get t.sets n ≡ Some s)) → ((n ≡ number - 1) × (Some limit ≡ r)) ⊎ ((n ≢ number - 1) × (slice_get t.records n ≡ Some r))
           → IsOnRecord ns (n + 1) s r
+      -- at the place of the number set and record are the new ones, elsewhere both are the old ones, and a mixture cannot be
       go (inl a) (inl b) = subst (IsOnRecord ns (n + 1) s) b.1 (subst (IsAgendaOf limit) a.1 agenda)
       go (inl a) (inr b) = absurd (b.0 a.0)
       go (inr a) (inl b) = absurd (a.0 b.0)
@@ -223,6 +226,7 @@ named_hearers t c some given apart = record {
 
 -- a number that is an element of numbers is among them
 pub is_among-of : (ns : List ℕ) (n : ℕ) → Contains ns n → is_among ns n ≡ true
+-- an empty list has no element; n is the first number, or one of the others
 is_among-of [] n has = absurd (Contains-none n has)
 is_among-of (m ∷ ns) n has = elim (Contains-cons m ns n has) [ inl same ↦ among_first n m ns (sym same) | inr rest ↦ among_rest n m ns (is_among-of ns n rest) ]
 
@@ -251,6 +255,7 @@ hears_more texts event (m ∷ ns) n t u v before mid one (between, first, hears,
 
 -- the element at a place stays where the element at another place is replaced
 pub set-other : {A : Type 0} (xs : List A) (i n : ℕ) (a : A) → n ≢ i → slice_get (set xs i a) n ≡ slice_get xs n
+-- the place that is written and the place that is looked at are each the first or a later one, and not both the first
 set-other [] i n a other = refl
 set-other (x ∷ xs) zero zero a other = absurd (other refl)
 set-other (x ∷ xs) zero (suc n) a other = refl

@@ -131,6 +131,7 @@ module _ (waits : List ℕ) where
 -- x and y are the elements more
 zip-push : {A B : Type 0} (xs : List A) (ys : List B) (x : A) (y : B) → length ys ≡ length xs → zip (xs ++ x ∷ []) (ys ++ y ∷ []) ≡ zip xs ys ++ (x, y) ∷ []
 zip-push [] [] x y long = refl
+-- both lists are of the same length
 zip-push [] (v ∷ ys) x y long = absurd (omega arith)
 zip-push (u ∷ xs) [] x y long = absurd (omega arith)
 zip-push (u ∷ xs) (v ∷ ys) x y long = ap (λ z. (u, v) ∷ z) (zip-push xs ys x y (omega arith))
@@ -179,6 +180,7 @@ module _ (texts : Texts) (p : Times) where
 -- an element of a list stays at its place when more elements come after it
 -- x is the element at the place n of xs, and ys are those that come after
 pub slice_get-more : {A : Type 0} (xs ys : List A) (n : ℕ) (x : A) → slice_get xs n ≡ Some x → slice_get (xs ++ ys) n ≡ Some x
+-- an empty list has no element; the place is the first, or a later one
 slice_get-more [] ys n x at = absurd cc
 slice_get-more (u ∷ xs) ys zero x at = at
 slice_get-more (u ∷ xs) ys (suc n) x at = slice_get-more xs ys n x at
@@ -214,6 +216,7 @@ same_test false false f g = refl
 -- where all elements of a list differ, no element stands at two places
 -- x is the element that would stand at the places i and k
 pub same_place : {A : Type 0} (xs : List A) → AllPairs (λ a b. a ≢ b) xs → (i k : ℕ) (x : A) → slice_get xs i ≡ Some x → slice_get xs k ≡ Some x → i ≡ k
+-- an empty list has no element; both places are the first, or one of them is, or both are later ones
 same_place [] apart i k x a b = absurd cc
 same_place (u ∷ xs) apart zero zero x a b = refl
 same_place (u ∷ xs) apart zero (suc k) x a b =
@@ -229,6 +232,7 @@ same_place (u ∷ xs) apart (suc i) (suc k) x a b =
 -- a key is one of the keys exactly if its number is among theirs
 -- ns are the numbers of the keys ks among all keys, and k is the key at the place n of all
 pub same_numbers : (all : List KeyParts) → AllPairs (λ a b. a ≢ b) all → (ns : List ℕ) (ks : List KeyParts) → HaveNumbers all ns ks → (n : ℕ) (k : KeyParts) → slice_get all n ≡ Some k → list_any (same_key k) ks ≡ is_among ns (n + 1)
+-- no key and no number is among none; there are as many numbers as keys
 same_numbers all apart [] [] h n k at = refl
 same_numbers all apart [] (key ∷ ks) h n k at = absurd h
 same_numbers all apart (i ∷ ns) [] h n k at = absurd h

@@ -24,6 +24,7 @@ formed_going (Some direction) item silent e none seen = formed direction item e 
 -- the messages of all entries are of the grammar, where none of them has a fault
 pub all_formed : (before : List (Observation KeyParts)) (items : List Item) (es : List (Observation KeyParts)) → AreSeen before items es → All (λ e. e.fault ≡ None) es
     → All (λ item. IfSome (direction_of item.action) (λ d. IsFormed d item.text)) items
+-- no item is left; there are as many entries as items; the first message is of the grammar, and so are the others
 all_formed before [] es seen none = All-nil (λ item. IfSome (direction_of item.action) (λ d. IsFormed d item.text))
 all_formed before (item ∷ items) [] seen none = absurd seen
 all_formed before (item ∷ items) (e ∷ es) seen none =

@@ -85,6 +85,7 @@ pass_end us (x ∷ y ∷ line) more all same folded on =
     let whole : x ∷ y ∷ line ≡ 13 ∷ (10 ∷ line) = cc in
     let later = on line rest (folded_rest (x ∷ y ∷ []) line folded) in
     record {
+      -- the search goes on after the CRLF, since a blank follows it and no Via begins there, and passes over the rest of the line
       over = λ tail.
           ap (λ t. via_line (t ++ (13 ∷ (10 ∷ tail)))) whole
           ∙ ap (λ opens. if opens then Some (line ++ (13 ∷ (10 ∷ tail))) else via_line (line ++ (13 ∷ (10 ∷ tail)))) (blank_no_via line (13 ∷ (10 ∷ tail)) (folded [] line whole)) ∙ later.over tail;
@@ -113,6 +114,7 @@ pass_byte b us (x ∷ line) more plain same folded on =
     let rest : concat us ≡ line ++ (13 ∷ (10 ∷ more)) = cc in
     let later = on line rest (folded_rest (x ∷ []) line folded) in
     record {
+      -- the search goes on after the byte, which is no LF, and passes over the rest of the line
       over = λ tail. ap (λ ends. if ends then line_from (line ++ (13 ∷ (10 ∷ tail))) else via_line (line ++ (13 ∷ (10 ∷ tail)))) (ap (λ y. nat_eq y 10) first ∙ no_end b plain) ∙ later.over tail;
       clean = later.clean;
     }

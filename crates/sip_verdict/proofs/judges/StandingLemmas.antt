@@ -319,6 +319,7 @@ numbers_differ all ns ks have apart i j d less low same =
 pub may_hear : (texts : Texts) (moment : ℕ) (event : NumberedEvent) (concerned : Concerned KeyParts) (numbers : Concerned ℕ) (t u : Tabled) → TouchesEach (each concerned) (each numbers) t u → FitsBook texts event
     → event.moment ≡ moment → AllPairs (λ a b. a ≢ b) (each concerned) → is_all numbers ≡ false → MayHear texts u moment (record { event = event; concerned = numbers })
 may_hear texts moment event concerned numbers t u touched fits at differ some =
+    -- the keys have these numbers, which are given, and which differ since the keys do; and the event is not one for all
     let have = have_numbers (each concerned) (each numbers) t u touched in
     record { fits = fits; at = at; given = are_given u (each numbers) (each concerned) have; apart = numbers_differ u.keys (each numbers) (each concerned) have differ; restart = λ all. absurd (false≢true (sym some ∙ all)) }
 
@@ -326,6 +327,7 @@ may_hear texts moment event concerned numbers t u touched fits at differ some =
 pub may_restart : (texts : Texts) (moment : ℕ) (event : NumberedEvent) (t : Tabled) → event ≡ record { moment = moment; action = Restart; number = 0; kind = Request Other; reliable = false } → moment ≤ last_moment
     → MayHear texts t moment (record { event = event; concerned = concerned.All })
 may_restart texts moment event t is limit = subst (λ e. MayHear texts t moment (record { event = e; concerned = concerned.All })) (sym is) (record {
+  -- a restart has no message, and names no transaction by its number, since all hear it
   fits = record { keeps = λ other. absurd (other refl); limit = limit };
   at = refl;
   given = All-nil (IsGiven t);

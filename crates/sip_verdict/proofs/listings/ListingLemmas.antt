@@ -67,6 +67,7 @@ lines_alike text P Q lines same are = record {
 pub standing_lines : (number : List ℕ → ℕ) (texts : Texts) (p : Times) (machine : MachineKind) (events : List MachineEvent) (e : MachineEvent) (set : AnySet) (lines : List (List ℕ))
     → StandsOf texts p machine events e set → TellsSet number texts set → Lists set lines → AreLinesOf (state_text machine number) (StandsAfter (transaction_of machine).figure p events e) lines
 standing_lines number texts p machine events e set lines (s, is, stand) told lists =
+    -- the lines are those of the set's states, and these are just the ones in which a run may stand after the event
     let listed = of_machine (λ kind held. AreLinesOfHeld number texts kind held lines) machine s (subst (λ x. AreLinesOfSet number texts x lines) is (lists number texts told)) in
     let same = stands-after (transaction_of machine).figure (coded_holds machine).is_figure p events e in
     lines_alike (state_text machine number) (AfterRun (key_rules p machine) events e) (StandsAfter (transaction_of machine).figure p events e) lines (λ y. ((same y).1, (same y).0))

@@ -114,6 +114,7 @@ numbered_none i number old new none same items a counts =
 -- where an entry is heard, a book that has its message, or takes it in under the entry's number, is numbered on
 pub numbered_heard : (i : Item) (number name : ℕ) (old new : Texts) → has_message i.action ≡ true → ¬ ConcernsNone i → Keeps new name → text_of new name ≡ i.text → ((n : ℕ) → Keeps old n → n < number) → IsBook new
     → (new ≡ old) ⊎ (new ≡ old ++ (number, i.text) ∷ []) → StaysNumbered i number old new
+-- the book is as before, and has the message already; or it has taken it in
 numbered_heard i number name old new says some keeps is below book (inl same) items a counts =
     subst (AreNumbered (items ++ i ∷ [])) (sym same) (same_book items i old a (λ has. (name, subst (λ t. Keeps t name) same keeps, subst (λ t. text_of t name ≡ i.text) same is)))
 numbered_heard i number name old new says some keeps is below book (inr more) items a counts =

@@ -23,6 +23,7 @@ use Rattle.sip_log.specs.Reading as log
 -- where entries are shown, and one entry more with its number and its canonical form, all of these are shown
 AreShown-push : (count : ℕ) (items : List Item) (text : List ℕ) (e : Item) (form : List ℕ) (n : ℕ) → n ≡ count + length items + 1 → AreShown count items text → IsCanonOf e.action e.text form
     → AreShown count (items ++ e ∷ []) (text ++ shown_entry n e form)
+-- no entry was shown before, so that this one is the first after `count` others
 AreShown-push count [] text e form n number none is =
     let one : n ≡ count + 1 = omega (arith, number) in (
       form,

@@ -43,6 +43,7 @@ module _ (t : Tabled) (message : ℕ) where
   -- where an entry concerns one transaction, its message may be named just where the set of this one may name it
   pub own_may : (own : ℕ) (set : AnySet) → slice_get t.sets (own - 1) ≡ Some set → SetMayName message set ↔ MayBeNamed t message (concerned.Own own)
   own_may own set at = (
+    -- where the set may name it, one of the entry's transactions may; and the other way round, since there is only this one
     λ may. inr (any_first (OneMayName t message) own [] (set, at, may)),
     λ may. elim may [
       | inl all ↦ absurd (false≢true all)

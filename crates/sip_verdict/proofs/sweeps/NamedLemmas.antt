@@ -37,6 +37,7 @@ module _ {X S : Type 0} (names : S → List ℕ) (InRange : S → Type 0) (seen 
       → StandFor names InRange seen texts (Wait r (Contains (map (seen texts) old)) at moment) new → (text : List ℕ)
       → RunNames r messages events moment text ↔ IsNumberOf texts (flat_map names new) text
   waited_names from at moment old new late low leads stand text = (
+    -- y is a state of a run that names the text: x, one of the new states, stands for it, and n is the number of the text among the names of x
     λ h. let (y, run, has) = h in
         let (x, among, is) = Contains-from_map (seen texts) new y ((stand.members y).1 ((leads.runs moment y late low).1 run)) in
         let there : Contains (map (text_of texts) (names x)) text = subst (λ ts. Contains ts text) (named texts x) (subst (λ z. Contains (messages z) text) (sym is) has) in

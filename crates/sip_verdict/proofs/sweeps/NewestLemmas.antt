@@ -44,6 +44,7 @@ others_known texts concerned hearing t u known leaves apart some n set among at 
 -- a set names no message whose number is above all that are kept
 pub known_unnamed : (texts : Texts) (number : ℕ) → ((n : ℕ) → Keeps texts n → n < number) → (set : AnySet) → IsKnownSet texts set → ¬ Contains (numbers_of set) number
 known_unnamed texts number below set known has =
+    -- s is the set as one of its machine: x would be a state of it that names the number, which the book would keep, so that it were below itself
     let (machine, s, is) = some_machine set in
     let names = (meaning_of machine).names in
     let (x, among, named) = Contains-from_flat_map names s.states number (subst (λ ns. Contains ns number) (ap numbers_of is ∙ numbers_are machine s) has) in
@@ -80,6 +81,7 @@ module _ (number : ℕ) (bytes : List ℕ) (new : Texts) where
   -- a set that does not name the dropped message names only messages that are kept still
   pub unnamed_known : (set : AnySet) → ¬ Contains (numbers_of set) number → IsKnownSet old set → IsKnownSet new set
   unnamed_known set unnamed known =
+      -- s is the set as one of its machine: what each of its states names is kept beside both books
       let (machine, s, is) = some_machine set in
       let m = meaning_of machine in
       let knows = of_set (λ X M S m s. IsKnown m old s) machine s (subst (IsKnownSet old) is known) in

@@ -33,6 +33,7 @@ use Rattle.sip_states.proofs.keyed.NamesLemmas.{Contains-flat_map}
 pub waited_leads : {X S : Type 0} (names : S → List ℕ) (InRange : S → Type 0) (seen : Texts → S → X) (texts : Texts) (r : MachineRules X) → IsLawful r → (events : List MachineEvent) (from at moment : ℕ) (old new : List S) → at ≤ moment
     → Leads names seen texts r events from at old → StandFor names InRange seen texts (Wait r (Contains (map (seen texts) old)) at moment) new → Leads names seen texts r events from moment new
 waited_leads names InRange seen texts r lawful events from at moment old new low leads stand = record {
+  -- to wait on from the new states is to wait from the old ones, and that is where the runs stand
   known = stand.known;
   runs = λ n x late later.
       iff_trans (Wait-iff r (Contains (map (seen texts) new)) (Wait r (Contains (map (seen texts) old)) at moment) stand.members moment n x)

@@ -129,6 +129,7 @@ module _ (texts : Texts) (book : IsBook texts) (t u : Tabled) (moment : ℕ) (ad
   swept_recorded recorded = record {
     long = ap length advances.records ∙ recorded.long ∙ sym (ap length advances.keys);
     each = λ n new r at here.
+        -- `old` is the set before the wait: what is on record of it is right of the set after the wait
         let (old, was) = before n new at in
         let there : slice_get t.records n ≡ Some r = ap (λ rs. slice_get rs n) (sym advances.records) ∙ here in
         go r old new (All-place (λ set. moment_of set ≤ moment) t.sets n old was may.order) (All-place (IsKnownSet texts) t.sets n old was may.known) (advances.each n old new was at)

@@ -70,6 +70,7 @@ no_events_silent p moment machine events text none named =
 pub many_texts : (texts : Texts) → IsBook texts → (P : List ℕ → Type 0) (all : List ℕ) → ((text : List ℕ) → P text ↔ IsNumberOf texts all text) → (numbers : List ℕ) → AllPairs (λ a b. a < b) numbers
     → ((n : ℕ) → Contains numbers n ↔ Contains all n) → All (Keeps texts) numbers → AreMany P (length (only numbers texts))
 many_texts texts book P all named numbers up same kept = record {
+  -- the texts are those with these numbers, which differ: equal texts would have one number, and the numbers rise
   texts = map (text_of texts) numbers;
   distinct = λ i j d lt low alike.
       (let size : length (map (text_of texts) numbers) ≡ length numbers = length-map numbers (text_of texts) in
@@ -109,6 +110,7 @@ module _ (texts : Texts) (book : IsBook texts) (p : Times) (moment : ℕ) where
     -- for a set that has waited until the moment, the runs name the text exactly if the set names its number
     by_set : IsAdvanced moment old new → RunNames r (messages_of machine) events moment text ↔ IsNumberOf texts (numbers_of new) text
     by_set (inl waits) =
+        -- the set has waited: t is what it has become, and its states stand for those in which a wait from the old ones ends
         let m = meaning_of machine in
         let (t, new_is, waited) = of_sets (λ X M S m s u. HasWaited m moment s u) machine held new (subst (λ o. SetWaits moment o new) leads.1 waits) in
         let stand = subst (λ q. StandFor m.names m.in_range m.seen texts (Wait (m.rules q) (Contains (map (m.seen texts) held.states)) held.moment moment) t.states) leads.2.machine_is

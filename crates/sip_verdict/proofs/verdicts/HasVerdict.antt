@@ -116,6 +116,7 @@ sees_entry before item = by_action item.action refl
 
     -- something is observed, whichever action the entry has
     by_action : (a : Action) → item.action ≡ a → Weakly ((e : Observation KeyParts) × Sees before item e)
+    -- what was sent, received or refused is observed as a message that went its way, a mark and a restart without one
     by_action Sent is never = observes_message way.Sent item (λ seen. never (seen.0, subst (Seen seen.0) (sym is) seen.1))
     by_action Received is never = observes_message way.Received item (λ seen. never (seen.0, subst (Seen seen.0) (sym is) seen.1))
     by_action Failed is never = observes_message way.Sent item (λ seen. never (seen.0, subst (Seen seen.0) (sym is) seen.1))

@@ -13,6 +13,7 @@ returns-then-not-is_slow-clause-found g c = λ es surveyed counts late.
     let mid = c.find.new.standing in
     let left = c.args.left.now in
     let few : length mid.book ≤ left + left + 64 = omega (arith, c.kept.ensures.kept, c.if-kept-left.true) in
+    -- e is what is observed of the entry, `here` what is found at it, and `tracks` says that the tables follow it too
     let (e, here, seen, now, found, added, tracks) = c.in_ok-find.ensures.found es surveyed.tracks counts late in
     (e, here, seen, found, added, surveyed_kept s.book mid.book s.tables mid.tables c.args.troubled.now.deaf.items c.find.new.troubled.deaf.items left es e c.in_ok-find.ensures.times surveyed few tracks)
 

@@ -10,6 +10,7 @@ use Rattle.sip_verdict.proofs.gathering.gather_entries.Goals as goal
 -- no entry was read yet
 pub loop-found-init : goal.loop-found-init
 loop-found-init g c = record {
+  -- no read has failed since, survey and log stand at the same place, and nothing is found yet
   fine = refl;
   at = c.requires.at;
   counts_are = sym c.requires.first;

@@ -13,6 +13,7 @@ use Rattle.sip_verdict.proofs.remembering.survey_forgetting.Goals as goal
 -- after the header nothing was read or forgotten; from there on the loop tells the survey of the whole log
 pub returns-in-Ok-clause-surveyed : goal.returns-in-Ok-clause-surveyed
 returns-in-Ok-clause-surveyed g c =
+    -- `start` is the input, and `state` how far it was read
     let part = option_copied c.args.part in
     let start = g.R.Source.left c.args.reader.now in
     let state : ProgressState → log.ReaderState = λ place. beside_source place (g.R.Source.left c.read_header.new.reader) (g.R.Source.has_failed c.read_header.new.reader) in

@@ -22,6 +22,7 @@ loop-entry-init g c =
     -- the reader stands after the header
     let opened = Opens-stands start left before after c.in-Ok.field-0-0 progress c.in-Ok.ensures in
     record {
+      -- no entry was counted, nothing has failed since, and nothing was written
       count = sym opened.count;
       few = omega (arith, opened.count);
       read = opened.fine;

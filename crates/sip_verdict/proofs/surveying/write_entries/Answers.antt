@@ -16,6 +16,7 @@ use Rattle.sip_verdict.proofs.surveying.write_entries.Goals as goal
 -- before the first entry nothing was found or written
 pub loop-found-init : goal.loop-found-init
 loop-found-init g c = record {
+  -- neither reader nor writer has failed since, and survey and log stand at the same place
   read = refl;
   written = refl;
   at = c.requires.at;

@@ -1,3 +1,4 @@
+-- s is what stands before the entry, and `new` what stands after it.
 use Rattle.std.proofs.lemmas.Result.{IfOk-weaker}
 use Rattle.sip_verdict.proofs.listings.WalksLemmas.{judges_end, judges_entry}
 use Rattle.sip_verdict.proofs.walking.judge_on.Goals as goal

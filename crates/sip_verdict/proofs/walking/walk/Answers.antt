@@ -33,6 +33,7 @@ loop-standing-init g c =
     let now : log.ReaderState = beside_source opened.1 (g.R.Source.left c.read_header.new.reader) (g.R.Source.has_failed c.read_header.new.reader) in
     let reads = rw c.in-Ok.is at c.in_ok-opened.ensures.reads in
     record {
+      -- no read has failed since, and the reader stands at the entries
       fine = c.in_ok-opened.ensures.ok;
       on = reads.on;
       counts = sym (rw c.in-Ok.is at c.in_ok-opened.ensures.first).0;

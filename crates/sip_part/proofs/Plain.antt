@@ -92,7 +92,7 @@ sws_no_token u rest sws ends = by (sws_open u sws)
 lack-wsp : AllLack semicolon Wsp
 lack-wsp = lack-one semicolon _ refl
 
--- no LWS has a semicolon
+-- no LWS has a semicolon: it is blanks with a CRLF, or neither, and then blanks
 lack-lws : AllLack semicolon Lws
 lack-lws = lack-then semicolon _ _ (lack-optional semicolon _ (lack-then semicolon _ _ (lack-many semicolon _ lack-wsp) (lack-exactly semicolon _ (refl, (refl, tt))))) (lack-some semicolon _ lack-wsp)
 
@@ -108,15 +108,15 @@ lack-sws = lack-optional semicolon _ lack-blanks
 lack-token : AllLack semicolon Token
 lack-token = lack-some semicolon _ (lack-one semicolon _ refl)
 
--- no slash with its blanks has a semicolon
+-- no slash with its blanks has a semicolon, since none of its three parts has
 lack-slash : AllLack semicolon (Mark "/")
 lack-slash = lack-then semicolon _ _ lack-sws (lack-then semicolon _ _ (lack-exactly semicolon _ (refl, tt)) lack-sws)
 
--- no colon with its blanks has a semicolon
+-- no colon with its blanks has a semicolon, since none of its three parts has
 lack-colon : AllLack semicolon (Mark ":")
 lack-colon = lack-then semicolon _ _ lack-sws (lack-then semicolon _ _ (lack-exactly semicolon _ (refl, tt)) lack-sws)
 
--- no "=" with its blanks has a semicolon
+-- no "=" with its blanks has a semicolon, since none of its three parts has
 lack-equal : AllLack semicolon (Mark "=")
 lack-equal = lack-then semicolon _ _ lack-sws (lack-then semicolon _ _ (lack-exactly semicolon _ (refl, tt)) lack-sws)
 

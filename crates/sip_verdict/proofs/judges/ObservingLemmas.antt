@@ -180,6 +180,7 @@ branchless direction item s says none = go (lacks_cookie s direction) refl
     -- the message is observed without keys, whether or not its missing cookie is a fault
     go : (lacks : Bool) → lacks_cookie s direction ≡ lacks → (e : Observation KeyParts) × ObservesMessage direction item e × (e.keys ≡ [])
     go true lacks = (fault_observation item no_cookie, has_no_cookie s says lacks refl, refl)
+    -- without a branch there is neither an own key nor a cancelled one
     go false has =
         (keyless_observation item s, is_heard s [] says has (sym (no_keys _ _ (is_sent (λ method. bytes_eq method (codes "CANCEL")) s.start direction) (cookie_branch s.via.branch) none)) refl, refl)
 

@@ -70,5 +70,6 @@ standing_lines number texts p machine events e set lines (s, is, stand) told lis
     -- the lines are those of the set's states, and these are just the ones in which a run may stand after the event
     let listed = of_machine (λ kind held. AreLinesOfHeld number texts kind held lines) machine s (subst (λ x. AreLinesOfSet number texts x lines) is (lists number texts told)) in
     let same = stands-after (transaction_of machine).figure (coded_holds machine).is_figure p events e in
+    -- what holds by the rules of the machine holds in the words of the standard
     lines_alike (state_text machine number) (AfterRun (key_rules p machine) events e) (StandsAfter (transaction_of machine).figure p events e) lines (λ y. ((same y).1, (same y).0))
     (stood_lines _ _ _ texts (state_text machine number) _ s.states lines stand listed)

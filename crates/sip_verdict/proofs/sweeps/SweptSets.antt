@@ -156,12 +156,12 @@ pub swept_agenda : (texts : Texts) → IsBook texts → (moment : ℕ) (old new 
 swept_agenda texts book moment old new low (inr (same, silent)) known limit agenda = subst (IsAgendaOf limit) (sym same) agenda
 swept_agenda texts book moment old new low (inl waits) known limit agenda =
     let (machine, s, is) = some_machine old in
-    -- the set has waited, from the moment s until the moment t
+    -- the set s has waited until the moment, and t is what it has become
     let m = meaning_of machine in
     let known_s = of_set (λ X M S m s. IsKnown m texts s) machine s (subst (IsKnownSet texts) is known) in
     let (t, new_is, waited) = of_sets (λ X M S m s u. HasWaited m moment s u) machine s new (subst (λ o. SetWaits moment o new) is waits) in
     let not_later : s.moment ≤ moment = subst (λ n. n ≤ moment) (ap moment_of is ∙ moment_is machine s) low in
-    -- the last moment was right before the wait, and so it is after it
+    -- the states of t stand for those in which a wait from s ends; the last moment was right of s, and so it is right of t, beside this book and any other
     let r = m.rules s.machine in
     let stand = waited.states texts book known_s in
     let was : IsAgenda r (Contains (map (m.seen texts) s.states)) s.moment limit = of_set (λ X M S m s. HasAgenda m limit s) machine s (subst (IsAgendaOf limit) is agenda) texts in

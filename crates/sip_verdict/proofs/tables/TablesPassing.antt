@@ -107,7 +107,7 @@ first_apart number ns apart = list_any_none (nat_eq number) ns (λ k d low. diff
         go true same = absurd (apart_from ((unsigned_Decides number n).0 same))
         go false same = refl
 
--- a set that has heard leaves the keys and the other sets as they were
+-- a set that has heard leaves the keys as they were
 pub leaves_keys : (number : ℕ) (after : AnySet) (outcome : Outcome) (t u : Tabled) → Leaves number after outcome t u → u.keys ≡ t.keys
 -- in trouble or not, only the place of the set is written, and its record where it goes on
 leaves_keys number after all.Fine t u h = ap (λ x. x.keys) h.2

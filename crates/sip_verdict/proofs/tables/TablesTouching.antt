@@ -243,6 +243,7 @@ same_numbers all apart (i ∷ ns) (key ∷ ks) (some, there, rest) n k at = λ j
     one : same_key k key ≡ nat_eq (n + 1) i
     one =
         same_test (same_key k key) (nat_eq (n + 1) i)
+        -- equal keys stand at one place, which has this number; and one number is of one place, where one key stands
         (λ same. (let place : n ≡ i - 1 = same_place all apart n (i - 1) key (at ∙ ap Some ((same_key-decides k key).0 same)) there in (unsigned_Decides (n + 1) i).1 (omega (arith, place, some))))
         (λ same. (let place : i - 1 ≡ n = omega (arith, (unsigned_Decides (n + 1) i).0 same) in
         let both : Some key ≡ Some k = sym there ∙ ap (slice_get all) place ∙ at in

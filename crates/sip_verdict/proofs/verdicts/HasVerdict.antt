@@ -89,11 +89,11 @@ module _ (p : Times) (es : List (Observation KeyParts)) (e : Observation KeyPart
 observes_message : (direction : Direction) (item : Item) → Weakly ((e : Observation KeyParts) × ObservesMessage direction item e)
 observes_message direction item never = reading-or-fault item.text no_reading no_fault
   where
-    -- the message has no fault
+    -- the message has no fault, which would else be observed, while `never` says that nothing is
     no_fault : (fault : Fault) → ¬ (Says item.text (stops fault))
     no_fault fault is = never (_, has_fault fault is refl)
 
-    -- the message has no reading
+    -- the message has no reading, of which something would else be observed
     no_reading : (r : message.Reading) → ¬ (Reads item.text r)
     no_reading r reads = by_cookie (lacks_cookie (said_of r) direction) refl
       where

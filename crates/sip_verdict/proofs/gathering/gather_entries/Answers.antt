@@ -66,6 +66,7 @@ returns-in-End-clause-survey g c start reads =
     let old : log.ReaderState = beside_source l.progress (g.R.Source.left l.reader) (g.R.Source.has_failed l.reader) in
     let read = l.invariant.told start reads in
     let logs = (rw c.in-End.is at c.in_ok-entry.ensures.gives) start l.survey.tables.times read.items read.read in
+    -- the end that is told counts the entries and transactions that were taken
     gathered_end None start old l.survey l.found.items read c.unwrap.result (same_Some _ _ (sym c.unwrap.ensures ∙ c.end.ensures.clean read.es read.follows)) logs
 
 -- where the next entry cannot be read, the findings are those of the entries before it

@@ -155,6 +155,7 @@ returns-in-End-clause-surveyed g c =
     summed c.finish-in-End.result l.counts c.unwrap.result c.finish-in-End.ensures.sums c.finish-in-End.ensures.text (λ summary end findings undecided last start reads.
     let so = (told.3 start reads).0 in
     let logs = (rw c.in-End.is at c.in_ok-entry.ensures.gives) start p so.items so.read in
+    -- the end that is told counts the entries that were taken and the transactions that are left
     let is = same_Some _ _ (sym c.unwrap.ensures ∙ c.end.ensures.clean so.es so.follows) in
     remembers_end c.args.age part p start old l.survey told.0 told.1 so l.counts summary before mid after told.2 findings undecided (end ∙ is) (subst (λ e. Appends mid after (end_text e l.counts.findings)) is last) logs)
 

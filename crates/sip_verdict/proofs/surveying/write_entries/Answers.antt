@@ -106,6 +106,7 @@ returns-in-End-clause-surveyed g c =
     let so = told.3 start reads in
     let read = so.read in
     let logs = (rw c.in-End.is at c.in_ok-entry.ensures.gives) start l.survey.tables.times read.items read.read in
+    -- the end that is told counts the entries and transactions that were taken
     let is = same_Some _ _ (sym c.unwrap.ensures ∙ c.end.ensures.clean read.es read.follows) in
     surveys_end part start old l.survey told.0 told.1 so l.counts summary before mid after told.2 findings undecided (end ∙ is) (subst (λ e. Appends mid after (end_text e l.counts.findings)) is last) logs)
 

@@ -17,7 +17,7 @@ use Rattle.sip_verdict.specs.declared.concerned.Concerned.TheVariants as concern
 use Rattle.sip_verdict.proofs.sweeps.NewestLemmas.{others_known}
 use Rattle.sip_verdict.proofs.standing.Standing.take.Goals as goal
 
--- the book has not lost what the tables name
+-- the tables may pass the restart, since the book has all that they name
 pub pass-requires-in-Restart-clause-may : goal.pass-requires-in-Restart-clause-may
 pass-requires-in-Restart-clause-may g c =
     let s = c.args.self.now in
@@ -82,7 +82,7 @@ pass-requires-in-Heard-clause-hear g c =
     (may_hear c.observe.new.book e.moment c.in-Heard.event c.in-Heard.concerned c.in_ok-concerned-in-Heard.concerned c.args.self.now.tables c.touch_each.new.tables c.in_ok-concerned-in-Heard.ensures.touched
     is_heard.0 is_heard.1 is_heard.2 (c.in_ok-concerned-in-Heard.ensures.same ∙ is_heard.3))
 
--- the new keys have a place in the agenda
+-- after the keys were looked up, each last moment is on record but those of the transactions that the entry concerns
 pub pass-requires-in-Heard-clause-recorded : goal.pass-requires-in-Heard-clause-recorded
 pass-requires-in-Heard-clause-recorded g c =
     touched_recorded (each c.in-Heard.concerned) (each c.in_ok-concerned-in-Heard.concerned) c.args.self.now.tables c.touch_each.new.tables c.in_ok-concerned-in-Heard.ensures.touched
@@ -179,13 +179,13 @@ returns-in_ok-verdict-in-Heard-clause-judged g c = λ es tracks counts newest.
       subst (λ ns. HaveNumbers new.tables.keys ns h.0.keys) (sym (listed_each (length new.tables.keys) c.in_ok-concerned-in-Heard.concerned some)) h.3,
     )
 
--- no transaction hears the entry, so the others are all
+-- no transaction hears the entry, so that all sets name only messages that the book had before it
 pub returns-in_ok-verdict-in-Unheard-clause-others : goal.returns-in_ok-verdict-in-Unheard-clause-others
 returns-in_ok-verdict-in-Unheard-clause-others g c =
     let s = c.args.self.now in
     others_known s.book concerned.None None s.tables c.pass.new.self.tables c.requires.may.passes.known c.in_ok-verdict-in-Unheard.ensures.others (λ n some among. refl)
 
--- the tables are as before
+-- the tables are as before, and their sets name only messages that the book had
 pub returns-in-Fault-clause-others : goal.returns-in-Fault-clause-others
 returns-in-Fault-clause-others g c =
     let s = c.args.self.now in
@@ -195,7 +195,7 @@ returns-in-Fault-clause-others g c =
 pub returns-in_ok-verdict-in-Restart-clause-others : goal.returns-in_ok-verdict-in-Restart-clause-others
 returns-in_ok-verdict-in-Restart-clause-others g c some = absurd (false≢true (sym some))
 
--- the keys that the entry does not concern keep what is known of them
+-- the sets of the keys that the entry does not concern name only messages that the book had before it
 pub returns-in_ok-verdict-in-Heard-clause-others : goal.returns-in_ok-verdict-in-Heard-clause-others
 returns-in_ok-verdict-in-Heard-clause-others g c =
     let s = c.args.self.now in

@@ -90,6 +90,7 @@ module _ (texts : Texts) (t : Tabled) (es : List (Observation KeyParts)) (from :
           let found = position-Some (is_overdue moment) t.records i None is in
           let (key, at) = at_place t.keys i (let long = recorded.long in omega (arith, found.0)) in
           let (s, here) = set_of_key i key at in
+          -- the key of that record would have no run at the moment, while each has one
           absurd (late i key s at here (get_or t.records i None) (slice_get-get_or t.records i None found.0) found.1 (All-place Runs t.keys i key at (subst (All Runs) (sym keys_of_all) waits)))
 
   -- where P holds exactly if no last moment is past, each transaction can wait until the moment exactly if P holds

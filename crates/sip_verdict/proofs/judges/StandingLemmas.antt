@@ -132,6 +132,7 @@ module _ (ks : List KeyParts) (ns : List ℕ) (old new : Tabled) (touched : Touc
   touched_track texts es e long keys s =
       let p = old.times in
       let k = key_keeping texts p in
+      -- the keys are those of the entries and of e, and each set leads to its runs over the entries, as before
       before_touched p k es e (transactions_of new)
       (subst (λ xs. AreKept k es (fold keyed.with_key (keys_in es) xs) (transactions_of new)) (sym keys)
       (kept_each texts p es (keys_in es) ks ns old new refl long touched (kept_tracked k es p (transactions_of old) s))) s.good
@@ -255,6 +256,7 @@ module _ (verdict : Option Verdict) (old mid last : Texts) (number : ℕ) (bytes
         (judged es seen refl newest (told_event mid u.keys moment (record { event = event; concerned = numbers }) seen apart some have at refl)
         (subst (λ p. TracksBefore p (key_keeping mid p) es seen (transactions_of u)) (sym times)
         (touched_track (each concerned) (each numbers) t u touched mid es seen long refl (grown_track old mid number bytes grown es t tracks))) counts),
+    -- the keys have these numbers after the event too
     subst (λ all. HaveNumbers all (each numbers) (each concerned)) (sym keys) have,
   )
     where

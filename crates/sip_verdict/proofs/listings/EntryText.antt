@@ -121,6 +121,7 @@ module _ (number : List ℕ → ℕ) (texts : Texts) (tells : TellsBook number t
               (told_set number texts tells set (All-place (IsKnownSet texts) t.sets (n - 1) set set_at known)) lists;
           whole = refl;
         },
+        -- the text has grown by the listing of this key
         subst (λ x. new ≡ old ++ transaction_text n x lines) same (is (subst (λ x. IsAscii x.method) (sym same) ascii)),
       )
 

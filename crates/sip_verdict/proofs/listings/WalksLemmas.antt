@@ -194,6 +194,7 @@ module _ (way : Aim) (start : Option (List ℕ)) (now : log.ReaderState) (count 
     walks_on left2 texts2 u says times last =
         let h = says walks.items walks.es walks.follows walks.long number_is in_order in
         record {
+          -- the entry was read after the others, and what is kept follows it too
           items = walks.items ++ item e ∷ [];
           es = walks.es ++ h.0 ∷ [];
           observed = seen-push [] walks.items walks.es (item e) h.0 walks.observed h.1;
@@ -233,6 +234,7 @@ module _ (way : Aim) (start : Option (List ℕ)) (now : log.ReaderState) (count 
         let h = says l.0 in
         let observed = seen-push [] walks.items walks.es (item e) h.0 walks.observed h.1 in
         record {
+          -- l tells the log of the input: its items up to this one, the rest, and its end
           times = t.times;
           items = walks.items ++ item e ∷ [];
           rest = l.0;

@@ -30,6 +30,7 @@ AreShown-push count [] text e form n number none is =
       [],
       is,
       refl,
+      -- the text is that of this entry alone
       ap (λ (t : List ℕ). t ++ shown_entry n e form) none ∙ ap (λ k. shown_entry k e form) one ∙ sym (append-nil (shown_entry (count + 1) e form)),
     )
 -- the first entry is shown before the others and this one
@@ -48,6 +49,7 @@ pub record Showed (start : Option (List ℕ)) (now : log.ReaderState) (old new :
   pub text : List ℕ
   pub shown : AreShown 0 items text
   pub appends : Appends old new text
+  -- the reader stands after these entries
   pub on : now.stage ≡ entries
   pub times_are : now.times ≡ Some times
   pub stands : Stands start items now

@@ -154,6 +154,7 @@ module _ (old mid : Texts) (t u : Tabled) (times : u.times ≡ t.times) (number 
           tracks = tracks (es ++ h.0 ∷ []) on;
           named = subst (λ n. WereNamed v.times (es ++ h.0 ∷ []) n) (sym is)
               (subst (λ p. WereNamed p (es ++ h.0 ∷ []) (length texts)) (sym same) (now_named u.times (es ++ h.0 ∷ []) (length texts) many));
+          -- no more messages are kept than are named
           few = omega (arith, is);
         },
       )
@@ -165,6 +166,7 @@ pub swept_take : (old texts : Texts) (t u : Tabled) (number moment : ℕ) → Ma
 swept_take old texts t u number moment may passes recorded fewer keys = record {
   passes = passes;
   recorded = recorded;
+  -- the book has no message that is new, and the tables have the same keys
   numbered = λ n keeps. may.numbered n (fewer n keeps);
   some = λ n keeps. may.some n (fewer n keeps);
   few = subst (λ ks. length ks + 2 ≤ number + number) (sym keys) may.few;

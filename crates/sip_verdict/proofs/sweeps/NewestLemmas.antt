@@ -96,6 +96,7 @@ module _ (number : ℕ) (bytes : List ℕ) (new : Texts) where
         s,
         is,
         record {
+          -- the set has the same machine, and its states stand for the same without the message
           machine_is = leads.machine_is;
           leads = Leads-book m.names m.seen (seen_by_names_of machine) old new (m.rules p) events from s.moment s.states (agree machine s (unnamed_of machine s set is unnamed) leads.leads.known) leads.leads;
         },

@@ -48,6 +48,7 @@ pub kept_leads : {X S : Type 0} (names : S → List ℕ) (seen : Texts → S →
 kept_leads names seen by_names texts numbers book up kept r events from moment states within leads =
     Leads-book names seen by_names texts (only numbers texts) r events from moment states
     (λ k d low n has.
+    -- what a state names is among the numbers, so that the smaller book has it, with the same bytes
     (let among : Contains numbers n = within n (Contains-flat_map names states (get_or states k d) n (Contains-get_or states k d low) has) in
     (only-Keeps texts numbers book up kept n among, sym (text_of-only texts numbers book up kept n among)))) leads
 

@@ -119,6 +119,7 @@ module _ (texts : Texts) (book : IsBook texts) (t u : Tabled) (moment : ℕ) (ad
               let (old, was) = before n x.1 there.1 in
               let key_at : slice_get t.keys n ≡ Some x.0 = ap (λ ks. slice_get ks n) (sym advances.keys) ∙ there.0 in
               let leads = All-place (IsReady (key_keeping texts p) es) (transactions_of t) n (x.0, old) (zip-place t.keys t.sets n x.0 old key_at was) tracks.ready in
+              -- the set at the place, once it has waited, leads to the runs of its key
               swept_leads texts numbers book up kept p (machine_of_key p.rules x.0) (events_for x.0 es) (newest_moment es) moment old x.1 (All-place (λ set. moment_of set ≤ moment) t.sets n old was may.order)
               (advances.each n old x.1 was there.1) (within n x.1 there.1) leads);
           good = tracks.good;

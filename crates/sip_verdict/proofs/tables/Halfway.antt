@@ -189,6 +189,7 @@ module _ (texts : Texts) (p : Times) (es : List (Observation KeyParts)) (e : Obs
   pub halfway_each : (event : NumberedEvent) → ((n : ℕ) (key : KeyParts) → slice_get keys n ≡ Some key → e.event ≡ event_in texts event) → newest_moment es ≤ event.moment → (ns : List ℕ) (t u : Tabled) (before after : Outcome) → IsHalfway ns t before → All (IsGiven t) ns
       → AllPairs (λ a b. a ≢ b) ns → HearsEach texts event ns t before u after → IsHalfway [] u after
   halfway_each event is_event late [] t u before after h given apart (same, fine) = subst (λ o. IsHalfway [] u o) (sym fine) (subst (λ x. IsHalfway [] x before) (sym same) h)
+  -- the first of the sets has heard the event, and the others hear it one after another
   halfway_each event is_event late (n ∷ ns) t u before after h given apart (between, one, first, rest) =
       halfway_each event is_event late ns between u (first_of before one) after
       (one_more event is_event n ns (first_apart n ns apart) late t between before h (All-head (IsGiven t) n ns given) one first)
@@ -338,6 +339,7 @@ quiet_others texts p es e moment h t may told ready newest hear numbers hearers 
         let low = All-place (λ x. moment_of x ≤ moment) t.sets n s here may.order in
         let machine = machine_of_key p.rules key in
         let events = events_for key es in
+        -- the set is quiet, since the restart need not be heard by it, and passes as it is
         let stepped = quiet_stepped texts p machine events (newest_moment es) s leads (hearers.others every n s here none) h.event (hear.restart every) (omega (arith, newest, hear.at)) (omega (arith, low, hear.at)) in
         own_passed p k es e (key, s) ((told n key at).concerned ∙ ap (λ b. b || is_among (each h.concerned) (n + 1)) every) all.Fine
         (subst (λ f. IsStepped (key_rules p machine) events f (λ fs. LeadsOf texts p machine fs f.moment s) (λ g. StandsOf texts p machine events g s) all.Fine) (sym (told n key at).event) stepped)

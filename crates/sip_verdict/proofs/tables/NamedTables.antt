@@ -158,6 +158,7 @@ module _ (texts : Texts) (book : IsBook texts) (p : Times) (moment : ℕ) where
         let at : slice_get t.keys n ≡ Some key = slice_get-get_or t.keys n key low ∙ ap Some is in
         let (old, here) = at_place t.sets n (omega (arith, low, long)) in
         let (new, there) = at_place u.sets n (omega (arith, low, long, as_long)) in
+        -- the set of the key names the text, by this number
         let (number, has, text_is) = (at_key n key old new at here there text).0 named in
         (number, Contains-flat_map numbers_of u.sets new number (n, slice_get_within u.sets n new there, get_or_from_slice_get u.sets n new new there) has, text_is)
 
@@ -172,6 +173,7 @@ module _ (texts : Texts) (book : IsBook texts) (p : Times) (moment : ℕ) where
           let there : slice_get u.sets n ≡ Some new = slice_get-get_or u.sets n new low ∙ ap Some is in
           let (old, here) = at_place t.sets n (omega (arith, low, as_long)) in
           let (key, at) = at_place t.keys n (omega (arith, low, as_long, long)) in
+          -- a run of the key stands in a state y that names the text
           let (y, run, names) = (at_key n key old new at here there text).1 (number, in_set, text_is) in
           record { key = key; state = y; stands = subst (λ n. Stands (transaction_of (machine_of_key p.rules key)).figure p (events_for key es) n y) (sym newest) run; names = names },
     )

@@ -278,6 +278,7 @@ hears_others texts event [] t u before after given h n none = ap (λ x. slice_ge
 hears_others texts event (m ∷ ns) t u before after given (between, one, first, rest) n none =
     let (other, others) = among_none (n + 1) m ns none in
     let low = (All-head (IsGiven t) m ns given).low in
+    -- the set of the first hearer was written at another place
     let here : slice_get between.sets n ≡ slice_get t.sets n = ap (λ xs. slice_get xs n) (leaves_sets m first.after one t between first.leaves)
     ∙ set-other t.sets (m - 1) n first.after (λ same. other (omega (arith, same, low))) in
     hears_others texts event ns between u (first_of before one) after (heard_given texts event m t between one first ns (All-tail (IsGiven t) m ns given)) rest n others ∙ here

@@ -128,6 +128,7 @@ judges_some : (p : Times) (es : List (Observation KeyParts)) (items : List Item)
 judges_some p es [] Clean never = never (Legal (length es) (length (keys_in es)), refl)
 judges_some p es [] (Stops fault) never = never (LogFault (length es + 1) fault, refl)
 judges_some p es (item ∷ items) end never =
+    -- something is observed of the item; either it is in trouble, which is the verdict, or in none, and then the items after it have one
     sees_entry es item (λ seen.
     fine_or_trouble p es seen.0 (λ v trouble. never (v, (seen.0, seen.1, inl trouble))) (λ fine.
     judges_some p (es ++ seen.0 ∷ []) items end (λ left. never (left.0, (seen.0, seen.1, inr (fine.formed, fine.runs, fine.narrow, left.1))))))

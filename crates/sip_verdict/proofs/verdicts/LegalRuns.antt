@@ -54,6 +54,7 @@ module _ (input : List ℕ) (entries transactions : ℕ) (p : Times) where
   legal_end : (done : List Item) (es : List (Observation KeyParts)) (rest : List Item) (end : LogEnd) → LogSays input p (done ++ rest) end → AreSeen [] done es → IsGood p es →
       IsVerdictAfter p es rest end (Legal entries transactions) → IsLegalLog input entries transactions
   legal_end done es [] Clean log seen good is = record {
+    -- the log was read to its end, with these items
     times = p;
     items = done;
     es = es;

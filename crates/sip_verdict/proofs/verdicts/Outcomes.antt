@@ -49,6 +49,7 @@ module _ (Runs Wide : KeyParts → Type 0) (keys : List KeyParts) where
     -- the first key for some places, of which P holds, is the first for fewer places
     first_fewer : (P : KeyParts → Type 0) (number : ℕ) → IsFirstAmong P keys A number → IsFirstAmong P keys B number
     first_fewer P number f = record {
+      -- the same key is the first, since fewer keys come before it
       place = f.place;
       counts = f.counts;
       key = f.key;
@@ -78,6 +79,7 @@ module _ (Runs Wide : KeyParts → Type 0) (keys : List KeyParts) where
     -- i is the number of the key that is first, and k any key at a place n before it
     first_left : (P : KeyParts → Type 0) (i : ℕ) → IsFirstAmong P keys A i → ((n : ℕ) (k : KeyParts) → n + 1 < i → slice_get keys n ≡ Some k → B n → ¬ P k) → IsFirstAmong P keys Either i
     first_left P i f others = record {
+      -- the same key is the first, since P holds of none before it at the places of A, and of none at those of B
       place = f.place;
       counts = f.counts;
       key = f.key;
@@ -90,6 +92,7 @@ module _ (Runs Wide : KeyParts → Type 0) (keys : List KeyParts) where
     -- i is the number of the key that is first, and k any key at a place n before it
     first_right : (P : KeyParts → Type 0) (i : ℕ) → IsFirstAmong P keys B i → ((n : ℕ) (k : KeyParts) → n + 1 < i → slice_get keys n ≡ Some k → A n → ¬ P k) → IsFirstAmong P keys Either i
     first_right P i f others = record {
+      -- the same key is the first, since P holds of none before it at the places of B, and of none at those of A
       place = f.place;
       counts = f.counts;
       key = f.key;

@@ -18,6 +18,7 @@ returns-then-opens_via c =
     let end = c.in_ok-end.end in
     let left = drop (end + 1) rest in
     let opens = sym (ap opens_via (take_rest rest (end + 1))) ∙ sym c.opens_via.ensures ∙ c.if-opens_via.true in
+    -- what is left after this line end is the first line that begins as a Via does
     ap Some (take_rest rest (end + 1)) ∙ sym (c.lines.invariant.0 ∙ next_line end rest first.0.high first.0.before first.1 ∙ ap (λ is. if is then Some left else via_line left) opens)
 
 -- the line that begins here is no Via, so the search goes on with the next one

@@ -60,6 +60,7 @@ drop_unnamed-requires-clause-others g c some n set among at =
     let e = c.args.entry.now in
     let numbers = each c.in_ok-concerned-in-Heard.concerned in
     let may = touches_may s.book e.moment (each c.in-Heard.concerned) numbers s.tables c.touch_each.new.tables c.requires.may.passes c.in_ok-concerned-in-Heard.ensures.touched in
+    -- such a set is as before the entry, and the book had all that it names, and not this message
     known_unnamed s.book e.number c.requires.may.numbered set (c.in_ok-pass_each-in-Heard.ensures.others s.book n set may (ap (λ b. b || is_among numbers (n + 1)) some ∙ among) at)
 
 -- an entry that no transaction hears leaves the histories right
@@ -80,6 +81,7 @@ returns-in_ok-pass_each-in-Restart-clause-histories g c = λ es e told keys coun
     let b = c.args.histories.now in
     let number = c.args.entry.now.number in
     let (f, f_seen, is) = (rw c.in-Restart.is at c.in_ok-told.ensures.observed) es in
+    -- the restart becomes the last entry of each transaction, by one number for all
     restart_histories es e b (record { each = b.each; restart = number }) number
     (ap (λ o. o.keys) (observes_one es (item c.args.entry.now) e f seen f_seen ∙ is)) counts refl refl told
 
@@ -93,6 +95,7 @@ returns-in_ok-pass_each-in-Heard-clause-histories g c = λ es e told t_keys coun
     -- f is what is observed of the entry, which is the same as e
     let (f, f_seen, f_is) = (rw c.in-Heard.is at c.in_ok-told.ensures.observed) es in
     let is = observes_one es (item entry) e f seen f_seen ∙ f_is in
+    -- each key that the message concerns has its history, which was written on or begun
     heard_histories es e c.args.histories.now c.note_each.new.self entry.number entry.bytes.items s.tables c.touch_each.new.tables (each c.in-Heard.concerned) (each c.in_ok-concerned-in-Heard.concerned)
     told t_keys c.requires.may.passes.long counts c.in_ok-concerned-in-Heard.ensures.touched c.known-in-Heard.ensures.unique noted.noted c.note_each.ensures.restart (ap (λ o. o.keys) is)
     (message_says es (item entry) e kept.0 seen) (ap (λ o. o.event.text) is ∙ kept.3)
@@ -103,6 +106,7 @@ returns-in_ok-pass_each-in-Unheard-clause-may g c =
     let s = c.args.standing.now in
     let e = c.args.entry.now in
     let passed = c.in_ok-pass_each-in-Unheard.ensures in
+    -- no message came into the book and no key into the tables, so that every number stands as after the entry
     may_next None s.book c.observe.new.book c.observe.new.book s.tables s.tables c.pass_each.new.tables e.number e.moment e.bytes.items c.requires.may
     (inl (rw c.in-Unheard.is at c.in_ok-told.ensures.kept)) (omega arith) passed.keys refl passed.may passed.watched.recorded
 
@@ -120,6 +124,7 @@ returns-in_ok-pass_each-in-Fault-clause-may g c =
     let s = c.args.standing.now in
     let e = c.args.entry.now in
     let passed = c.in_ok-pass_each-in-Fault.ensures in
+    -- no message came into the book and no key into the tables, so that every number stands as after the entry
     may_next None s.book c.observe.new.book c.observe.new.book s.tables s.tables c.pass_each-in-Fault.new.tables e.number e.moment e.bytes.items c.requires.may
     (inl (rw c.in-Fault.is at c.in_ok-told.ensures.kept)) (omega arith) passed.keys refl passed.may passed.watched.recorded
 
@@ -137,6 +142,7 @@ returns-in_ok-pass_each-in-Restart-clause-may g c =
     let s = c.args.standing.now in
     let e = c.args.entry.now in
     let passed = c.in_ok-pass_each-in-Restart.ensures in
+    -- no message came into the book and no key into the tables, so that every number stands as after the entry
     may_next None s.book c.observe.new.book c.observe.new.book s.tables s.tables c.pass_each-in-Restart.new.tables e.number e.moment e.bytes.items c.requires.may
     (inl (rw c.in-Restart.is at c.in_ok-told.ensures.kept).0) (omega arith) passed.keys refl passed.may passed.watched.recorded
 

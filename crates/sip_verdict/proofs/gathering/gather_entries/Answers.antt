@@ -29,6 +29,7 @@ entry-requires g c = λ goes_on.
     let order = moves.1.order in
     let room = l.invariant.at.room in
     let low = moves.4 in
+    -- all of this follows by arithmetic from how the reader has moved on
     record { next = omega (arith, number, counts); order = omega (arith, newest, order); limit = moves.1.moment_high; room = (omega (arith, counts, low), omega (arith, room, low)) }
 
 -- after one entry more the findings are those of all entries that were read, and the survey stands after these

@@ -27,6 +27,7 @@ returns-in_ok-settle-clause-heard g c = record {
   after = c.hear.new.set;
   was = c.set_mut.ensures.value;
   numbered = c.in_ok-outcome.ensures.numbered;
+  -- the set stands with its last moment on record; `stepped` says what the event has left of the runs
   leaves = subst (λ o. Leaves c.args.number c.hear.new.set o c.args.tables.now c.settle.new.self) (sym c.in-Fine.is)
       (settles_leaves c.args.number c.hear.new.set c.args.tables.now c.settle.new.self c.in_ok-settle.ensures.ok);
   stepped = c.in_ok-outcome.ensures.stepped;

@@ -33,6 +33,7 @@ returns-in_ok-hear_or_release-in-OwnAndCancelled-clause-others g c =
     let own = c.in-OwnAndCancelled.own in
     let cancelled = c.in-OwnAndCancelled.cancelled in
     on_ok_weaker c.hear_or_release-in-OwnAndCancelled-2.result (λ still n none.
+    -- the number is neither that of the own transaction nor that of the cancelled one, so that both calls leave its set
     let apart = among_none (n + 1) own (cancelled ∷ []) (subst (λ x. (is_all x || is_among (each x) (n + 1)) ≡ false) c.in-OwnAndCancelled.is none) in
     still n (among_none (n + 1) cancelled [] apart.1).0 ∙ c.in_ok-hear_or_release-in-OwnAndCancelled.ensures.others n apart.0) c.hear_or_release-in-OwnAndCancelled-2.ensures.others
 

@@ -54,6 +54,7 @@ entry-requires g c = λ goes_on.
     let order = moves.1.order in
     let high = moves.1.moment_high in
     let is_room : IsTrue c.has_room.result = search rules in
+    -- all of this follows by arithmetic from how the reader has moved on, and the room from the test
     record { next = omega (arith, number, same, counts, kept); order = omega (arith, newest, now, order, moment); limit = omega (arith, high, moment); room = c.has_room.ensures.0 is_room }
 
 -- after one entry more, the lines are those of all findings so far, and the survey stands after what is remembered
@@ -99,6 +100,7 @@ loop-found-preserved g c =
       told = (
         told.0 ++ items,
         told.1 ++ put.text.0,
+        -- lines and counts are those before and those of this entry
         told_more told.0 items told.1 put.text.0 l.counts c.in_ok-counts-in-Entry.counts (g.W.Sink.written c.args.writer.now) (g.W.Sink.written l.writer) (g.W.Sink.written c.put_findings.new.writer) told.2
             (search rules) put.text.1,
         -- what was read, forgotten and taken is told on
@@ -108,6 +110,7 @@ loop-found-preserved g c =
             remembers_on c.args.age part p start old l.survey told.0 told.1 so.0 l.horizon so.1 l.invariant.aged c.in-Entry.entry c.cut_to.new.entry new more cut.cut
             c.forget_due.new.survey c.entry.new.self c.forget_due.new.horizon c.note.new.self forgot.times taken.times (omega (arith, was, order, forgot_moment, taken_moment, cut_moment)) forgot.left has_room items
             (rw c.clear.ensures.items at taken.found) put.text.0 (subst (λ fs. AreLinesBy c.entry.new.self fs put.text.0) lines put.text.2)
+            -- the horizon takes note of the entry, whose number and moment are those of the survey
             (λ es horizon_is stands. c.note.ensures.horizon es horizon_is (sym taken.newest.0 ∙ stands.number) (sym taken.newest.1 ∙ stands.moment)),
       );
     }

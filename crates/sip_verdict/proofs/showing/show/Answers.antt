@@ -42,6 +42,7 @@ returns-in-Ok-None-clause-shown g c =
     let before = g.W.Sink.written l.writer in
     let after = g.W.Sink.written c.finish-in-Ok-None.new.writer in
     let nexts = rw c.in-Ok-None.field-0-is at c.in-Ok-None.ensures in
+    -- where the last line was written, all that was written is what is shown of the log
     finished c.finish-in-Ok-None.result (End l.count) (Answers start first after) (Appends before after (last_text (End l.count) ++ line_feed ∷ []))
     c.finish-in-Ok-None.ensures.same c.finish-in-Ok-None.ensures.text
     (λ last. showed_end start old first before l.invariant.showed new after l.count l.invariant.count nexts last)
@@ -103,6 +104,7 @@ loop-entry-preserved g c =
       count = counted.continues.number_is ∙ sym counted.up;
       few = omega (arith, counted.up, counted.few);
       read = Nexts-fine start l.invariant.showed.items old new (Some e) nexts ∙ l.invariant.read;
+      -- no write has failed, and the text is that of one entry more
       written = shows.3 ∙ l.invariant.written;
       showed = showed_more start old (g.W.Sink.written c.args.writer.now) (g.W.Sink.written l.writer) l.invariant.showed new e nexts (g.W.Sink.written c.show_entry.new.writer) shows.0 shows.1 shows.2;
     }

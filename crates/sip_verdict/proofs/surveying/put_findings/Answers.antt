@@ -13,6 +13,7 @@ loop-finding-preserved g c =
     let s = c.args.survey.now in
     let found = c.args.found.now in
     let put = c.in_ok-put_finding.ensures in
+    -- `text` are the lines so far, and `line` is that of this finding
     let (text, written, are) = l.invariant.text in
     let (line, appends, is) = put.text in
     -- the next finding comes after those so far

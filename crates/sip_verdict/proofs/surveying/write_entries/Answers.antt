@@ -44,6 +44,7 @@ entry-requires g c = λ goes_on.
     let high = moves.3 in
     let room = l.invariant.at.room in
     let low = moves.6 in
+    -- all of this follows by arithmetic from how the reader has moved on
     record { next = omega (arith, number, counts); order = omega (arith, newest, order); limit = high; room = (omega (arith, counts, low), omega (arith, room, low)) }
 
 -- after one entry more, the lines are those of all findings so far, and the survey stands after the entries that were read
@@ -78,6 +79,7 @@ loop-found-preserved g c =
       told = (
         told.0 ++ items,
         told.1 ++ put.text.0,
+        -- lines and counts are those before and those of this entry
         told_more told.0 items told.1 put.text.0 l.counts c.in_ok-counts-in-Entry.counts (g.W.Sink.written c.args.writer.now) (g.W.Sink.written l.writer) (g.W.Sink.written c.put_findings.new.writer) told.2
             (search rules) put.text.1,
         -- what was read and taken is told on

@@ -43,6 +43,7 @@ loop-standing-init g c =
       before = λ n is.
           let apart : n ≢ 0 = λ zero. c.is_entry.ensures.is_not c.if-is_entry.false (is ∙ ap aim.Entry zero) in
           omega (arith, apart);
+      -- the first entry may come, and the walk has walked over none
       may = first_may c.new-standing.result.book c.new-standing.result.tables opened.0 opened.1.last c.new-standing.ensures.book c.new-standing.ensures.tables;
       walks = walks_start c.args.aim start now opened.0 c.new-standing.result.book c.new-standing.result.tables c.new-standing.ensures.book c.new-standing.ensures.tables reads;
     }
@@ -107,6 +108,7 @@ loop-standing-preserved g c =
     let next : e.number ≡ l.count + 1 = moves.1.number_is ∙ ap (λ n. n + 1) (sym l.invariant.counts) in
     let now = c.judge_on.new in
     record {
+      -- no read has failed, and as many entries were counted as were read
       fine = c.in_ok-entry.ensures.ok ∙ l.invariant.fine;
       on = moves.0;
       counts = sym moves.2;

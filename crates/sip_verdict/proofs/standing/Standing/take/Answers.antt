@@ -41,6 +41,7 @@ returns-in_ok-verdict-in-Restart-clause-may g c =
     let s = c.args.self.now in
     let e = c.args.entry.now in
     let passed = c.in_ok-verdict-in-Restart in
+    -- no message came into the book and no key into the tables, so that every number stands as after the entry
     may_next passed.verdict s.book c.observe.new.book c.pass-in-Restart.new.self.book s.tables s.tables c.pass-in-Restart.new.self.tables e.number e.moment e.bytes.items c.requires.may
     (inl (rw c.in-Restart.is at c.in_ok-told.ensures.kept).0) (omega arith) passed.ensures.keys passed.ensures.book passed.ensures.may passed.ensures.recorded
 
@@ -51,6 +52,7 @@ returns-in_ok-verdict-in-Restart-clause-numbered g c =
     let e = c.args.entry.now in
     let kept = rw c.in-Restart.is at c.in_ok-told.ensures.kept in
     let new = c.pass-in-Restart.new.self.book in
+    -- nothing is asked where there is a verdict; else the restart concerns no key, and the book is as it was
     unless_trouble (StaysNumbered (item e) e.number s.book new) c.in_ok-verdict-in-Restart.verdict
     (numbered_none (item e) e.number s.book new kept.1 (c.in_ok-verdict-in-Restart.ensures.book ∙ kept.0))
 
@@ -94,6 +96,7 @@ returns-in_ok-verdict-in-Unheard-clause-may g c =
     let s = c.args.self.now in
     let e = c.args.entry.now in
     let passed = c.in_ok-verdict-in-Unheard in
+    -- no message came into the book and no key into the tables, so that every number stands as after the entry
     may_next passed.verdict s.book c.observe.new.book c.pass.new.self.book s.tables s.tables c.pass.new.self.tables e.number e.moment e.bytes.items c.requires.may
     (inl (rw c.in-Unheard.is at c.in_ok-told.ensures.kept)) (omega arith) passed.ensures.keys passed.ensures.book passed.ensures.may passed.ensures.recorded
 
@@ -106,6 +109,7 @@ returns-in_ok-verdict-in-Unheard-clause-numbered g c =
     let kept = rw c.in-Unheard.is at c.in_ok-told.ensures.kept in
     let told = (rw c.in-Unheard.is at c.in_ok-told.ensures.observed) [] in
     let new = c.pass.new.self.book in
+    -- nothing is asked where there is a verdict; else the entry concerns no key, and the book is as it was
     unless_trouble (StaysNumbered (item e) e.number s.book new) c.in_ok-verdict-in-Unheard.verdict
     (numbered_none (item e) e.number s.book new (told.0, told.1, told.2.2) (c.in_ok-verdict-in-Unheard.ensures.book ∙ kept))
 
@@ -124,6 +128,7 @@ returns-in-Fault-clause-judged g c = λ es tracks counts newest.
       fault_observation (item c.args.entry.now) c.in-Fault.fault,
       subst (Sees es (item c.args.entry.now)) is seen,
       (counts, refl),
+      -- no key has a number, since the entry concerns none
       tt,
     )
 
@@ -133,6 +138,7 @@ returns-in_ok-verdict-in-Heard-clause-may g c =
     let s = c.args.self.now in
     let e = c.args.entry.now in
     let passed = c.in_ok-verdict-in-Heard in
+    -- the book has at most the message of the entry more, and the tables at most two keys
     may_next passed.verdict s.book c.observe.new.book c.pass-in-Heard.new.self.book s.tables c.touch_each.new.tables c.pass-in-Heard.new.self.tables e.number e.moment e.bytes.items c.requires.may
     (rw c.in-Heard.is at c.in_ok-told.ensures.kept).4
     (few_keys c.in-Heard.concerned (each c.in_ok-concerned-in-Heard.concerned) s.tables c.touch_each.new.tables c.in_ok-concerned-in-Heard.ensures.touched)
@@ -173,6 +179,7 @@ returns-in_ok-verdict-in-Heard-clause-judged g c = λ es tracks counts newest.
     c.in-Heard.event c.in-Heard.concerned c.in_ok-concerned-in-Heard.concerned s.tables c.touch_each.new.tables new.tables
     c.requires.may.passes.long c.in_ok-concerned-in-Heard.ensures.touched c.known-in-Heard.ensures.unique c.in_ok-verdict-in-Heard.ensures.keys (rw c.in-Heard.is at c.in_ok-told.ensures.heard).1
     some (rw c.in-Heard.is at c.in_ok-told.ensures.observed) c.in_ok-verdict-in-Heard.ensures.judged es tracks counts newest in (
+      -- what is seen of the entry and judged is as h says, and the keys have the numbers that are listed
       h.0,
       h.1,
       h.2,
@@ -201,5 +208,6 @@ returns-in_ok-verdict-in-Heard-clause-others g c =
     let s = c.args.self.now in
     let u = c.touch_each.new.tables in
     let numbers = c.in_ok-concerned-in-Heard.concerned in
+    -- after the keys were looked up, the book before the entry still has all that the sets name
     let may = touches_may s.book c.args.entry.now.moment (each c.in-Heard.concerned) (each numbers) s.tables u c.requires.may.passes c.in_ok-concerned-in-Heard.ensures.touched in
     others_known s.book numbers (Some (record { event = c.in-Heard.event; concerned = numbers })) u c.pass-in-Heard.new.self.tables may.known c.in_ok-verdict-in-Heard.ensures.others (λ n some among. ap (λ b. b || is_among (each numbers) n) some ∙ among)

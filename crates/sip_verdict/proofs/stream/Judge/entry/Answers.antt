@@ -38,6 +38,7 @@ returns-in-Ok-Some-clause-judged g c es stands =
     let comes = c.requires (ap (λ j. j.stage) (sym is) ∙ c.in-Open.is) in
     let h = (rw c.in-Ok-Some.field-0-is at c.in-Ok-Some.ensures.judged) es (subst (λ j. AreFollowed j.texts j.tables j.left es) (sym is) stands.follows) (comes.next ∙ ap (λ n. n + 1) stands.number)
     (omega (arith, comes.order, stands.moment)) in
+    -- what is seen of the entry, and its verdict
     (h.0, h.1, h.2)
 
 -- after an entry without keys the book has no message that is new

@@ -31,6 +31,7 @@ returns-clause-told c =
       wide,
       (c.keep_ascending.ensures.rising, c.keep_ascending.ensures.members),
       (c.keep_ascending-2.ensures.rising, c.keep_ascending-2.ensures.members),
+      -- the findings are those before, then the breaches, then what is undecided
       second ∙ ap (λ xs. xs ++ map (λ transaction. Undecided entry transaction) wide) first
           ∙ append_assoc old (map (λ transaction. Breach entry transaction) broken) (map (λ transaction. Undecided entry transaction) wide),
     )

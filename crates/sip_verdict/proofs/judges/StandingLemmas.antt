@@ -221,6 +221,7 @@ module _ (verdict : Option Verdict) (old mid last : Texts) (number : ℕ) (bytes
   Tells told = (es : List (Observation KeyParts)) → (e : Observation KeyParts) × Sees es i e × IsObserved mid es i told e
 
   -- an entry that no transaction hears is judged as what is observed of it
+  -- `judged` is what the passing promises: whatever entries es came before, and whatever e is observed as it was told, e is judged rightly
   pub unheard_judged : (t v : Tabled) → i.moment ≡ moment → Tells Unheard
       → ((es : List (Observation KeyParts)) (e : Observation KeyParts) → e.fault ≡ None → newest_moment es ≤ moment → AreTold mid t.keys moment None e → TablesTrackBefore mid es e t → count ≡ length es + 1
       → IsJudged t.times (key_keeping last t.times) es e (transactions_of v) verdict)
@@ -239,6 +240,7 @@ module _ (verdict : Option Verdict) (old mid last : Texts) (number : ℕ) (bytes
   -- a message that transactions hear is judged as what is observed of it, with the keys that it concerns
   -- t are the tables before, u those with the entry's keys looked up, and v those after the event
   -- mid is the book with the message of the entry, last the book that is kept in the end, and i the item of the entry
+  -- `judged` is what the passing promises: whatever entries es came before, and whatever e is observed as it was told, e is judged rightly
   pub heard_judged : (event : NumberedEvent) (concerned : Concerned KeyParts) (numbers : Concerned ℕ) (t u v : Tabled) → length t.sets ≡ length t.keys → TouchesEach (each concerned) (each numbers) t u
       → AllPairs (λ a b. a ≢ b) u.keys → v.keys ≡ u.keys → event.moment ≡ moment → is_all numbers ≡ false
       → Tells (Heard event concerned)
@@ -274,6 +276,7 @@ module _ (verdict : Option Verdict) (old mid last : Texts) (number : ℕ) (bytes
 
   -- a restart is judged as what is observed of it, with all keys so far
   -- t and v are the tables before and after the restart
+  -- `judged` is what the passing promises: whatever entries es came before, and whatever e is observed as it was told, e is judged rightly
   pub restart_judged : (event : NumberedEvent) (t v : Tabled) → length t.sets ≡ length t.keys → AllPairs (λ a b. a ≢ b) t.keys → v.keys ≡ t.keys
       → event ≡ record { moment = moment; action = Restart; number = 0; kind = Request Other; reliable = false } → ((n : ℕ) → Keeps mid n → 0 < n) → i.moment ≡ moment
       → Tells told.Restart

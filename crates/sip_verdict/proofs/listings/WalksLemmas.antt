@@ -1,4 +1,5 @@
 -- What a walk adds to the entries that were judged, and what it answers.
+-- In the lemmas `says` is what a judge promises of the entry in hand, whatever entries came before it.
 use Rattle.std.proofs.Common.{◌≡◌, inl, inr, ◌<◌, ◌≤◌, ◌+◌, ◌∙◌, ℕ, Option, Some, None, Result, Ok, Err, IsSomeAnd, IfSome, IfNone, IfOk, OnOk, List, [], ◌∷◌, ◌++◌, length, refl, sym, ap, subst, arith}
 use Rattle.std.proofs.lemmas.List.{append-nil, length_push}
 use Rattle.sip_standard.specs.Key.{KeyParts}

@@ -35,6 +35,7 @@ module _ (number : List ℕ → ℕ) (texts : Texts) (tells : TellsBook number t
   -- a set whose messages the book keeps is told by the book's numbers
   pub told_set : (set : AnySet) → IsKnownSet texts set → TellsSet number texts set
   told_set set known =
+      -- s is the set as one of its machine, and the book keeps what each of its states names
       let (machine, s, is) = some_machine set in
       let known_s = of_set (λ X M S m s. IsKnown m texts s) machine s (subst (IsKnownSet texts) is known) in
       subst (TellsSet number texts) (sym is) (to_set (λ X M S m s. All (λ x. Tells number texts (m.names x)) s.states) machine s (told_states (meaning_of machine).names s.states known_s))

@@ -64,6 +64,7 @@ module _ (items : List Item) (i : Item) (old : Texts) (a : AreNumbered items old
         -- the message of j is not that of i
         differ : has_message j.action ≡ true → bytes_eq j.text i.text ≡ true → ⊥
         differ is same =
+            -- the item j has the same bytes, so that it concerns a key as i does, and the old book has its message
             let bytes = (bytes_eq-Decides j.text i.text).0 same in
             let k = kept (λ none. some (none_alike j i bytes is says none)) in
             -- the bytes of both would be the same, and so would the numbers

@@ -111,6 +111,7 @@ module _ (start : Option (List ℕ)) (now : log.ReaderState) (old w : Option (Li
 
     -- where the log ends, what was written with the last line is right, and the answer is how many entries there are
     pub showed_end : (n : ℕ) → n ≡ now.count → Nexts now new (Ok None) → Appends w w2 (last_text (End n) ++ line_feed ∷ []) → Answers start old w2 (End n)
+    -- the reader told the end after the items that were read, and the times of the header
     showed_end n many nexts last =
         ends Clean (End n) (ap End (many ∙ count_is)) new.times (Nexts-times now new (Ok None) s.times s.on s.times_are nexts) (Stands-ends start s.items now new (inr s.on) s.stands nexts) last
 

@@ -44,6 +44,7 @@ module _ {X S : Type 0} (names : S → List ℕ) (InRange : S → Type 0) (seen 
         let (n, in_names, text_is) = Contains-from_map (text_of texts) (names x) text there in
         (n, Contains-flat_map names new x n among in_names, text_is),
     -- the converse: a number that a new state names
+    -- n is the number, x the new state that names it, and y what x stands for: a run stands there
     λ h. let (n, has, is) = h in
         let (x, among, in_names) = Contains-from_flat_map names new n has in
         let y = seen texts x in (
@@ -62,6 +63,7 @@ module _ {X S : Type 0} (names : S → List ℕ) (InRange : S → Type 0) (seen 
       go : StaysFrom r (Contains (map (seen texts) old)) at moment y ⊎ EndsFrom r (Contains (map (seen texts) old)) at moment y → ⊥
       -- the state is one of the set, which names nothing; or it is the ended one, which names nothing either
       go (inl stays) =
+          -- x would be a state of the set that names the text by the number n, while the set names nothing
           let (x, among, is) = Contains-from_map (seen texts) old y stays.among in
           let there : Contains (map (text_of texts) (names x)) text = subst (λ ts. Contains ts text) (named texts x) (subst (λ z. Contains (messages z) text) (sym is) has) in
           let (n, in_names, text_is) = Contains-from_map (text_of texts) (names x) text there in

@@ -53,6 +53,7 @@ kept_leads names seen by_names texts numbers book up kept r events from moment s
     (only-Keeps texts numbers book up kept n among, sym (text_of-only texts numbers book up kept n among)))) leads
 
 -- What follows is of the set of one transaction, and a book of which the messages with these numbers alone are kept.
+-- `up` says that the numbers rise, and `kept` that the book has a message under each.
 module _ (texts : Texts) (numbers : List ℕ) (book : IsBook texts) (up : AllPairs (λ a b. a < b) numbers) (kept : All (Keeps texts) numbers) (p : Times) (machine : MachineKind) (events : List MachineEvent) (from : ℕ) where
   -- a set of the tables that has waited leads to the same runs beside the book with some of its messages alone, where these are all that it names
   pub swept_leads : (moment : ℕ) (old new : AnySet) → moment_of old ≤ moment → IsAdvanced moment old new → ((n : ℕ) → Contains (numbers_of new) n → Contains numbers n)

@@ -33,6 +33,7 @@ named_is t start out none (added, is, rising, same) numbers are =
     (subst (AllPairs (λ a b. a < b)) (sym all) rising, λ n. subst (λ xs. Contains xs n ↔ Contains (flat_map numbers_of t.sets) n) (sym all) (same n))
 
 -- What follows is of a sweep of the book `texts`: t are the tables before, u after all sets have waited until the moment, and `numbers` what the sets name.
+-- `up` says that the numbers rise, and `same` that they are just those that the sets of u name.
 module _ (texts : Texts) (book : IsBook texts) (t u : Tabled) (moment : ℕ) (advances : AdvancesAll moment t u) (may : MayPass texts t moment)
     (numbers : List ℕ) (up : AllPairs (λ a b. a < b) numbers) (same : (n : ℕ) → Contains numbers n ↔ Contains (flat_map numbers_of u.sets) n) where
   -- the set that stood at the place before the sweep

@@ -104,6 +104,7 @@ module _ (texts : Texts) (p : Times) (es : List (Observation KeyParts)) (e : Obs
 
   -- What follows is of one set more that hears the event, that with this number; those of ns are still to hear it. The tables were t and are u,
   -- `outcome` is how the hearing had come out so far, and `one` how it comes out for this set.
+  -- `once`: the number is not among ns; h: how it stood before this set heard the event; `own`: what the hearing did to this set.
   module _ (event : NumberedEvent) (is_event : (n : ℕ) (key : KeyParts) → slice_get keys n ≡ Some key → e.event ≡ event_in texts event) (number : ℕ) (ns : List ℕ) (once : is_among ns number ≡ false) (late : newest_moment es ≤ event.moment) (t u : Tabled) (outcome : Outcome)
       (h : IsHalfway (number ∷ ns) t outcome) (given : IsGiven t number) (one : Outcome) (own : Hears texts event number t u one) where
     -- the place of the set
@@ -196,6 +197,8 @@ module _ (texts : Texts) (p : Times) (es : List (Observation KeyParts)) (e : Obs
       (heard_given texts event n t between one first ns (All-tail (IsGiven t) n ns given)) (AllPairs-tail n ns apart) rest
 
 -- What follows is of the tables t, in which no set has heard the event of the entry e yet: `numbers` are those of the sets that are to hear it.
+-- `recorded`: only these sets may lack a last moment; `told`: each key is told the event or waits; `heard`: the event concerns these sets; `others`: each
+-- other key is not concerned, or goes on over e.
 module _ (texts : Texts) (p : Times) (es : List (Observation KeyParts)) (e : Observation KeyParts) (moment : ℕ) (hearing : Option Hearing) (t : Tabled) (may : MayPass texts t moment)
     (numbers : List ℕ) (recorded : AreOnRecord numbers t) (told : AreTold texts t.keys moment hearing e) (ready : All (IsReady (key_keeping texts p) es) (transactions_of t))
     (newest : newest_moment es ≤ moment) (heard : (number : ℕ) → is_among numbers number ≡ true → concerns_number hearing number ≡ true)

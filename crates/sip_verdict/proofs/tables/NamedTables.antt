@@ -130,6 +130,7 @@ module _ (texts : Texts) (book : IsBook texts) (p : Times) (moment : ℕ) where
     key_named advanced = iff_trans (names_stand p machine events moment text) (by_set advanced)
 
   -- What follows is of all keys of the entries es: t are the tables before the wait, and u after it.
+  -- `advanced` says that each set has waited until the moment, or stayed as it was and names nothing.
   module _ (es : List (Observation KeyParts)) (t u : Tabled) (times : t.times ≡ p) (tracks : TablesTrack texts es t) (long : length t.sets ≡ length t.keys) (newest : newest_moment es ≡ moment)
       (order : All (λ set. moment_of set ≤ moment) t.sets) (as_long : length u.sets ≡ length t.sets)
       (advanced : (n : ℕ) (old new : AnySet) → slice_get t.sets n ≡ Some old → slice_get u.sets n ≡ Some new → IsAdvanced moment old new) where

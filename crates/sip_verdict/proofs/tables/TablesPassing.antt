@@ -141,6 +141,7 @@ given_still number t u keys g = record { low = g.low; high = (let same = ap leng
 
 -- What follows is of `after`, the set with this number, which has heard its event and has a state: `limit` is its last moment, which is put on record,
 -- and those of ns are still to hear the event.
+-- `old` says that, before this, only this set and those of ns may lack a last moment on record.
 module _ (t : Tabled) (number : ℕ) (ns : List ℕ) (low : 0 < number) (after : AnySet) (limit : Option ℕ) (agenda : IsAgendaOf limit after) (old : AreOnRecord (number ∷ ns) t) where
   -- where the set's last moment was written, each place is on record, or its set is still to hear the event
   recorded_at : (n : ℕ) (s : AnySet) (r : Option (Option ℕ)) → slice_get (set t.sets (number - 1) after) n ≡ Some s → slice_get (set t.records (number - 1) (Some limit)) n ≡ Some r → IsOnRecord ns (n + 1) s r

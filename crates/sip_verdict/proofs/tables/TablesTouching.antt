@@ -95,7 +95,9 @@ touches_may texts moment ks ns old new may h = touches_elim (λ t. MayPass texts
 -- What follows shows that each last moment stays on record when keys come, except those of the sets that are to hear an event, whose numbers are `waits`.
 module _ (waits : List ℕ) where
   -- where a key comes that is to hear the event, the last moments of the sets that are to hear alone may be missing
+  -- the new key has no last moment on record, as one that waits for its event may
   with_key_recorded : (key : KeyParts) (number : ℕ) (old : Tabled) → length old.sets ≡ length old.keys → number ≡ length old.keys + 1 → is_among waits number ≡ true → AreOnRecord waits old → AreOnRecord waits (with_key old key)
+  -- `counts` says that the number is the one after all others, and `waiting` that the new key is to hear the event
   with_key_recorded key number old long counts waiting h = record {
     long = length-append old.records (None ∷ []) ∙ ap (λ i. i + 1) h.long ∙ sym (length-append old.keys (key ∷ []));
     each = λ i s r at here. go i s r (push_place old.sets (start_of old.times key) i s at) (push_place old.records None i r here);

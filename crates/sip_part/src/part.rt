@@ -19,6 +19,7 @@ pub struct Part {
     count: u32,
 }
 
+// What a contract sees of a part, its `view`, is a value of the definitions, and the `invariant` holds of a part at all times.
 impl Model for Part {
     ghost use Rattle.std.specs.Prelude.{◌<◌, ◌≤◌};
     ghost use Rattle.sip_part.specs.Part.{PartOf};

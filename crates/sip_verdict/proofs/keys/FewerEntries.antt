@@ -90,4 +90,5 @@ fewer-entries p key front more order run =
     (events-all key (λ f. f.moment ≤ newest_moment front) front (newest-to 0 front more order))
     (events-all key (λ f. newest_moment front ≤ f.moment) more (newest-before 0 front more from order))
     (newest-more 0 front more from order)
+    -- the events of all entries are those of the first ones and then those of the others
     (subst (λ events. RuledRun r events (newest_moment (front ++ more)) y) (events-append key front more) whole))

@@ -80,6 +80,7 @@ module _ (old new : Texts) (t u : Tabled) (left rest : ℕ) (e : Entry) where
       → JudgesOn way old t left new u rest e verdict
   judges_end way is verdict says =
       subst (λ a. JudgesOn a old t left new u rest e verdict) (sym is)
+      -- h is what is seen of the entry, and that it is followed, or its verdict
       (λ items es follows long next order. let h = says es follows next order in (h.0, h.1, end_on items es h.0 verdict h.2))
 
   -- a book that numbers the messages of the entries numbers those of the entry too, where the aim is an entry, or the verdict of the entry is given

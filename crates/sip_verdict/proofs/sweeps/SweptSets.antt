@@ -117,6 +117,7 @@ module _ {X S : Type 0} (seen : Texts → S → X) (r : MachineRules X) (lawful 
             Wait-end r lawful (Contains (map (seen b) states)) h m r.ended (record {
               start = seen b x;
               among = Contains-map (seen b) states x among;
+              -- it ends at the same moment, in the same window
               at = ends.at;
               -- the state ends at the same moment
               after = ends.after;

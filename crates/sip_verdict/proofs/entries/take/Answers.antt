@@ -1,5 +1,6 @@
 -- s is what stands before the entry, and e the entry; of histories, e is what is observed of it, and `told` says that they were right before it.
 -- The entry is one that no transaction hears (Unheard), has a fault, is a restart, or is heard by some; `passed` is what the passing promises.
+-- Of what is kept of a heard message, .4 says that the book is as before, or has the message too.
 use Rattle.std.proofs.Common.{◌+◌, None, [], ◌||◌, length, ap, inl, refl, sym, ◌∙◌, subst, arith}
 use Rattle.std.proofs.lemmas.Option.{same_Some}
 use Rattle.sip_machine.specs.Texts.{Keeps}
@@ -27,6 +28,7 @@ pass_each-requires-in-Heard-clause-may g c =
 pub pass_each-requires-in-Heard-clause-hear : goal.pass_each-requires-in-Heard-clause-hear
 pass_each-requires-in-Heard-clause-hear g c =
     let e = c.args.entry.now in
+    -- the event fits the book (.0), is at the entry's moment (.1), concerns keys that all differ (.2), and not just all keys (.3)
     let is_heard = rw c.in-Heard.is at c.in_ok-told.ensures.heard in
     λ h is. subst (MayHear c.observe.new.book c.touch_each.new.tables e.moment) (ap (λ b. b.now) (same_Some _ h is))
     (may_hear c.observe.new.book e.moment c.in-Heard.event c.in-Heard.concerned c.in_ok-concerned-in-Heard.concerned c.args.standing.now.tables c.touch_each.new.tables c.in_ok-concerned-in-Heard.ensures.touched

@@ -45,6 +45,7 @@ loop-found-preserved g c =
       fine = c.in_ok-entry.ensures.ok ∙ l.invariant.fine;
       at = record {
         on = moves.0;
+        -- the survey has not failed, since it took the entry
         goes_on = search rules;
         -- the count, the newest moment and the room are those after the entry
         counts = taken.newest.0 ∙ sym moves.2;

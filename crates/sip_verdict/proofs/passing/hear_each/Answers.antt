@@ -33,6 +33,7 @@ returns-in_ok-hear_one-in-Own-clause-heard g c =
     let u = c.hear_one.new.tables in
     let h = c.args.hearing.now in
     let hear = c.requires.hear in
+    -- `heard` is what the call for the own transaction promises
     let heard = c.in_ok-hear_one-in-Own.ensures in (
       heard.may,
       -- the own transaction is the only hearer

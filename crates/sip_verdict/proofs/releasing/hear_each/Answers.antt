@@ -54,6 +54,7 @@ returns-in-Own-clause-watched g c = on_ok_weaker c.hear_or_release.result (λ wa
 -- where the event concerns its own transaction alone, that one hears it or is released
 pub returns-in-Own-clause-heard : goal.returns-in-Own-clause-heard
 returns-in-Own-clause-heard g c =
+    -- t and b are the tables and the trouble at first, u and d those after the own transaction has heard
     let t = c.args.tables.now in
     let b = c.args.troubled.now in
     let u = c.hear_or_release.new.tables in

@@ -65,6 +65,7 @@ returns-clause-watched g c =
 -- first the transactions whose time is over are released, then the others hear the event: so all have passed the entry
 pub returns-clause-passed : goal.returns-clause-passed
 returns-clause-passed g c =
+    -- t are the tables before, u and d the tables and the trouble after the release, which promises `released`
     let released = c.in_ok-release_overdue.ensures in
     let texts = c.args.book.now in
     let moment = c.args.moment in

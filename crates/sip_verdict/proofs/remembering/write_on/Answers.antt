@@ -44,6 +44,7 @@ entry-requires g c = λ goes_on.
     let moves = rw c.in-Entry.is at c.in_ok-entry.ensures.moves in
     let forgot = c.in_ok-forget_due-in-Entry.ensures in
     let number = moves.1.number_is in
+    -- the cut entry has the number and the moment of the one that was read
     let same = c.in_ok-cut_to-in-Entry.ensures.number in
     let moment = c.in_ok-cut_to-in-Entry.ensures.moment in
     -- after the forgetting the survey has the same number and the same newest moment
@@ -90,6 +91,7 @@ loop-found-preserved g c =
       written = put.fine ∙ l.invariant.written;
       at = record {
         on = moves.0;
+        -- the survey has not failed, since it took the entry
         goes_on = search rules;
         newest = taken.newest.1 ∙ cut.moment ∙ sym moves.2;
       };

@@ -81,6 +81,7 @@ returns-in-Some-clause-shown g c =
     let e = c.in-Ok-Some.entry in
     let fault = c.in-Some.fault in
     let nexts = rw c.in-Ok-Some.field-0-is at c.in-Ok-Some.ensures in
+    -- the entry was not written, since its message has this fault
     let shows = rw c.in-Some.is at c.in_ok-fault.ensures in
     -- the last line tells the fault of the message
     finished c.finish-in-Some.result (Malformed e.number fault) (Answers start first after) (Appends (g.W.Sink.written c.show_entry.new.writer) after (last_text (Malformed e.number fault) ++ line_feed ∷ []))

@@ -67,6 +67,7 @@ loop-found-preserved g c =
       written = put.fine ∙ l.invariant.written;
       at = record {
         on = moves.0;
+        -- the survey has not failed, since it took the entry
         goes_on = search rules;
         -- the count and the newest moment are those of the entries that were read
         counts = taken.newest.0 ∙ sym moves.4;

@@ -24,6 +24,7 @@ returns-in-Ok-None-clause-judged g c es stands =
     let next = comes.next in
     let new = c.judge_next.new in
     let now : Judging = record { number = e.number; moment = e.moment; texts = new.standing.book; tables = new.standing.tables; left = new.left; stage = c.self.inside.stage } in
+    -- what the call promises holds here, since the entry has the next number and is not before the newest
     stands_on c.args.self.now now e next refl refl c.in-Open.is es stands
     ((rw c.in-Ok-None.field-0-is at c.in-Ok-None.ensures.judged) es (subst (λ j. AreFollowed j.texts j.tables j.left es) (sym is) stands.follows) (next ∙ ap (λ n. n + 1) stands.number) (omega (arith, comes.order, stands.moment)))
 

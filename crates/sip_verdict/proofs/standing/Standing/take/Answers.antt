@@ -80,7 +80,7 @@ pass-requires-in-Heard-clause-may g c =
 pub pass-requires-in-Heard-clause-hear : goal.pass-requires-in-Heard-clause-hear
 pass-requires-in-Heard-clause-hear g c =
     let e = c.args.entry.now in
-    -- the event fits the book (.0), is at the entry's moment (.1), concerns keys that all differ (.2), and not just all keys (.3)
+    -- the event fits the book (.0), is at the entry's moment (.1), concerns keys that all differ (.2), and is not one for all keys (.3)
     let is_heard = rw c.in-Heard.is at c.in_ok-told.ensures.heard in
     λ h is. subst (MayHear c.observe.new.book c.touch_each.new.tables e.moment) (ap (λ b. b.now) (same_Some _ h is))
     (may_hear c.observe.new.book e.moment c.in-Heard.event c.in-Heard.concerned c.in_ok-concerned-in-Heard.concerned c.args.self.now.tables c.touch_each.new.tables c.in_ok-concerned-in-Heard.ensures.touched

@@ -88,8 +88,7 @@ module _ (texts : Texts) (numbers : List ℕ) (book : IsBook texts) (up : AllPai
       )
 
 -- What follows shows that the end of a wait does not depend on the book: by the rules r what a state stands for, as `seen` gives it, may end in the same
--- window
--- and wait until the same moment beside each book.
+-- window and wait until the same moment beside each book.
 
 module _ {X S : Type 0} (seen : Texts → S → X) (r : MachineRules X) (lawful : IsLawful r) (window_same : (a b : Texts) (x : S) → r.window (seen a x) ≡ r.window (seen b x))
     (until_same : (a b : Texts) (x : S) → r.until (seen a x) ≡ r.until (seen b x)) where

@@ -63,6 +63,7 @@ module _ (texts : Texts) (book : IsBook texts) (t u : Tabled) (moment : ℕ) (ad
   -- each message that the sets name was kept before the sweep
   pub swept_kept : All (Keeps texts) numbers
   swept_kept = All-of numbers (λ k has.
+      -- the set `new` at the place n names the message k after the sweep, and `old` is what it was before
       (let (new, (n, low, is), in_set) = Contains-from_flat_map numbers_of u.sets k ((same k).0 has) in
       let at : slice_get u.sets n ≡ Some new = slice_get-get_or u.sets n new low ∙ ap Some is in
       let (old, was) = before n new at in

@@ -172,6 +172,7 @@ module _ (t : Tabled) (number : ℕ) (ns : List ℕ) (low : 0 < number) (after :
 heard_record : (texts : Texts) (event : NumberedEvent) (number : ℕ) (ns : List ℕ) (t u : Tabled) (outcome : Outcome) → IsGiven t number → AreOnRecord (number ∷ ns) t → Hears texts event number t u outcome → outcome ≡ all.Fine
     → AreOnRecord ns u
 heard_record texts event number ns t u outcome given old h fine =
+    -- `left`: the set stands in its place, with its last moment, `limit`, on record
     let (limit, agenda, left) = subst (λ o. Leaves number h.after o t u) fine h.leaves in
     settled t number ns given.low h.after limit agenda old u (ap (λ x. x.keys) left) (ap (λ x. x.sets) left) (ap (λ x. x.records) left)
 

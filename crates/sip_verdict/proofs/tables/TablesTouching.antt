@@ -153,6 +153,7 @@ module _ (texts : Texts) (p : Times) where
   -- what is kept of keys is kept when one key is looked up, and of that key too
   touched : (key : KeyParts) (number : ℕ) (old new : Tabled) → old.times ≡ p → length old.sets ≡ length old.keys → Touches key number old new
       → IsTouched (key_keeping texts p) (key, start_of p key) (transactions_of old) (transactions_of new)
+  -- the key was known, and the tables are the same
   touched key number old new times long (inl h) = inl (
     ap transactions_of h.1,
     subst (λ ks. Contains ks key) (sym (keys_are old long)) (number - 1, slice_get_within old.keys (number - 1) key h.0.1, get_or_from_slice_get old.keys (number - 1) key key h.0.1),

@@ -36,11 +36,11 @@ first_or_none : (P : KeyParts → Type 0) (keys : List KeyParts) → Weakly (All
 first_or_none P [] never = never (inl (All-nil (λ k. ¬ (P k))))
 first_or_none P (key ∷ keys) never = first_or_none P keys at
   where
-    -- P does not hold of the first key
+    -- P does not hold of the first key, which would else be the first of which it holds
     here : P key → ⊥
     here holds = never (inr (1, ([], key, keys, refl, holds, All-nil (λ k. ¬ (P k)), refl)))
 
-    -- P holds of no later key, or of a first one
+    -- a contradiction follows whether P holds of no later key, or of a first one
     at : (All (λ k. ¬ (P k)) keys ⊎ ((n : ℕ) × IsFirstKey P keys n)) → ⊥
     at (inl none) = never (inl (All-cons (λ k. ¬ (P k)) key keys here none))
     at (inr (n, (before, first, rest, is, holds, earlier, counts))) =
@@ -70,12 +70,12 @@ module _ (p : Times) (es : List (Observation KeyParts)) (e : Observation KeyPart
   fine_or_trouble : ((v : Verdict) → ¬ (HasTrouble p es e v)) → Weakly (IsFine p es e)
   fine_or_trouble no_trouble not_fine = by_fault e.fault refl
     where
-      -- no key is too wide, or some key is the first that is
+      -- where each key has a run, a contradiction follows whether no key is too wide, or some key is the first that is
       by_width : e.fault ≡ None → All Runs keys → (All (λ key. ¬ (Wide key)) keys ⊎ ((n : ℕ) × IsFirstKey Wide keys n)) → ⊥
       by_width none runs (inl narrow) = not_fine (record { formed = none; runs = runs; narrow = narrow })
       by_width none runs (inr (n, first)) = no_trouble (Undecided (length es + 1) n) (refl, none, runs, first)
 
-      -- each key has a run, or some key is the first without one
+      -- without a fault a contradiction follows whether each key has a run, or some key is the first without one
       by_run : e.fault ≡ None → (All (λ key. ¬ (¬ (Runs key))) keys ⊎ ((n : ℕ) × IsFirstKey (λ key. ¬ (Runs key)) keys n)) → ⊥
       by_run none (inl all) = all_of Runs keys all (λ runs. first_or_none Wide keys (by_width none runs))
       by_run none (inr (n, first)) = no_trouble (Breach (length es + 1) n) (refl, none, first)

@@ -62,6 +62,7 @@ module _ (old new : Texts) (number : ℕ) (bytes : List ℕ) where
       let o = some_machine set in
       let names = (meaning_of o.0).names in
       subst (IsKnownSet new) (sym o.2)
+      -- each message that a state of the set names was kept in the old book, and so is in the new one
       (to_set (λ X M S m s. IsKnown m new s) o.0 o.1
       (All-weaker (Knows names old) (Knows names new) (λ x knows. All-weaker (Keeps old) (Keeps new) (grown_keeps grown) (names x) knows) o.1.states
       (of_set (λ X M S m s. IsKnown m old s) o.0 o.1 (subst (IsKnownSet old) o.2 known))))

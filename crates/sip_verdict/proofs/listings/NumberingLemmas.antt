@@ -50,6 +50,7 @@ module _ (items : List Item) (i : Item) (old : Texts) (a : AreNumbered items old
   -- where the item concerns no key, or the book has its message already, the book numbers the entries with the item too
   same_book : (¬ ConcernsNone i → (n : ℕ) × Keeps old n × (text_of old n ≡ i.text)) → AreNumbered (items ++ i ∷ []) old
   same_book kept = record {
+    -- no number of the book is 0, each is that of the first entry with its bytes, and each entry that concerns a key has its message there
     some = a.some;
     numbered = stay_numbered items (i ∷ []) old a;
     kept = All-push (λ j. ¬ ConcernsNone j → (n : ℕ) × Keeps old n × (text_of old n ≡ j.text)) items i a.kept kept;

@@ -91,6 +91,7 @@ module _ (start : Option (List ℕ)) (now : log.ReaderState) (old w : Option (Li
     ends : (end : LogEnd) (shown : Shown) → EndsAs (length s.items) [] end shown → (t : Option Times) → t ≡ Some s.times → IfSome start (λ input. IfSome t (λ p. LogSays input p s.items end))
         → Appends w w2 (last_text shown ++ line_feed ∷ []) → Answers start old w2 shown
     ends end shown is t same logs last =
+        -- the log l of the input has the items that were shown, and ends here; all that was written is their text and the last line
         IfSome-map start (λ input. IfSome t (λ p. LogSays input p s.items end)) (λ input. (text : List ℕ) × IsShownOf input text shown × Appends old w2 text) (λ input l. (
           s.text ++ (last_text shown ++ line_feed ∷ []),
           -- all items of the log were shown

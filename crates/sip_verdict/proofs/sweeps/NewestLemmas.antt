@@ -64,6 +64,7 @@ module _ (number : ℕ) (bytes : List ℕ) (new : Texts) where
   agree machine s unnamed knows k d low n has =
       let names = (meaning_of machine).names in
       let x = get_or s.states k d in
+      -- x is the state at the place k, and the old book keeps the message n that it names
       let kept = All-contains (Keeps old) (names x) n (knows k d low) has in
       go (Keeps-grow_cases new number bytes n kept)
     where

@@ -100,7 +100,7 @@ module _ {X S : Type 0} (seen : Texts → S → X) (r : MachineRules X) (lawful 
       -- the run waits on by the other book, whether it stays or ends
       go : StaysFrom r (Contains (map (seen a) states)) h m y ⊎ EndsFrom r (Contains (map (seen a) states)) h m y → (y : X) × Wait r (Contains (map (seen b) states)) h m y
       go (inl stays) =
-          -- the state stays, or it ends
+          -- the state stays: it can be waited in until the same moment beside both books
           let (x, among, is) = Contains-from_map (seen a) states y stays.among in (
             seen b x,
             Wait-stay r (Contains (map (seen b) states)) h m (seen b x) (record {

@@ -87,6 +87,7 @@ touches_may texts moment ks ns old new may h = touches_elim (λ t. MayPass texts
     -- one key more leaves what the entry may pass
     more : (t : Tabled) (key : KeyParts) → MayPass texts t moment → MayPass texts (with_key t key) moment
     more t key m = record {
+      -- the set that the key starts with is of the moment 0 and names no message, and there are as many sets as keys
       order = All-push (λ set. moment_of set ≤ moment) t.sets (start_of t.times key) m.order (let at = start_at t.times key in omega arith);
       known = All-push (IsKnownSet texts) t.sets (start_of t.times key) m.known (start_known texts t.times key);
       long = long_more t key m.long;

@@ -37,6 +37,7 @@ returns g c =
     let n = c.loop-number.number in
     let fresh = c.new-text.ensures.bytes in
     let counted = c.len-count.ensures in
+    -- `is_text`: once the texts of all transactions were appended to nothing, they are the whole text
     let is_text : (text : List ℕ) → AppendsEach t (up_to (length t.keys)) (string_bytes c.new-text.result) text → IsTextOf t (up_to (length t.keys)) text =
     λ text each. text_of_some t (up_to (length t.keys)) text (up_to-some (length t.keys) (omega arith)) (subst (λ old. AppendsEach t (up_to (length t.keys)) old text) fresh each) in
     -- the loop ended before the last number was passed, or right after the last text

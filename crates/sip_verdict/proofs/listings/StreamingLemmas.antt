@@ -37,7 +37,7 @@ streams_on count old mid new left before rest after is on e numbered number mome
     let continues = steps.moves.1 in (
       steps.moves.0,
       record {
-        -- the entry has the next number, keeps order and is within the limits
+        -- the entry has the next number, keeps order and is within the limits; 65535 is the most bytes that a message in a log may have
         number_is = number;
         order = subst (λ m. old.last ≤ m) (sym moment) (subst (λ m. m ≤ e.moment) (ap (λ (q : ProgressState). q.last) is) continues.order);
         moment_high = subst (λ m. m ≤ last_moment) (sym moment) continues.moment_high;

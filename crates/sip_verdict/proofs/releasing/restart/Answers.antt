@@ -25,7 +25,7 @@ returns-clause-watched g c = λ h.
 -- all transactions hear the restart, one after another
 pub returns-clause-heard : goal.returns-clause-heard
 returns-clause-heard g c =
-    -- t are the tables, and the hearers are all the numbers of which the set is to hear a restart
+    -- t are the tables, and the hearers are the numbers of all sets that a restart may change
     let t = c.args.tables.now in (
       c.as_slice.result.now,
       subst (AreHearers t concerned.All) (sym c.as_slice.ensures.value) (all_hearers t c.in_ok-numbers.numbers.items c.in_ok-numbers.ensures),

@@ -206,6 +206,7 @@ went Restart says = absurd (false≢true says)
 -- of two entries whose messages have the same bytes, one concerns no key exactly as the other does
 pub none_alike : (i j : Item) → i.text ≡ j.text → has_message i.action ≡ true → has_message j.action ≡ true → ConcernsNone i → ConcernsNone j
 none_alike i j same i_says j_says (e, seen, none) =
+    -- each of the two messages went some way, and concerns no key whichever way it went
     let (way, i_goes) = went i.action i_says in
     let (direction, j_goes) = went j.action j_says in
     let (f, f_seen, f_none) = other_way way direction i j e same (subst (λ d. MatchOption d (e ≡ silent_observation i.action i.moment []) (λ way. ObservesMessage way i e)) i_goes seen) none in

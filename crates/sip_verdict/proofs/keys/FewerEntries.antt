@@ -39,6 +39,7 @@ newest last es = fold (λ moment e. e.event.moment) last es
 newest-from : (last : ℕ) (front more : List (Observation KeyParts)) → All (IsFrom last) (front ++ more) → AllPairs IsNotAfter (front ++ more) → last ≤ newest last front
 newest-from last [] more from order = omega arith
 newest-from last (e ∷ front) more from order =
+    -- the first entry is not before `last`, and the newest is not before the first
     let here : last ≤ e.event.moment = All-head (IsFrom last) e (front ++ more) from in
     let later : e.event.moment ≤ newest e.event.moment front = newest-from e.event.moment front more (AllPairs-head IsNotAfter e (front ++ more) order) (AllPairs-tail IsNotAfter e (front ++ more) order) in
     omega arith

@@ -32,6 +32,7 @@ use Rattle.sip_verdict.proofs.tables.NamedTables.{no_events_silent}
 not_below : (texts : Texts) → AllPairs (λ a b. a.0 < b.0) texts → (d : ℕ × List ℕ) (i : ℕ) → i < length texts → i ≤ (get_or texts i d).0
 not_below texts rising d zero low = omega arith
 not_below texts rising d (suc i) low =
+    -- its number is above that of the message before it, which is not below its own place
     let before = not_below texts rising d i (omega (arith, low)) in
     let more = rising i (suc i) d (omega arith) low in
     omega (arith, before, more)
@@ -139,6 +140,7 @@ module _ (old mid : Texts) (t u : Tabled) (times : u.times ≡ t.times) (number 
       )
 
   -- where the entry is in no trouble and the book was swept, what is left follows the entry too
+  -- `tracks`: the sweep keeps what the tables track; `named`: the book then has as many messages as are named; `now` counts them
   pub followed_swept : Says None → (texts : Texts) (v : Tabled) → v.times ≡ u.times → ((es : List (Observation KeyParts)) → TablesTrack mid es u → TablesTrack texts es v)
       → ((es : List (Observation KeyParts)) → TablesTrack mid es u → newest_moment es ≡ i.moment → AreMany (IsNamed u.times es) (length texts))
       → (now : ℕ) → now ≡ length texts → (left : ℕ) (es : List (Observation KeyParts)) → AreFollowed old t left es → number ≡ length es + 1 → newest_moment es ≤ i.moment

@@ -155,6 +155,7 @@ until_of machine p a b x = until_same (transaction_of machine).figure (coded_of 
 -- where a last moment is on record of a set, it is that of the set after a sweep
 pub swept_agenda : (texts : Texts) → IsBook texts → (moment : ℕ) (old new : AnySet) → moment_of old ≤ moment → IsAdvanced moment old new
     → IsKnownSet texts old → (limit : Option ℕ) → IsAgendaOf limit old → IsAgendaOf limit new
+-- the set was not made to wait, and is as it was; or it has waited
 swept_agenda texts book moment old new low (inr (same, silent)) known limit agenda = subst (IsAgendaOf limit) (sym same) agenda
 swept_agenda texts book moment old new low (inl waits) known limit agenda =
     let (machine, s, is) = some_machine old in

@@ -12,7 +12,7 @@ use Rattle.sip_verdict.proofs.releasing.restart.Goals as goal
 pub hear_numbers-requires-clause-given : goal.hear_numbers-requires-clause-given
 hear_numbers-requires-clause-given g c = subst (All (IsGiven c.args.tables.now)) (sym c.as_slice.ensures.value) c.in_ok-numbers.ensures.given
 
--- the restart was heard, and the next entry may come
+-- the restart was heard, and the tables may still pass its moment
 pub returns-clause-may : goal.returns-clause-may
 returns-clause-may g c = subst (λ u. MayPass c.args.book.now u c.args.event.now.moment) (sym c.restarted.ensures) c.in_ok-hear_numbers.ensures.may
 

@@ -61,6 +61,7 @@ one-token text (t, r) (u, s) one other =
 -- a mark at the front of a text is read in one way
 pub one-mark : (mark : ℕ) (text : List ℕ) → is_lws_byte mark ≡ false → AtMostOne (MarkFront mark text)
 one-mark mark text solid r s one other =
+    -- by both readings the mark is the first byte after the blanks at the front, and what is left is what follows the blanks after it
     let a = mark-parts mark text r solid one in
     let b = mark-parts mark text s solid other in
     let marks : ◌≡◌ {A = List ℕ} (mark ∷ a.0) (mark ∷ b.0) = same-behind text (mark ∷ a.0) (mark ∷ b.0) a.1 b.1 in
@@ -98,6 +99,7 @@ bare-byte b is u text = subst (All B) (sym text) (is, tt)
 -- a byte in a range is in each wider range
 wider : (low high lower higher b : ℕ) → lower ≤ low → high ≤ higher → is_in_range low high b ≡ true → is_in_range lower higher b ≡ true
 wider low high lower higher b l h is =
+    -- the byte is between the inner bounds, and so between the outer ones
     let both = and_parts (nat_le low b) (nat_le b high) is in
     let least = leb-true low b both.0 in
     let most = leb-true b high both.1 in
@@ -143,6 +145,7 @@ token-byte b is u text = subst (All T) (sym text) (is, tt)
 -- all bytes of a hostname are bytes of tokens
 pub each-hostname : Each T Hostname
 each-hostname =
+    -- the labels, each with its dot, and the last label, with a dot after it or none
     each-then T _ _ (each-many T _ (each-then T _ _ (each-or T _ _ alnum (each-then T _ _ alnum (each-then T _ _ labels alnum))) (token-byte dot refl)))
     (each-then T _ _ (each-or T _ _ alpha (each-then T _ _ alpha (each-then T _ _ labels alnum))) (each-optional T _ (token-byte dot refl)))
   where
@@ -161,6 +164,7 @@ each-hostname =
 -- all bytes of an IPv4 address are bytes of tokens
 pub each-v4 : Each T Ipv4
 each-v4 =
+    -- four groups of digits, with a dot between each two
     each-then T _ _ group (each-then T _ _ (token-byte dot refl) (each-then T _ _ group (each-then T _ _ (token-byte dot refl)
     (each-then T _ _ group (each-then T _ _ (token-byte dot refl) group)))))
   where
@@ -176,6 +180,7 @@ bare-all (b ∷ u) all = (bare-token b all.0, bare-all u all.1)
 -- all bytes of an IPv6 address are bare: bytes of tokens, or colons
 pub each-v6 : Each B Ipv6
 each-v6 =
+    -- a hexpart, with ":" and an IPv4 address after it or not; or hexseq "::" or "::" alone, and then an IPv4 address
     each-or B _ _ (each-then B _ _ hexpart (each-optional B _ (each-then B _ _ (bare-byte colon refl) v4_bare)))
     (each-then B _ _ (each-or B _ _ (each-then B _ _ hexseq double) double) v4_bare)
   where
@@ -197,6 +202,7 @@ each-v6 =
 
     -- all bytes of a hexpart are bare
     hexpart : Each B Hexpart
+    -- a hexseq; or one, "::" and perhaps another one; or "::" and perhaps a hexseq
     hexpart = each-or B _ _ hexseq (each-or B _ _ (each-then B _ _ hexseq (each-then B _ _ double (each-optional B _ hexseq))) (each-then B _ _ double (each-optional B _ hexseq)))
 
 -- all bytes of a token or of an IPv6 address are bare
@@ -230,6 +236,7 @@ items-contents text many = many-flat (Qdtext or QuotedPair) QuotedItem text each
   where
     -- blanks are pieces, and so is each other content
     each : (u : List ℕ) → (Qdtext or QuotedPair) u → Many QuotedItem u
+    -- a blank run of several bytes, a byte of text, or a backslash with its byte
     each u (inl (inl lws)) = many-map Blank QuotedItem u (λ w blank. inr (inr blank)) (blanks-lws u lws)
     each u (inl (inr byte)) = many-one QuotedItem u (inl byte)
     each u (inr pair) = many-one QuotedItem u (inr (inl pair))

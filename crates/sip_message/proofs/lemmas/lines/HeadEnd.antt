@@ -32,6 +32,7 @@ four (x ∷ y ∷ z ∷ w ∷ t) a b c d long e f g h =
 
 -- where CRLF CRLF occurs at place k, the text is its first k bytes, CRLF CRLF and what follows
 occurs-cut : (t : List ℕ) (k : ℕ) → OccursAt t double_end k → t ≡ take k t ++ (crlf ++ (crlf ++ drop 4 (drop k t)))
+-- the first k bytes and the others are the text, and the others begin with the four bytes
 occurs-cut t k at = sym (take-append-drop k t) ∙ ap (λ x. take k t ++ x) (four (drop k t) 13 10 13 10 (omega (arith, at.fits, length-drop k t)) (byte 0 (omega arith)) (byte 1 (omega arith)) (byte 2 (omega arith)) (byte 3 (omega arith)))
   where
     -- each of the four bytes from place k on is one of CRLF CRLF
@@ -70,6 +71,7 @@ inner-rest t rest from k within is at = record {
 -- where LF CR LF occurs in the rest from `from` on at place k, it occurs in the text at place from + k
 rest-inner : (t rest : List ℕ) (from k : ℕ) → from ≤ length t → rest ≡ drop from t → OccursAt rest inner_end k → OccursAt t inner_end (from + k)
 rest-inner t rest from k within is at = record {
+  -- the rest begins `from` bytes later than the text, so its places are by so much less
   fits = omega (arith, at.fits, ap length is, length-drop from t, within);
   reads = λ j below. ap (λ i. get_or t i 0) (omega arith) ∙ sym (get_or-drop from t (k + j) 0) ∙ sym (ap (λ r. get_or r (k + j) 0) is) ∙ at.reads j below;
 }
@@ -86,12 +88,14 @@ double-rest t rest from j within is none at =
 
 -- where LF CR LF occurs nowhere in the rest, and CRLF CRLF does not begin early, CRLF CRLF occurs nowhere in the text
 pub nowhere-double : (t rest : List ℕ) (from : ℕ) → from ≤ length t → rest ≡ drop from t → NoneSoFar t from → Nowhere (OccursAt rest inner_end) 0 (length rest + 1) → Nowhere (OccursAt t double_end) 0 (length t + 1)
+-- at k + 1, which lies in the rest, LF CR LF would occur
 nowhere-double t rest from within is none nowhere k low high at =
     let there = double-rest t rest from k within is none at in
     nowhere (k + 1 - from) (omega arith) (omega (arith, there.1.fits)) there.1
 
 -- up to the first LF CR LF of the rest, CRLF CRLF begins nowhere in the text
 pub none-before : (t rest : List ℕ) (from k : ℕ) → from ≤ length t → rest ≡ drop from t → NoneSoFar t from → NoneBefore (OccursAt rest inner_end) 0 (length rest + 1) k → NoneSoFar t (from + k)
+-- at j + 1 LF CR LF would occur in the rest, before the first place where it does
 none-before t rest from k within is none first j below at =
     let there = double-rest t rest from j within is none at in
     first.before (j + 1 - from) (omega arith) (omega (arith, below, there.0)) there.1
@@ -120,6 +124,7 @@ first-double t rest from k within is none first at some cr = (
 -- where no CR stands before the LF CR LF at a place, CRLF CRLF does not begin there either
 pub none-more : (t : List ℕ) (at : ℕ) → NoneSoFar t at → ((0 < at) × (get_or t (at - 1) 0 ≡ carriage_return) → ⊥) → NoneSoFar t (at + 1)
 none-more t at none other j below double =
+    -- j is before the place, where nothing was found, or is the place before it, where no CR stands
     elim (cases_lt (j + 1) at) [
       | inl low ↦ none j low double
       | inr high ↦ other (omega (arith, below, high), ap (λ i. get_or t i 0) (omega (arith, below, high)) ∙ double.reads zero (omega arith))
@@ -127,10 +132,12 @@ none-more t at none other j below double =
 
 -- where CRLF CRLF occurs nowhere in the bytes, they have no head
 pub no-head : (t : List ℕ) → Nowhere (OccursAt t double_end) 0 (length t + 1) → NotRead (CutSays t)
+-- the front of such a head would have CRLF CRLF after it, which occurs nowhere
 no-head t none (head, body) is = none (length is.front) (omega arith) (omega (arith, (cut-occurs t is.front body is.whole).fits)) (cut-occurs t is.front body is.whole)
 
 -- where CRLF CRLF occurs first at place k, the head ends after its first CRLF, and the body begins after its second
 pub one-head : (t : List ℕ) (k : ℕ) → NoneBefore (OccursAt t double_end) 0 (length t + 1) k → OccursAt t double_end k → ReadAs (CutSays t) (take (k + 2) t, drop (k + 4) t)
+-- the text is cut so, and in one way: another cut has the same head and body
 one-head t k first at = (is, (λ x other. let same = same_head t x.0 x.1 (take (k + 2) t) (drop (k + 4) t) other is in ap (λ h. (h, x.1)) same.0 ∙ ap (λ b. (take (k + 2) t, b)) same.1))
   where
     -- what follows CRLF CRLF
@@ -159,6 +166,7 @@ one-head t k first at = (is, (λ x other. let same = same_head t x.0 x.1 (take (
       where
         -- u is not shorter than k bytes, since no CRLF CRLF begins before the place k
         at_least : (b : Bool) → nat_lt (length u) k ≡ b → length (take k t) ≤ length u
+        -- u would end before the place k, and CRLF CRLF occur there
         at_least true below = absurd (first.before (length u) (omega arith) (omega (arith, ltb-true (length u) k below)) (cut-occurs t u v is))
         at_least false above = omega (arith, len, ltb-false (length u) k above)
 
@@ -197,6 +205,7 @@ CleanPiece = Exactly crlf or One is_inner_byte
 -- a text without a bare line end begins with a byte that is neither CR nor LF, or with CRLF, and its rest has none
 -- b is the first byte and t the rest; v is the text after a CRLF
 clean-first : (b : ℕ) (t : List ℕ) → HasNoBareEnd (b ∷ t) → ((is_inner_byte b ≡ true) × HasNoBareEnd t) ⊎ ((v : List ℕ) × (b ∷ t ≡ crlf ++ v) × HasNoBareEnd v)
+-- without pieces the text would be empty
 clean-first b t ([], all, whole) = absurd (omega (arith, ap length whole))
 -- u is the first piece, which is CRLF or one byte c, and us are the others
 clean-first b t (u ∷ us, (inl is, all), whole) = inr (concat us, whole ∙ ap (λ x. x ++ concat us) is, (us, all, refl))
@@ -225,11 +234,13 @@ pair-back a t k paired =
 
 -- where a LF stands rightly at each place of a and a text, it does so byte by byte
 paired-each : (a : ℕ) (t : List ℕ) → ((k : ℕ) → k ≤ length t → IsPaired (a ∷ t) k) → Paired a t
+-- at the first place it does for a and what follows it; at each later place it does for the text without a
 paired-each a [] each = each 0 (omega arith)
 paired-each a (b ∷ t) each = (each 0 (omega arith), paired-each b t (λ k within. pair-back a (b ∷ t) k (each (suc k) (omega (arith, within)))))
 
 -- where a LF stands rightly after a and each byte of a text, it does so at each place
 each-paired : (a : ℕ) (t : List ℕ) → Paired a t → (k : ℕ) → k ≤ length t → IsPaired (a ∷ t) k
+-- at the place 0 it is of a, and at a later one of the text without a
 each-paired a [] paired zero within = paired
 each-paired a [] paired (suc k) within = absurd (omega (arith, within))
 each-paired a (b ∷ t) paired zero within = paired.0
@@ -277,6 +288,7 @@ clean-paired a (b ∷ c ∷ t) no_end clean = at (clean-first b (c ∷ t) clean)
 
 -- a text in which a LF stands after each CR, and after no other byte, has no bare line end
 paired-clean : (a : ℕ) (t : List ℕ) → nat_eq a carriage_return ≡ false → Paired a t → HasNoBareEnd t
+-- the text is empty, has one byte b, or two or more: in each case what it begins with is a piece of a clean text
 paired-clean a [] no_end paired = many-nil CleanPiece
 paired-clean a (b ∷ []) no_end paired =
     many-cons CleanPiece (b ∷ []) [] (inr (b, parts-inner b paired.1 (sym paired.0 ∙ no_end), refl)) (many-nil CleanPiece)
@@ -298,6 +310,7 @@ paired-clean a (b ∷ c ∷ t) no_end paired = at (nat_eq b carriage_return) ref
 
 -- in a text without a bare line end, a LF stands after the byte at each place exactly if the byte is a CR
 pub clean-each : (t : List ℕ) → HasNoBareEnd t → (k : ℕ) → k < length t → IsPaired t k
+-- in a text of no bytes there is no place
 clean-each [] clean k below = absurd (omega (arith, below))
 clean-each (b ∷ t) clean k below = each-paired b t (clean-paired 0 (b ∷ t) refl clean).1 k (omega (arith, below))
 

@@ -174,14 +174,14 @@ read-only rest text vals more e behind es next read only = (first.others, first.
 -- where an element is read at the front of the next text, there is one list of elements that are left after it
 pub One-next : (rest text : List ℕ) (vals more : List (List ℕ)) (e : Element) (behind : List ℕ) → ((es : List Element) → AreLeft rest vals es → NextText rest vals text more) → ReadAs (ViaFront text) (e, behind) → ExactlyOne (AreLeft rest vals) → ExactlyOne (AreLeft behind more)
 One-next rest text vals more e behind next read one =
-    -- it is shown of each list that is the only one, and so of the one that there is, since lists of elements are not told apart by how they were found
+    -- which list that is, is not known: it is shown of any list that may be it, which is enough, since there is exactly one or none
     ∥∥₁_elim one.1 (One-prop elements_code (AreLeft behind more)) (λ p. let read_it = read-only rest text vals more e behind one.0 (next one.0 p.is) read p in (read_it.0, ∣ read_it.2 ∣₁))
 
 -- where an element is read at the front of the next text, the elements that are left are it and those that are left after it
 pub One-first : (rest text : List ℕ) (vals more : List (List ℕ)) (e : Element) (behind : List ℕ) → ((es : List Element) → AreLeft rest vals es → NextText rest vals text more) → ReadAs (ViaFront text) (e, behind) → (one : ExactlyOne (AreLeft rest vals)) (then : ExactlyOne (AreLeft behind more)) → the one ≡ e ∷ the then
 unfolding the
 One-first rest text vals more e behind next read one then =
-    -- the list of those that are left after the first is the only one, so the whole list is the first and it
+    -- of any list that may be the one, its first element is the one that was read, and its others are those that are left after it
     ∥∥₁_elim one.1 (Coded-set elements_code one.0 (e ∷ then.0))
     (λ p. let read_it = read-only rest text vals more e behind one.0 (next one.0 p.is) read p in read_it.1 ∙ ap (λ t. e ∷ t) (sym (One-is elements_code (AreLeft behind more) then read_it.0 read_it.2.is)))
 

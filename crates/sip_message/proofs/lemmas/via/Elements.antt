@@ -46,6 +46,7 @@ values-passed known xs i d below is = values-at known xs i d below ∙ cond-fals
 -- a value of which R holds is the one value of which it holds
 pub One-is : {X : Type 0} → Coded X → (R : X → Type 0) (o : ExactlyOne R) (x : X) → R x → the o ≡ x
 unfolding the
+-- the hidden proof that the value is the only one may be used, since what is shown is an equation of coded values
 One-is c R o x is = ∥∥₁_elim o.1 (Coded-set c o.0 x) (λ p. sym (p.only x is))
 
 -- an element begins with no blank
@@ -174,26 +175,26 @@ read-only rest text vals more e behind es next read only = (first.others, first.
 -- where an element is read at the front of the next text, there is one list of elements that are left after it
 pub One-next : (rest text : List ℕ) (vals more : List (List ℕ)) (e : Element) (behind : List ℕ) → ((es : List Element) → AreLeft rest vals es → NextText rest vals text more) → ReadAs (ViaFront text) (e, behind) → ExactlyOne (AreLeft rest vals) → ExactlyOne (AreLeft behind more)
 One-next rest text vals more e behind next read one =
-    -- which list that is, is not known: it is shown of any list that may be it, which is enough, since there is exactly one or none
+    -- the proof that the list is the only one is hidden: it may be used here, since what is shown has one proof at most
     ∥∥₁_elim one.1 (One-prop elements_code (AreLeft behind more)) (λ p. let read_it = read-only rest text vals more e behind one.0 (next one.0 p.is) read p in (read_it.0, ∣ read_it.2 ∣₁))
 
 -- where an element is read at the front of the next text, the elements that are left are it and those that are left after it
 pub One-first : (rest text : List ℕ) (vals more : List (List ℕ)) (e : Element) (behind : List ℕ) → ((es : List Element) → AreLeft rest vals es → NextText rest vals text more) → ReadAs (ViaFront text) (e, behind) → (one : ExactlyOne (AreLeft rest vals)) (then : ExactlyOne (AreLeft behind more)) → the one ≡ e ∷ the then
 unfolding the
 One-first rest text vals more e behind next read one then =
-    -- of any list that may be the one, its first element is the one that was read, and its others are those that are left after it
+    -- the hidden proof may be used, since it is an equation of lists: the first element is the one read, and the others are those left after it
     ∥∥₁_elim one.1 (Coded-set elements_code one.0 (e ∷ then.0))
     (λ p. let read_it = read-only rest text vals more e behind one.0 (next one.0 p.is) read p in read_it.1 ∙ ap (λ t. e ∷ t) (sym (One-is elements_code (AreLeft behind more) then read_it.0 read_it.2.is)))
 
 -- where nothing can be left, the list of the elements that are left is empty
 pub One-none : (rest : List ℕ) (vals : List (List ℕ)) (one : ExactlyOne (AreLeft rest vals)) → ((es : List Element) → AreLeft rest vals es → es ≡ []) → the one ≡ []
 unfolding the
--- the one list is one that can be left, and so empty
+-- the one list can be left, and so is empty; the hidden proof of that may be used for an equation of lists
 One-none rest vals one none = ∥∥₁_elim one.1 (Coded-set elements_code one.0 []) (λ p. none one.0 p.is)
 
 -- where there is one list of the elements that are left, it cannot be that no element is read at the front of the next text
 pub One-read : (rest text : List ℕ) (vals more : List (List ℕ)) → ((es : List Element) → AreLeft rest vals es → NextText rest vals text more) → NotRead (ViaFront text) → ExactlyOne (AreLeft rest vals) → ⊥
--- the list would have an element that is read at the front
+-- the list would have an element that is read at the front; the hidden proof of that may be used, since nothing is left to be shown
 One-read rest text vals more next none one = ∥∥₁_elim one.1 (λ a b. absurd a) (λ p. no-first text more one.0 none ((next one.0 p.is).to one.0 p.is))
 
 -- an iterator whose list is empty yields nothing, and its list stays empty

@@ -78,7 +78,7 @@ unfold-solid old text out mid new from at below solid u mid_is new_is = record {
 -- where memory is refused, some part of the text was appended
 -- `from` and `at` are where the loop began and how far it has come, and r is the result of the call that was refused memory
 pub unfold-part : {A E : Type 0} (old text out new goal : List ℕ) (from at : ℕ) (r : Result A E) → IsErr r → Unfolding old text from at out → (part : List ℕ) × (new ≡ out ++ part) → Appends old new goal r
--- the call was not refused memory, though it should have been
+-- the result would be a value, though it is an error
 unfold-part old text out new goal from at (Ok a) err u is = absurd (both_ways false refl err)
 -- after what was written, a part of the rest was appended
 unfold-part old text out new goal from at (Err e) err u is = (u.done ++ is.0, is.1 ∙ ap (λ x. x ++ is.0) u.appended ∙ append_assoc old u.done is.0)

@@ -64,7 +64,7 @@ returns-in_default-clause-row c = λ _.
 -- a field with another name than these six is not asked for
 pub returns-in_default-clause-asked : goal.returns-in_default-clause-asked
 returns-in_default-clause-asked c = λ _.
-    -- of each of the six names: the field's name is another, since the match has no case for it
+    -- each of the six names is another one than the field's, since the match has a case for each of them
     let name = name_parts c.args.name in
     let via : is_name_of known_name.Via name ≡ false = search rules in
     let from : is_name_of known_name.From name ≡ false = search rules in
@@ -83,7 +83,7 @@ returns-in_default-2-clause-row c = λ _.
 -- a field with another name than these six is not asked for
 pub returns-in_default-2-clause-asked : goal.returns-in_default-2-clause-asked
 returns-in_default-2-clause-asked c = λ _.
-    -- of each of the six names: the field's name is another, since it is none of the known ones that are matched
+    -- each of the six names is another one than the field's, since the match has a case for each of them
     let name = name_parts c.args.name in
     let via : is_name_of known_name.Via name ≡ false = search rules in
     let from : is_name_of known_name.From name ≡ false = search rules in

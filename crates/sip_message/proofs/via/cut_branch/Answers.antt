@@ -9,6 +9,7 @@ use Rattle.sip_message.proofs.via.cut_branch.Goals as goal
 -- with one parameter more the first branch is still the one that was found
 pub params-preserved : goal.params-preserved
 params-preserved c =
+    -- p is the parameter that was read
     let p : Param = (c.in-Some.name.now, option_copied c.in-Some.value) in
     subst (Decides c.args.text.now c.in-Some.more.now) (sym (ap option_copied c.or-branch.ensures ∙ copied-or c.params.branch c.in_ok-branch_of.field-0))
     (decides-more c.args.text.now c.params.rest.now c.in-Some.more.now p (option_copied c.params.branch) (option_copied c.in_ok-branch_of.field-0)

@@ -1,5 +1,7 @@
 -- Where the mask of one load is 0, all bytes of the load pass a test, and a number of eight bytes keeps the first k of them when it is moved up.
 -- In the lemmas b0 to b7 are eight bytes, and h0 to h7 say that each is below 256; d is the bytes, i and j places in them, z a list of lanes.
+-- A load (`chunk i n d`) is the n bytes of d from the place i on; `top 7` is the top bit of a lane, `mask_l` the number that bits make, and `zip2 o` joins
+-- two lists by the operation o. `agree_below f g 256` says that two functions of a byte agree at each byte.
 use Rattle.std.proofs.Common.{◌≡◌, ℕ, zero, suc, ◌+◌, ◌-◌, ◌*◌, ◌%◌, ◌^◌, ◌<◌, ◌≤◌, eqb, Bool, true, false, not, cond, ◌||◌, List, [], ◌∷◌, map, length, take, get_or, Fits, w8, w64, refl, sym, ap, ap₂, ◌∙◌, subst, arith}
 use Rattle.std.proofs.lemmas.Bool.{both_ways, agree_below, agree_below_at, not-true, eqb-true}
 use Rattle.std.proofs.lemmas.Simd.{map-map, mask_l-mod, length-chunk, length-zip2, get_or-chunk, get_or-zip2, leading_from_mask_l}

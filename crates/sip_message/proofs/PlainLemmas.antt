@@ -1,5 +1,7 @@
 -- Plain parts of values, and the texts of the grammar that they are.
 -- In the lemmas `at`, mid, to and end are places of a text in this order, h is a host, and u the text that it is of.
+-- `PlainRun` is one plain byte or more; `SomeUri`, `SomeParams` and `SomeAddress` are the texts that are a URI, parameters and an address, and `Opening` is
+-- what opens a URI in angles: a display name, if there is one, blanks and "<". `PlainParam` is a parameter without blanks, with its ";".
 use Rattle.std.proofs.Common.{◌≡◌, ℕ, suc, ◌+◌, ◌-◌, ◌<◌, ◌≤◌, true, false, ◌&&◌, ◌||◌, List, [], ◌∷◌, ◌++◌, Option, None, Some, length, take, drop, get_or, refl, sym, ap, ap₂, ◌∙◌, subst, inl, inr, arith}
 use Rattle.std.specs.Prelude.{codes}
 use Rattle.std.specs.Char.{is_ascii_alphanumeric}

@@ -1,5 +1,6 @@
 -- Plain elements of Via.
 -- In the lemmas `at`, to and end are places of a text in this order.
+-- `ViaParams` is parameters of which this branch counts, and `BranchOf` the branch that one parameter gives.
 use Rattle.std.proofs.Common.{◌≡◌, ℕ, List, [], ◌∷◌, Option, None, Some, refl, sym, ap, subst, inl}
 use Rattle.std.specs.Prelude.{IfSome}
 use Rattle.std.specs.Option.{option_or}

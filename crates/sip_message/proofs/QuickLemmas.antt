@@ -1,4 +1,7 @@
 -- Lines that end at their first control, and what they are read as.
+-- An open line (`IsOpen`) has no control other than HTAB; `is_open` is the test of a byte. The lines of an ordinary head (`IsOrdinary`) are open.
+-- The number of a text of at most eight bytes (`number_of`) is that of its bytes with the bit of small letters set, filled up with NULs before them
+-- (`filled`). `agree_below_at f g 256 b` says that two tests agree at b, since they do at each byte below 256, which are tried by computing.
 use Rattle.std.proofs.Common.{◌≡◌, ◌⊎◌, ℕ, zero, suc, ◌+◌, ◌-◌, ◌<◌, ◌≤◌, Bool, true, false, not, ◌&&◌, ◌||◌, ◌==◌, nat_le, nat_lt, ltb, cond, List, [], ◌∷◌, ◌++◌, map, length, take, drop, get_or, Fits, w8, w64, refl, sym, ap, ap₂, ◌∙◌, subst, inl, inr, arith}
 use Rattle.std.specs.Prelude.{codes, bytes_eq, replicate}
 use Rattle.std.specs.Char.{is_ascii_alphanumeric, to_ascii_lowercase}

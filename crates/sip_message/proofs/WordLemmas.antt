@@ -1,4 +1,5 @@
 -- Words are tokens and blanks in pieces that begin no other, so they are read in one way.
+-- `IsStep P len` says that `len` gives the length of the piece of P at the front of a text, or 0; a text that is cut so is cut in one way (`same_many`).
 use Rattle.std.proofs.Common.{◌≡◌, ℕ, zero, suc, ◌+◌, ◌<◌, ◌≤◌, ◌⊎◌, Bool, true, false, cond, if◌then◌else◌, List, [], ◌∷◌, ◌++◌, length, take, drop, slice_index, refl, sym, ap, ◌∙◌, subst, inl, inr, arith}
 use Rattle.std.proofs.lemmas.List.{append-nil, append_assoc, append_cancel_left, length-append, length-drop, take-append-drop, length-take-le}
 use Rattle.std.proofs.Math.Seq.{take-append_seam, drop-append_seam}

@@ -1,5 +1,7 @@
 -- What is kept of the fields that are asked for, one field after another.
 -- In the lemmas f is the further field, g the first of the fields before it, and n the number of a line.
+-- `OnceSays` is what the one field of a name says, and `FirstSays` what the first one says, or None where there is none; `AsksMore f a b` says that where a is
+-- kept of some fields, b is kept of them and f.
 use Rattle.std.proofs.Common.{◌≡◌, ℕ, ◌+◌, Bool, true, false, List, [], ◌∷◌, ◌++◌, cond, Option, None, Some, option_copied, refl, sym, ap, ◌∙◌, subst}
 use Rattle.std.specs.Prelude.{IsTrue, IsSome, IfSome, is_some}
 use Rattle.std.specs.Borrow.{Bor}

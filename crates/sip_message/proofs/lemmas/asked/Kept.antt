@@ -1,5 +1,7 @@
 -- What the first Via and the first CSeq say, with a further field.
 -- In the lemmas k is a known name and f a field; r is what was read of a value, if anything, and b whether something was.
+-- `SaysFirst` is what the first of some values says, or None; `KeptOf` says that what is kept is what the first Via and the first CSeq of some fields say, and
+-- `KeepsMore f a b` that where a is kept of some fields, b is kept of them and f.
 use Rattle.std.proofs.Common.{◌≡◌, ◌↔◌, ℕ, List, [], ◌∷◌, ◌++◌, Bool, true, false, cond, Option, None, Some, refl, sym, ap, ◌∙◌, subst}
 use Rattle.std.specs.Prelude.{IsTrue, IsSome, is_some}
 use Rattle.std.specs.Option.{option_map, option_or}

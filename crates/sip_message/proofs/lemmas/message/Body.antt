@@ -1,4 +1,5 @@
 -- The method and the body: which demand fails, or what the body is.
+-- `BodyOf` is the demands on the method and the body. A demand is passed (`passes`) where it is met, and else the reading is stopped (`stopped`) at its fault.
 use Rattle.std.proofs.Common.{◌≡◌, ℕ, ◌≤◌, ◌<◌, ◌↔◌, Bool, false, List, [], ◌∷◌, length, take, Option, Some, None, refl, sym, ap, ◌∙◌, subst, arith}
 use Rattle.std.specs.Prelude.{bytes_eq, IsTrue, is_some, IfSome}
 use Rattle.std.specs.Borrow.{Bor}

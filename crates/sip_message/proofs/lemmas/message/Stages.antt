@@ -1,5 +1,6 @@
 -- The stages of reading, one after another.
 -- In the lemmas n is the named fields that were found, e the first element of Via, and s the CSeq by its number and method.
+-- `LinesOf`, `NamesOf` and `BodyOf` are the readings of a head's lines, of the named fields and of the body; `KeepsRead` says what a message keeps of them.
 use Rattle.std.proofs.Common.{◌≡◌, ℕ, List, false, refl, sym, ap, subst}
 use Rattle.std.specs.Prelude.{Result, Ok, Err, IsErr, IsErrAnd}
 use Rattle.std.proofs.lemmas.Bool.{both_ways}

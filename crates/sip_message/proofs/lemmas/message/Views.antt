@@ -1,5 +1,6 @@
 -- What the code keeps of a message is what its contracts see of it.
 -- In the lemmas m is a message with the parts p, and v, f, t, i and c are the values of its first Via, From, To, Call-ID and CSeq.
+-- `Keeps` says which values a message keeps of which its parts are read; `KeepsRead` says it of what was read of them.
 use Rattle.std.proofs.Common.{◌≡◌, ℕ, List, [], ◌∷◌, ◌++◌, Option, None, Some, refl, sym, ap, ◌∙◌, subst}
 use Rattle.std.specs.Prelude.{IsSome}
 use Rattle.sip_text.specs.Parts.{IsOnlyValue}

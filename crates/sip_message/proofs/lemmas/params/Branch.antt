@@ -1,5 +1,7 @@
 -- The branch of parameters, which are read one after another.
 -- In the lemmas ps are parameters, qs those after the first, u their text, and a, b and c are branches, if there are any.
+-- `BranchFront` is the parameters at the front with their branch, and `TailFront` these with their own text too, each with what is left; `BranchOf` is the
+-- branch that one parameter gives.
 use Rattle.std.proofs.Common.{◌≡◌, ◌↔◌, ℕ, ◌-◌, List, [], ◌∷◌, ◌++◌, Option, Some, None, Bor, option_copied, length, take, refl, sym, ap, ◌∙◌, subst, inl, inr}
 use Rattle.std.specs.Option.{option_or}
 use Rattle.sip_message.specs.Via.{IsBranch}

@@ -1,5 +1,6 @@
 -- Parameters are read one after another, and what is read is what the grammar has.
 -- In the lemmas ps are the parameters that are read of the text u, and r, rest and more are what is left after them.
+-- `ParamFront` is one parameter at the front of a text, `ParamsFront` some, and `AllParamsFront` all that stand there, each with what is left.
 use Rattle.std.proofs.Common.{◌≡◌, ◌↔◌, IsTrue, ℕ, ◌<◌, ◌≤◌, Bool, true, false, nat_eq, cond, ◌||◌, List, [], ◌∷◌, ◌++◌, Option, Some, None, length, refl, sym, ap, ◌∙◌, subst, inl, inr, arith}
 use Rattle.std.proofs.lemmas.Bool.{both_ways, or_cases, eqb-true, eq-eqb}
 use Rattle.std.proofs.lemmas.Option.{none-some}

@@ -1,4 +1,6 @@
 -- How a parameter's value, and what else stands at the front of a text, is cut off.
+-- A value at the front of a text is a quoted string (`QuotedFront`), an IPv6 address in brackets (`ReferenceFront`), or bare (`BareFront`); `BracketFront` is
+-- what stands there from "[" to the first "]". `PastRun` says that the rest stands after the longest run of bytes that pass a test.
 use Rattle.std.proofs.Common.{◌≡◌, ℕ, zero, suc, ◌-◌, ◌≤◌, Bool, true, false, nat_eq, cond, List, [], ◌∷◌, ◌++◌, Option, Some, None, length, take, drop, refl, sym, ap, ◌∙◌, subst, inl, inr, arith}
 use Rattle.std.proofs.lemmas.Bool.{both_ways, or_from}
 use Rattle.std.proofs.lemmas.Option.{none-some}

@@ -1,6 +1,7 @@
 -- What bytes are read as is what they say by the definitions: the start line, the fields and the body are the same.
 -- In the lemmas v, f and fs are a value, a field and fields as the readers read them, and w, g and gs as the definitions say them; n is the number of a line.
 -- In the lemmas of one field line x and y are two pairs: a name, by the readers and as it is spelled, and what stands after the colon, blanks included.
+-- What ends with `Of` is read by the readers, and what ends with `Says`, `Say` or `Tell` is said by the definitions, as `FieldOf` and `FieldSays`.
 use Rattle.std.proofs.Common.{◌≡◌, ℕ, ◌+◌, ◌≤◌, Bool, true, false, cond, ◌||◌, List, [], ◌∷◌, ◌++◌, length, map, Option, inl, inr, refl, sym, ap, ◌∙◌, subst, arith}
 use Rattle.std.specs.Prelude.{⊤, ◌==◌, codes, bytes_eq, filter, IfSome, is_some}
 use Prim.Native.String.{String}

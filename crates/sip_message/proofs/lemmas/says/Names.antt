@@ -120,35 +120,35 @@ named k key each differs token =
 
 -- a token names Via where it is spelled so, in full or by its short form
 pub named-via : (token : List ℕ) → is_name_of known_name.Via (name_of token) ≡ bytes_eq (full_name (folded token)) (codes "via")
--- of each of the 22 spellings it is tried, by computing
+-- of each of the 22 spellings it is tried, by computing; a text that is none of them is not this name
 named-via = named known_name.Via (codes "via") (refl, (refl, (refl, (refl, (refl, (refl, (refl, (refl, (refl, (refl, (refl, (refl, (refl, (refl, (refl, (refl, (refl, (refl, (refl, (refl, (refl, (refl, tt)))))))))))))))))))))) (λ f foreign. foreign.0)
 
 -- a token names From where it is spelled so, in full or by its short form
 pub named-from : (token : List ℕ) → is_name_of known_name.From (name_of token) ≡ bytes_eq (full_name (folded token)) (codes "from")
--- of each of the 22 spellings it is tried, by computing
+-- of each of the 22 spellings it is tried, by computing; a text that is none of them is not this name
 named-from = named known_name.From (codes "from") (refl, (refl, (refl, (refl, (refl, (refl, (refl, (refl, (refl, (refl, (refl, (refl, (refl, (refl, (refl, (refl, (refl, (refl, (refl, (refl, (refl, (refl, tt)))))))))))))))))))))) (λ f foreign. foreign.1.1.0)
 
 -- a token names To where it is spelled so, in full or by its short form
 pub named-to : (token : List ℕ) → is_name_of known_name.To (name_of token) ≡ bytes_eq (full_name (folded token)) (codes "to")
--- of each of the 22 spellings it is tried, by computing
+-- of each of the 22 spellings it is tried, by computing; a text that is none of them is not this name
 named-to = named known_name.To (codes "to") (refl, (refl, (refl, (refl, (refl, (refl, (refl, (refl, (refl, (refl, (refl, (refl, (refl, (refl, (refl, (refl, (refl, (refl, (refl, (refl, (refl, (refl, tt)))))))))))))))))))))) (λ f foreign. foreign.1.1.1.1.0)
 
 -- a token names Call-ID where it is spelled so, in full or by its short form
 pub named-call-id : (token : List ℕ) → is_name_of known_name.CallId (name_of token) ≡ bytes_eq (full_name (folded token)) (codes "call-id")
--- of each of the 22 spellings it is tried, by computing
+-- of each of the 22 spellings it is tried, by computing; a text that is none of them is not this name
 named-call-id = named known_name.CallId (codes "call-id") (refl, (refl, (refl, (refl, (refl, (refl, (refl, (refl, (refl, (refl, (refl, (refl, (refl, (refl, (refl, (refl, (refl, (refl, (refl, (refl, (refl, (refl, tt)))))))))))))))))))))) (λ f foreign. foreign.1.1.1.1.1.1.0)
 
 -- a token names CSeq where it is spelled so
 pub named-cseq : (token : List ℕ) → is_name_of known_name.CSeq (name_of token) ≡ bytes_eq (full_name (folded token)) (codes "cseq")
--- of each of the 22 spellings it is tried, by computing
+-- of each of the 22 spellings it is tried, by computing; a text that is none of them is not this name
 named-cseq = named known_name.CSeq (codes "cseq") (refl, (refl, (refl, (refl, (refl, (refl, (refl, (refl, (refl, (refl, (refl, (refl, (refl, (refl, (refl, (refl, (refl, (refl, (refl, (refl, (refl, (refl, tt)))))))))))))))))))))) (λ f foreign. foreign.1.1.1.1.1.1.1.1.0)
 
 -- a token names Content-Length where it is spelled so, in full or by its short form
 pub named-content-length : (token : List ℕ) → is_name_of known_name.ContentLength (name_of token) ≡ bytes_eq (full_name (folded token)) (codes "content-length")
--- of each of the 22 spellings it is tried, by computing
+-- of each of the 22 spellings it is tried, by computing; a text that is none of them is not this name
 named-content-length = named known_name.ContentLength (codes "content-length") (refl, (refl, (refl, (refl, (refl, (refl, (refl, (refl, (refl, (refl, (refl, (refl, (refl, (refl, (refl, (refl, (refl, (refl, (refl, (refl, (refl, (refl, tt)))))))))))))))))))))) (λ f foreign. foreign.1.1.1.1.1.1.1.1.1.0)
 
 -- a token names Route where it is spelled so
 pub named-route : (token : List ℕ) → is_name_of known_name.Route (name_of token) ≡ bytes_eq (full_name (folded token)) (codes "route")
--- of each of the 22 spellings it is tried, by computing
+-- of each of the 22 spellings it is tried, by computing; a text that is none of them is not this name
 named-route = named known_name.Route (codes "route") (refl, (refl, (refl, (refl, (refl, (refl, (refl, (refl, (refl, (refl, (refl, (refl, (refl, (refl, (refl, (refl, (refl, (refl, (refl, (refl, (refl, (refl, tt)))))))))))))))))))))) (λ f foreign. foreign.1.1.1.1.1.1.1.1.1.1.1.1.1.1.1.1.1.1.1.1.1.0)

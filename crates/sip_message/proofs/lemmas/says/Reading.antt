@@ -1,6 +1,7 @@
 -- What bytes say is what their one reading says.
 -- In the lemmas s and t are what bytes say, or a and b with faults among them, r is their reading, and m, gs and p are a message, its fields as they are
 -- said, and its parts.
+-- What bytes tell (`BytesTell`) is a start line, fields and a body, or a fault; what they say (`Says`) is also what the fields say.
 use Rattle.std.proofs.Common.{◌≡◌, ℕ, List, [], ◌∷◌, map, refl, sym, ap, ◌∙◌, subst}
 use Rattle.std.specs.Prelude.{codes, bytes_eq}
 use Rattle.std.specs.List.{join_with_byte}

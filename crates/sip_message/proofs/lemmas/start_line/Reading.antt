@@ -1,6 +1,7 @@
 -- How a start line is read: of a request line a token and its SP from the front, and the version from the end; of a status line the
 -- version, the code and the reason from the front.
 -- In the lemmas v is a version, t eight bytes that have one, d the digits of a code, and n its number.
+-- `CodeFront` is a status code and its SP at the front of a text, with what is left: the reason.
 use Rattle.std.proofs.Common.{◌≡◌, ℕ, ◌+◌, ◌≤◌, ◌<◌, Bool, true, false, nat_lt, cond, List, [], ◌∷◌, ◌++◌, length, take, drop, Some, None, refl, sym, ap, ◌∙◌, subst, arith}
 use Rattle.std.specs.Prelude.{codes}
 use Rattle.std.specs.List.{AllByRecursion, concat, list_all}

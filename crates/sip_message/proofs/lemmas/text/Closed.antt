@@ -1,6 +1,7 @@
 -- Sets that stay themselves when a longest run of blanks in a text becomes one SP. A set that is made
 -- of sets is such a set where they are, and where no run of blanks crosses the seams between them.
 -- In the lemmas u and v are what stands before and after a run of blanks, b and c are bytes, and w, z, x and r what follows one.
+-- `Cuts` tells of two cuts of one text which first part is longer, if one is: `first_longer`, `same_length`, `second_longer`.
 use Rattle.std.proofs.Common.{◌≡◌, ℕ, ◌⊎◌, Bool, true, false, not, List, [], ◌∷◌, ◌++◌, cond, refl, sym, ap, ◌∙◌, subst, inl, inr}
 use Rattle.std.specs.List.{AllByRecursion, concat, list_any}
 use Rattle.std.proofs.lemmas.Bool.{both_ways, not-true}

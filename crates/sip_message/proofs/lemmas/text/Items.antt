@@ -1,5 +1,6 @@
 -- Repetitions of texts in which blanks may stand: quoted strings, and the values that are not looked into.
 -- In the lemmas b, c and d are bytes, u, w, y and z what follows one in a text, and P is the set of the items.
+-- `Cuts` tells of two cuts of one text which first part is longer, if one is: `first_longer`, `same_length`, `second_longer`.
 use Rattle.std.proofs.Common.{◌≡◌, ℕ, Bool, true, false, not, List, [], ◌∷◌, ◌++◌, length, refl, sym, ap, ◌∙◌, subst, inl, inr, arith}
 use Rattle.std.specs.List.{AllByRecursion, concat}
 use Rattle.std.proofs.lemmas.Bool.{both_ways}

@@ -1,5 +1,6 @@
 -- A value that is not looked into, in pieces that begin no other: a byte or a blank, and a fold.
 -- In the lemmas u is a piece or a fold, v what follows it, n the length of the pieces at the front of a text, and k that of further ones.
+-- `IsStep P len` says that `len` gives the length of the piece of P at the front of a text, or 0; a text that is cut so is cut in one way.
 use Rattle.std.proofs.Common.{◌≡◌, ℕ, ◌+◌, ◌<◌, ◌⊎◌, Bool, true, false, nat_eq, cond, List, [], ◌∷◌, ◌++◌, length, drop, slice_index, if◌then◌else◌, refl, sym, ap, ◌∙◌, subst, inl, inr, arith}
 use Rattle.std.specs.Bool.{Decides}
 use Rattle.std.specs.List.{prefix_len}

@@ -1,5 +1,6 @@
 -- The host and the port of sent-by, at the front of a text.
 -- A host is a name (`name`), an IPv4 address (`v4`) or an IPv6 address in brackets (`v6`).
+-- `HostCut` is what may be a host at the front of a text, in brackets or as a token, and `HostFront` is a host there, each with what is left.
 use Rattle.std.proofs.Common.{◌≡◌, ℕ, Bool, true, false, nat_eq, ◌||◌, List, [], ◌∷◌, ◌++◌, Option, Some, None, length, slice_index, refl, sym, ap, ◌∙◌, subst, inl, inr, arith}
 use Rattle.std.specs.Prelude.{IfSome}
 use Rattle.std.specs.Char.{is_ascii_digit}

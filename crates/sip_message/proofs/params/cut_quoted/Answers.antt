@@ -16,6 +16,7 @@ returns-in_err-len c =
 -- the quoted string is cut off, and what follows it is left
 pub returns : goal.returns
 returns c =
+    -- n is the length of the quoted string at the front
     let text = c.args.text.now in
     let n = c.in_ok-len.len in
     subst (λ t. ReadAs (QuotedFront text) (take n text, t)) (sym (take_rest text n))

@@ -14,6 +14,7 @@ returns-in_err-branch c =
 -- what is left is not longer than the text
 pub slice_bounds-skip_blanks-count : goal.slice_bounds-skip_blanks-count
 slice_bounds-skip_blanks-count c =
+    -- the parameters that were read stand before what is left
     let whole = branch-whole c.args.text.now (option_copied c.in_ok-branch.branch) c.in_ok-branch.rest.now c.in_ok-branch.ensures.0 in
     rest-short c.args.text.now whole.0 c.in_ok-branch.rest.now whole.1
 

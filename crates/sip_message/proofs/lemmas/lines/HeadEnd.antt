@@ -1,7 +1,7 @@
 -- The head ends where the empty line is found, and its lines' ends are whole.
 -- In the lemmas t is a text, and j, k and n are places in it.
--- `OccursAt t u k` says that the text u stands in t at the place k; `Nowhere P i j` that P holds at no place from i up to j; `NoneBefore P i j k` that it holds
--- at none before k, which lies between them. `IsPaired t k` says that a LF stands after the byte at k exactly if it is a CR.
+-- `OccursAt t u k` says that the text u stands in t at the place k; `Nowhere P i j` that P holds at no place from i up to j; `NoneBefore P i j k` that it
+-- holds at none before k, which lies between them. `IsPaired t k` says that a LF stands after the byte at k exactly if it is a CR.
 use Rattle.std.proofs.Common.{◌≡◌, ℕ, zero, suc, ◌+◌, ◌-◌, ◌<◌, ◌≤◌, ◌⊎◌, Bool, true, false, nat_lt, nat_eq, not, ◌||◌, ◌&&◌, List, [], ◌∷◌, ◌++◌, length, take, drop, get_or, refl, sym, ap, ap₂, ◌∙◌, subst, inl, inr, arith}
 use Rattle.std.specs.List.{concat, flat_map}
 use Rattle.std.proofs.lemmas.Bool.{both_ways, cases_lt, and_parts, not-true, eqb-true, eq-eqb, ltb-true, ltb-false}

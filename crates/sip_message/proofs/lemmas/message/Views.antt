@@ -1,6 +1,7 @@
 -- What the code keeps of a message is what its contracts see of it.
 -- In the lemmas m is a message with the parts p, and v, f, t, i and c are the values of its first Via, From, To, Call-ID and CSeq.
--- `Keeps` says which values a message keeps of which its parts are read; `KeepsRead` says it of what was read of them.
+-- `Keeps` says that some bytes are the text of a message, that these are its parts, and that these are the first values of its named fields; `KeepsRead` says
+-- so of what was read of its first Via and its CSeq.
 use Rattle.std.proofs.Common.{◌≡◌, ℕ, List, [], ◌∷◌, ◌++◌, Option, None, Some, refl, sym, ap, ◌∙◌, subst}
 use Rattle.std.specs.Prelude.{IsSome}
 use Rattle.sip_text.specs.Parts.{IsOnlyValue}

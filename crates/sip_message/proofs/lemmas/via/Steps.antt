@@ -2,8 +2,8 @@
 -- Of an element of Via a, b and c are its protocol, version and transport, s and r the slashes, sp the blanks, h the host, p the port and q the parameters,
 -- and w1 to w7 what follows each; r1 to r3 are what is left after the host, the port and the parameters; of parameters m is the ";" with its blanks and t
 -- what follows.
--- `ViaSteps` is an element read step by step: sent-protocol (`ProtocolFront`), the host, the port after ":", and the parameters (`TailFront`); each step leaves
--- a rest. `ViaFront` is an element of the grammar at the front of a text.
+-- `ViaSteps` is an element read step by step: sent-protocol (`ProtocolFront`), the host, the port after ":", and the parameters (`TailFront`), each with what
+-- is left. `ViaFront` is an element of the grammar at the front of a text.
 use Rattle.std.proofs.Common.{◌≡◌, ℕ, ◌-◌, ◌≤◌, nat_eq, List, [], ◌∷◌, ◌++◌, Option, Some, None, length, take, refl, sym, ap, ◌∙◌, subst, inl, arith}
 use Rattle.std.proofs.lemmas.List.{append_assoc}
 use Rattle.sip_standard.specs.Text.{Exactly, ◌then◌}

@@ -46,9 +46,9 @@ pub values-passed : (known : Known) (xs : List Code) (i : ℕ) (d : Code) → i 
 values-passed known xs i d below is = values-at known xs i d below ∙ cond-false _ _ _ is
 
 -- a value of which R holds is the one value of which it holds
+-- the hidden proof that the value is the only one may be used, since what is shown is an equation of coded values
 pub One-is : {X : Type 0} → Coded X → (R : X → Type 0) (o : ExactlyOne R) (x : X) → R x → the o ≡ x
 unfolding the
--- the hidden proof that the value is the only one may be used, since what is shown is an equation of coded values
 One-is c R o x is = ∥∥₁_elim o.1 (Coded-set c o.0 x) (λ p. sym (p.only x is))
 
 -- an element begins with no blank
@@ -189,9 +189,9 @@ One-first rest text vals more e behind next read one then =
     (λ p. let read_it = read-only rest text vals more e behind one.0 (next one.0 p.is) read p in read_it.1 ∙ ap (λ t. e ∷ t) (sym (One-is elements_code (AreLeft behind more) then read_it.0 read_it.2.is)))
 
 -- where nothing can be left, the list of the elements that are left is empty
+-- the one list can be left, and so is empty; the hidden proof of that may be used for an equation of lists
 pub One-none : (rest : List ℕ) (vals : List (List ℕ)) (one : ExactlyOne (AreLeft rest vals)) → ((es : List Element) → AreLeft rest vals es → es ≡ []) → the one ≡ []
 unfolding the
--- the one list can be left, and so is empty; the hidden proof of that may be used for an equation of lists
 One-none rest vals one none = ∥∥₁_elim one.1 (Coded-set elements_code one.0 []) (λ p. none one.0 p.is)
 
 -- where there is one list of the elements that are left, it cannot be that no element is read at the front of the next text

@@ -27,7 +27,7 @@ found-suc known (x ∷ xs) n (suc i) d below = found-suc known xs n i d (omega (
 -- what is found from index i on is the field there, if it has the name, and what is found after it
 found-at : (known : Known) (xs : List Code) (i : ℕ) (d : Code) → i < length xs → found_from (i + 1) known (drop i (map field_parts xs)) ≡ cond (is_name_of known (name_parts (slice_index_or xs i d).name)) ((i + 1, (slice_index_or xs i d).value.now) ∷ found_from (i + 1 + 1) known (drop (i + 1) (map field_parts xs))) (found_from (i + 1 + 1) known (drop (i + 1) (map field_parts xs)))
 found-at known xs i d below =
-    -- the number of a field's line is its place and 1
+    -- the next place, `suc i`, is `i + 1`
     subst (λ k. found_from (i + 1) known (drop i (map field_parts xs)) ≡ cond (is_name_of known (name_parts (slice_index_or xs i d).name)) ((i + 1, (slice_index_or xs i d).value.now) ∷ found_from (i + 1 + 1) known (drop k (map field_parts xs))) (found_from (i + 1 + 1) known (drop k (map field_parts xs)))) (sym (add-one i)) (found-suc known xs (i + 1) i d below)
 
 -- where the field at place i has the name, the fields of the name from there on are it and those after it

@@ -35,6 +35,7 @@ values-suc known (x ∷ xs) (suc i) d below = values-suc known xs i d (omega (ar
 
 -- the values from index i on are that of the field there, if it has the name, and those after it
 values-at : (known : Known) (xs : List Code) (i : ℕ) (d : Code) → i < length xs → values known (drop i (map field_parts xs)) ≡ cond (is_name_of known (name_parts (slice_index_or xs i d).name)) ((slice_index_or xs i d).value.now ∷ values known (drop (i + 1) (map field_parts xs))) (values known (drop (i + 1) (map field_parts xs)))
+-- the next place, `suc i`, is `i + 1`
 values-at known xs i d below = rw add-one (values-suc known xs i d below)
 
 -- where the field at place i has the name, the values of the name from there on are its value and those after it

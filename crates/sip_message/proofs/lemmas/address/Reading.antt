@@ -2,6 +2,7 @@
 -- The first step is a cut of the text (`AddressCut`): `named`, with the URI in "<" and ">", or `plain`, without them. `make d u r` is the cut into the
 -- display name d, the URI u and the rest r. In a row of two steps, `both v one other` is what the first step gives, v, that it gives it, and the next step.
 -- In the lemmas u and w are the URI and what follows it, c and d two cuts, a and b two addresses, ps parameters by their names and values.
+-- `HasScheme` says that a text begins with a token and a colon; `NameFront` is a display name at the front, and `DisplayFront` that, if there is one, and "<".
 use Rattle.std.proofs.Common.{◌≡◌, ℕ, zero, suc, ◌<◌, ◌≤◌, Bool, true, false, ◌||◌, not, nat_eq, nat_lt, List, [], ◌∷◌, ◌++◌, Option, Some, None, IfSome, length, take, drop, get_or, slice_index, refl, sym, ap, ◌∙◌, subst, inl, inr, arith}
 use Rattle.std.specs.Bool.{Decides}
 use Rattle.std.specs.List.{prefix_len}
@@ -39,7 +40,9 @@ use Rattle.sip_message.proofs.lemmas.address.Uri.{uri-scheme, uri-lacks, one-uri
 
 -- all bytes of the longest token at the front of a text are bytes of tokens, also where there is none
 token-all : (text : List ℕ) (n : ℕ) → IsLongestFront Token text n → All is_token_byte (take n text)
+-- there is no token, and so no byte
 token-all text zero longest = tt
+-- the token is not empty, and is all of the first n bytes
 token-all text (suc n) longest = each-token _ (token-cut text (suc n) longest (λ none. absurd (omega (arith, none)))).0
 
 -- where a text begins with a scheme, a colon stands after its longest token
@@ -47,12 +50,14 @@ scheme-behind : (text : List ℕ) (n : ℕ) → IsLongestFront Token text n → 
 scheme-behind text n longest (scheme, rest, all, whole) =
     -- both are the longest run of bytes of tokens at the front, so they are the same, and so is what follows them
     let same = same_front is_token_byte scheme (colon ∷ rest) (take n text) (drop n text) all (token-all text n longest) refl (longest-stops text n longest) (sym whole ∙ sym (take-append-drop n text)) in
+    -- what follows the token is the colon and what the text has after it
     (rest, sym same.1)
 
 -- a text begins with a scheme exactly if a colon stands after its longest token
 pub decides-scheme : (text : List ℕ) (n : ℕ) → IsLongestFront Token text n → n < length text → Decides (nat_eq (get_or text n 0) colon) (HasScheme text)
 decides-scheme text n longest within = (
   -- if: the token and the colon after it are a scheme, up to the rest
+  -- the text is its first n bytes, the colon and the rest
   λ same.
       (take n text, drop (suc n) text, token-all text n longest, sym (take-append-drop n text) ∙ ap (λ t. take n text ++ t) (drop-cons text n 0 within ∙ ap (λ b. b ∷ drop (suc n) text) (eqb-true (get_or text n 0) colon same))),
   -- only if: what stands after the scheme's token is its colon
@@ -86,6 +91,7 @@ is_scheme_front b = is_token_byte b || nat_eq b colon
 
 -- a blank does not stand in front of a scheme's colon
 blank-front : (b : ℕ) → is_lws_byte b ≡ true → is_scheme_front b ≡ false
+-- SP, HTAB, CR and LF are tried, by computing
 blank-front = blank_is (λ b. is_scheme_front b ≡ false) refl refl refl refl
 
 -- where "<" follows words after blanks, what follows a word begins with no byte of a token and no colon
@@ -263,7 +269,7 @@ tail-is text params behind some part = read-one (TailText text) params (one-tail
   where
     -- the parameters are not empty, so they are what is left after the blanks
     at : (p : List ℕ) → Behind text p → nat_eq (length p) 0 ≡ false → BehindBlanks p text
-    -- where no parameters are left, nothing was there, and that is not so; else they are what is left after the blanks
+    -- an empty text is excluded; another one is what is left after the blanks
     at [] is full = absurd (both_ways true full refl)
     at (b ∷ p) is full = is.1
 
@@ -334,20 +340,24 @@ display-fits (Some name) text inner (rest, inr words, behind) = inr words.0
 
 -- a blank may not stand in a URI without "<"
 not-plain : (b : ℕ) → is_lws_byte b ≡ true → is_unmarked_byte b ≡ false
+-- SP, HTAB, CR and LF are tried, by computing
 not-plain = blank_is (λ b. is_unmarked_byte b ≡ false) refl refl refl refl
 
 -- bytes that are no blanks and none of `,?;` may stand in a URI without angles
 plain-all : (u : List ℕ) → All (λ b. not (is_lws_byte b)) u → All (λ b. not (is_among ",?;" b)) u → All is_unmarked_byte u
+-- of no bytes nothing is asked
 plain-all [] solid other = tt
 plain-all (b ∷ u) solid other = (and_from (not (is_lws_byte b)) (not (is_among ",?;" b)) solid.0 other.0, plain-all u solid.1 other.1)
 
 -- bytes that may stand in a URI without angles are none of `,?;`
 all-other : (u : List ℕ) → All is_unmarked_byte u → All (λ b. not (is_among ",?;" b)) u
+-- of no bytes nothing is asked
 all-other [] all = tt
 all-other (b ∷ u) all = ((and_parts (not (is_lws_byte b)) (not (is_among ",?;" b)) all.0).1, all-other u all.1)
 
 -- where no byte of a URI without angles follows, that URI stops
 fails-plain : (u : List ℕ) → Fails is_unmarked_byte u → Stops is_unmarked_byte u
+-- a text that fails has a first byte; an empty one does not fail
 fails-plain [] fails = absurd fails
 fails-plain (b ∷ u) fails = fails
 
@@ -366,8 +376,10 @@ tail-stops text (b ∷ params) ((k, y, sws, y_is, whole), (p ∷ ps, (opens, par
     begins = fail-then is_unmarked_byte (Mark semicolon) _ (fail-mark is_unmarked_byte semicolon not-plain refl) (b ∷ params) part
 
     -- what follows begins with no byte of a URI without "<", whether blanks stand before the ";" or not
+    -- without blanks the parameters stand first
     at : Sws k → Fails is_unmarked_byte (k ++ (b ∷ params))
     at (inl none) = subst (λ t. Fails is_unmarked_byte (t ++ (b ∷ params))) (sym none) begins
+    -- blanks stand first, none of which may stand in the URI
     at (inr blanks) = fails-append is_unmarked_byte k (b ∷ params) (fail-blanks is_unmarked_byte not-plain k blanks)
 
 -- an address of the grammar is what the steps of the reader read
@@ -434,6 +446,7 @@ steps-address text x (both c (plain has none all stops whole) (both uri is_uri (
 pub one-steps : (text : List ℕ) → AtMostOne (AddressSteps text)
 -- each step is read in one way: the cut, the URI, the parameters
 one-steps text =
+    -- the URI, and the parameters, are read in what the cut has left
     one-seq (AddressCut text) _ (one-cut text) (λ c.
     one-seq (UriText c.uri) _ (one-uri c.uri) (λ uri.
     one-seq (TailText c.rest) _ (one-tail c.rest) (λ params.
@@ -441,10 +454,12 @@ one-steps text =
 
 -- a text is an address of the grammar in one way
 pub one-address : (text : List ℕ) (a b : AddressParts) → AddressText text a → AddressText text b → a ≡ b
+-- both are read by the steps, of one text
 one-address text a b one other = ap (λ x. x.1) (one-steps text (text, a) (text, b) (address-steps text a one) (address-steps text b other))
 
 -- where the steps of the reader read an address alone, it is the only one that the grammar has
 pub read-address : (text : List ℕ) (x : List ℕ × AddressParts) → ReadAs (AddressSteps text) x → ReadAs (AddressValue text) x
+-- an address that the steps read is one of the grammar, and the only one, since the steps read each that the grammar has
 read-address text x is = (steps-address text x is.0, (λ y value. is.1 y (value-steps y value)))
   where
     -- an address of the grammar is one that the steps read
@@ -453,4 +468,5 @@ read-address text x is = (steps-address text x is.0, (λ y value. is.1 y (value-
 
 -- where the steps of the reader read no address, the grammar has none
 pub no-address : (text : List ℕ) → NotRead (AddressSteps text) → NotRead (AddressValue text)
+-- an address of the grammar would be read by the steps
 no-address text none (whole, a) (value, whole_is) = none (text, a) (address-steps text a value)

@@ -1,5 +1,7 @@
 -- A URI is read in one way, begins with a token and a colon, and holds no ">".
 -- In the lemmas p and q are the parts of a URI, and `sip p` those of a SIP or SIPS URI; s is the scheme.
+-- `any-cut` cuts any text as the parts of a SIP URI stand in it; the parts of a SIP URI with this text are those of the cut (`cuts-agree`), and it has no
+-- others (`parts-only`).
 use Rattle.std.proofs.Common.{◌≡◌, ℕ, ◌+◌, ◌⊎◌, Bool, true, false, ◌||◌, nat_eq, nat_le, nat_lt, cond, List, [], ◌∷◌, ◌++◌, Option, Some, None, IfSome, length, drop, refl, sym, ap, ◌∙◌, subst, inl, inr, arith}
 use Rattle.std.specs.Char.{is_ascii_alphabetic, is_ascii_alphanumeric, is_ascii_digit, to_ascii_lowercase}
 use Rattle.std.specs.Int.{is_in_range}

@@ -1,4 +1,5 @@
 -- The canonical form of fields that are appended one after another.
+-- `after_end` is a line after the end of the line before it; `fields_text may_fold` is the text of fields, whose values are unfolded only where they may fold.
 use Rattle.std.proofs.Common.{◌≡◌, ℕ, Bool, true, false, List, [], ◌∷◌, ◌++◌, map, refl, sym, ap, ap₂, ◌∙◌}
 use Rattle.std.specs.List.{flat_map}
 use Rattle.std.proofs.lemmas.List.{append_assoc, append-nil}

@@ -91,7 +91,7 @@ name-known known_name.Route = refl
 
 -- a text that spells no known name by a list is kept as it is spelled
 name-other : (xs : List (List ℕ × Known)) (text t : List ℕ) → name_by xs text ≡ other t → text ≡ t
--- no text is kept by an empty list but under its own spelling
+-- by an empty list each text is kept as it is spelled
 name-other [] text t is = ap text_in is
   where
     -- the text of a name that is no known one

@@ -54,6 +54,7 @@ one-last c a b a_is b_is = a_is ∙ sym b_is
 
 -- a token at the front of a text is read in one way
 pub one-token : (text : List ℕ) → AtMostOne (TokenFront text)
+-- both tokens are the longest run of bytes of tokens at the front
 one-token text (t, r) (u, s) one other =
     let same = same-token text t r u s one other in
     ap (λ x. (x, r)) same.0 ∙ ap (λ x. (u, x)) same.1
@@ -75,7 +76,9 @@ one-blanks text r s one other = same-blanks text r s one other
 -- [ mark part ] at the front of a text is read in one way where the part is
 pub one-led : (mark : ℕ) (Part : List ℕ → List ℕ × List ℕ → Type 0) (text : List ℕ) → is_lws_byte mark ≡ false → ((t : List ℕ) → AtMostOne (Part t)) → AtMostOne (LedFront mark Part text)
 -- the mark stands at the front for both readings, or for none
+-- by neither reading the mark stands there: all of the text is left
 one-led mark Part text solid one (None, r) (None, s) a b = ap (λ x. (None, x)) (a.1 ∙ sym b.1)
+-- by one reading the mark stands there, and by the other not
 one-led mark Part text solid one (None, r) (Some w, s) a b = absurd (a.0 b.0 b.1)
 one-led mark Part text solid one (Some v, r) (None, s) a b = absurd (b.0 a.0 a.1)
 -- v and w are the parts after the mark, which is the same
@@ -90,9 +93,11 @@ B = is_bare_byte
 
 -- a byte of a token is a bare byte
 pub bare-token : (b : ℕ) → is_token_byte b ≡ true → is_bare_byte b ≡ true
+-- it passes the first of the two tests
 bare-token b is = or_left (is_token_byte b) (nat_eq b colon) is
 
 -- a text of one bare byte is bare
+-- the text is the byte alone
 pub bare-byte : (b : ℕ) → is_bare_byte b ≡ true → Each B (Byte b)
 bare-byte b is u text = subst (All B) (sym text) (is, tt)
 
@@ -120,6 +125,7 @@ token-alpha b is = token-alnum b (alphanumeric-alphabetic b is)
 -- a byte of a label is a byte of a token
 token-label : (b : ℕ) → is_label_byte b ≡ true → is_token_byte b ≡ true
 token-label b is = elim (or_cases (is_ascii_alphanumeric b) (nat_eq b hyphen) is) [
+  -- letters and digits are bytes of tokens, and so is the hyphen
   | inl alnum ↦ token-alnum b alnum
   | inr same ↦ subst (λ x. is_token_byte x ≡ true) (sym (eqb-true b hyphen same)) refl
 ]
@@ -127,6 +133,7 @@ token-label b is = elim (or_cases (is_ascii_alphanumeric b) (nat_eq b hyphen) is
 -- a hexadecimal digit is a bare byte
 bare-hex : (b : ℕ) → is_ascii_hexdigit b ≡ true → is_bare_byte b ≡ true
 bare-hex b is = bare-token b (elim (or_cases (is_in_range 48 57 b || is_in_range 65 70 b) (is_in_range 97 102 b) is) [
+  -- a digit, a great letter, or a small one
   | inl more ↦ elim (or_cases (is_in_range 48 57 b) (is_in_range 65 70 b) more) [
     | inl digit ↦ token-digit b digit
     | inr upper ↦ token-alnum b (or_left (is_in_range 48 57 b || is_in_range 65 90 b) (is_in_range 97 122 b) (or_right (is_in_range 48 57 b) (is_in_range 65 90 b) (wider 65 70 65 90 b (omega arith) (omega arith) upper)))
@@ -151,10 +158,12 @@ each-hostname =
   where
     -- the byte of a letter or digit is a byte of a token
     alnum : Each T (One is_ascii_alphanumeric)
+    -- each such byte is a byte of a token
     alnum = each-one T is_ascii_alphanumeric token-alnum
 
     -- the byte of a letter is a byte of a token
     alpha : Each T (One is_ascii_alphabetic)
+    -- each such byte is a byte of a token
     alpha = each-one T is_ascii_alphabetic token-alpha
 
     -- the inner bytes of a label are bytes of tokens
@@ -174,6 +183,7 @@ each-v4 =
 
 -- bytes of tokens are bare bytes
 pub bare-all : (u : List ℕ) → All T u → All B u
+-- of no bytes nothing is asked
 bare-all [] all = tt
 bare-all (b ∷ u) all = (bare-token b all.0, bare-all u all.1)
 
@@ -211,6 +221,7 @@ each-bare = each-or B _ _ (λ u is. bare-all u (each-token u is)) each-v6
 
 -- a token or an IPv6 address is not empty
 pub some-bare : (u : List ℕ) → (Token or Ipv6) u → u ≡ [] → ⊥
+-- a token has a byte, and the test of an IPv6 address fails of the empty text
 some-bare u (inl token) none = some-run is_token_byte u token none
 some-bare u (inr address) none = both_ways (is_v6 u) (ap is_v6 none) (v6-is u address)
 
@@ -222,12 +233,14 @@ all-lacks test mark (b ∷ u) fails all = (other_byte test mark b fails all.0, a
 -- a bare value at the front of a text is read in one way
 pub one-bare : (text : List ℕ) → AtMostOne (BareFront text)
 one-bare text (v, r) (w, s) a b =
+    -- both are the longest run of bare bytes at the front
     let same = same_front B v r w s (each-bare v a.0) (each-bare w b.0) a.1 b.1 (sym a.2 ∙ b.2) in
     ap (λ x. (x, r)) same.0 ∙ ap (λ x. (w, x)) same.1
 
 -- where a text is v and r, and also w and s, and r is s, both cuts of the text are the same
 same_pair : (v r w s text : List ℕ) → text ≡ v ++ r → text ≡ w ++ s → r ≡ s → ◌≡◌ {A = List ℕ × List ℕ} (v, r) (w, s)
 same_pair v r w s text v_is w_is rest =
+    -- what is left is of one length, and so is what stands before it
     ap (λ x. (x, r)) (same_by_end v r w s (ap length rest) (sym v_is ∙ w_is)).0 ∙ ap (λ x. (w, x)) rest
 
 -- the contents of a quoted string are pieces of it
@@ -243,6 +256,7 @@ items-contents text many = many-flat (Qdtext or QuotedPair) QuotedItem text each
 
 -- a quoted string and what follows it are a quote, the contents, a quote and what follows
 pub quoted-whole : (value rest : List ℕ) → (q : Quoted value) → value ++ rest ≡ dquote ∷ (q.3.0 ++ dquote ∷ rest)
+-- the quote, the contents and the second quote stand in a row
 quoted-whole value rest q =
     ap (λ x. x ++ rest) (q.4 ∙ ap (λ x. x ++ q.1) q.2 ∙ ap (λ x. dquote ∷ x) (q.3.4 ∙ ap (λ x. q.3.0 ++ x) q.3.3))
     ∙ ap (λ x. dquote ∷ x) (append_assoc q.3.0 (dquote ∷ []) rest)
@@ -274,6 +288,7 @@ one-bracket text (v, r) (w, s) (i, i_lacks, v_is, v_whole) (j, j_lacks, w_is, w_
 
     -- both readings are of the same text
     both_whole : left_bracket ∷ (i ++ right_bracket ∷ r) ≡ left_bracket ∷ (j ++ right_bracket ∷ s)
+    -- both are "[", the inner bytes, "]" and what is left
     both_whole = sym (flat v i r v_is) ∙ sym v_whole ∙ w_whole ∙ flat w j s w_is
 
     -- what follows the first "]" is one rest
@@ -287,6 +302,7 @@ one-bracket text (v, r) (w, s) (i, i_lacks, v_is, v_whole) (j, j_lacks, w_is, w_
 pub reference-bracket : (text : List ℕ) (x : List ℕ × List ℕ) → ReferenceFront text x → BracketFront text x
 -- o is the "[", `inner` the address, and c the "]"
 reference-bracket text (v, r) ((o, t, o_is, (inner, c, address, c_is, t_is), v_is), whole) =
+    -- what stands in the brackets is an IPv6 address, whose bytes are bare: none is "]"
     (inner, all-lacks B right_bracket inner refl (each-v6 inner address), v_is ∙ ap (λ x. x ++ t) o_is ∙ ap (λ x. left_bracket ∷ x) (t_is ∙ ap (λ x. inner ++ x) c_is), whole)
 
 -- an IPv6 address in brackets at the front of a text is read in one way

@@ -260,7 +260,9 @@ parts-inner b no_end no_feed = ap₂ (λ x y. not x && not y) no_end no_feed
 
 -- in a text without a bare line end, after a byte that is no CR, a LF stands after each CR and after no other byte
 clean-paired : (a : ℕ) (t : List ℕ) → nat_eq a carriage_return ≡ false → HasNoBareEnd t → Paired a t
+-- nothing follows a, which is no CR
 clean-paired a [] no_end clean = no_end
+-- b is the last byte, which cannot begin a CRLF
 clean-paired a (b ∷ []) no_end clean = at (clean-first b [] clean)
   where
     -- the claim holds whether the byte stands within a line or begins a CRLF
@@ -274,6 +276,7 @@ clean-paired a (b ∷ c ∷ t) no_end clean = at (clean-first b (c ∷ t) clean)
     at : ((is_inner_byte b ≡ true) × HasNoBareEnd (c ∷ t)) ⊎ ((v : List ℕ) × (b ∷ c ∷ t ≡ crlf ++ v) × HasNoBareEnd v)
         → (nat_eq b carriage_return ≡ false → HasNoBareEnd (c ∷ t) → Paired b (c ∷ t))
         → (nat_eq c carriage_return ≡ false → HasNoBareEnd t → Paired c t) → Paired a (b ∷ c ∷ t)
+    -- b is one within a line: the rest is clean after it
     at (inl (inner, rest)) one two = (no_end ∙ sym (inner-parts b inner).1, one (inner-parts b inner).0 rest)
     -- CR and LF stand there, one after the other
     at (inr (v, same, rest)) one two =

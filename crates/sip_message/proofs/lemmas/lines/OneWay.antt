@@ -38,7 +38,7 @@ begins-append (b ∷ u) v begins = begins
 
 -- where two lines with their ends begin one text, and no blank follows, the first is not longer than the second
 no_longer : (z line other rest more : List ℕ) (b : ℕ) → IsFolded line → (OpensBlank more → ⊥) → line ≡ other ++ b ∷ z → crlf ++ more ≡ b ∷ z ++ (crlf ++ rest) → ⊥
--- the first line would be longer by one byte, which is the CR: its own end would begin with LF
+-- the first line would be longer by the CR alone, so that its own end, a CR first, would begin with the LF
 no_longer [] line other rest more b folded none longer is =
     let tails : line_feed ∷ more ≡ carriage_return ∷ (line_feed ∷ rest) = cc in
     let heads : line_feed ≡ carriage_return = cc in

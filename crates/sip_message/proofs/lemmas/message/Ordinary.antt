@@ -1,4 +1,5 @@
 -- An ordinary head with all that is asked for, and a body, are a message.
+-- `AskedOf` says that what is kept is what the fields say that are asked for, and `HasBody` that the demands on the method and the body give this body.
 use Rattle.std.proofs.Common.{◌≡◌, ℕ, List, [], ◌∷◌, length, Option, Some, None, option_copied, refl, sym, ap, subst, arith}
 use Rattle.std.specs.Borrow.{Bor}
 use Rattle.sip_message.specs.declared.asked.Asked.{Asked}

@@ -63,6 +63,7 @@ params-more text (q ∷ ps) r p more (next, one, so) is = (next, one, params-mor
 -- ps and qs are the parameters, and r and s what is left, by the two readings
 same-params : (ps qs : List Param) (text r s : List ℕ) → ParamsFront text ps r → NotRead (ParamFront r) → ParamsFront text qs s → NotRead (ParamFront s) → (ps ≡ qs) × (r ≡ s)
 -- where one reading has no parameter, the other has none, since none can be read where the first ends
+-- by both readings there is no parameter, so all of the text is left
 same-params [] [] text r s a a_ends b b_ends = (refl, a ∙ sym b)
 same-params [] (q ∷ qs) text r s a a_ends (more, is, b) b_ends = absurd (a_ends (q, more) (subst (λ t. ParamFront t (q, more)) (sym a) is))
 same-params (p ∷ ps) [] text r s (more, is, a) a_ends b b_ends = absurd (b_ends (p, more) (subst (λ t. ParamFront t (p, more)) (sym b) is))
@@ -88,6 +89,7 @@ is_separator b = nat_eq b semicolon || nat_eq b comma
 -- a separator is no byte of a token
 pub separator-token : (b : ℕ) → is_separator b ≡ true → is_token_byte b ≡ false
 separator-token b is = elim (or_cases (nat_eq b semicolon) (nat_eq b comma) is) [
+  -- both separators are tried, by computing
   | inl same ↦ subst (λ x. is_token_byte x ≡ false) (sym (eqb-true b semicolon same)) refl
   | inr same ↦ subst (λ x. is_token_byte x ≡ false) (sym (eqb-true b comma same)) refl
 ]
@@ -95,12 +97,14 @@ separator-token b is = elim (or_cases (nat_eq b semicolon) (nat_eq b comma) is) 
 -- a separator is no bare byte
 separator-bare : (b : ℕ) → is_separator b ≡ true → is_bare_byte b ≡ false
 separator-bare b is = elim (or_cases (nat_eq b semicolon) (nat_eq b comma) is) [
+  -- both separators are tried, by computing
   | inl same ↦ subst (λ x. is_bare_byte x ≡ false) (sym (eqb-true b semicolon same)) refl
   | inr same ↦ subst (λ x. is_bare_byte x ≡ false) (sym (eqb-true b comma same)) refl
 ]
 
 -- a blank is no byte of a bare value
 blank-bare : (b : ℕ) → is_lws_byte b ≡ true → is_bare_byte b ≡ false
+-- SP, HTAB, CR and LF are tried, by computing
 blank-bare = blank_is (λ b. is_bare_byte b ≡ false) refl refl refl refl
 
 -- a token or an IPv6 address does not begin with a blank
@@ -109,7 +113,9 @@ bare-stops v rest kind = at v (some-bare v kind) (each-bare v kind)
   where
     -- a bare byte is no blank
     solid : (b : ℕ) (x : Bool) → is_lws_byte b ≡ x → is_bare_byte b ≡ true → is_lws_byte b ≡ false
+    -- b is no blank
     solid b false is bare = is
+    -- b is a blank, which no bare byte is
     solid b true is bare = absurd (both_ways (is_bare_byte b) (blank-bare b is) bare)
 
     -- a text of bare bytes that is not empty begins with no blank, whatever follows it

@@ -1,4 +1,6 @@
 -- The canonical form of what bytes tell, and of the message that is kept of them.
+-- A message is kept with the names of its fields as they are known, and told with the names as they are spelled; `canon` is the canonical form of the one,
+-- and `canonical` that of the other.
 use Rattle.std.proofs.Common.{◌≡◌, ◌↔◌, ℕ, Bool, true, false, cond, ◌||◌, List, [], ◌∷◌, ◌++◌, map, flat_map, refl, sym, ap, ap₂, ◌∙◌, subst}
 use Rattle.std.specs.Prelude.{bytes_eq, codes}
 use Prim.Native.String.{String}

@@ -1,5 +1,6 @@
 -- The names of fields, and what a field of a name may hold.
 -- In the lemmas f is the text of a name, s the spelling of a known one, v a value, and k a known name.
+-- `Ways A B` says that A gives B, and B gives A; a foreign text (`IsForeign`) is no spelling of a known name.
 use Rattle.std.proofs.Common.{◌≡◌, ℕ, Bool, true, false, cond, ◌||◌, List, [], ◌∷◌, map, refl, sym, ap, ◌∙◌, subst}
 use Rattle.std.specs.Bool.{Decides}
 use Rattle.std.specs.Prelude.{bytes_eq, codes}

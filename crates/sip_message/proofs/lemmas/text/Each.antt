@@ -65,11 +65,13 @@ blank_is P sp ht cr lf b is =
     elim (or_cases (is_wsp b) _ is) [
       -- it is SP or HTAB
       | inl wsp ↦ elim (or_cases (nat_eq b space) _ wsp) [
+        -- it is the first of two, or the other one
         | inl e ↦ subst P (sym (eqb-true b space e)) sp
         | inr e ↦ subst P (sym (eqb-true b tab e)) ht
       ]
       -- the byte is CR or LF
       | inr end ↦ elim (or_cases (nat_eq b carriage_return) _ end) [
+        -- it is the first of two, or the other one
         | inl e ↦ subst P (sym (eqb-true b carriage_return e)) cr
         | inr e ↦ subst P (sym (eqb-true b line_feed e)) lf
       ]

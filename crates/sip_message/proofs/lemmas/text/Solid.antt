@@ -1,4 +1,5 @@
 -- The sets of texts without blanks: tokens, hosts, ports and URIs.
+-- `solid-one class refl refl refl refl` tries SP, HTAB, CR and LF one after another, by computing: none of them is of the class.
 use Rattle.std.proofs.Common.{◌≡◌, ℕ, Bool, true, false, List, [], ◌∷◌, ◌++◌, Option, Some, None, refl, sym, subst}
 use Rattle.std.specs.Char.{is_ascii_alphabetic, is_ascii_alphanumeric, is_ascii_digit, is_ascii_hexdigit, to_ascii_lowercase}
 use Rattle.std.specs.Prelude.{IfSome}

@@ -26,6 +26,7 @@ each-digits = each-then is_ascii_digit _ _ (each-one is_ascii_digit is_ascii_dig
 
 -- a blank is no digit
 blank-digit : (b : ℕ) → is_lws_byte b ≡ true → is_ascii_digit b ≡ false
+-- SP, HTAB, CR and LF are tried, by computing
 blank-digit = blank_is (λ b. is_ascii_digit b ≡ false) refl refl refl refl
 
 -- where the next byte is no digit, digits stop

@@ -132,7 +132,7 @@ value-trimmed text front value back w is of = at w of.opens of.ends (of.whole.4 
 
     -- the value stands between two blank runs
     at : (v : List ℕ) → OpensSolid v → EndsSolid v → text ≡ a ++ (v ++ b) → Sws front × Sws back
-    -- the value would be empty, so that all of the text is blanks: then nothing but the front is left
+    -- the value is empty: all of the text is blanks, and all of it is the front
     at [] opens ends whole =
         let same : front ++ (value ++ back) ≡ a ++ b = sym is.whole ∙ whole in
         let all : All is_lws_byte (front ++ (value ++ back)) = subst (All is_lws_byte) (sym same) (all_both is_lws_byte a b (each-sws a of.whole.2) (each-sws b of.whole.3.3)) in

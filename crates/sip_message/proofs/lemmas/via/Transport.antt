@@ -1,5 +1,6 @@
 -- A value of Via has one transport of its first element.
 -- In the lemmas u is a text and v what follows it, and b a byte of it; beside t, u is another transport of one value.
+-- A set is `AllFail test` where each of its texts has a first byte, which does not pass the test.
 use Rattle.std.proofs.Common.{◌≡◌, ℕ, Bool, true, false, ◌||◌, nat_eq, List, [], ◌∷◌, ◌++◌, length, refl, sym, ap, ◌∙◌, subst, inl, inr, arith}
 use Rattle.std.proofs.lemmas.Bool.{both_ways, eqb-true, or_right}
 use Rattle.std.proofs.lemmas.List.{append_assoc, length-append}

@@ -1,4 +1,5 @@
 -- The elements of a Via value, read one after another.
+-- `ViaFront` is an element of Via at the front of a text with what is left, where the element ends: with the text, or before a comma.
 use Rattle.std.proofs.Common.{◌≡◌, ◌↔◌, ℕ, List, [], ◌∷◌, refl, sym, ap, subst, inl, inr}
 use Rattle.sip_message.specs.inner.Marks.{comma}
 use Rattle.sip_message.specs.Via.{ViaParts}

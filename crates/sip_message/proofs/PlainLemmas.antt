@@ -42,6 +42,7 @@ segment-cut text at mid to first second =
 -- the segment from a place up to the same place is empty
 pub segment-none : (text : List ℕ) (at : ℕ) → segment at at text ≡ []
 segment-none text at =
+    -- no bytes are taken
     let none : at - at ≡ 0 = omega arith in
     ap (λ n. take n (drop at text)) none
 
@@ -147,6 +148,7 @@ host-own u (v6 t) is = ((subst Bracketed (sym is.1) is.0, refl), sym is.1)
 -- a host alone is a host with an optional port
 pub hostport-none : (h : HostParts) (u : List ℕ) → HostText u h → HostPort u
 hostport-none h u is =
+    -- `own` says that the text is that of the host's parts
     let own = host-own u h is in
     (h, None, own.0, tt, own.1 ∙ sym (append-nil (host_text h)))
 

@@ -230,6 +230,7 @@ field-unfolded line f is clear =
 
 -- where lines are fields and have no controls, no value of the fields is folded
 fields-unfolded : (lines : List (List ℕ)) (fields : List Field) → FieldsText lines fields → AllByRecursion IsOpen lines → AreUnfolded fields
+-- no fields have no values; else the first value is not folded, and neither are the others
 fields-unfolded [] fields are clear = subst AreUnfolded (sym are) tt
 fields-unfolded (line ∷ lines) fields (f, fs, is, are, whole) clear =
     subst AreUnfolded (sym whole) (field-unfolded line f is clear.0, fields-unfolded lines fs are clear.1)
@@ -408,6 +409,7 @@ known-by text s k fits token is name found =
 pub short-known : (text : List ℕ) (n : ℕ) (k : Known) → ((i : ℕ) → Fits w8 (get_or text i 0)) → Token text → length text ≤ 8 → n ≡ number_of text
     → list_all is_name_byte (spelled n) ≡ true → spelled_by spellings (spelled n) text ≡ known k → known k ≡ name_of text
 short-known text n k fits token few is name found =
+    -- each number of the text is a byte, so that its own number tells its bytes
     let bytes : Bytes text = λ i. (fits i).fits in
     known-by text (spelled n) k bytes token (sym (number-bytes text n bytes few is)) name found
 

@@ -144,6 +144,7 @@ pub record WordsSoFar (text : List ℕ) (at : ℕ) : Type 0 where
 -- the longest token at the front of a text, if there is one, is the first of its words
 pub words-first : (text : List ℕ) (n : ℕ) → n ≤ length text → IsLongestFront Token text n → (n ≡ 0 → ⊥) → WordsSoFar text n
 words-first text n within longest some = record {
+  -- the token is the first word, and no further one is counted yet
   within = within;
   words = (take n text, [], (token-cut text n longest some).0, many-nil (Blanks then Token), sym (append-nil (take n text)));
   stops = longest-stops text n longest;

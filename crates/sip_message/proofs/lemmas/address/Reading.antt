@@ -112,6 +112,7 @@ after-word more rest inner many (stops, (k, y, sws, y_is, r_is)) = elim (some-ma
 
 -- where the front of a scheme ends, a token ends
 fails-token : (u : List ℕ) → Fails is_scheme_front u → Stops is_token_byte u
+-- a text that fails has a first byte, which is neither of a token nor a colon
 fails-token [] fails = absurd fails
 fails-token (b ∷ u) fails = (or_parts (is_token_byte b) (nat_eq b colon) fails).0
 
@@ -228,6 +229,7 @@ one-cut text c d (plain has none all stops whole) (plain has_too none_too all_to
 -- a text that begins with a scheme is cut after the bytes that a URI without "<" may hold
 pub cut-plain : (text rest : List ℕ) (n : ℕ) → HasScheme text → n ≡ prefix_len is_unmarked_byte text → rest ≡ drop n text → ReadAs (AddressCut text) (make None (take n text) rest)
 cut-plain text rest n has n_is rest_is =
+    -- `cut` says that the first n bytes may stand in a URI without "<", and that none follows that may
     let cut = prefix-at is_unmarked_byte text n n_is in
     read-one (AddressCut text) (make None (take n text) rest) (one-cut text)
     (plain has refl cut.0 (subst (Stops is_unmarked_byte) (sym rest_is) cut.1) (sym (take-append-drop n text) ∙ ap (λ t. take n text ++ t) (sym rest_is)))

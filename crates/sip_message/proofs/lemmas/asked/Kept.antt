@@ -101,6 +101,7 @@ cseq-keeps f (Some c) b old new named is read cseq via so fields kept = record {
 -- a field that is neither a Via nor a CSeq changes nothing of what is kept
 pub other-keeps : (f : Field) (kept : Kept) → (is_name_of known_name.Via f.name ≡ false) × (is_name_of known_name.CSeq f.name ≡ false) → KeepsMore f kept kept
 other-keeps f kept other fields of = record {
+  -- the field has neither name, so what its first one says stays
   via = says-passed FirstVia known_name.Via fields f (option_map element kept.via) (option_map element kept.via) other.0 refl of.via;
   cseq = says-passed CSeqValue known_name.CSeq fields f (option_map cseq_parts kept.cseq) (option_map cseq_parts kept.cseq) other.1 refl of.cseq;
 }

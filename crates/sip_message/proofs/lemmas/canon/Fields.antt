@@ -58,12 +58,14 @@ form-appended r old started listed ended new m may_fold are started_is listed_is
     -- it was appended to what stood there
     so_far : ended ≡ old ++ front
     so_far =
+        -- the start line was appended, then the fields, and then the two line ends
         ended_is ∙ ap (λ t. t ++ (crlf ++ crlf)) (listed_is ∙ ap (λ t. t ++ fields_text may_fold m.fields) started_is ∙ append_assoc old (start_text m.start) (fields_text may_fold m.fields))
         ∙ append_assoc old (start_text m.start ++ fields_text may_fold m.fields) (crlf ++ crlf)
 
     -- with the body it is the canonical form
     whole : front ++ m.body ≡ canon (message_of m)
     whole =
+        -- the brackets are set anew, and the fields that are written as they are have the text of the unfolded ones
         append_assoc (start_text m.start ++ fields_text may_fold m.fields) (crlf ++ crlf) m.body ∙ append_assoc (start_text m.start) (fields_text may_fold m.fields) (crlf ++ (crlf ++ m.body))
         ∙ ap (λ t. start_text m.start ++ (t ++ (crlf ++ (crlf ++ m.body)))) (fields-same may_fold m.fields are)
         ∙ sym (ends-between (start_text m.start) (map field_text (map unfolded_field m.fields)) (crlf ++ m.body))

@@ -114,6 +114,7 @@ name-other (x ∷ xs) text t is = at (name-other xs text t) (bytes_eq (folded te
 -- one byte of a token or more are a token
 token_text : (b : ℕ) (text : List ℕ) → list_all is_token_byte (b ∷ text) ≡ true → Token (b ∷ text)
 token_text b text all =
+    -- the first byte and the others are bytes of tokens
     let parts = and_parts (is_token_byte b) (list_all is_token_byte text) all in
     (b ∷ [], text, (b, parts.0, refl), list_all-run is_token_byte text parts.1, refl)
 
@@ -155,6 +156,7 @@ code-decimal text code is =
 
     -- digits, joined, are digits
     each : (us : List (List ℕ)) → AllByRecursion (One is_ascii_digit) us → all_ascii_digits (concat us) ≡ true
+    -- the first text is one digit, and the others are digits
     each [] all = refl
     each (u ∷ us) all = ap (λ t. all_ascii_digits (t ++ concat us)) all.0.2 ∙ and_from _ _ all.0.1 (each us all.1)
 
@@ -279,6 +281,7 @@ field-cut line f is =
 
 -- the canonical forms of fields, one after another, are lines that are the fields with their values unfolded
 fields-canon : (lines : List (List ℕ)) (fs : List Field) → FieldsText lines fs → FieldsText (map field_text (map unfolded_field fs)) (map unfolded_field fs)
+-- no fields have no lines; else the first field is its line, and the others are theirs
 fields-canon [] fs is = subst (λ gs. FieldsText (map field_text (map unfolded_field gs)) (map unfolded_field gs)) (sym is) refl
 fields-canon (line ∷ lines) fs (f, more, is, are, whole) =
     subst (λ gs. FieldsText (map field_text (map unfolded_field gs)) (map unfolded_field gs)) (sym whole)
@@ -286,18 +289,21 @@ fields-canon (line ∷ lines) fs (f, more, is, are, whole) =
 
 -- the canonical forms of fields have no CR and no LF, and none is empty
 fields-inner : (lines : List (List ℕ)) (fs : List Field) → FieldsText lines fs → AreInner (map field_text (map unfolded_field fs))
+-- no fields have no lines; else the first line has no CR and no LF, and neither have the others
 fields-inner [] fs is = subst (λ gs. AreInner (map field_text (map unfolded_field gs))) (sym is) tt
 fields-inner (line ∷ lines) fs (f, more, is, are, whole) =
     subst (λ gs. AreInner (map field_text (map unfolded_field gs))) (sym whole) (field-inner line f is, fields-inner lines more are)
 
 -- no canonical form of a field begins with a blank
 fields-cut : (lines : List (List ℕ)) (fs : List Field) → FieldsText lines fs → AllByRecursion (λ line. ¬ (OpensBlank line)) (map field_text (map unfolded_field fs))
+-- no fields have no lines; else the first line begins with no blank, and neither do the others
 fields-cut [] fs is = subst (λ gs. AllByRecursion (λ line. ¬ (OpensBlank line)) (map field_text (map unfolded_field gs))) (sym is) tt
 fields-cut (line ∷ lines) fs (f, more, is, are, whole) =
     subst (λ gs. AllByRecursion (λ line. ¬ (OpensBlank line)) (map field_text (map unfolded_field gs))) (sym whole) (field-cut line f is, fields-cut lines more are)
 
 -- where lines are fields, each field has a value of its row
 pub fields-rows : (lines : List (List ℕ)) (fs : List Field) → FieldsText lines fs → AllByRecursion (λ f. Row f.name f.value) fs
+-- no fields have no rows; else the first field is of its row, and so are the others
 fields-rows [] fs is = subst (AllByRecursion (λ f. Row f.name f.value)) (sym is) tt
 fields-rows (line ∷ lines) fs (f, more, is, are, whole) =
     subst (AllByRecursion (λ g. Row g.name g.value)) (sym whole) (is.row, fields-rows lines more are)
@@ -443,6 +449,7 @@ fits-unfolded start fs rest rows fits = record {
     -- the transport is the same without its folds
     stream : IsStream (unfolded fits.via.0.1) → IsStream fits.via.0.1
     stream (t, top, is) =
+        -- `before` is the elements of the folded value, whose first one has the same transport
         let before = via_row in
         (before.0.transport, (before.0, before.1, before.2, refl), subst (λ x. IsTrue (is_stream x)) (same_transport (unfolded fits.via.0.1) t before.0.transport top (unfolded-via fits.via.0.1 before.0.transport (before.0, before.1, before.2, refl))) is)
 
@@ -485,6 +492,7 @@ message-twice (f ∷ fs) =
 -- where bytes spell a message, so does its canonical form
 pub canon-spells : (bytes : List ℕ) (m : Message) → Spells bytes m → Spells (canon m) m
 canon-spells bytes m (s, text, is) =
+    -- the canonical form is the text of the unfolded message, which is itself when it is unfolded again
     subst (λ n. Spells (canon n) n) (sym is)
     (message_of s, canon-text bytes s text, ap (λ fs. record { start = s.start; fields = fs; body = s.body }) (sym (message-twice s.fields)))
 

@@ -35,6 +35,7 @@ run-inner run = at (list_any is_end_byte run) refl
 
     -- where neither test passes, the second does not
     right : (x y : Bool) → (x || y) ≡ false → y ≡ false
+    -- with the first test both would pass
     right true y is = absurd (both_ways true is refl)
     right false y is = is
 
@@ -91,6 +92,7 @@ inner-run run inner = ap (λ folds. cond folds (space ∷ []) run) (none run inn
 
     -- in a text with neither CR nor LF no byte ends a line
     none : (text : List ℕ) → Inner text → list_any is_end_byte text ≡ false
+    -- no byte ends a line; else neither the first byte nor a later one does
     none [] all = refl
     none (b ∷ text) all = ap (λ x. x || list_any is_end_byte text) (no_end (nat_eq b carriage_return) (nat_eq b line_feed) all.0) ∙ none text all.1
 

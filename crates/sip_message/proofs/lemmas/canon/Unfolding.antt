@@ -42,6 +42,7 @@ unfold-blank old text out from at below blank u = record {
     -- the blank at the index is one more of the run
     step : unfolded_from run (drop at text) ≡ unfolded_from (run ++ get_or text at 0 ∷ []) (drop (at + 1) text)
     step =
+        -- the rest begins with the byte at the index, which is a blank
         ap (unfolded_from run) (drop_more text at 0 below)
         ∙ ap (λ b. cond b (unfolded_from (run ++ get_or text at 0 ∷ []) (drop (at + 1) text)) (unfolded_run run ++ get_or text at 0 ∷ unfolded_from [] (drop (at + 1) text))) blank
 
@@ -72,6 +73,7 @@ unfold-solid old text out mid new from at below solid u mid_is new_is = record {
     -- the run is written, unfolded, and then the byte
     step : unfolded_from run (drop at text) ≡ unfolded_run run ++ get_or text at 0 ∷ unfolded_from [] (drop (at + 1) text)
     step =
+        -- the rest begins with the byte at the index, which is no blank
         ap (unfolded_from run) (drop_more text at 0 below)
         ∙ ap (λ b. cond b (unfolded_from (run ++ get_or text at 0 ∷ []) (drop (at + 1) text)) (unfolded_run run ++ get_or text at 0 ∷ unfolded_from [] (drop (at + 1) text))) solid
 

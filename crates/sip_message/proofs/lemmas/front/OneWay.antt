@@ -272,6 +272,7 @@ one-quoted text (v, r) (w, s) (q, v_is) (p, w_is) = same_pair v r w s text v_is 
 
     -- two contents before the closing quote leave the same rest
     rests : (i j : List ℕ) → Many (Qdtext or QuotedPair) i → Many (Qdtext or QuotedPair) j → dquote ∷ (i ++ dquote ∷ r) ≡ dquote ∷ (j ++ dquote ∷ s) → r ≡ s
+    -- pieces of a quoted string are told apart byte by byte, and a quote is none, so both contents end at the same quote
     rests i j is js both_whole =
         let inners : i ++ dquote ∷ r ≡ j ++ dquote ∷ s = cc in
         let tails : dquote ∷ r ≡ dquote ∷ s = (same_many QuotedItem item_len i (dquote ∷ r) j (dquote ∷ s) item-step (items-contents i is) (items-contents j js) inners refl refl).1 in
@@ -294,6 +295,7 @@ one-bracket text (v, r) (w, s) (i, i_lacks, v_is, v_whole) (j, j_lacks, w_is, w_
     -- what follows the first "]" is one rest
     rests : left_bracket ∷ (i ++ right_bracket ∷ r) ≡ left_bracket ∷ (j ++ right_bracket ∷ s) → r ≡ s
     rests same =
+        -- the rest is what follows the first "]", since none stands within the brackets
         let inners : i ++ right_bracket ∷ r ≡ j ++ right_bracket ∷ s = cc in
         let found : Some r ≡ Some s = sym (behind-led right_bracket i (Some r) i_lacks) ∙ ap (behind right_bracket) inners ∙ behind-led right_bracket j (Some s) j_lacks in
         cc
@@ -319,6 +321,7 @@ bracket-first text (v, r) (i, lacks, v_is, whole) = ap (λ t. slice_index t 0) (
 
 -- the first byte of a text that is not empty, all bytes of which pass, passes, whatever follows the text
 pub first-all : (test : ℕ → Bool) (u v : List ℕ) → All test u → (u ≡ [] → ⊥) → test (slice_index (u ++ v) 0) ≡ true
+-- the text is not empty, so its first byte is one of its own
 first-all test [] v all some = absurd (some refl)
 first-all test (b ∷ u) v all some = all.0
 

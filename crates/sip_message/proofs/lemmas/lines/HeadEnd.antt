@@ -44,6 +44,7 @@ occurs-cut t k at = sym (take-append-drop k t) ∙ ap (λ x. take k t ++ x) (fou
 -- where a text is u, CRLF CRLF and v, CRLF CRLF occurs at the length of u
 cut-occurs : (t u v : List ℕ) → t ≡ u ++ (crlf ++ (crlf ++ v)) → OccursAt t double_end (length u)
 cut-occurs t u v is = record {
+  -- CRLF CRLF lies within the text, and its bytes are those after u
   fits = omega (arith, ap length is, length-append u (crlf ++ (crlf ++ v)));
   reads = λ j below. ap (λ x. get_or x (length u + j) 0) is ∙ get_or-append-add u (crlf ++ (crlf ++ v)) j 0 ∙ get_or_append_left double_end v 0 j below;
 }
@@ -55,6 +56,7 @@ inner_end = line_feed ∷ carriage_return ∷ line_feed ∷ []
 -- where CRLF CRLF occurs at place k, LF CR LF occurs at place k + 1
 double-inner : (t : List ℕ) (k : ℕ) → OccursAt t double_end k → OccursAt t inner_end (k + 1)
 double-inner t k at = record {
+  -- LF CR LF is what CRLF CRLF has from its second byte on
   fits = omega (arith, at.fits);
   reads = λ j below. ap (λ i. get_or t i 0) (omega arith) ∙ at.reads (suc j) (omega (arith, below));
 }
@@ -66,6 +68,7 @@ NoneSoFar t from = (j : ℕ) → j + 1 < from → ¬ (OccursAt t double_end j)
 -- where LF CR LF occurs in a text at place from + k, it occurs in the rest from `from` on at place k
 inner-rest : (t rest : List ℕ) (from k : ℕ) → from ≤ length t → rest ≡ drop from t → OccursAt t inner_end (from + k) → OccursAt rest inner_end k
 inner-rest t rest from k within is at = record {
+  -- the rest begins `from` bytes later than the text, so its places are by so much less
   fits = omega (arith, at.fits, ap length is, length-drop from t, within);
   reads = λ j below. ap (λ r. get_or r (k + j) 0) is ∙ get_or-drop from t (k + j) 0 ∙ ap (λ i. get_or t i 0) (omega arith) ∙ at.reads j below;
 }
@@ -81,6 +84,7 @@ rest-inner t rest from k within is at = record {
 -- where CRLF CRLF does not begin early, each place where it occurs has its LF CR LF in the rest
 double-rest : (t rest : List ℕ) (from j : ℕ) → from ≤ length t → rest ≡ drop from t → NoneSoFar t from → OccursAt t double_end j → (from ≤ j + 1) × OccursAt rest inner_end (j + 1 - from)
 double-rest t rest from j within is none at =
+    -- CRLF CRLF does not begin before the byte that stands before `from`, so its second byte is in the rest
     elim (cases_lt (j + 1) from) [
       | inl low ↦ absurd (none j low at)
       | inr high ↦
@@ -120,6 +124,7 @@ first-double t rest from k within is none first at some cr = (
 
     -- each of the four bytes stands where the search found it
     reads : (j : ℕ) → j < 4 → get_or t (from + k - 1 + j) 0 ≡ get_or double_end j 0
+    -- the first byte is the CR, and the others are those of LF CR LF
     reads zero below = ap (λ i. get_or t i 0) (omega arith) ∙ cr
     reads (suc j) below = ap (λ i. get_or t i 0) (omega (arith, some)) ∙ there.reads j (omega (arith, below))
 
@@ -225,12 +230,14 @@ Paired a (b ∷ t) = (nat_eq a carriage_return ≡ nat_eq b line_feed) × Paired
 -- a LF stands rightly after the byte at place k + 1 of a and a text where one does after the byte at place k of the text
 pair-on : (a : ℕ) (t : List ℕ) (k : ℕ) → IsPaired t k → IsPaired (a ∷ t) (suc k)
 pair-on a t k paired =
+    -- with a before it each place of the text is one greater
     let next : suc (k + 1) ≡ suc k + 1 = omega arith in
     subst (λ j. nat_eq (get_or (a ∷ t) (suc k) 0) carriage_return ≡ nat_eq (get_or (a ∷ t) j 0) line_feed) next paired
 
 -- a LF stands rightly after the byte at place k of a text where one does after the byte at place k + 1 of a and the text
 pair-back : (a : ℕ) (t : List ℕ) (k : ℕ) → IsPaired (a ∷ t) (suc k) → IsPaired t k
 pair-back a t k paired =
+    -- with a before it each place of the text is one greater
     let next : suc k + 1 ≡ suc (k + 1) = omega arith in
     subst (λ j. nat_eq (get_or (a ∷ t) (suc k) 0) carriage_return ≡ nat_eq (get_or (a ∷ t) j 0) line_feed) next paired
 
@@ -251,6 +258,7 @@ each-paired a (b ∷ t) paired (suc k) within = pair-on a (b ∷ t) k (each-pair
 -- a byte that is neither CR nor LF is no CR, and is no LF
 inner-parts : (b : ℕ) → is_inner_byte b ≡ true → (nat_eq b carriage_return ≡ false) × (nat_eq b line_feed ≡ false)
 inner-parts b inner =
+    -- neither test passes
     let both = and_parts (not (nat_eq b carriage_return)) (not (nat_eq b line_feed)) inner in
     (not-true _ (both.0), not-true _ (both.1))
 
@@ -321,11 +329,13 @@ clean-each (b ∷ t) clean k below = each-paired b t (clean-paired 0 (b ∷ t) r
 
 -- a test that does not hold fails
 pub is_not : (b : Bool) → (b ≡ true → ⊥) → not b ≡ true
+-- the test would hold
 is_not true none = absurd (none refl)
 is_not false none = refl
 
 -- a text without a bare line end does not begin with a LF
 pub clean-opens : (t : List ℕ) → HasNoBareEnd t → BeginsWithFeed t → ⊥
+-- an empty text has no first byte
 clean-opens [] clean feed = absurd (omega (arith, feed))
 clean-opens (b ∷ t) clean feed = both_ways (nat_eq b line_feed) (sym (clean-paired 0 (b ∷ t) refl clean).0) (eq-eqb b line_feed feed)
 
@@ -347,6 +357,7 @@ lines-front head first others are = (are.folded.0, no_blank others are.cut, are.
 -- the line that is read at the front of a head is its first line, and the rest is the text of the others
 pub first-cut : (head line rest : List ℕ) → ReadAs (LineFront head) (line, rest) → (first : List ℕ) (others : List (List ℕ)) → LinesSay head first others → (first ≡ line) × AreLines rest others
 first-cut head line rest read first others are =
+    -- the first line with its end stands at the front, and so is the one that is read there
     let same = read.1 (first, flat_map with_end others) (lines-front head first others are) in
     (ap (λ x. x.0) same, record { whole = sym (ap (λ x. x.1) same); folded = are.folded.1; cut = are.cut })
 

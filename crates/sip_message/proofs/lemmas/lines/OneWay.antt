@@ -33,6 +33,7 @@ no_blank ((b ∷ line) ∷ lines) none begins = none.0 begins
 
 -- a text that begins with a blank does so whatever follows it
 pub begins-append : (u v : List ℕ) → OpensBlank u → OpensBlank (u ++ v)
+-- an empty text begins with no blank
 begins-append [] v begins = absurd begins
 begins-append (b ∷ u) v begins = begins
 
@@ -126,6 +127,7 @@ lines-cons b text (a ∷ l) ls is = at l refl (nat_eq b carriage_return) (nat_eq
     -- the byte and the next one are CR and LF, which end an empty line, if no blank follows
     ends : b ≡ carriage_return → a ≡ line_feed → (OpensBlank l → ⊥) → (m : List ℕ) × (ms : List (List ℕ)) × LinesSay (b ∷ text) m ms
     ends b_is a_is none = (
+      -- the first line is empty, and the former first line, without its first byte, is the second one
       [],
       l ∷ ls,
       record {

@@ -141,6 +141,7 @@ scan-more done front more scanned lacks blank = record { apart = apart; folded =
 -- a text that is cut at its first LF is the front, which lacks LF, the LF and the rest
 cut-lf : (t front rest : List ℕ) → front ≡ before line_feed t → Some rest ≡ behind line_feed t → (t ≡ front ++ line_feed ∷ rest) × Lacks line_feed front
 cut-lf t front rest front_is rest_is = (
+  -- the text is what stands before the first LF, and from that LF on
   cut-whole line_feed t ∙ ap (λ x. x ++ led line_feed (behind line_feed t)) (sym front_is) ∙ ap (λ o. front ++ led line_feed o) (sym rest_is),
   subst (Lacks line_feed) (sym front_is) (lacks-before line_feed t),
 )
@@ -174,6 +175,7 @@ cr-ends f = at (ends_cr (f ++ carriage_return ∷ [])) refl
 
 -- a text that opens with a blank passes the test for SP and HTAB
 begins-wsp : (text : List ℕ) → OpensBlank text → begins_wsp text ≡ true
+-- an empty text opens with no blank
 begins-wsp [] begins = absurd begins
 begins-wsp (b ∷ text) begins = begins
 
@@ -260,6 +262,7 @@ line-on text front rest at within scanned front_is rest_is line = (
     -- the text is what was scanned, the front, the LF and the rest
     whole : text ≡ (take at text ++ (front ++ line_feed ∷ [])) ++ rest
     whole =
+        -- what was scanned, and the front with its LF, stand first, and the rest follows
         sym (take-append-drop at text) ∙ ap (λ t. take at text ++ t) (both.0 ∙ sym (append_assoc front (line_feed ∷ []) rest))
         ∙ sym (append_assoc (take at text) (front ++ line_feed ∷ []) rest)
 

@@ -99,6 +99,7 @@ same-elements {p = p} k vals es same only = sym (only.only (p.via ∷ p.others) 
 -- bytes are the text of one message, as it is spelled
 pub same_text : (bytes : List ℕ) (m n : Message) → MessageText bytes m → MessageText bytes n → m ≡ n
 same_text bytes m n one other =
+    -- the bytes have one outcome
     let same : ◌≡◌ {A = Outcome Message} (gives m) (gives n) = one-read bytes (gives m) (gives n) (text-read bytes m one) (text-read bytes n other) in
     cc
 

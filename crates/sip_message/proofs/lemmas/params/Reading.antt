@@ -246,6 +246,7 @@ no-param these text fails next x (both inner mark more) = next-other these semic
 -- where parameters are read at the front of a text, and nothing is left, the text is these parameters
 pub params-yes : (text : List ℕ) (ps : List Param) → ParamsFront text ps [] → ParamsText text ps
 params-yes text ps so =
+    -- nothing is left, so the text is the parameters that stand at its front
     let is = front-params ps text [] so in
     subst (λ t. ParamsText t ps) (sym (is.2 ∙ append-nil is.0)) is.1
 

@@ -144,6 +144,7 @@ no-close text inner found none x bracket =
 -- where a text begins with "[", and "]" follows, the text is "[", what stands before "]", "]" and the rest
 closed : (text inner rest : List ℕ) → past left_bracket text ≡ Some inner → behind right_bracket inner ≡ Some rest → text ≡ (left_bracket ∷ (before right_bracket inner ++ right_bracket ∷ [])) ++ rest
 closed text inner rest found ends =
+    -- the text is "[" and what follows, which is cut at its first "]"
     past-some left_bracket text inner found
     ∙ ap (λ x. left_bracket ∷ x) (cut-whole right_bracket inner ∙ ap (λ o. before right_bracket inner ++ led right_bracket o) ends ∙ sym (append_assoc (before right_bracket inner) (right_bracket ∷ []) rest))
 

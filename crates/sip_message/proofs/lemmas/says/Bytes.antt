@@ -140,6 +140,7 @@ same-value n x y same = same-demand Equal (IsValue x) (SaidValue y) (fault_in_li
 -- the reading of a field line is the same by the readers and by the definitions
 same-field : (n : ℕ) (line : List ℕ) → Same (IsField n) (FieldOf n line) (FieldSays n line)
 same-field n line =
+    -- the name is the same, then the value, and so is the field that is made of both
     same-then IsSame (IsField n) _ _ (same-named n line) (λ x y same.
     same-then Equal (IsField n) _ _ (same-value n x y same) (λ v w v_is.
     same-gives (IsField n) _ _ (same.0, refl, refl, sym v_is)))
@@ -169,8 +170,11 @@ all-found k key same n (f ∷ fs) (g ∷ gs) ((f_is, g_is, line_is, value_is), a
     -- the claim holds whether or not the first field has the name, as the readers see it and as it is said
     at : (b c : Bool) → b ≡ c → found_from (n + 1) k fs ≡ all key gs
         → cond b ((n, f.value) ∷ found_from (n + 1) k fs) (found_from (n + 1) k fs) ≡ map (λ h. (h.line, h.value)) (cond c (g ∷ filter (λ h. bytes_eq h.name (codes key)) gs) (filter (λ h. bytes_eq h.name (codes key)) gs))
+    -- both say that it has the name, and its line and value are the same
     at true true b_is later = ap (λ x. x ∷ found_from (n + 1) k fs) pair ∙ ap (λ z. (g.line, g.value) ∷ z) later
+    -- both say that it has another name
     at false false b_is later = later
+    -- the answers are equal, so they cannot differ
     at true false b_is later = absurd (both_ways true b_is refl)
     at false true b_is later = absurd (both_ways true (sym b_is) refl)
 
@@ -202,6 +206,7 @@ same-names fs gs are =
 -- a transport that is a stream is TCP or TLS, in any case of its letters
 stream-kind : (t : List ℕ) → is_stream t ≡ true → (AnyCase "tcp" or AnyCase "tls") t
 stream-kind t is = elim (or_cases (bytes_eq (folded t) (codes "tcp")) (bytes_eq (folded t) (codes "tls")) is) [
+  -- the text without case is "tcp", or it is "tls"
   | inl tcp ↦ inl ((bytes_eq-Decides (folded t) (codes "tcp")).0 tcp)
   | inr tls ↦ inr ((bytes_eq-Decides (folded t) (codes "tls")).0 tls)
 ]

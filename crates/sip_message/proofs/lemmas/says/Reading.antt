@@ -178,6 +178,7 @@ says-fault bytes f (stopped g tells is) = let read = (same-read bytes).back (sto
 -- bytes that are read as a message say what that message says
 pub said-is : (bytes : List ℕ) (r : Reading) (s : Said) → Reads bytes r → Says bytes (gives s) → s ≡ said_of r
 said-is bytes r s reads says =
+    -- `other` is a reading that says s, and bytes have one reading
     let other = says-reads bytes s says in
     other.2 ∙ ap said_of (same_reading bytes other.0 r other.1 reads)
 

@@ -268,6 +268,7 @@ more-vias (e ∷ es) text (via, (m, w, mark, (x, y, x_is, more, w_is), whole)) =
 -- where a value has elements with their texts, it has them by their parts, and the first is the same
 pub elements-first : (text : List ℕ) (e : Element) (es : List Element) → ElementsText text (e ∷ es) → (vias : List ViaParts) × ViasText text e.1 vias
 elements-first text e es (via, (x, y, x_is, more, whole)) =
+    -- `later` is the parts of the elements after the first one
     let later = more-vias es y more in
     (later.0, (x, y, subst (λ t. ViaText t e.1) (sym x_is) via, later.1, whole))
 
@@ -280,5 +281,6 @@ elements-via text (e ∷ es) are = let row = elements-first text e es are in (e.
 -- a value of Via by the parts of its elements has elements with their texts, and the first has the same parts
 pub via-elements : (text : List ℕ) (v : ViaParts) (vias : List ViaParts) → ViasText text v vias → (x : List ℕ) × (es : List Element) × ElementsText text ((x, v) ∷ es)
 via-elements text v vias (x, y, via, more, whole) =
+    -- `later` is the elements after the first, with their texts
     let later = more-elements vias y more in
     (x, later.0, (via, (x, y, refl, later.1, whole)))

@@ -58,6 +58,7 @@ token-first line method uri p token = (token, refl, (method, space ∷ (uri ++ s
 -- where a token is read at the front of a request line, it is the method, and the rest is the URI and the version
 request-cut : (line token rest method uri : List ℕ) → ReadAs (TokenFront line) (token, rest) → RequestLine line (method, uri) → (method ≡ token) × RequestCut token rest uri
 request-cut line token rest method uri read is =
+    -- p is the parts of the line; its method is the token at its front, and what follows is what is left
     let p = request_parts line method uri is in
     let same = read.1 (method, space ∷ (uri ++ space ∷ p.version)) (token-first line method uri p is.0) in
     (ap (λ x. x.0) same, record { version = p.version; is_version = p.is_version; is_uri = is.1; whole = sym (ap (λ x. x.1) same) })

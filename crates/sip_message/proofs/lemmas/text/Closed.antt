@@ -37,11 +37,13 @@ closed-solid P each u v b w ends opens blanks is =
 
 -- blanks that do not end with a blank are none
 blank_ends : (u : List ℕ) → EndsSolid u → All is_lws_byte u → u ≡ []
+-- blanks that are not empty end with a blank
 blank_ends [] ends all = refl
 blank_ends (b ∷ u) ends all = absurd (ends_blank [] b u ends all)
 
 -- blanks that do not begin with a blank are none
 pub blank_opens : (v : List ℕ) → OpensSolid v → All is_lws_byte v → v ≡ []
+-- blanks that are not empty begin with a blank
 blank_opens [] opens all = refl
 blank_opens (b ∷ v) opens all = absurd (both_ways (is_lws_byte b) opens all.0)
 

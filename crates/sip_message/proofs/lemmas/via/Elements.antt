@@ -172,6 +172,7 @@ read-only rest text vals more e behind es next read only = (first.others, first.
     -- any list of elements that are left after the first is the list of the other elements
     same : (ys : List Element) → AreLeft behind more ys → ys ≡ first.others
     same ys left =
+        -- with the first one before them they are elements that are left, and of these there is one list
         let eq : ◌≡◌ {A = List Element} (e ∷ ys) (e ∷ first.others) = only.only (e ∷ ys) (next.from (e ∷ ys) (read-first text e behind more ys read.0 left)) ∙ first.first in
         cc
 

@@ -25,11 +25,13 @@ AllFail test P = (u : List ℕ) → P u → Fails test u
 
 -- a text whose first byte does not pass has such a first byte whatever follows it
 pub fails-append : (test : ℕ → Bool) (u v : List ℕ) → Fails test u → Fails test (u ++ v)
+-- an empty text does not fail the test
 fails-append test [] v fails = absurd fails
 fails-append test (b ∷ u) v fails = fails
 
 -- where the test fails at the front, it stops there, whatever follows
 fails-stops : (test : ℕ → Bool) (u v : List ℕ) → Fails test u → Stops test (u ++ v)
+-- an empty text does not fail the test
 fails-stops test [] v fails = absurd fails
 fails-stops test (b ∷ u) v fails = fails
 

@@ -189,6 +189,7 @@ words-more text rest stop at b w rest_is stop_is so b_in w_in blanks some_b toke
     -- the text is the words so far, the blanks, the token and what is left
     whole : text ≡ (take at text ++ (u ++ take w stop)) ++ drop w stop
     whole =
+        -- the text is the words so far and the rest, and the rest is the blanks, the token and what is left
         sym (take-append-drop at text) ∙ ap (λ t. take at text ++ t) (sym rest_is ∙ rest_whole ∙ ap (λ t. u ++ t) (sym (take-append-drop w stop)) ∙ sym (append_assoc u (take w stop) (drop w stop)))
         ∙ sym (append_assoc (take at text) (u ++ take w stop) (drop w stop))
 

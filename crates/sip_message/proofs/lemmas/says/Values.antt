@@ -154,6 +154,7 @@ cseq-said text n m c = at c.whole
 -- a number and a method that a CSeq says by the definitions are those that the readers read
 pub said-cseq : (text : List ℕ) (n : ℕ) (m : List ℕ) → CSeqSays (n, m) text → CSeqText text n m
 said-cseq text n m (low, (d, w, (digits, n_is), (s, word, blanks, (token, m_is), w_is), whole)) = record {
+  -- d is the digits, s the blanks and word the method
   digits = d;
   are_digits = digits;
   number_is = n_is;

@@ -24,6 +24,7 @@ use Rattle.sip_message.proofs.lemmas.front.Prefix.{prefix-at}
 
 -- a text of no bytes is the empty text
 pub length-none : (u : List ℕ) → length u ≡ 0 → u ≡ []
+-- a text with a byte has a length above 0
 length-none [] none = refl
 length-none (b ∷ u) none = absurd (omega (arith, none))
 

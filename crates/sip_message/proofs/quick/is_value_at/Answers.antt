@@ -58,6 +58,7 @@ returns-in-Known-ContentLength-clause-asked c = λ so.
 -- any other field may have a value without controls
 pub returns-in_default-clause-row : goal.returns-in_default-clause-row
 returns-in_default-clause-row c = λ _.
+    -- the row of any other name asks for a value that is not looked into
     let other : OtherText (segment c.args.at c.args.end c.args.masks.now) = open-other _ c.requires.clear in
     search rules
 
@@ -77,6 +78,7 @@ returns-in_default-clause-asked c = λ _.
 -- a value without controls is one that the reader does not look into
 pub returns-in_default-2-clause-row : goal.returns-in_default-2-clause-row
 returns-in_default-2-clause-row c = λ _.
+    -- the row of any other name asks for a value that is not looked into
     let other : OtherText (segment c.args.at c.args.end c.args.masks.now) = open-other _ c.requires.clear in
     search rules
 

@@ -17,12 +17,14 @@ returns-in_err-method c = subst (IsOnlyValue RequestLine pair_parts c.args.line.
 -- where no SP follows the method, the line is no request line
 pub returns-in_err-rest : goal.returns-in_err-rest
 returns-in_err-rest c =
+    -- the method was read, but no SP stands after it
     subst (IsOnlyValue RequestLine pair_parts c.args.line.now) (sym c.from_residual-in_err-rest.ensures)
     (request-no_space c.args.line.now c.in_ok-method.method.now c.in_ok-method.rest.now c.in_ok-method.ensures (sym c.in_err-rest.ensures))
 
 -- a line that is too short for the version is no request line
 pub returns-in_err-at : goal.returns-in_err-at
 returns-in_err-at c =
+    -- the method and a SP were read, but fewer than eight bytes follow
     subst (IsOnlyValue RequestLine pair_parts c.args.line.now) (sym c.from_residual-in_err-at.ensures)
     (request-short c.args.line.now c.in_ok-method.method.now c.in_ok-method.rest.now c.in_ok-rest.rest.now c.in_ok-method.ensures (sym c.in_ok-rest.ensures) (omega (arith, c.in_err-at.ensures)))
 

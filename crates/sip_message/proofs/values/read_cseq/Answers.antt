@@ -11,6 +11,7 @@ use Rattle.sip_message.proofs.values.read_cseq.Goals.{then-len-eq0-via-then-len-
 -- where the number is too great, the text is no CSeq
 pub returns-in_err-number : goal.returns-in_err-number
 returns-in_err-number c =
+    -- the digits at the front write a number that is too great
     subst (IsOnlyValue CSeqValue cseq_parts c.args.text.now) (sym c.from_residual.ensures)
     (cseq-large c.args.text.now c.digits_len-len.result c.digits_len-len.ensures.run c.in_err-number.ensures)
 

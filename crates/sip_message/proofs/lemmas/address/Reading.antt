@@ -378,8 +378,8 @@ tail-stops text (b ∷ params) ((k, y, sws, y_is, whole), (p ∷ ps, (opens, par
     begins = fail-then is_unmarked_byte (Mark semicolon) _ (fail-mark is_unmarked_byte semicolon not-plain refl) (b ∷ params) part
 
     -- what follows begins with no byte of a URI without "<", whether blanks stand before the ";" or not
-    -- without blanks the parameters stand first
     at : Sws k → Fails is_unmarked_byte (k ++ (b ∷ params))
+    -- without blanks the parameters stand first
     at (inl none) = subst (λ t. Fails is_unmarked_byte (t ++ (b ∷ params))) (sym none) begins
     -- blanks stand first, none of which may stand in the URI
     at (inr blanks) = fails-append is_unmarked_byte k (b ∷ params) (fail-blanks is_unmarked_byte not-plain k blanks)

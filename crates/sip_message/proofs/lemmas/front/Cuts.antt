@@ -191,8 +191,8 @@ abbrev pub NotRead : {X : Type 0} → (X → Type 0) → Type 0
 NotRead {X = X} R = (x : X) → ¬ (R x)
 
 -- where the first of two steps gives nothing, both together give nothing
--- y would be given by the first step, which gives nothing
 pub stop : {X Y : Type 0} {R : X → Type 0} {S : X → Y → Type 0} → NotRead R → NotRead (Seq R S)
+-- y would be given by the first step, which gives nothing
 stop none y (both x r s) = none x r
 
 -- where the first of two steps gives one value, and the second nothing after it, both together give nothing

@@ -97,8 +97,8 @@ pub bare-token : (b : ℕ) → is_token_byte b ≡ true → is_bare_byte b ≡ t
 bare-token b is = or_left (is_token_byte b) (nat_eq b colon) is
 
 -- a text of one bare byte is bare
--- the text is the byte alone
 pub bare-byte : (b : ℕ) → is_bare_byte b ≡ true → Each B (Byte b)
+-- the text is the byte alone
 bare-byte b is u text = subst (All B) (sym text) (is, tt)
 
 -- a byte in a range is in each wider range

@@ -116,8 +116,8 @@ pub text-says : (bytes : List ℕ) (r : Reading) → MessageText bytes r.message
 text-says bytes r text parts = let told = (same-read bytes).to (gives r.message) (text-read bytes r.message text) in at told.0 told.1 told.2
   where
     -- bytes that tell a message say it, and bytes that tell a fault do not tell this message
-    -- a message is told: its start line, fields and body are y
     at : (b : Outcome (StartLine × List SaidField × List ℕ)) → BytesTell bytes b → Alike IsTold (gives r.message) b → Says bytes (gives (said_of r))
+    -- a message is told: its start line, fields and body are y
     at (gives y) tells is_told = passes y tells (said_of r, parts-tell r.message y.0 y.1 y.2 r.parts is_told parts, refl)
     -- the reading of the message is no fault
     at (stops f) tells is_told = absurd is_told

@@ -24,6 +24,7 @@ module _ (texts : Texts) (to : List ℕ) (low high t : ℕ) (rows : List (List D
   -- where the message of a debt has the To, it stands under its hash
   under : All (λ d. HasTo texts to t d → Under d) debts
   under = λ k d within has.
+      -- the numbers of what the row owes are from low up to high, and the messages with such numbers stand under the hashes of their Tos
       let between = All-get_or (AreBetween low high) rows row [] inside spans k d within in
       (stand (get_or debts k d).message to (known k d within) between.0 between.1 has.0, has.1)
 

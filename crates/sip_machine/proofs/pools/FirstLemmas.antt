@@ -35,6 +35,7 @@ module _ {X : Type 0} (xs : List X) where
   Any-more : (P : ℕ → Type 0) (rows : List ℕ) (row : ℕ) → Any P rows → Any P (rows ++ row ∷ [])
   Any-more P rows row (i, r, low, is, holds) = (i, r, low-more rows row i low, get_or_append_left rows (row ∷ []) r i low ∙ is, holds)
     where
+      -- a place of the rows is a place of the rows with one more after them
       low-more : (rows : List ℕ) (row i : ℕ) → i < length rows → i < length (rows ++ row ∷ [])
       low-more [] row i low = absurd (omega (arith, low))
       low-more (r ∷ rows) row zero low = omega arith
@@ -46,6 +47,7 @@ module _ {X : Type 0} (xs : List X) where
     within = All-push (λ row. (from ≤ row) × (row < at + 1)) rows at
         (All-weaker (λ row. (from ≤ row) × (row < at)) (λ row. (from ≤ row) × (row < at + 1)) (λ row is. let b = is.1 in (is.0, omega (arith, b))) rows first.within)
         (low, omega arith);
+    -- the new row is above all others
     rising = all_pairs_push (λ a b. a < b) rows at first.rising (λ k d low. (first.within k d low).1);
     -- an element before `at` has its first one among the rows, and the one at `at` is one itself
     each = λ k x low_k high_k. elim (cases_lt k at) [
@@ -54,12 +56,14 @@ module _ {X : Type 0} (xs : List X) where
           let here : at ≡ k = omega (arith, behind, high_k) in
           Any-push (λ row. get_or xs row x ≡ get_or xs k x) rows at (ap (λ r. get_or xs r x) here)
     ];
+    -- no two rows have equal elements: the new one has none of those before it
     apart = λ x. all_pairs_push (λ a b. get_or xs a x ≢ get_or xs b x) rows at (first.apart x) (λ k d low. new x k d low);
   }
 
   -- where one of the first ones is the same as the element at `at`, that is no further first one
   pub first-again : (from at : ℕ) (rows : List ℕ) → AreFirstOnes xs from at rows → IsAmong rows at → AreFirstOnes xs from (at + 1) rows
   first-again from at rows first among = record {
+    -- the rows are the same, and the element at `at` has its equal among them
     within = All-weaker (λ row. (from ≤ row) × (row < at)) (λ row. (from ≤ row) × (row < at + 1)) (λ row is. let b = is.1 in (is.0, omega (arith, b))) rows first.within;
     rising = first.rising;
     each = λ k x low_k high_k. elim (cases_lt k at) [

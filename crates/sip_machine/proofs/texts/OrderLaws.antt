@@ -67,12 +67,13 @@ searchable texts places key rising =
 
 -- an answer that two things are equal is neither that the one is less nor that it is greater
 never-equal : (o : Ordering) → o ≡ Equal → (o ≡ Less) ⊎ (o ≡ Greater) → ⊥
+-- the ordering is `Less` or `Greater`, which is not `Equal`, or it is `Equal`, and then it is neither of the two
 never-equal Less equal other = absurd (omega (arith, ap ordering_index equal))
 never-equal Equal equal (inl less) = absurd (omega (arith, ap ordering_index less))
 never-equal Equal equal (inr greater) = absurd (omega (arith, ap ordering_index greater))
 never-equal Greater equal other = absurd (omega (arith, ap ordering_index equal))
 
--- where two comparisons in turn say that nothing differs, the second one does
+-- where two comparisons, of which the second counts if the first says `Equal`, come to `Equal`, the second one says `Equal`
 then-equal : (a b : Ordering) → ordering_then a b ≡ Equal → b ≡ Equal
 then-equal Less b e = absurd (omega (arith, ap ordering_index e))
 then-equal Equal b e = e
@@ -156,12 +157,13 @@ IsOrder-grow texts places number bytes i order gap =
     let place = get_or places k d in
     let here = (All-get_or (IsPlace texts) places k d low order.hashed).0 in
     ap (λ b. (place.hash, b)) (bytes_at-grow texts (number, bytes) place.position here) in
+    -- the new place tells the new bytes with their hash, and an old place is one of the book that has grown
     let new : key_of grown added ≡ (hash_of bytes, bytes) = ap (λ b. (hash_of bytes, b)) (bytes_at-added texts number bytes) in
     let kept : (p : Place) → IsPlace texts p → IsPlace grown p = λ p is.
     (omega (arith, size, is.0), is.1 ∙ ap hash_of (sym (bytes_at-grow texts (number, bytes) p.position is.0))) in
     let hashed : All (IsPlace grown) places =
     All-weaker (IsPlace texts) (IsPlace grown) kept places order.hashed in
-    -- each place has the hash of its message
+    -- the places with the new one among them are the order of the book with the new message
     record {
       -- the keys of the old places are as they were and rise, those in front are less than the new one, and those behind it are greater
       rising = AllPairs-insert (λ a b. compare (key_of grown a) (key_of grown b) ≡ Less) places i added gap.within
@@ -169,6 +171,7 @@ IsOrder-grow texts places number bytes i order gap =
           (λ k d low high. ap₂ compare (old k d (omega (arith, gap.within))) new ∙ gap.before k d low high)
           (λ k d low high. ap₂ compare new (old k d high)
           ∙ compare-total.antisymm (hash_of bytes, bytes) (key_of texts (get_or places k d)) ∙ ap ordering_reverse (gap.after k d low high));
+      -- each place, old or new, is that of a message and has the hash of its bytes
       hashed = All-append (IsPlace grown) (take i places) (added ∷ drop i places) (All-take (IsPlace grown) i places hashed)
           (All-cons (IsPlace grown) added (drop i places) (omega (arith, size), ap hash_of (sym (bytes_at-added texts number bytes))) (All-drop (IsPlace grown) i places hashed));
       -- each message has its place, the new one that of the gap

@@ -1,5 +1,6 @@
 -- Laws of the runs in which a book holds its places.
 -- Where a place is read from a list (`get_or xs i first`), `first` stands for what is past the end: any place will do.
+-- The rank of an ordering (`ordering_index`) is 0 for `Less`, 1 for `Equal` and 2 for `Greater`.
 use Rattle.std.specs.Prelude.{◌≡◌, ◌<◌, ◌≤◌, ◌+◌, ◌-◌, ◌⊎◌, ℕ, true, false, List, [], ◌∷◌, ◌++◌, length, take, All}
 use Rattle.std.specs.List.{insert}
 use Rattle.std.specs.List.Sorted.{IsNonDecreasingBy, IsPartitionedBy, IsPartitionPoint}

@@ -30,6 +30,7 @@ text_of-other number bytes texts n e = rw (ne_eqb number n e)
 -- the bytes of the number of the message at an index are its bytes
 pub text_of-at : (texts : Texts) (i : ℕ) (x : ℕ × List ℕ) → AllPairs (λ a b. a.0 < b.0) texts → i < length texts →
     x ≡ get_or texts i x → text_of texts x.0 ≡ x.1
+-- a book without messages has no index
 text_of-at [] i x rising low e = absurd (omega arith)
 -- the message is the first one
 text_of-at (kept ∷ texts) zero x rising low e = text_of-same kept.0 kept.1 texts x.0 (ap (λ k. k.0) (sym e)) ∙ ap (λ k. k.1) (sym e)
@@ -100,6 +101,7 @@ pub text_of-added : (texts : Texts) (number : ℕ) (bytes : List ℕ) → ((n : 
     text_of (texts ++ (number, bytes) ∷ []) number ≡ bytes
 text_of-added [] number bytes above = text_of-same number bytes [] number refl
 text_of-added (kept ∷ texts) number bytes above =
+    -- the first message has a lower number, so the new number is looked for among the others
     let low : kept.0 < number = above kept.0 (Keeps-at (kept ∷ texts) 0 kept (omega arith) refl) in
     text_of-other kept.0 kept.1 (texts ++ (number, bytes) ∷ []) number (omega arith)
     ∙ text_of-added texts number bytes (λ n keeps. above n (Contains-append_right (kept.0 ∷ []) (map (λ k. k.0) texts) n keeps))

@@ -28,6 +28,7 @@ received p (Calling w) (Response code) e y running (inr (inr unsuccessful)) = rw
 received p (Proceeding reliable request cancel) (Response code) e y running (inl success) = rw success.1 (All-nil (λ m. e.moment ≤ m))
 received p (Proceeding reliable request cancel) (Response code) e y running (inr unsuccessful) = rw unsuccessful.1 (timer_d_starts p reliable e.moment)
 received p (Completed reliable request set) (Response code) e y running h = rw h.1 running
+-- no other message has a row
 received p x k e y running h = absurd h
 
 -- the INVITE client of RFC 3261 keeps what a figure keeps

@@ -523,6 +523,7 @@ fn make_room(runs: &mut Vec<PlaceRun>, gap: Gap) -> Result<Gap, AllocError>
     let places = runs[gap.run].places.split_off(MOST / 2)?;
     let first = places[0];
     runs.insert(gap.run + 1, PlaceRun { first, places })?;
+    // A gap in the first half, or at its end, stays where it is.
     if gap.place <= MOST / 2 {
         return Ok(gap);
     }

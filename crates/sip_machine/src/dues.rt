@@ -46,6 +46,7 @@ impl Model for Dues {
     ghost use Rattle.sip_ledger.specs.declared.debt.Debt.{Debt};
     ghost use Rattle.sip_machine.specs.inner.Dues.{rows_of};
 
+    // Dues mean what each row owes, with accounts or without.
     ghost Value = { List (List Debt) };
 
     ghost view = { λ d. rows_of d.rows };

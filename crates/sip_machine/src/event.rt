@@ -83,7 +83,8 @@ impl Model for Event {
     ghost use Rattle.sip_standard.specs.Times.{last_moment};
     ghost use Rattle.sip_machine.specs.NumberedEvent.{NumberedEvent};
 
-    // An event means what it has. It is no mark, and its moment is within the limit of a log.
+    // An event means what it has. It is no mark, and its moment is within the limit of a log. `view` gives its parts, and `inverse` the event
+    // with such parts.
     ghost Value = { NumberedEvent };
 
     ghost view = { λ e. record { moment = e.moment; action = e.action; number = e.number; kind = e.kind; reliable = e.reliable } };
@@ -124,6 +125,7 @@ impl Event {
         Event {
             moment,
             action: Action::Restart,
+            // Nothing asks for the message of a restart, so that its number and its kind are any.
             number: 0,
             kind: Kind::Request(Method::Other),
             reliable: false,

@@ -19,7 +19,7 @@ use std::alloc::{AllocError, Global};
 use std::hash::Hash;
 use std::marker::Model;
 
-/// Timer D over an unreliable transport, in milliseconds.
+/// Timer D over an unreliable transport, in milliseconds (RFC 3261 section 17.1.1.2).
 const TIMER_D: u64 = 32_000;
 
 /// A phase of the INVITE client transaction. Moments are in milliseconds, and messages are numbers of the `Book`.
@@ -65,7 +65,7 @@ pub struct InviteClient {
 impl Model for InviteClient {
     ghost use Rattle.sip_standard.specs.Times.{Times};
 
-    // A client means the times by which it was made.
+    // A client means the times by which it was made. `view` gives these of a client, and `inverse` the client of such times.
     ghost Value = { Times };
 
     ghost view = { λ m. m.params };

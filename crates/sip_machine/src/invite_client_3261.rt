@@ -25,7 +25,7 @@ pub struct InviteClient3261 {
 impl Model for InviteClient3261 {
     ghost use Rattle.sip_standard.specs.Times.{Times};
 
-    // A client means the times by which it was made.
+    // A client means the times by which it was made. `view` gives these of a client, and `inverse` the client of such times.
     ghost Value = { Times };
 
     ghost view = { λ m. m.corrected };

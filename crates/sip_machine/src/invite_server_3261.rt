@@ -58,7 +58,7 @@ pub struct InviteServer3261 {
 impl Model for InviteServer3261 {
     ghost use Rattle.sip_standard.specs.Times.{Times};
 
-    // A server means the times by which it was made.
+    // A server means the times by which it was made. `view` gives these of a server, and `inverse` the server of such times.
     ghost Value = { Times };
 
     ghost view = { λ m. m.corrected };
@@ -224,6 +224,7 @@ impl Phases for InviteServer3261 {
         }
     }
 
+    // Passed lasts for ever, and the other phases as long as those of the corrected machine.
     fn closes(&self, phase: &InviteServer3261Phase) -> Option<u64> {
         match *phase {
             InviteServer3261Phase::Passed => None,
@@ -231,6 +232,7 @@ impl Phases for InviteServer3261 {
         }
     }
 
+    // Passed names no message: the user has the 2xx that it sends again.
     fn message(&self, phase: &InviteServer3261Phase) -> Option<u64> {
         match *phase {
             InviteServer3261Phase::Passed => None,
@@ -294,6 +296,7 @@ fn succeeds(phase: &InviteServer3261Phase) -> Option<Turn<InviteServer3261Phase>
         AnswersOne (turn_names invite_server_3261_names) (TurnInRange InviteServer3261InRange) (turn_seen invite_server_3261_seen) texts
         (Sends p (invite_server_3261_seen texts phase.now) (Response code) e) result }
 {
+    // After another 2xx what is owed stays; the first one drops what was owed of provisional responses; in no other phase has a 2xx a row.
     let change = match *phase {
         InviteServer3261Phase::Passed => Change::Keeps,
         InviteServer3261Phase::In {

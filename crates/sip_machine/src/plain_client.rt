@@ -46,7 +46,7 @@ pub struct PlainClient {
 impl Model for PlainClient {
     ghost use Rattle.sip_standard.specs.Times.{Times};
 
-    // A client means the times by which it was made.
+    // A client means the times by which it was made. `view` gives these of a client, and `inverse` the client of such times.
     ghost Value = { Times };
 
     ghost view = { λ m. m.params };

@@ -37,6 +37,7 @@ impl<P: Phase> Model for Pool<P> {
     ghost use Rattle.sip_machine.specs.Owing.{CodeOwing};
     ghost use Rattle.sip_machine.specs.inner.Pools.{beside};
 
+    // A pool means its states: each phase with what its row owes. There are as many rows as phases.
     ghost Value = { List (CodeOwing P) };
 
     ghost view = { λ p. beside p.phases.items p.dues };
@@ -368,6 +369,7 @@ impl<P: Phase> Pool<P> {
         ensures err { OnErr result (self.new ≡ self.old) }
     {
         let before = self.len();
+        // Where memory is refused, what was put after the old states goes again.
         let led = self.push_led(params, moment, at, effect.turn);
         if led.is_err() || self.push_rested(moment, at, effect.rest).is_err() {
             self.truncate(before);
@@ -510,6 +512,7 @@ fn run_of(rows: &[usize]) -> Option<usize>
     if rows.is_empty() {
         return None;
     }
+    // The indices rise, so that each is the one after the index before it where the last is near enough to the first.
     let first = rows[0];
     if rows[rows.len() - 1] - first < rows.len() {
         Some(first)

@@ -46,6 +46,7 @@ pub enum InviteClientPhase {
         request: u64,
         set: u64,
     },
+    /// The transaction is over.
     Ended,
 }
 

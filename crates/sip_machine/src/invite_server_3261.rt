@@ -34,6 +34,7 @@ use std::marker::Model;
 pub enum InviteServer3261Phase {
     /// A 2xx was sent: from then on it is the user that sends it again, and the INVITE may come again.
     Passed,
+    /// A phase of `InviteServer`: before a 2xx, or since the INVITE came again after it.
     In {
         /// The phase, as `InviteServer` has it; it is never accepted.
         phase: InviteServerPhase,

@@ -27,6 +27,7 @@ pub enum PlainClientPhase {
     Proceeding(Waiting),
     /// A final response came at the moment `set`, which starts timer K.
     Completed { reliable: bool, set: u64 },
+    /// The transaction is over.
     Ended,
 }
 

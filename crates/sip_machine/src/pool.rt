@@ -521,7 +521,7 @@ fn run_of(rows: &[usize]) -> Option<usize>
     }
 }
 
-/// Mixes a hash into the prints from `from` up to `to`.
+/// Mixes a hash into the prints from `from` up to `to`: an exclusive or of each with it.
 fn mix(prints: &mut [u64], from: usize, to: usize, hash: u64)
     requires order { from ≤ to }
     requires within { to ≤ length prints.old }
@@ -532,7 +532,7 @@ fn mix(prints: &mut [u64], from: usize, to: usize, hash: u64)
     }
 }
 
-/// The hash of a phase.
+/// The hash of a phase: that of what the phase feeds to a hasher, which `hash_input` tells.
 #[inline(never)]
 fn hash_of<P: Phase>(phase: &P) -> u64
     ensures { result ≡ hash_by (P.hash_input phase.now) }

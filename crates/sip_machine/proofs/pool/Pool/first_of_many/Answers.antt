@@ -13,6 +13,7 @@ loop-at-preserved g c =
     let prints = c.in_ok-prints.prints.items in
     let kept = c.loop-at.slots.prints in
     let print = c.index-print.result.now in
+    -- `at_from` says that `at` is not before `from`, where the loop begins
     let at_from = c.loop-at.auto.at in
     -- the state has an equal before it exactly if one of the first ones is equal
     let (first, long, told) = c.loop-at.invariant in

@@ -533,7 +533,8 @@ fn make_room(runs: &mut Vec<PlaceRun>, gap: Gap) -> Result<Gap, AllocError>
     })
 }
 
-/// The place of the message with these bytes and this hash among places in order, or where it would go.
+/// The place of the message with these bytes and this hash among places in order, or where it would go. The clauses say that it is the place of one that
+/// compares as equal, or, where the places are in order, that those before it compare as less and the others as greater.
 fn search(kept: &[KeptMessage], places: &[Place], hash: u64, bytes: &[u8]) -> Result<usize, usize>
     ensures within { IsSearchInRange result (length places.now) }
     ensures found { IsBinarySearchResult (λ place. compare (key_of (texts_of kept.now) place) (hash, bytes.now)) places.now result }

@@ -68,6 +68,7 @@ front-first : (P : Debt → Type 0) (message t n : ℕ) (debts : List Debt) → 
 front-first P message t n debts found =
     let front = take n debts in
     let back = drop n debts in
+    -- the first debts are one fewer without the one that is paid
     let left = ap length found.rest ∙ length-append found.before found.after in
     let long = ap length found.whole ∙ length-append found.before (found.first ∷ found.after) in
     -- what stands before the debt, and the debt, are the same in the whole list

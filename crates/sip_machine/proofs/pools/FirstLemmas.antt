@@ -126,7 +126,7 @@ run_picked xs rows first x run within =
     get_or-take (length rows) (drop first xs) k d inside ∙ get_or-drop first xs k d ∙ ap (λ n. get_or xs n d) (sym is)
     ∙ get_or_default xs (get_or rows k 0) d x row_low ∙ sym (get_or-map (λ row. get_or xs row x) rows k 0 d inside))
 
--- what stays in a pool of which some states are kept
+-- what stays in a pool of which some states are kept: the lemmas that `using(..)` gives the prover in `src/pool.rt`
 pub ruleset of_kept = (beside-length, run_picked)
 
 -- What follows is of elements that are brought to the front of their list.
@@ -153,7 +153,7 @@ module _ {X : Type 0} (xs : List X) (rows : List ℕ) where
     rest = λ k d le_k. rest k d (omega (arith, le_k)) ∙ picking.rest k d (omega (arith, le_k));
   }
 
--- how the elements at some rows come to the front
+-- how the elements at some rows come to the front: the lemmas that `using(..)` gives the prover in `src/pool.rt`
 pub ruleset of_picking = (nat_tests, common_steps, cases_lt, rising-above, picking-more, length-set, length-take-le, take-set-le, get_or-set_same, get_or_default, get_or-set_other)
 
 -- What follows is of prints.

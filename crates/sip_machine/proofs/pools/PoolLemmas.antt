@@ -144,8 +144,8 @@ module _ {X : Type 0} where
   pub take-old : (old added new : List X) (n : ℕ) → new ≡ old ++ added → n ≡ length old → take n new ≡ old
   take-old old added new n is at = ap₂ take at is ∙ take-append_seam old added
 
--- the rules by which phases and rows of a pool stand beside each other
+-- how phases and rows of a pool stand beside each other: the lemmas that `using(..)` gives the prover in `src/pool.rt`
 pub ruleset of_pool = (beside-length, beside_push, beside-set, beside-take, empty-length, in-phases, in-rows, rested-set, state-at, same-state, take-append_seam, take_all, length_push, not-shorter, front-again)
 
--- what is left in a pool after the first states
+-- what is left in a pool after the first states: the lemmas that `using(..)` gives the prover in `src/pool.rt`
 pub ruleset of_drop = (beside-length, beside-drop, dropped-first, length-drop)

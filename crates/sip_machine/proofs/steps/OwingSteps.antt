@@ -156,6 +156,7 @@ module _ {S X : Type 0} (f : Figure X) (p : Times) (seen : Texts → S → X) (n
       let there : led_to p e.moment (owes_seen texts x.owes) after
       ≡ owing_seen seen texts (record x { phase = turn.phase; owes = changed_debts p e.moment turn.change x.owes })
       = ap (λ (owes : List Owed). record { phase = seen texts turn.phase; owes = owes }) (changed-seen p texts e.moment turn.change x.owes) in
+      -- the book has the messages of what was owed, and the one that the turn gains, if it gains one
       let owes_known = All-back (Keeps texts) (names x.phase) (owes_names x.owes) known in
       let here = All-back (Keeps texts) (names turn.phase) (change_names turn.change) one.known in
       -- the state is the only one, the book has what it names, and it is in range

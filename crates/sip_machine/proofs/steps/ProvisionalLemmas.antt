@@ -33,7 +33,7 @@ Is100-read bytes r reads = (
   λ is. (is.reason, ap (λ s. s.start) (sym (said-is bytes r is.said reads is.says)) ∙ is.start),
 )
 
--- where a text is the code 100 in three digits, it is "100"
+-- where a text is the code 100 in three digits, it is "100"; the prover looks into `digits`, the digits of a number (`unfolding`)
 digits-100 : (text : List ℕ) → CodeText text 100 → text ≡ codes "100"
 unfolding digits
 digits-100 text is = sym (code-decimal text 100 is)

@@ -1,5 +1,7 @@
 -- Rising numbers and a part of them: where both have as many between two bounds, they are the same there.
--- In the lemmas n is the first of some rising numbers and ns are the others, and m is a number that is looked for.
+-- In the lemmas n is the first of some rising numbers and ns are the others; m is a number that is looked for, or the first of the part, whose others are ms.
+-- `count_by p xs` is how many elements pass; `IsPartitionPoint P Q xs i` says that P holds of those before i and Q of those from i on;
+-- `IsNonDecreasingBy f xs` that what f gives never falls.
 use Prim.Native.Nat.{zero, suc}
 use Rattle.std.specs.Prelude.{◌≡◌, ◌≢◌, ◌<◌, ◌≤◌, ◌+◌, ◌-◌, ◌&&◌, ℕ, Bool, true, false, List, [], ◌∷◌, AllPairs, Contains, length, map, nat_le, nat_lt}
 use Rattle.std.specs.List.{count_by}

@@ -1,4 +1,6 @@
 -- Laws of the order of hashes and bytes in which a book finds equal bytes.
+-- `insert xs i y` is xs with y put in at the place i; `AllWithin P xs i j` says that P holds of the elements from i on and before j;
+-- `IsPartitionPoint P Q xs i` that P holds of those before i and Q of those from i on; `IsNonDecreasingBy f xs` that what f gives never falls along xs.
 use Rattle.std.specs.Prelude.{◌≡◌, ◌≢◌, ◌<◌, ◌≤◌, ◌+◌, ◌-◌, ◌⊎◌, ℕ, List, [], ◌∷◌, ◌++◌, All, AllPairs, Contains, map, length}
 use Rattle.std.specs.List.{insert, drop-map, AllWithin}
 use Rattle.std.specs.List.Sorted.{IsNonDecreasingBy, IsPartitionPoint}

@@ -1,5 +1,7 @@
 -- What a book holds once the messages of some numbers alone are kept.
 -- In the lemmas t is the first message of a book with its number, and ts are the others; n is a number, and ns are numbers.
+-- `set xs i y` is xs with y in the place i; `SwappedAt xs ys i j` says that ys is xs with the elements at i and j in each other's place; `cons_option o xs` is
+-- xs with the value of o before it, if there is one.
 use Rattle.std.specs.Prelude.{◌≡◌, ◌≢◌, ◌<◌, ◌≤◌, ◌+◌, ◌⊎◌, ℕ, zero, suc, Bool, true, nat_eq, Option, Some, None, List, [], ◌∷◌, ◌++◌, All, AllPairs, Contains, map, length, take, drop}
 use Rattle.std.specs.List.{filter, filter_map, cons_option, SwappedAt}
 use Rattle.std.specs.Option.{option_map}

@@ -1,6 +1,8 @@
 -- Laws of the runs in which a book holds its places.
 -- Where a place is read from a list (`get_or xs i first`), `first` stands for what is past the end: any place will do.
--- The rank of an ordering (`ordering_index`) is 0 for `Less`, 1 for `Equal` and 2 for `Greater`.
+-- The rank of an ordering (`ordering_index`) is 0 for `Less`, 1 for `Equal` and 2 for `Greater`. `set xs i y` is xs with y in the place i, and `insert xs i y`
+-- xs with y put in there. `IsPartitionPoint P Q xs i` says that P holds of the elements before i and Q of those from i on; `IsPartitionedBy p xs` that no
+-- element that passes comes after one that fails; `IsNonDecreasingBy f xs` that what f gives never falls.
 use Rattle.std.specs.Prelude.{◌≡◌, ◌<◌, ◌≤◌, ◌+◌, ◌-◌, ◌⊎◌, ℕ, true, false, List, [], ◌∷◌, ◌++◌, length, take, All}
 use Rattle.std.specs.List.{insert}
 use Rattle.std.specs.List.Sorted.{IsNonDecreasingBy, IsPartitionedBy, IsPartitionPoint}
@@ -193,6 +195,7 @@ module _ (texts : Texts) (runs : List PlaceRun) (key : ℕ × List ℕ) (held : 
             let up = rw (place_at runs i 0 d first low led_i.filled, place_at runs j 0 d first high led_j.filled) at
             (searchable texts (places_of runs) key held.order.rising (off_i + 0) (off_j + 0) first (omega arith) (omega arith)) in
             begins texts key (get_or runs i d) led_i ∙ begun_of_rank (compare (key_of texts (get_or (items (get_or runs i d)) 0 first)) key) (omega (arith, up, later))
+        -- else both are one run
         | inr from ↦ let same : i ≡ j = omega arith in rw same begun
       ]
 

@@ -115,6 +115,7 @@ IsBook-grow texts number bytes book above other =
     let kept_is : (n : ℕ) → Keeps texts n → text_of (texts ++ (number, bytes) ∷ []) n ≡ text_of texts n = text_of-grow texts number bytes in
     let added_is : text_of (texts ++ (number, bytes) ∷ []) number ≡ bytes = text_of-added texts number bytes above in
     record {
+      -- the numbers of the old messages rise, and the new one is above them all
       rising = all_pairs_push (λ a b. a.0 < b.0) texts (number, bytes) book.rising
           (λ k d low. let at = Contains-get_or texts k d low in above (get_or texts k d).0 (Keeps-at texts at.0 (get_or texts k d) at.1 (sym at.2)));
       -- two old numbers, an old one and the new one, or the new one twice

@@ -1,4 +1,6 @@
 -- How a book finds equal bytes: the places of its messages in the order of hash and bytes, in runs.
+-- `slice_index_or xs i d` is the element at the place i, or d past the end; `AllWithin P xs i j` says that P holds of the elements from i on and before j;
+-- `nat_cmp` compares numbers, and `slice_cmp` lists, element by element; `ordering_then` is the first answer, or the second one where the first is `Equal`.
 use Rattle.std.specs.Prelude.{◌≡◌, ◌<◌, ◌≤◌, ◌+◌, ◌-◌, ◌++◌, ◌∷◌, ℕ, Bool, true, false, Option, Some, None, List, [], All, AllPairs, Contains, map, length, take, slice_index_or}
 use Rattle.std.specs.declared.cmp.Ordering.{Ordering}
 use Rattle.std.specs.declared.cmp.Ordering.TheVariants.{Less, Greater}

@@ -114,6 +114,7 @@ leaves p x k e y h (inr stays) = absurd stays
 pub invite_client_is_figure : IsFigure invite_client
 invite_client_is_figure =
     record {
+      -- idle and ended have no timer
       idle_has_no_end = λ p. refl;
       idle_stays = λ p. refl;
       ended_has_no_end = λ p. refl;
@@ -136,6 +137,7 @@ invite_client_named texts x = refl
 pub invite_client_is_coded : IsCoded invite_client invite_client_told invite_client_coded
 invite_client_is_coded =
     record {
+      -- each of these is told by a lemma above
       is_figure = invite_client_is_figure;
       apart = invite_client_apart;
       by_names = invite_client_by_names;
@@ -149,6 +151,7 @@ invite_client_is_coded =
       ended_decided = inr (λ same. cc);
       idle_fits = (refl, tt);
       ended_fits = (refl, tt);
+      -- in words idle and ended tell no message
       idle_silent = refl;
       ended_silent = refl;
     }

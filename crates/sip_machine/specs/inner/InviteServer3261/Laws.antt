@@ -137,6 +137,7 @@ unpaid x k e message stays = absurd stays
 pub invite_server_3261_is_figure : IsFigure invite_server_3261
 invite_server_3261_is_figure =
     record {
+      -- idle and ended have no timer
       idle_has_no_end = λ p. refl;
       idle_stays = λ p. refl;
       ended_has_no_end = λ p. refl;
@@ -160,6 +161,7 @@ invite_server_3261_named texts (code.In phase again) = refl
 pub invite_server_3261_is_coded : IsCoded invite_server_3261 invite_server_3261_told invite_server_3261_coded
 invite_server_3261_is_coded =
     record {
+      -- each of these is told by a lemma above, or by one of the corrected machine
       is_figure = invite_server_3261_is_figure;
       apart = invite_server_3261_apart;
       by_names = invite_server_3261_by_names;
@@ -173,6 +175,7 @@ invite_server_3261_is_coded =
       ended_decided = inl refl;
       idle_fits = (refl, tt);
       ended_fits = (refl, tt);
+      -- in words idle and ended tell no message
       idle_silent = refl;
       ended_silent = refl;
     }

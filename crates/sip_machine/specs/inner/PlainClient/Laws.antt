@@ -88,6 +88,7 @@ leaves p x k e y h (inr stays) = absurd stays
 pub plain_client_is_figure : IsFigure plain_client
 plain_client_is_figure =
     record {
+      -- idle and ended have no timer
       idle_has_no_end = λ p. refl;
       idle_stays = λ p. refl;
       ended_has_no_end = λ p. refl;
@@ -110,6 +111,7 @@ plain_client_named texts x = refl
 pub plain_client_is_coded : IsCoded plain_client plain_client_told plain_client_coded
 plain_client_is_coded =
     record {
+      -- each of these is told by a lemma above
       is_figure = plain_client_is_figure;
       apart = plain_client_apart;
       by_names = plain_client_by_names;
@@ -123,6 +125,7 @@ plain_client_is_coded =
       ended_decided = inr (λ same. cc);
       idle_fits = (refl, tt);
       ended_fits = (refl, tt);
+      -- in words idle and ended tell no message
       idle_silent = refl;
       ended_silent = refl;
     }

@@ -79,6 +79,7 @@ front-first P message t n debts found =
       whole = sym (take-append-drop n debts) ∙ ap (λ l. l ++ back) found.whole ∙ append_assoc found.before (found.first ∷ found.after) back;
       holds = found.holds;
       none_before = found.none_before;
+      -- what is left of all debts is what is left of the first ones, and then the others
       rest = ap (paid_by message t) (sym (take-append-drop n debts)) ∙ paid-front message t front back (omega (arith, left, long))
           ∙ ap (λ l. l ++ back) found.rest ∙ append_assoc found.before found.after back;
     }

@@ -141,6 +141,7 @@ module _ {X S : Type 0} (names : S → List ℕ) (InRange : S → Type 0) (seen 
   pub found-more : (some more all old mid new added : List S) → all ≡ some ++ more → HasFound names InRange seen texts P some old mid → new ≡ mid ++ added →
       Covers names InRange seen texts (FromSome P more) added → HasFound names InRange seen texts P all old new
   found-more some more all old mid new added is (found, mid_is, covers) new_is covers_more = (
+    -- what was found before and what is found now cover together what leads from all
     found ++ added,
     new_is ∙ ap (λ xs. xs ++ added) mid_is ∙ append_assoc old found added,
     subst (λ xs. Covers names InRange seen texts (FromSome P xs) (found ++ added)) (sym is)

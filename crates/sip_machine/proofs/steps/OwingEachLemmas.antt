@@ -196,6 +196,7 @@ module _ {S X : Type 0} (f : Figure X) (p : Times) (seen : Texts → S → X) (n
         let x = InPhase owes in
         let P = Rests f e (owing_seen seen texts (unexpired_at e.moment x)) in
         let can = list_any (is_payable message e.moment) owes in
+        -- the book has the messages of the debts, so that the test of a debt tells whether the send pays it
         let kept = All-names (Keeps texts) owes (All-back (Keeps texts) (names phase) (owes_names owes) knows) in
         let one = paid-answers message owes moves
         (All-weaker (λ debt. Keeps texts debt.message) (λ debt. IsTrue (is_payable message e.moment debt) ↔ PaysFor (f.Satisfies (seen texts phase) e.kind e) texts e.moment debt)

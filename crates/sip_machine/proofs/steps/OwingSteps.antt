@@ -136,6 +136,7 @@ IsWithoutFirst-filter p P xs ys passes a =
       after = filter p a.after;
       whole = ap (filter p) a.whole ∙ filter-append p a.before (a.first ∷ a.after)
           ∙ ap (λ b. filter p a.before ++ cond b (a.first ∷ filter p a.after) (filter p a.after)) (passes a.first a.holds);
+      -- P holds of the first, and still of none before it
       holds = a.holds;
       none_before = All-filter p (λ x. ¬ (P x)) a.before a.none_before;
       rest = ap (filter p) a.rest ∙ filter-append p a.before a.after;
@@ -165,6 +166,7 @@ module _ {S X : Type 0} (f : Figure X) (p : Times) (seen : Texts → S → X) (n
           λ h. h.2 ∙ ap (led_to p e.moment (owes_seen texts x.owes)) ((one.only h.0).0 h.1) ∙ there,
           λ same. (after, (one.only after).1 refl, same ∙ sym there),
         );
+        -- the book has what the new phase names and the messages of the debts after the change, and the moments are in range
         known = All-append (Keeps texts) (names turn.phase) (owes_names (changed_debts p e.moment turn.change x.owes))
             (All-front (Keeps texts) (names turn.phase) (change_names turn.change) one.known)
             (names-kept texts (changed_debts p e.moment turn.change x.owes) (changed-known p texts e.moment turn.change x.owes here owes_known));

@@ -26,6 +26,7 @@ pub Gains-one : {S X : Type 0} (names : S → List ℕ) (InRange : S → Type 0)
 Gains-one names InRange seen texts P x must message only known kept fits =
     record {
       only = only;
+      -- the book has what the phase names, and the message that is gained
       known = All-append (Keeps texts) (names x) (message ∷ []) known (All-cons (Keeps texts) message [] kept (All-nil (Keeps texts)));
       in_range = fits;
     }

@@ -42,6 +42,7 @@ module _ (texts : Texts) (number : ℕ) (bytes : List ℕ) (book : IsBook (texts
   -- the number of the newest message is above those of all others
   pub newest_above : (n : ℕ) → Keeps texts n → n < number
   newest_above n keeps =
+      -- the message stands at a place k before the newest, and the numbers rise along the book
       let (k, low, is) = kept_place texts n keeps in
       let less = book.rising k (length texts) (0, []) low (omega (arith, long)) in
       let first : ℕ × List ℕ → ℕ = λ t. t.0 in
@@ -83,6 +84,7 @@ module _ (texts : Texts) (number : ℕ) (bytes : List ℕ) (book : IsBook (texts
   pub AreTos-front : (tos : List To) → All (λ to. to.number < number) tos → AreTos grown tos → AreTos texts tos
   AreTos-front tos below all = record {
     each = λ k d low.
+        -- the number of each To is below that of the newest message, so the To is one of another message
         let to = get_or tos k d in
         let is = all.each k d low in
         let under = below k d low in

@@ -48,6 +48,7 @@ AllPairs-insert R xs i y within pairs before after a b d lt end =
             -- b stands after i, and a before i, at i, or after it
             let b_above : i < b = omega (arith, b_past.1) in
             elim (cases_lt a i) [
+              -- both are old elements, or a is y, which R relates to each old one from there on
               | inl a_below ↦ rw (above b b_above, below a a_below) (pairs a (b - 1) d (omega arith) (omega arith))
               | inr a_from ↦ elim (eqb_tells a i) [
                 | inl a_here ↦ rw (a_here.1, above b b_above, here) (after (b - 1) d (omega arith) (omega arith))

@@ -482,6 +482,7 @@ module _ (texts : Texts) (numbers : List ℕ) (book : IsBook texts) (up : AllPai
   pub text_of-only : (n : ℕ) → Contains numbers n → text_of (only numbers texts) n ≡ text_of texts n
   text_of-only n (k, low, is) =
       let within : k < length (only numbers texts) = (let size = length-only numbers texts in omega arith) in
+      -- x is the message at the place k of those that stay, with the number n
       let x : ℕ × List ℕ = (get_or numbers k n, text_of texts (get_or numbers k n)) in
       let at = text_of-at (only numbers texts) k x rising-only within (sym (at_number k n low) ∙ get_or_default (only numbers texts) k (0, []) x within) in
       ap (text_of (only numbers texts)) (sym is) ∙ at ∙ ap (text_of texts) is
@@ -491,6 +492,7 @@ module _ (texts : Texts) (numbers : List ℕ) (book : IsBook texts) (up : AllPai
   IsBook-only = record {
     rising = rising-only;
     apart = λ a b keeps_a keeps_b same.
+        -- two messages that stay had the same bytes before, and so they have one number
         let in_a = Keeps-only a keeps_a in
         let in_b = Keeps-only b keeps_b in
         book.apart a b (All-contains (Keeps texts) numbers a kept in_a) (All-contains (Keeps texts) numbers b kept in_b) (sym (text_of-only a in_a) ∙ same ∙ text_of-only b in_b);

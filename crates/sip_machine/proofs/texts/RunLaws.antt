@@ -60,6 +60,7 @@ pub places-inserted : (runs : List PlaceRun) (gap : Gap) (place : Place) (d run 
 places-inserted runs gap place d run low within is =
     let before = places_of (take gap.run runs) in
     let after = places_of (drop (gap.run + 1) runs) in
+    -- all places are those before the run, those of the run and those after it, and the new one comes into those of the run
     places-set runs gap.run run low ∙ ap (λ run. before ++ (run ++ after)) is
     ∙ sym (insert-within before (items (get_or runs gap.run d)) after gap.place place within)
     ∙ ap (λ all. insert all (index_of runs gap) place) (sym (places-around runs gap.run d low))

@@ -90,6 +90,7 @@ text_of-grow (kept ∷ texts) number bytes n keeps =
           elim (Contains-cons_cases kept.0 (map (λ k. k.0) texts) n keeps) [
             | inl same ↦ absurd (other.1 same)
             | inr rest ↦
+                -- a later message has the number, and its bytes stay by the lemma itself
                 text_of-other kept.0 kept.1 (texts ++ (number, bytes) ∷ []) n other.1
                 ∙ text_of-grow texts number bytes n rest
                 ∙ sym (text_of-other kept.0 kept.1 texts n other.1)

@@ -41,6 +41,7 @@ invite_client_coded =
       seen = invite_client_seen;
       names = invite_client_names;
       InRange = InviteClientInRange;
+      -- a transaction begins in idle, and is in ended after its end
       idle = code.Idle;
       ended = code.Ended;
     }

@@ -39,6 +39,7 @@ invite_server_coded =
       seen = invite_server_seen;
       names = invite_server_names;
       InRange = InviteServerInRange;
+      -- a transaction begins in idle, and is in idle again after its end
       idle = code.Idle;
       ended = code.Idle;
     }

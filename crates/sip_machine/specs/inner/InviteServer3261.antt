@@ -32,6 +32,7 @@ invite_server_3261_coded =
       seen = invite_server_3261_seen;
       names = invite_server_3261_names;
       InRange = InviteServer3261InRange;
+      -- a transaction begins in idle without the flag, and is in it again after its end
       idle = code.In code_phase.Idle false;
       ended = code.In code_phase.Idle false;
     }

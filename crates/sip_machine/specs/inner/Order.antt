@@ -24,7 +24,7 @@ abbrev pub placed : {X : Type 0} → Bool → List X → List X
 placed false all = all
 placed true all = take (length all - 1) all
 
--- the hash of all of these bytes
+-- the hash of all of these bytes: what the hasher of the standard library gives at its end, to which the bytes were written
 abbrev pub full_hash : List ℕ → ℕ
 full_hash bytes = finish (write initial bytes)
 
@@ -97,6 +97,7 @@ pub record IsLoose (texts : Texts) (runs : List PlaceRun) (newest : Loose) : Typ
   pub others : Texts
   pub number : ℕ
   pub bytes : List ℕ
+  -- the book is the others and then the newest message; the runs hold the others
   pub last : texts ≡ others ++ (number, bytes) ∷ []
   pub order : IsInRuns others runs
   pub hash : newest.hash ≡ hash_of bytes

@@ -38,6 +38,7 @@ plain_client_coded =
       seen = plain_client_seen;
       names = plain_client_names;
       InRange = PlainClientInRange;
+      -- a transaction begins in idle, and is in ended after its end
       idle = code.Idle;
       ended = code.Ended;
     }

@@ -34,6 +34,7 @@ plain_server_coded =
       seen = plain_server_seen;
       names = plain_server_names;
       InRange = PlainServerInRange;
+      -- a transaction begins in idle, and is in idle again after its end
       idle = code.Idle;
       ended = code.Idle;
     }

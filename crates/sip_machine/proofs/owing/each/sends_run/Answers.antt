@@ -50,6 +50,7 @@ returns-clause-gives g c =
       Covers-same (owing_names m.names) (OwingInRange m.in_range) (owing_seen m.seen) texts (λ y. FromSome P some y ⊎ FromSome Q some y)
           (FromSome (λ x. TakeOf m.figure p (owing_seen m.seen texts x) e) some)
           (λ y.
+          -- what a state takes of a sent message is where a row leads it or where it rests (`takes-sent`)
           let either = FromSome-either P Q some y in
           let same = FromSome-same (λ x y. P x y ⊎ Q x y) (λ x. TakeOf m.figure p (owing_seen m.seen texts x) e) (takes-sent m.figure p m.seen texts e c.requires.action) some y in
           (λ h. same.0 (either.0 h), λ h. either.1 (same.1 h))) (added ++ more)

@@ -11,6 +11,7 @@ loop-at-preserved g c =
     let from = c.args.from in
     let rows = c.loop-at.rows.items in
     let prints = c.in_ok-prints.prints.items in
+    -- `kept` are the prints in the slots, and `print` is that of the state at hand
     let kept = c.loop-at.slots.prints in
     let print = c.index-print.result.now in
     -- `at_from` says that `at` is not before `from`, where the loop begins

@@ -45,5 +45,6 @@ returns g c =
     let (from, within, mixing) = c.loop-at.invariant in
     let size = beside-length phases rows in
     let same = ap length c.self.view_is in
+    -- the loop has come to the end of the phases
     let all : length phases ≤ c.args.from + (c.loop-at.at - c.args.from) = omega (arith, size, same, from) in
     mixed-all g.P.Hash.hash_input phases c.args.from old rows c.args.self.now c.loop-at.prints.items (c.loop-at.at - c.args.from) c.self.view_is c.self.invariant c.in_ok-prints.ensures mixing all

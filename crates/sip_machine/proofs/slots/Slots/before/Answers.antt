@@ -9,6 +9,7 @@ last_from-requires c =
     let s = c.args.self.now in
     let are : AreSlots s = subst AreSlots c.self.view_is c.self.invariant in
     let low = c.requires in
+    -- the pair at `at` tells one past the print before it in its slot, and that is no later than `at`
     let older = pair-older c.self.inside.newest.items c.self.inside.kept.items s c.args.at c.index-kept.result.now c.self.view_is low c.index-kept.ensures in
     let within = (are.older_is c.args.at low).within in
     omega (arith, older, within, low)

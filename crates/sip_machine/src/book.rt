@@ -236,6 +236,7 @@ impl Book {
             ⊎ ((self.new ≡ self.old ++ (entry, bytes.now) ∷ []) × (n ≡ entry))) }
         ensures err { OnErr result (self.new ≡ self.old) }
     {
+        // The message before this one gets its place first, so that all places are there for the search.
         place_newest(&self.kept, &mut self.order, &mut self.loose)?;
         let hash = hash(bytes);
         match find(&self.kept, &self.order, hash, bytes) {
@@ -246,6 +247,7 @@ impl Book {
                     number: entry,
                     bytes,
                 })?;
+                // Its place is put into the gap when the next message comes.
                 self.loose = Some(Loose { hash, gap });
                 Ok(entry)
             }
@@ -430,10 +432,12 @@ fn place_newest(
     let Some(newest) = *loose else {
         return Ok(());
     };
+    // The newest message is the last one of the list.
     let place = Place {
         hash: newest.hash,
         position: kept.len().saturating_sub(1),
     };
+    // Where memory is refused, a run may have been halved, and so the gap is looked for anew.
     if let Err(refused) = insert(runs, newest.gap, place) {
         *loose = loosened(kept, runs, true);
         return Err(refused);

@@ -156,6 +156,7 @@ impl Phases for InviteClient {
                     request,
                     set,
                 },
+                // One that comes again leaves completed as it is, and is owed an ACK of its own.
                 Completed { .. } => *phase,
                 _ => return Ok(None),
             };

@@ -438,6 +438,7 @@ impl<P: Phase> Pool<P> {
         ensures err { OnErr result (self.new ≡ self.old) }
     {
         let alloc = *self.phases.allocator();
+        // Rows are put there first, and then as many phases. Where memory is refused, the rows go again.
         let before = self.dues.len();
         self.dues.push_timely(from, to, moment)?;
         let led = lead_each(alloc, params, moment, turn.change, &mut self.dues, before);
@@ -468,6 +469,7 @@ impl<P: Phase> Pool<P> {
         ensures err { OnErr result (self.new ≡ self.old) }
     {
         let phase = self.phases[from];
+        // Rows are put there first, and then as many phases. Where memory is refused, the rows go again.
         let before = self.dues.len();
         self.dues.push_paid(from, to, message, moment)?;
         if push_phases(&mut self.phases, self.dues.len() - before, phase).is_err() {

@@ -293,6 +293,7 @@ fn rests_row<M: Phases>(
 {
     let alloc = *pool.phases.allocator();
     let phase = pool.phases[at];
+    // A state that had to change before the event gives nothing.
     if is_past(event.moment(), until(machine, &phase, &pool.dues, at)) {
         return Ok(());
     }

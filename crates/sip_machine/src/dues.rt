@@ -313,6 +313,7 @@ impl Dues {
         let Rows::WithAccounts(accounts) = &self.rows else {
             return Ok(());
         };
+        // The numbers are put into a vector of their own first, so that on an error the other one is as before.
         let mut owed = Vec::new(alloc);
         accounts.names(alloc, row, &mut owed)?;
         numbers.append(&mut owed)

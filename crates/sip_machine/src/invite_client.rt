@@ -281,7 +281,7 @@ impl Phases for InviteClient {
             },
             // The window of timer M.
             Accepted { set } => Some(params.window(set, timeout(params))),
-            // The window of timer D.
+            // The window of timer D: at once over a reliable transport, and else after 32 seconds, without a last moment.
             Completed { reliable, set, .. } if reliable => Some(params.window(set, 0)),
             Completed { set, .. } => Some((params.opens(set, TIMER_D), None)),
             Idle | Ended => None,

@@ -177,6 +177,7 @@ module _ {S : Type 0} (input : S → List (List ℕ)) (phases : List S) (from : 
   mixed-all rows xs new at is long prints mixing all =
       let size : length xs ≡ length phases = ap length (sym is) ∙ beside-length phases rows in
       record {
+        -- there is a print for each state from `from` on, and equal states have equal ones
         long = omega (arith, size, long, prints.long, mixing.long);
         same = λ i k x above_i low_i above_k low_k e.
             let p = x.phase in

@@ -238,6 +238,7 @@ module _ {S X : Type 0} (f : Figure X) (p : Times) (seen : Texts → S → X) (t
   takes-sent e is x y =
       let leads = leads-is Sent e x y is in
       let steps = steps-same Sent e x y is in (
+        -- a step of a sent message is one by its row, or one at rest
         λ h. elim h [ inl row ↦ let r = leads.0 row in steps.0 (r.0, inl r.1) | inr rest ↦ steps.0 (rest.0, inr rest.1) ],
         λ h. let s = steps.1 h in elim s.1 [ inl row ↦ inl (leads.1 (s.0, row)) | inr rest ↦ inr (s.0, rest) ],
       )
@@ -264,6 +265,7 @@ pub in-run : {S : Type 0} (names : S → List ℕ) (InRange : S → Type 0) (tex
     AreOfPhase names InRange texts phase (from_to from to xs)
 in-run names InRange texts phases rows xs from to phase is here order le known fits same =
     let d = at_rest phase in
+    -- `first` is the first state of the run, whose phase is the one in hand (`at`)
     let first = get_or xs from d in
     let at : first.phase ≡ phase = ap (λ z. z.phase) (state-at phases rows xs from phase d is (omega (arith, order, le))) ∙ sym here in
     -- what holds of each state of the run holds of its phase, and all have that phase

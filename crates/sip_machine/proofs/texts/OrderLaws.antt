@@ -65,6 +65,7 @@ pub searchable : (texts : Texts) (places : List Place) (key : ℕ × List ℕ) �
 searchable texts places key rising =
     searchable_from_sorted compare-total (key_of texts) places key
     (λ k d low high.
+    -- each place compares as less than the next one
     let less = rising k (k + 1) d (omega arith) high in
     ap is_lt (compare-total.antisymm (key_of texts (get_or places (k + 1) d)) (key_of texts (get_or places k d)) ∙ ap ordering_reverse less))
 
@@ -125,6 +126,7 @@ none_in_gap texts places bytes i order gap =
     (All-get_or (IsPlace texts) places j none within order.hashed).1 in
     let tie : compare (key_of texts place) (hash_of bytes, bytes) ≡ Equal =
     rw (hash, kept) (tied_itself compare-total (hash_of bytes, bytes)) in
+    -- before the gap it would be less, and after it greater
     never-equal (compare (key_of texts place) (hash_of bytes, bytes)) tie (elim (cases_lt j i) [
       | inl below ↦ inl (gap.before j none (omega arith) below)
       | inr from ↦ inr (gap.after j none from within)

@@ -281,6 +281,7 @@ module _ (texts : Texts) (runs : List PlaceRun) (key : ℕ × List ℕ) (held : 
                     let led' = led_at (r + 1) d more in
                     let begin' = place_at runs (r + 1) 0 d first more led'.filled in
                     let front' = compare (key_of texts (get_or (items (get_or runs (r + 1) d)) 0 first)) key in
+                    -- the next run does not begin by the key, so its first place is greater than the key
                     let high : 2 ≤ ordering_index front' = rank_of_later front' (sym (begins texts key (get_or runs (r + 1) d) led') ∙ parts.1 (r + 1) d next more) in
                     let step = rw begin' at (up (length (places_of (take (r + 1) runs)) + 0) k first (omega (arith, size)) end) in
                     let greater = greater_of_rank (compare (key_of texts (get_or all k first)) key) (omega (arith, step, high)) in

@@ -1,3 +1,4 @@
+-- In the answers m is the machine by its figure and its phases, p its times and e the event as the definitions have it.
 use Rattle.std.specs.Prelude.{take}
 use Rattle.std.proofs.lemmas.Result.{on_ok_weaker}
 use Rattle.sip_machine.specs.NumberedEvent.{event_in}

@@ -34,6 +34,7 @@ loop-at-preserved g c =
             more_kept ∙ ap (λ n. n + 1) long ∙ sym more_rows,
             -- each row has its print, the new one too
             (λ k low. elim (cases_lt k (length rows)) [
+              -- an old row has the print that it had, and the new one that of the state at hand
               | inl before ↦
                   get_or_append_left kept (print ∷ []) 0 k (omega (arith, before, long)) ∙ told k before
                   ∙ ap (λ r. get_or prints (r - from) 0) (sym (get_or_append_left rows (at ∷ []) 0 k before))

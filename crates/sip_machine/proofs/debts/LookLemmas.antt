@@ -86,6 +86,7 @@ front-first P message t n debts found =
 
 -- what is found among the first debts is what all have first
 pub found-front : (P : Debt → Type 0) (t n : ℕ) (debts : List Debt) (found : Option ℕ) → is_some found ≡ true → FindsFirst P t (take n debts) found → FindsFirst P t debts found
+-- a debt was found, so the other case cannot be
 found-front P t n debts (Some message) is first = front-first P message t n debts first
 found-front P t n debts None is none = absurd (true≢false (sym is))
 

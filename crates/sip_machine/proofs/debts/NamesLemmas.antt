@@ -26,6 +26,7 @@ named-owed m (debt ∷ debts) there = elim (Contains-cons_cases debt.message (ow
 
 -- where the test finds a debt of a message, the message is among those that the debts name
 owed-named : (m : ℕ) (debts : List Debt) → owes_message m debts ≡ true → Contains (owes_names debts) m
+-- of no debts the test finds none
 owed-named m [] is = absurd (true≢false (sym is))
 owed-named m (debt ∷ debts) is = elim (cases_eq debt.message m) [
   | inl same ↦ subst (Contains (owes_names (debt ∷ debts))) same (Contains-get_or (owes_names (debt ∷ debts)) 0 m (omega arith))

@@ -38,7 +38,7 @@ returns-clause-places c =
     let runs = c.args.runs.now.items in
     let run = c.index_mut.result.now in
     let is : run ≡ get_or runs c.args.gap.run run = rw c.in_ok-reserve.ensures.items at c.index_mut.ensures.value in
-    -- `head` has the first 64 places of the run, and `tail` the others
+    -- `head` has the first 64 places of the run, half of `most_places`, and `tail` the others
     let head : PlaceRun = record { first = run.first; places = c.split_off.new.self } in
     let tail : PlaceRun = record { first = c.index-first.result.now; places = c.in_ok-places.places } in
     rw (c.in_ok-insert.ensures.items, c.in_ok-reserve.ensures.items)

@@ -1,4 +1,4 @@
--- In the answers m is the machine by its figure and its phases and e the event as the definitions have it.
+-- In the answers m is the machine by its figure and its phases, and e the event as the definitions have it.
 use Rattle.std.specs.Prelude.{◌≡◌, take}
 use Rattle.std.proofs.Common.{subst, arith}
 use Rattle.sip_machine.specs.NumberedEvent.{event_in}

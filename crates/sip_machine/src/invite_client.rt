@@ -119,10 +119,12 @@ impl Phases for InviteClient {
         &self.params
     }
 
+    // Nothing was sent or received yet.
     fn idle(&self) -> InviteClientPhase {
         Idle
     }
 
+    // The transaction is over.
     fn ended(&self) -> InviteClientPhase {
         Ended
     }

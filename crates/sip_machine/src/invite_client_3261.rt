@@ -81,10 +81,12 @@ impl Phases for InviteClient3261 {
         self.corrected.params()
     }
 
+    // Nothing was sent or received yet.
     fn idle(&self) -> InviteClientPhase {
         InviteClientPhase::Idle
     }
 
+    // The transaction is over.
     fn ended(&self) -> InviteClientPhase {
         InviteClientPhase::Ended
     }

@@ -116,10 +116,12 @@ impl Phases for InviteServer3261 {
         self.corrected.params()
     }
 
+    // Nothing was sent or received yet.
     fn idle(&self) -> InviteServer3261Phase {
         idle()
     }
 
+    // The transaction is over, and may begin again.
     fn ended(&self) -> InviteServer3261Phase {
         idle()
     }

@@ -100,10 +100,12 @@ impl Phases for PlainClient {
         &self.params
     }
 
+    // Nothing was sent or received yet.
     fn idle(&self) -> PlainClientPhase {
         Idle
     }
 
+    // The transaction is over.
     fn ended(&self) -> PlainClientPhase {
         Ended
     }

@@ -28,7 +28,7 @@ placed true all = take (length all - 1) all
 abbrev pub full_hash : List ℕ → ℕ
 full_hash bytes = finish (write initial bytes)
 
--- the hash of these bytes, by the first 256 of them
+-- the hash of these bytes, by the first 256 of them, by which ordinary messages differ
 abbrev pub hash_of : List ℕ → ℕ
 hash_of bytes = full_hash (take 256 bytes)
 

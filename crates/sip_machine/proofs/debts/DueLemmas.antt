@@ -59,7 +59,7 @@ module _ (message t : ℕ) where
   -- where a send can pay neither a debt nor one of those after it, it can pay none of all
   none-step : (debt : Debt) (debts : List Debt) (b : Bool) → is_payable message t debt ≡ b → (b || list_any (is_payable message t) debts) ≡ false →
       (list_any (is_payable message t) debts ≡ false → All (λ x. ¬ (Pays x)) debts) → All (λ x. ¬ (Pays x)) (debt ∷ debts)
-  -- b says whether the send can pay the debt: it cannot, since no test passes
+  -- b says whether the send can pay the debt: it cannot, since the test finds none that it can pay
   none-step debt debts true is any more = absurd (true≢false any)
   none-step debt debts false is any more = All-cons (λ x. ¬ (Pays x)) debt debts (λ pays. true≢false (sym pays ∙ is)) (more any)
 

@@ -37,7 +37,7 @@ count-cons p x xs = sum_by-cons (λ x. cond (p x) 1 0) x xs
 
 -- where the elements that pass stand first in a list, as many pass as stand before the first that does not
 pub count-parted : {X : Type 0} (p : X → Bool) (xs : List X) (i : ℕ) → i ≤ length xs → IsPartitionPoint (λ x. p x ≡ true) (λ x. p x ≡ false) xs i → count_by p xs ≡ i
--- nothing passes of an empty list
+-- of an empty list nothing passes
 count-parted p [] i low parts = omega (arith, low)
 -- the first element does not pass, and so none of the others does
 count-parted p (x ∷ xs) zero low parts =

@@ -492,7 +492,7 @@ module _ (texts : Texts) (numbers : List ℕ) (book : IsBook texts) (up : AllPai
   IsBook-only = record {
     rising = rising-only;
     apart = λ a b keeps_a keeps_b same.
-        -- two messages that stay had the same bytes before, and so they have one number
+        -- two messages that stay with the same bytes had the same bytes before, and so they have one number
         let in_a = Keeps-only a keeps_a in
         let in_b = Keeps-only b keeps_b in
         book.apart a b (All-contains (Keeps texts) numbers a kept in_a) (All-contains (Keeps texts) numbers b kept in_b) (sym (text_of-only a in_a) ∙ same ∙ text_of-only b in_b);

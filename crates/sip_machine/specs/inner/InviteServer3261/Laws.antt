@@ -82,8 +82,8 @@ invite_server_3261_closes_same a b p (code.In phase again) = invite_server_close
 
 -- the row of a received message leads to a phase whose timers are not past
 received : LeadOn invite_server_3261 Receives
--- in passed an INVITE begins anew, with its first response due within 200 ms, and nothing else has a row; before a 2xx the row is one of the corrected
--- server
+-- in passed an INVITE begins anew, with its first response due within 200 ms, and nothing else has a row;
+-- before a 2xx, or after an INVITE came again, the row is one of the corrected server
 received p Passed (Request Invite) e y running h = rw h (timer_starts p e.moment 200)
 received p Passed k e y running h = absurd h
 received p (In x again) k e y running (after, row, is) = rw is (invite_server_is_figure.received_waits p x k e after running row)

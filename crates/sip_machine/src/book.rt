@@ -88,8 +88,10 @@ impl Model for Book {
     // A book means its texts with their numbers: it keeps each text once, finds it by runs of places, and has the Tos that ACKs are owed for beside them.
     ghost Value = { Texts };
 
+    // The texts are those of the kept messages.
     ghost view = { λ b. texts_of b.kept.items };
 
+    // The messages are a book, their places stand in the runs, and each To is that of one of them.
     ghost invariant = { λ b. IsBook (texts_of b.kept.items) × StandInRuns (texts_of b.kept.items) b.order.items b.loose × AreTos (texts_of b.kept.items) b.tos };
 }
 

@@ -49,6 +49,7 @@ impl Model for Dues {
     // Dues mean what each row owes, with accounts or without.
     ghost Value = { List (List Debt) };
 
+    // Each row owes what its account has, or nothing.
     ghost view = { λ d. rows_of d.rows };
 }
 

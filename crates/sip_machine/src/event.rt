@@ -83,14 +83,16 @@ impl Model for Event {
     ghost use Rattle.sip_standard.specs.Times.{last_moment};
     ghost use Rattle.sip_machine.specs.NumberedEvent.{NumberedEvent};
 
-    // An event means what it has. It is no mark, and its moment is within the limit of a log. `view` gives its parts, and `inverse` the event
-    // with such parts.
+    // An event means what it has.
     ghost Value = { NumberedEvent };
 
+    // Its parts are its fields.
     ghost view = { λ e. record { moment = e.moment; action = e.action; number = e.number; kind = e.kind; reliable = e.reliable } };
 
+    // It is no mark, and its moment is within the limit of a log.
     ghost invariant = { λ e. (e.action ≢ Mark) × (e.moment ≤ last_moment) };
 
+    // From its parts the fields are had back.
     ghost inverse = { λ e. record { moment = e.moment; action = e.action; number = e.number; kind = e.kind; reliable = e.reliable } };
 }
 

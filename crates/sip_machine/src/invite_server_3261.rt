@@ -59,11 +59,13 @@ pub struct InviteServer3261 {
 impl Model for InviteServer3261 {
     ghost use Rattle.sip_standard.specs.Times.{Times};
 
-    // A server means the times by which it was made. `view` gives these of a server, and `inverse` the server of such times.
+    // A server means the times by which it was made.
     ghost Value = { Times };
 
+    // What a server means is read off its fields.
     ghost view = { λ m. m.corrected };
 
+    // From these times the fields are had back.
     ghost inverse = { λ p. record { corrected = p } };
 }
 
@@ -88,27 +90,34 @@ impl Phases for InviteServer3261 {
     ghost use Rattle.sip_machine.specs.inner.Coded.{has_phases};
     ghost use Rattle.sip_machine.specs.inner.InviteServer3261.Laws.{invite_server_3261_is_coded};
 
+    // The phases of the code.
     type Phase = InviteServer3261Phase;
 
     // The figure is that of the INVITE server by RFC 3261 alone, and the phases stand for those of the figure.
-    // `seen` gives the figure's phase for one of the code, `names` the messages that it names, `in_range` that its moments are within the limits, and
-    // `told` the words by which it is listed.
     ghost Seen = { Seen };
 
+    // The figure: what may happen, and when.
     ghost figure = { invite_server_3261 };
 
+    // The times by which it runs are all that a machine means.
     ghost times = { λ p. p };
 
+    // The phase of the figure for which one of the code stands beside a book.
     ghost seen = { invite_server_3261_seen };
 
+    // The numbers of the messages that a phase names.
     ghost names = { invite_server_3261_names };
 
+    // The moments of a phase are within the limits.
     ghost in_range = { InviteServer3261InRange };
 
+    // The words by which a phase is listed.
     ghost told = { invite_server_3261_told };
 
+    // The phase before anything was sent or received.
     ghost idle = { λ p. In Idle false };
 
+    // The phase after the end, which is idle again.
     ghost ended = { λ p. In Idle false };
 
     // The times and rules are those with which the machine was made; a transaction begins in idle, and is over in ended.

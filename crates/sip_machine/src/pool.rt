@@ -40,8 +40,10 @@ impl<P: Phase> Model for Pool<P> {
     // A pool means its states: each phase with what its row owes. There are as many rows as phases.
     ghost Value = { List (CodeOwing P) };
 
+    // Each phase with what its row owes is a state.
     ghost view = { λ p. beside p.phases.items p.dues };
 
+    // There are as many rows as phases.
     ghost invariant = { λ p. length p.dues ≡ length p.phases.items };
 }
 

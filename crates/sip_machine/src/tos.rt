@@ -42,8 +42,10 @@ impl Model for Tos {
     // Tos mean their list. The numbers of the messages rise; and where hashes are kept, the number of each message stands under the hash of its To.
     ghost Value = { List To };
 
+    // The Tos are those of the list.
     ghost view = { λ t. t.list.items };
 
+    // The numbers of the messages rise, and where hashes are kept, each stands under the hash of its To.
     ghost invariant = { λ t. AllPairs (λ a b. a.number < b.number) t.list.items × AreUnder t.hashes t.list.items };
 }
 

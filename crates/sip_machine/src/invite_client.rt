@@ -96,7 +96,7 @@ impl Phases for InviteClient {
     // The phases of the code.
     type Phase = InviteClientPhase;
 
-    // The figure is that of the INVITE client, and the phases stand for those of the figure.
+    // The figure is that of the INVITE client; `Seen` is the type of its phases, for which those of the code stand.
     ghost Seen = { Seen };
 
     // The figure: what may happen, and when.

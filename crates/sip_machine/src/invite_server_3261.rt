@@ -93,7 +93,7 @@ impl Phases for InviteServer3261 {
     // The phases of the code.
     type Phase = InviteServer3261Phase;
 
-    // The figure is that of the INVITE server by RFC 3261 alone, and the phases stand for those of the figure.
+    // The figure is that of the INVITE server by RFC 3261 alone; `Seen` is the type of its phases, for which those of the code stand.
     ghost Seen = { Seen };
 
     // The figure: what may happen, and when.

@@ -77,7 +77,7 @@ impl Phases for PlainClient {
     // The phases of the code.
     type Phase = PlainClientPhase;
 
-    // The figure is that of the non-INVITE client, and the phases stand for those of the figure.
+    // The figure is that of the non-INVITE client; `Seen` is the type of its phases, for which those of the code stand.
     ghost Seen = { Seen };
 
     // The figure: what may happen, and when.

@@ -37,7 +37,7 @@ impl<P: Phase> Model for Pool<P> {
     ghost use Rattle.sip_machine.specs.Owing.{CodeOwing};
     ghost use Rattle.sip_machine.specs.inner.Pools.{beside};
 
-    // A pool means its states: each phase with what its row owes. There are as many rows as phases.
+    // A pool means its states.
     ghost Value = { List (CodeOwing P) };
 
     // Each phase with what its row owes is a state.

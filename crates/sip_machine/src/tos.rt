@@ -39,7 +39,7 @@ impl Model for Tos {
     ghost use Rattle.sip_machine.specs.declared.tos.To.{To};
     ghost use Rattle.sip_machine.specs.inner.Tos.{AreUnder};
 
-    // Tos mean their list. The numbers of the messages rise; and where hashes are kept, the number of each message stands under the hash of its To.
+    // Tos mean their list.
     ghost Value = { List To };
 
     // The Tos are those of the list.

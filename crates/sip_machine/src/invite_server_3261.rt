@@ -120,7 +120,7 @@ impl Phases for InviteServer3261 {
     // The phase after the end, which is idle again.
     ghost ended = { λ p. In Idle false };
 
-    // The times and rules are those with which the machine was made; a transaction begins in idle, and is over in ended.
+    // The times and rules are those with which the machine was made.
     fn params(&self) -> &Params {
         self.corrected.params()
     }

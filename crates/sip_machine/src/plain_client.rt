@@ -104,7 +104,7 @@ impl Phases for PlainClient {
     // The phase after the end.
     ghost ended = { λ p. Ended };
 
-    // The times and rules are those with which the machine was made; a transaction begins in idle, and is over in ended.
+    // The times and rules are those with which the machine was made.
     fn params(&self) -> &Params {
         &self.params
     }

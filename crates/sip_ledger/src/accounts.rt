@@ -46,6 +46,7 @@ pub struct Accounts {
 impl Model for Accounts {
     ghost use Rattle.sip_ledger.specs.inner.Words.{List, Debt, AreAccounts, accounts_debts};
 
+    // What accounts mean is the debts of each row. Gains, strikes and rows fit together at all times (`AreAccounts`).
     ghost Value = { List (List Debt) };
 
     ghost view = { λ a. accounts_debts a.gains a.strikes.items a.rows.items };

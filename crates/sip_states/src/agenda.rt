@@ -135,6 +135,7 @@ impl Agenda {
         if older == Some(limit) {
             return Ok(());
         }
+        // What can be refused is done first: so an error leaves all as it was.
         let record = Recorded::settled(limit)?;
         enter(&mut self.order, index, limit)?;
         leave(&mut self.order, index, older.flatten());

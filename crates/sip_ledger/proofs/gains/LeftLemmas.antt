@@ -1,4 +1,5 @@
 -- Which gains are left, whether their deadlines rise, what is known beside each by its flags, and what changes of that when gains come, are let go or are dropped.
+-- `unfolding` names the definitions that the proof of a lemma looks into.
 use Rattle.sip_ledger.proofs.Words.{nat_tests, ◌-◌, ◌<◌, ◌≤◌, List, [], ◌∷◌, ◌++◌, length, get_or, arith, cases_lt, cases_eq, get_or_append_left, get_or_push, length_push, Entry, AreRising, ◌≡◌, ℕ, Bool, ◌+◌, true, false, drop, set, ap, ◌∙◌, get_or-drop, get_or-set_other, get_or-set_same, length-append, length-drop, length-set, Debt, Gains, AreFlags, AreSameGains, IsDropped, IsGain, IsKept, IsLetGo, blank, entries_of, entry_at, is_left, no_flags, holds, suc, ◌^◌, ◌==◌, ◌&&◌, ◌||◌, cond, not, refl, sym, ap₂, replicate, eq-eqb, false_from_ne_true, ne_eqb, true≢false, and-false, append_assoc, get_or-append_right, get_or_default, get_or_past, length-replicate, Account, Strike, debts_from, AreGains, IsNoted, IsPlaceOf, is_gone, is_struck, owes_at}
 use Rattle.sip_ledger.proofs.debts.ListedLemmas.{no_entry}
 

@@ -1,4 +1,5 @@
 -- Many rows gain a debt, lose what is past, place by place, or are paid and put after the others.
+-- `unfolding` names the definitions that the proof of a lemma looks into.
 use Rattle.sip_ledger.proofs.Words.{◌≡◌, ℕ, ◌+◌, ◌<◌, ◌≤◌, ◌&&◌, ◌||◌, Bool, true, false, List, length, take, filter, arith, nat_tests, nat_le, and-false, cases_eq, cases_lt, lt-leb, take-length, get_or_default, Entry, Account, Gains, Strike, counts_at, AreGains, IsAccount, IsExpiredTo, IsKept, IsWithout, account_debts, entries_of, entry_at, must_at, owes_at, [], ◌∷◌, ◌++◌, drop, get_or, set, map, refl, sym, ap, ◌∙◌, All, fold, min, le-leb, or_right, All-filter, All-get_or, All-head, All-map, All-tail, All-weaker, Debt, debt_deadlines, earliest, is_timely, is_within, AreAccounts, KeepsAccounts, accounts_debts, common_steps, cond, Option, Some, None, IfSome, option_to_list, list_any, take-append_seam, append-nil, append_assoc, get_or_append_left, length-append, map-append, owed_in, paid_rows, is_payable, paid_by, from_to}
 use Rattle.sip_ledger.proofs.gains.LeftLemmas.{entries_long, rising_kept, left-kept, owed-left}
 use Rattle.sip_ledger.proofs.debts.ListedLemmas.{listed-counting, listed-same, listed-each}

@@ -1,5 +1,6 @@
 -- Both INVITE clients: they send by the same rows, and differ only in where a received 2xx leads.
 -- In the lemmas k is the kind of the message of the event e, and y is where its row leads.
+-- `Unit {0}` holds anyway, by `tt`.
 use Rattle.std.proofs.Common.{◌≡◌, ◌*◌, ◌⊎◌, inl, inr, ℕ, Bool, true, Option, Some, None, List, refl}
 use Rattle.sip_standard.specs.AckOf.{AckOf}
 use Rattle.sip_standard.specs.declared.kind.Method.TheVariants.{Invite, Ack, Cancel}

@@ -130,7 +130,7 @@ pub on-true : {P Q : Type 0} (b : Bool) → OnTrue b P → (P → Q) → OnTrue 
 on-true true p more = more p
 on-true false p more = p
 
--- whether what is owed at a place must be sent
+-- whether what is owed at a place must be sent: o tells which places are owed, and m which must be sent
 abbrev pub due : (ℕ → Bool) → (ℕ → Bool) → ℕ → Bool
 due o m k = o k && m k
 

@@ -15,7 +15,7 @@ pub cut-print : {before after : List Debt} (debt : Debt) (old new : List Debt) �
 unfolding debts_print
 cut-print {before} {after} debt old new cut w is = grind (arith, nat_tests, common_steps, mod-add-mod, sum_by-append, sum_by-cons)
 
--- a print is a number of 64 bits
+-- a print is a number of 64 bits: it is what is left by 2^64, which is not 0 (`lit< tt`)
 pub print-fits : (debts : List Debt) → debts_print debts < 2 ^ 64
 unfolding debts_print
 print-fits debts = mod_below (worths debts) (2 ^ 64) (lit< tt)
@@ -70,7 +70,7 @@ without-account gains old new a b place w is owed without soft order end first l
 pub owed-from : (gains : Gains) (strikes : List Strike) (a : Account) (k : ℕ) → owes_at gains strikes a k ≡ true → a.start ≤ k
 owed-from gains strikes a k is = grind (arith, nat_tests, cases_lt, true≢false, before-start)
 
--- a worth is a number of 64 bits
+-- a worth is a number of 64 bits: it is what is left by 2^64, which is not 0 (`lit< tt`)
 pub worth-fits : (m d : ℕ) → worth_of m d < 2 ^ 64
 unfolding worth_of
 worth-fits m d = mod_below _ (2 ^ 64) (lit< tt)
@@ -151,6 +151,7 @@ pub first-gain : (gains : Gains) (old new : List Strike) (a b : Account) (debt :
     IsAccount gains new b × (account_debts gains new b ≡ account_debts gains old a ++ debt ∷ [])
 unfolding owes_at is_struck
 first-gain gains old new a b debt place is next none same print =
+    -- the new account has no strikes and owes this place alone, and the old one owed nothing
     let own : strikes_of new b ≡ [] = grind arith in
     let left : is_left gains place ≡ true = sym (held_left gains debt.message place next.gain.message) ∙ next.gain.left in
     let here : owes_at gains new b place ≡ true = grind (arith, nat_tests, gone-left) in

@@ -35,6 +35,7 @@ module _ {gains : Gains} {strikes : List Strike} {rows : List Account} {seen : L
   pub row-few : (row : ℕ) → AreAccounts gains strikes rows → accounts_debts gains strikes rows ≡ seen → row < length seen → length (owed_in seen row) < 2 ^ 64
   unfolding account_debts
   row-few row are view inside =
+      -- `none` stands for no account
       let none : Account = record { start = 0; end = 0; soft = 0; first = 0; last = 0; print = 0 } in
       let at = account-at row (get_or rows row none) are view inside (get_or_default rows row none (get_or rows row none) (row-inside row are view inside)) in
       grind (arith, at, listed-few, entries_long)
@@ -134,7 +135,7 @@ unfolding accounts_debts
 named-nowhere gains strikes rows message none =
     list_any_none (owes_message message) (map (account_debts gains strikes) rows) (All-map (λ owes. owes_message message owes ≡ false) (account_debts gains strikes) rows none)
 
--- nobody owes a message of which nothing is left
+-- an account owes nothing of a message of which nothing is left
 unleft-account : (gains : Gains) (strikes : List Strike) (a : Account) (message : ℕ) → ((k : ℕ) → holds gains.messages message k ≡ false) →
     owes_message message (account_debts gains strikes a) ≡ false
 unfolding account_debts

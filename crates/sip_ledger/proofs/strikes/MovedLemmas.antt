@@ -87,6 +87,7 @@ added-bound m mp place k old past none = grind (arith, nat_tests, struck-push, s
 -- where one of the strikes from `first` on is made longer, they strike the gain at the place too
 pub longer-too : (gains : Gains) (place first : ℕ) (old new : List Strike) → Lengthens gains place first old new → StrikeToo gains place first old new
 longer-too gains place first old new l =
+    -- s stands for no strike, `own` are the strikes from `first` on, and i is the place of the longer one among them
     let s : Strike = record { message = 0; from = 0; to = 0 } in
     let own = drop first old in
     let i = l.at - first in

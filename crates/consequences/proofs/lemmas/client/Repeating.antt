@@ -126,6 +126,7 @@ module _ (R : Receiving) (is : IsReceiving R) (p : Times) where
 
   -- the row of a response leads to a phase in which Invited asks only that the moments lie apart
   answers-invited : (ms : List ℕ) (reliable : Bool) (request : List ℕ) (k : Kind) (e : MachineEvent) (row : Row) → IsSpaced p next ms → Answers reliable request k e row → Invited ms row.0
+  -- a provisional response leads to proceeding, a 2xx to a phase that is done, and a 300 to 699 to completed
   answers-invited ms reliable request k e row spaced (code, kind, inl h) = rw h.1 spaced
   answers-invited ms reliable request k e row spaced (code, kind, inr (inl h)) = done-invited ms row.0 h.1 spaced
   answers-invited ms reliable request k e row spaced (code, kind, inr (inr h)) = rw h.1 spaced
@@ -207,6 +208,7 @@ module _ (R : Receiving) (is : IsReceiving R) (p : Times) where
   -- a step keeps what is known of the moments, with that of the event where it is an INVITE that is sent
   invited-steps : (a : Action) (es : List MachineEvent) (e : MachineEvent) (x y : Owing invite.InviteClientPhase) → e.action ≡ a → Invited (passed test es) x.phase → Steps f p a e x y
       → Invited (passed test (es ++ e ∷ [])) y.phase
+  -- what is received adds no moment
   invited-steps Received es e x y was invited (inl (row, is_row, to)) =
       rw (to, passed-same test es e (ap (λ a. sends_invite a e.kind) was)) (invited-received (passed test es) x.phase e row invited is_row)
   invited-steps Received es e x y was invited (inr (none, same)) = rw (same, passed-same test es e (ap (λ a. sends_invite a e.kind) was)) invited
@@ -215,6 +217,7 @@ module _ (R : Receiving) (is : IsReceiving R) (p : Times) where
       invited-emits (passed test es) (passed test (es ++ e ∷ [])) e x y
       (λ is_invite. passed-more test es e (ap (λ a. sends_invite a e.kind) was ∙ ap (sends_invite Sent) is_invite))
       (λ other. passed-same test es e (ap (λ a. sends_invite a e.kind) was ∙ not-an-invite e.kind other)) invited emits
+  -- what is refused was not sent, and adds no moment
   invited-steps Failed es e x y was invited fails =
       rw (passed-same test es e (ap (λ a. sends_invite a e.kind) was)) (invited-fails (invite.ends_refused x.phase e.kind) (passed test es) e x y refl invited fails)
   -- a mark is no event, and a restart adds no moment
@@ -269,6 +272,7 @@ module _ (p : Times) where
   -- the row of a received message keeps what is known of the moments
   -- x is the phase, k the kind of the message e, and ms the moments at which the request was sent until then
   asked-received : (ms : List ℕ) (x : plain.PlainClientPhase) (k : Kind) (e : MachineEvent) (row : plain.PlainClientPhase × Change) → Asked ms x → plain.Receives p x k e row → Asked ms row.0
+  -- a provisional response leaves timer E as it is, and a final one ends the sending
   asked-received ms (plain.Trying w) (Response code) e row asked (inl h) = rw h.1 asked
   asked-received ms (plain.Trying w) (Response code) e row asked (inr h) = rw h.1 (asked-spaced ms (plain.Trying w) asked)
   asked-received ms (plain.Proceeding w) (Response code) e row asked h = rw h.1 (asked-spaced ms (plain.Proceeding w) asked)
@@ -295,6 +299,7 @@ module _ (p : Times) where
   -- a step keeps what is known of the moments, with that of the event where it is a request that is sent
   asked-steps : (a : Action) (es : List MachineEvent) (e : MachineEvent) (x y : Owing plain.PlainClientPhase) → e.action ≡ a → Asked (passed test-plain es) x.phase → Steps plain.plain_client p a e x y
       → Asked (passed test-plain (es ++ e ∷ [])) y.phase
+  -- what is received adds no moment
   asked-steps Received es e x y was asked (inl (row, is_row, to)) =
       rw (to, passed-same test-plain es e (ap (λ a. sends_request a e.kind) was)) (asked-received (passed test-plain es) x.phase e.kind e row asked is_row)
   asked-steps Received es e x y was asked (inr (none, same)) = rw (same, passed-same test-plain es e (ap (λ a. sends_request a e.kind) was)) asked
@@ -304,6 +309,7 @@ module _ (p : Times) where
       rw (to, passed-more test-plain es e (ap (λ a. sends_request a e.kind) was ∙ sent.0)) sent.1
   asked-steps Sent es e x y was asked (inr (inl (left, pays, to))) = absurd pays.holds.0
   asked-steps Sent es e x y was asked (inr (inr (stays, same))) = absurd stays
+  -- what is refused was not sent, and adds no moment
   asked-steps Failed es e x y was asked fails =
       rw (fails.1, passed-same test-plain es e (ap (λ a. sends_request a e.kind) was)) (asked-spaced (passed test-plain es) x.phase asked)
   -- a mark is no event, and a restart adds no moment

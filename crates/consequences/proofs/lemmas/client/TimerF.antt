@@ -43,6 +43,7 @@ module _ (p : Times) where
 
   -- the row of a received message keeps BeganBy
   began-received : (x : PlainClientPhase) (k : Kind) (e : MachineEvent) (row : PlainClientPhase × Change) → BeganBy e.moment x → Receives p x k e row → BeganBy e.moment row.0
+  -- a provisional response leaves the wait, and after a final one the client waits no more
   began-received (Trying w) (Response code) e row began (inl h) = rw h.1 began
   began-received (Trying w) (Response code) e row began (inr h) = rw h.1 tt
   began-received (Proceeding w) (Response code) e row began h = rw h.1 tt
@@ -62,6 +63,7 @@ module _ (p : Times) where
 
   -- the row of a request that is sent leads to a client that waits
   sent-waits : (x : PlainClientPhase) (k : Kind) (e : MachineEvent) (row : PlainClientPhase × Change) → BeganBy e.moment x → Sends p x k e row → WaitsBy e.moment row.0
+  -- the request begins the wait at its moment, and a repeat leaves when it began
   sent-waits Idle (Request method) e row began h = rw h (omega arith)
   sent-waits (Trying w) (Request method) e row began h = rw h.1 began
   sent-waits (Proceeding w) (Request method) e row began h = rw h.1 began
@@ -119,6 +121,7 @@ module _ (p : Times) where
 
     -- the row of a sent message leaves a client that waits waiting
     sent-still : (x : PlainClientPhase) (k : Kind) (e : MachineEvent) (row : PlainClientPhase × Change) → WaitsBy moment x → Sends p x k e row → WaitsBy moment row.0
+    -- a repeat of the request leaves the wait; a client sends no response
     sent-still (Trying w) (Request method) e row waits h = rw h.1 waits
     sent-still (Proceeding w) (Request method) e row waits h = rw h.1 waits
     sent-still (Trying w) (Response code) e row waits h = absurd h

@@ -61,6 +61,7 @@ module _ (R : Receiving) (is : IsReceiving R) (p : Times) where
 
   -- what is sent, unless it is an INVITE, leads from idle or ended to idle or ended
   unasked-emits : (e : MachineEvent) (x : InviteClientPhase) (owes : List Owed) (y : Owing InviteClientPhase) → IsUnasked x → ¬ (e.kind ≡ Request Invite) → Emits f p e (record { phase = x; owes = owes }) y → IsUnasked y.phase
+  -- a debt that is paid leaves the phase; in idle what is no INVITE stays there, and in ended a CANCEL does
   unasked-emits e x owes y from never (inr (inl (left, pays, to))) = rw to from
   unasked-emits e x owes y from never (inr (inr (stays, same))) = absurd stays
   unasked-emits e Idle owes y from never (inl (row, is_row, to)) = by (sends-idle p e.kind e row is_row)
@@ -86,6 +87,7 @@ module _ (R : Receiving) (is : IsReceiving R) (p : Times) where
   -- a step, unless it sends an INVITE, leads from idle or ended to idle or ended
   unasked-steps : (a : Action) (e : MachineEvent) (x : InviteClientPhase) (owes : List Owed) (y : Owing InviteClientPhase) → e.action ≡ a → IsUnasked x → ¬ (SendsRequest Invite e)
       → Steps f p a e (record { phase = x; owes = owes }) y → IsUnasked y.phase
+  -- in idle and in ended no received message has a row, so that the phase stays
   unasked-steps Received e Idle owes y was from never (inl (row, is_row, to)) = absurd (is.idle p e.kind e row is_row)
   unasked-steps Received e Ended owes y was from never (inl (row, is_row, to)) = absurd (is.ended p e.kind e row is_row)
   unasked-steps Received e x owes y was from never (inl row) = absurd from
@@ -121,10 +123,12 @@ module _ (R : Receiving) (is : IsReceiving R) (p : Times) where
 
       -- after the INVITE the client calls with it: an INVITE is sent by a row, since nothing is owed before it
       by : (phase : InviteClientPhase) (owes : List Owed) → IsUnasked phase → Emits f p invite (record { phase = phase; owes = owes }) y → CallsFrom invite y.phase
+      -- in idle the INVITE has its row; the ended phase sends a CANCEL alone, and from any other phase it does not come
       by Idle owes from (inl (row, is_row, to)) = rw to (by_row row owes (sends-idle p invite.kind invite row is_row))
       by Ended owes from (inl (row, is_row, to)) = absurd (no-cancel (sym sent.1 ∙ (sends-ended p invite.kind invite row is_row).0))
       by phase owes from (inr (inl (left, pays, to))) = absurd (no-ack (sym sent.1 ∙ (pays-nothing phase invite.kind invite pays.first.message pays.holds.0).4))
         where
+          -- an INVITE is no ACK, which alone pays a debt
           no-ack : ¬ (Request Invite ≡ Request Ack)
           no-ack is = cc
       by phase owes from (inr (inr (stays, same))) = absurd stays
@@ -169,6 +173,7 @@ module _ (R : Receiving) (is : IsReceiving R) (p : Times) where
     -- what is sent in calling is the INVITE, and the phase stays calling
     calls-emits : (es : List MachineEvent) (e : MachineEvent) (x : InviteClientPhase) (owes : List Owed) (y : Owing InviteClientPhase) → CallsFrom invite x
         → Emits f p e (record { phase = x; owes = owes }) y → (e.kind ≡ Request Invite) × CallsFrom invite y.phase
+    -- a debt is paid in completed alone, and so not in calling, where the INVITE is sent again by its row
     calls-emits es e x owes y calls (inr (inl (left, pays, to))) =
         let pay = pays-nothing x e.kind e pays.first.message pays.holds.0 in not-calling x pay.0 pay.1 pay.2 invite pay.3 calls
     calls-emits es e x owes y calls (inr (inr (stays, same))) = absurd stays
@@ -213,6 +218,7 @@ module _ (R : Receiving) (is : IsReceiving R) (p : Times) where
         SendsRequest Cancel e → StandsAfter f p (before ++ invite ∷ after) e y → Over after e.moment
     cancel-waits before after e y none sent cancels (x, stands, take) = by-cut (cut f p (quiet Idle) 0 before invite after e.moment x (stands-run f p (before ++ invite ∷ after) e.moment x stands))
       where
+        -- a CANCEL is no INVITE
         no-invite : ¬ (Request Cancel ≡ Request Invite)
         no-invite is = cc
 
@@ -325,6 +331,7 @@ module _ (R : Receiving) (is : IsReceiving R) (p : Times) where
       → Emits f p e (record { phase = x; owes = owes }) y → CallsBy e.moment y.phase
   invite-calls e x owes y invite began (inr (inl (left, pays, to))) = absurd (no-ack (sym invite ∙ (pays-nothing x e.kind e pays.first.message pays.holds.0).4))
     where
+      -- an INVITE is no ACK, which alone pays a debt
       no-ack : ¬ (Request Invite ≡ Request Ack)
       no-ack is = cc
   invite-calls e x owes y invite began (inr (inr (stays, same))) = absurd stays

@@ -41,6 +41,7 @@ module _ {X : Type 0} (f : Figure X) (p : Times) (held : InviteServerPhase → X
 
   -- while the server has sent nothing, no received message has a row
   no-row : (reliable : Bool) (set : ℕ) (x : InviteServerPhase) (k : Kind) (e : MachineEvent) (row : Row) → x ≡ Proceeding reliable set None → ¬ (ReceivedRow x k e row)
+  -- each row is of another phase: idle, proceeding with a response before, or completed
   no-row reliable set x k e row here (comes _) = cc
   no-row reliable set x k e row here (again _ r s last must) = cc
   no-row reliable set x k e row here (again_after _ r final s repeat interval) = cc
@@ -48,6 +49,7 @@ module _ {X : Type 0} (f : Figure X) (p : Times) (held : InviteServerPhase → X
 
   -- what a row sends while the server has sent nothing is a response
   is-response : (x : InviteServerPhase) (k : Kind) (e : MachineEvent) (row : Row) → SentRow p x k e row → (reliable : Bool) (set : ℕ) → x ≡ Proceeding reliable set None → (code : ℕ) × (k ≡ Response code) × IsAnyCode code
+  -- in proceeding a row sends a provisional response, a 2xx, or one of 300 to 699
   is-response _ _ _ _ (provisional _ r s last code is_provisional) reliable set here = (code, refl, (is_provisional.0, omega (arith, is_provisional.1)))
   is-response _ _ _ _ (success _ r s last code is_success) reliable set here = (code, refl, (omega (arith, is_success.0), omega (arith, is_success.1)))
   is-response _ _ _ _ (unsuccessful _ r s last code is_unsuccessful) reliable set here = (code, refl, (omega (arith, is_unsuccessful.0), is_unsuccessful.1))

@@ -63,6 +63,7 @@ module _ (p : Times) where
 
   -- Opens stays true after more events
   opens-later : (es more : List MachineEvent) (x : PlainServerPhase) (owes : List Owed) → Opens es x owes → Opens (es ++ more) x owes
+  -- what was said before is said after more events too
   opens-later es more Idle owes opens = opens
   opens-later es more (Trying reliable) owes opens = (opens.0, are-said-later es more owes opens.1)
   opens-later es more (Proceeding reliable last) owes opens = (opens.0, said-later es more last opens.1, are-said-later es more owes opens.2)
@@ -179,6 +180,7 @@ module _ (p : Times) where
 
     -- the row of the final response leads to completed, by that response
     final-sent : (x : PlainServerPhase) (k : Kind) (row : Row) (owes : List Owed) → final.kind ≡ k → Opens before x owes → Sends p x k final row → IsCompleted row.0
+    -- the response is final, so its row is not that of a provisional one
     final-sent (Trying reliable) (Response code) row owes kind opens (inl h) = absurd (not-provisional before final is_final one_kind code kind h.0)
     final-sent (Trying reliable) (Response code) row owes kind opens (inr h) = rw h.1 (opens.0, refl, refl)
     final-sent (Proceeding reliable last) (Response code) row owes kind opens (inl h) = absurd (not-provisional before final is_final one_kind code kind h.0)
@@ -209,6 +211,7 @@ module _ (p : Times) where
 
     -- the row of a received message leaves the server completed by the final response
     completed-received : (x : PlainServerPhase) (k : Kind) (e : MachineEvent) (row : Row) → IsCompleted x → Receives p x k e row → IsCompleted row.0
+    -- a request leaves the server completed, and it receives no response
     completed-received (Completed reliable message set) (Request method) e row done h = rw h done
     completed-received (Completed reliable message set) (Response code) e row done h = absurd h
     completed-received x k e row done h = absurd done
@@ -310,6 +313,7 @@ module _ (p : Times) where
 
       -- the row of a received message leaves the final response owed
       owes-received : (x : PlainServerPhase) (owes : List Owed) (k : Kind) (e : MachineEvent) (row : Row) → IsCompleted x → Contains owes debt → Receives p x k e row → Contains (changed p e.moment row.1 owes) debt
+      -- a request makes one more debt, after which the others are still owed
       owes-received (Completed reliable message set) owes (Request method) e row done owed h = rw h (more-owed debt refl owes (record { message = message; deadline = close_at p e.moment 0; must = true } ∷ []) owed)
       owes-received (Completed reliable message set) owes (Response code) e row done owed h = absurd h
       owes-received x owes k e row done owed h = absurd done

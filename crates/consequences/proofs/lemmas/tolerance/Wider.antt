@@ -25,9 +25,11 @@ use Rattle.consequences.proofs.lemmas.run.Running.{left_at}
 
 -- the second list has the debts of the first, with deadlines that are no earlier, and perhaps more that only may be sent
 data Later : List Owed → List Owed → Type 0 where
+  -- both lists are empty
   nothing : Later [] []
   -- o is a debt of the first list, whose others are os, and n one of the second, whose others are ns
   both : (o n : Owed) (os ns : List Owed) → n.message ≡ o.message → n.must ≡ o.must → o.deadline ≤ n.deadline → Later os ns → Later (o ∷ os) (n ∷ ns)
+  -- n is a debt that the second list alone has
   extra : (n : Owed) (os ns : List Owed) → n.must ≡ false → Later os ns → Later os (n ∷ ns)
 
 -- Later stays true where later debts are added after those of both lists
@@ -78,12 +80,14 @@ later-left t _ _ (both o n os ns message must deadline rest) = by (keep_at t o) 
         by-must true is = is
         by-must false is = refl
 
+    -- true is not false
     true-false : ¬ (true ≡ false)
     true-false same = cc
 
     -- the second list of what is kept is later than the first, whether or not each of the first debts is kept
     by : (a : Bool) → keep_at t o ≡ a → (b : Bool) → keep_at t n ≡ b → Later (filter (keep_at t) os) (filter (keep_at t) ns)
         → Later (if a then o ∷ filter (keep_at t) os else filter (keep_at t) os) (if b then n ∷ filter (keep_at t) ns else filter (keep_at t) ns)
+    -- both debts are kept, or the second alone, which then only may be sent, or neither; the first is not kept alone
     by true is true same later = both o n (filter (keep_at t) os) (filter (keep_at t) ns) message must deadline later
     by true is false same later = absurd (true-false (sym (kept is) ∙ same))
     by false is true same later = extra n (filter (keep_at t) os) (filter (keep_at t) ns) (may is) later
@@ -106,6 +110,7 @@ later-due t _ _ (both o n os ns message must deadline rest) due =
 -- n may be sent, and so is never due
 later-due t _ _ (extra n os ns may rest) due = All-cons (λ o. o.must ≡ true → t ≤ o.deadline) n ns (λ is. absurd (true-false (sym is ∙ may))) (later-due t os ns rest due)
   where
+    -- true is not false
     true-false : ¬ (true ≡ false)
     true-false same = cc
 
@@ -119,6 +124,7 @@ later-must _ _ (extra n os ns may rest) = rw (may, later-must os ns rest) refl
 
 -- the second list is the first one without its first element of which P holds
 data Without (P : Owed → Type 0) : List Owed → List Owed → Type 0 where
+  -- P holds of the first element, which is left out; or it does not, and one after it is left out
   here : (o : Owed) (os : List Owed) → P o → Without P (o ∷ os) os
   passes : (o : Owed) (os left : List Owed) → ¬ (P o) → Without P os left → Without P (o ∷ os) (o ∷ left)
 
@@ -156,9 +162,12 @@ module _ (S : List ℕ → Type 0) (t : ℕ) where
 
   -- where the first list pays a debt, the second stays later without paying, if none that the send satisfies must be sent
   stays-extra : (os left ns : List Owed) → Without Pays os left → Later os ns → All (λ n. S n.message → n.must ≡ false) ns → Later left ns
+  -- where there are no debts, none is paid
   stays-extra _ left _ without nothing may = elim without [ ]
+  -- the first debt is paid: its twin in the second list stays there as one more, since it only may be sent
   stays-extra _ _ _ (here o os pays) (both o' n os' ns message must deadline rest) may =
       extra n os ns (All-head (λ n. S n.message → n.must ≡ false) n ns may (subst S (sym message) pays.0)) rest
+  -- a debt that only the second list has stays there, and so does one before the debt that is paid
   stays-extra _ left _ without (extra n os ns is_may rest) may = extra n left ns is_may (stays-extra os left ns without rest (All-tail (λ n. S n.message → n.must ≡ false) n ns may))
   stays-extra _ _ _ (passes o os left never without) (both o' n os' ns message must deadline rest) may =
       both o n left ns message must deadline (stays-extra os left ns without rest (All-tail (λ n. S n.message → n.must ≡ false) n ns may))
@@ -168,6 +177,7 @@ module _ (S : List ℕ → Type 0) (t : ℕ) where
   also-pays : (os left ns : List Owed) → Without Pays os left → Later os ns → All (λ o. t ≤ o.deadline) os → All (λ n. t ≤ n.deadline) ns
       → All (λ n. n.must ≡ false → Dec (S n.message)) ns → ((n : Owed) → Contains ns n → n.must ≡ false → S n.message → All (λ k. S k.message → k.must ≡ false) ns)
       → (others : List Owed) × Without Pays ns others × Later left others
+  -- where there are no debts, none is paid
   also-pays _ left _ without nothing fresh opens tell apart = elim without [ ]
   -- the first debts of both lists are alike, and the send pays the first one
   also-pays _ _ _ (here o os pays) (both o' n os' ns message must deadline rest) fresh opens tell apart =

@@ -164,5 +164,5 @@ pub over : (old new : Gains) (strikes : List Strike) (rows : List Account) → K
     AreAccounts new strikes rows × (accounts_debts new strikes rows ≡ accounts_debts old strikes rows)
 over old new strikes rows keeps gained are = let all = keeps.each strikes rows are.each in (record { gained = gained; each = all.0 }, all.1)
 
--- what must be sent, by the place
+-- lemmas for the prover under one name: what must be sent, by the place
 pub ruleset must_by_place = (must-below, must-from)

@@ -66,7 +66,7 @@ pub owes-inside : (gains : Gains) (strikes : List Strike) (a : Account) (k : ℕ
 unfolding owes_at
 owes-inside gains strikes a k low high = ap₂ (λ x y. x && (y && not (is_gone gains (strikes_of strikes a) k))) (le-leb a.start k low) (lt-ltb k a.end high)
 
--- whether an account owes what was gained at a place
+-- lemmas for the prover under one name: whether an account owes what was gained at a place
 pub ruleset owed_at_place = (gone-left, gone-struck, gone-unleft, past-end, before-start, owes-inside)
 
 -- a gain that a send pays is of its message, and not past

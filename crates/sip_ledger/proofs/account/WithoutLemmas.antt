@@ -1,5 +1,5 @@
 -- An account loses one of its debts, or gains one: a is the account before and b after it, and `old` and `new` are the strikes before and after it.
--- `unfolding` names the definitions that the proof of a lemma looks into.
+-- `unfolding` names the definitions that the proof of a lemma looks into; w is the worth of the debt that is lost, and `print` the print without it.
 use Rattle.sip_ledger.proofs.Words.{◌≡◌, ◌≢◌, ℕ, ◌+◌, ◌<◌, ◌≤◌, ◌%◌, ◌^◌, ◌&&◌, true, false, List, [], ◌∷◌, ◌++◌, length, get_or, sym, ap, ◌∙◌, arith, nat_tests, nat_le, and_right, cases_lt, le-leb, lt-leb, lt-ltb, and-false, or-false, or-true, get_or_push, length-append, sum_by_push, mod-add-mod, Debt, Account, Gains, Strike, debts_print, worth_of, debt_of, IsAccount, IsGain, IsNextGain, IsStruck, KeepsAccounts, account_debts, entries_of, entry_at, is_left, is_struck, must_at, owes_at, strikes_of, holds, common_steps, ◌-◌, Bool, not, refl, lit<, nat_lt, sum_by, eq-eqb, ne_eqb, true≢false, sum_by-append, sum_by-cons, mod_below, add-mod_right, mod-eq_of_lt, IsWithout, is_gone}
 use Rattle.sip_ledger.proofs.debts.OwedLemmas.{gained-debts, IsCut, cut-at}
 use Rattle.sip_ledger.proofs.gains.LeftLemmas.{entries_long, gone-left, gone-same, gone-struck, held_left, left-kept, owed-left}
@@ -198,8 +198,8 @@ gain-keeps old new debt gain =
           over-all old new strikes accounts (omega (arith, ap length gain.entries, more)) (λ k d below. grown-alike old new debt strikes (get_or accounts k d) gain (are k d below).end) are;
     }
 
--- accounts keep what they owe, whether a gain comes or memory is refused
+-- lemmas for the prover under one name: accounts keep what they owe, whether a gain comes or memory is refused
 pub ruleset gains_keep = (gain-keeps, same-keeps)
 
--- what an account owes at a place that it loses
+-- lemmas for the prover under one name: what an account owes at a place that it loses
 pub ruleset lost_at_place = (entries_long, left-kept, owed-left, owed-within, without-first, without-last, without-middle)

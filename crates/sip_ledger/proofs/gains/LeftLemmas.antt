@@ -122,7 +122,8 @@ gains-dropped old new place count are here within entries end messages musts ris
     let right = flags dropped in
     (grind (arith, nat_tests, length-drop, cases_lt, entry-kept, get_or-drop, entries_long, true≢false, get_or_past, right), dropped)
 
--- debts that are told over two lists of entries are the same where the entries that are owed are
+-- debts that are told over two lists of entries are the same where the entries that are owed are: o and o' tell which places of each are owed, and m and m'
+-- which of them must be sent
 pub listed-alike : (o m o' m' : ℕ → Bool) (i : ℕ) (xs ys : List Entry) → length xs ≡ length ys → ((j : ℕ) → j < length xs → o (i + j) ≡ o' (i + j)) →
     ((j : ℕ) → j < length xs → o (i + j) ≡ true → (get_or xs j no_entry ≡ get_or ys j no_entry) × (m (i + j) ≡ m' (i + j))) →
     debts_from o m i xs ≡ debts_from o' m' i ys

@@ -114,7 +114,7 @@ unfolding account_debts
 can-pay gains strikes a message t (Some place) is some none = grind (arith, nat_tests, listed-any, owed-within)
 can-pay gains strikes a message t None is some none = grind (arith, nat_tests, list_any_none, All-weaker, false_from_ne_true, unpaid-account)
 
--- what contracts see of rows, by their accounts
+-- lemmas for the prover under one name: what contracts see of rows, by their accounts
 pub ruleset of_rows = (debts_length, account-at, can-pay, truncated, on-err, on-error, over-to, unchanged, without-first_rows, drop_min)
 
 -- a send at moment 0 can pay each debt of its message
@@ -211,5 +211,5 @@ spanned gains strikes rows low high within =
     All-map (All (λ (debt : Debt). (low ≤ debt.message) × (debt.message ≤ high))) (account_debts gains strikes) rows
     (λ k d below. spanned-account gains strikes (get_or rows k d) low high within)
 
--- what is named, message by message
+-- lemmas for the prover under one name: what is named, message by message
 pub ruleset named_by_message = (named-all, named-more, named-past, unleft-unnamed, payable-owes, can-pay, named-here)

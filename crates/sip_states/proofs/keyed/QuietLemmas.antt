@@ -151,9 +151,10 @@ module _ (p : Times) (machine : MachineKind) (texts : Texts) (x : StateOf machin
       λ has.
           let same = (Contains-single q y).0 has in
           record { before = q; among = (waits_still h e.moment low q).1 refl; takes = (still.takes e is y).1 same },
-      -- the state is the only one, the book has what it names, and it is in range
+      -- the converse: what the restart gives from the wait is that state
       λ given. (Contains-single q y).1 ((still.takes e is y).0 (subst (λ z. r.Take z e y) ((waits_still h e.moment low given.before).0 given.among) given.takes)),
     );
+    -- the state is the only one, the book has what it names, and it is in range
     distinct = λ i j d lt within. absurd (omega (arith, lt, within));
     known = All-cons (Knows (meaning_of machine).names texts) x [] still.known (All-nil (Knows (meaning_of machine).names texts));
     in_range = All-cons (meaning_of machine).in_range x [] still.in_range (All-nil (meaning_of machine).in_range);

@@ -63,7 +63,7 @@ passed-more : (test : MachineEvent → Bool) (es : List MachineEvent) (e : Machi
 passed-more test [] e is = pass-cons test e [] true is
 passed-more test (g ∷ es) e is = by (test g) refl (passed-more test es e is)
   where
-    -- where e passes the test, its moment is the last of those that pass, whether or not g passes as well
+    -- where e passes the test, its moment is the last of those that pass, whether or not g passes as well, which b says
     by : (b : Bool) → test g ≡ b → passed test (es ++ e ∷ []) ≡ passed test es ++ e.moment ∷ [] → passed test (g ∷ (es ++ e ∷ [])) ≡ passed test (g ∷ es) ++ e.moment ∷ []
     by true here same = pass-cons test g (es ++ e ∷ []) true here ∙ ap (λ ms. g.moment ∷ ms) same ∙ sym (ap (λ ms. ms ++ e.moment ∷ []) (pass-cons test g es true here))
     by false here same = pass-cons test g (es ++ e ∷ []) false here ∙ same ∙ sym (ap (λ ms. ms ++ e.moment ∷ []) (pass-cons test g es false here))
@@ -73,7 +73,7 @@ passed-same : (test : MachineEvent → Bool) (es : List MachineEvent) (e : Machi
 passed-same test [] e is = pass-cons test e [] false is
 passed-same test (g ∷ es) e is = by (test g) refl (passed-same test es e is)
   where
-    -- where e does not pass the test, the moments of those that pass stay as they are, whether or not g passes
+    -- where e does not pass the test, the moments of those that pass stay as they are, whether or not g passes, which b says
     by : (b : Bool) → test g ≡ b → passed test (es ++ e ∷ []) ≡ passed test es → passed test (g ∷ (es ++ e ∷ [])) ≡ passed test (g ∷ es)
     by true here same = pass-cons test g (es ++ e ∷ []) true here ∙ ap (λ ms. g.moment ∷ ms) same ∙ sym (pass-cons test g es true here)
     by false here same = pass-cons test g (es ++ e ∷ []) false here ∙ same ∙ sym (pass-cons test g es false here)

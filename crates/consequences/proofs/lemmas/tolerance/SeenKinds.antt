@@ -72,7 +72,7 @@ events-known key (e ∷ es) known = by (list_any (same_key key) e.keys) refl (ev
     its concerns (inl none) = absurd (no-keys key e.keys none concerns)
     its concerns (inr has) = has
 
-    -- each event of the key has its kind, whether or not the first entry concerns the key
+    -- each event of the key has its kind, whether or not the first entry concerns the key, which b says
     by : (b : Bool) → list_any (same_key key) e.keys ≡ b → All HasItsKind (events_for key es) → All HasItsKind (map (λ f. f.event) (if b then e ∷ filter (λ f. list_any (same_key key) f.keys) es else filter (λ f. list_any (same_key key) f.keys) es))
     by true is later = All-cons HasItsKind e.event (events_for key es) (its is (All-head IsKnown e es known)) later
     by false is later = later

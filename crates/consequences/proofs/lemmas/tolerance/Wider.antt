@@ -64,7 +64,7 @@ later-left t _ _ (both o n os ns message must deadline rest) = by (keep_at t o) 
     kept : keep_at t o ≡ true → keep_at t n ≡ true
     kept is = by-must o.must n.must must is
       where
-        -- a debt that must be sent, or whose deadline is not past, is kept by the wider tolerance too
+        -- a and b say whether o and n must be sent: a debt that must be, or whose deadline is not past, is kept by the wider tolerance too
         by-must : (a b : Bool) → b ≡ a → (a || nat_le t o.deadline) ≡ true → (b || nat_le t n.deadline) ≡ true
         by-must true true same is = refl
         by-must true false same is = absurd cc
@@ -75,7 +75,7 @@ later-left t _ _ (both o n os ns message must deadline rest) = by (keep_at t o) 
     may : keep_at t o ≡ false → n.must ≡ false
     may is = must ∙ by-must o.must is
       where
-        -- what is left out need not be sent
+        -- a says whether o must be sent: what is left out need not be
         by-must : (a : Bool) → (a || nat_le t o.deadline) ≡ false → a ≡ false
         by-must true is = is
         by-must false is = refl
@@ -84,7 +84,7 @@ later-left t _ _ (both o n os ns message must deadline rest) = by (keep_at t o) 
     true-false : ¬ (true ≡ false)
     true-false same = cc
 
-    -- the second list of what is kept is later than the first, whether or not each of the first debts is kept
+    -- the second list of what is kept is later than the first, whether or not each of the first debts is kept, which a and b say
     by : (a : Bool) → keep_at t o ≡ a → (b : Bool) → keep_at t n ≡ b → Later (filter (keep_at t) os) (filter (keep_at t) ns)
         → Later (if a then o ∷ filter (keep_at t) os else filter (keep_at t) os) (if b then n ∷ filter (keep_at t) ns else filter (keep_at t) ns)
     -- both debts are kept, or the second alone, which then only may be sent, or neither; the first is not kept alone
@@ -94,7 +94,7 @@ later-left t _ _ (both o n os ns message must deadline rest) = by (keep_at t o) 
     by false is false same later = later
 later-left t _ _ (extra n os ns may rest) = by (keep_at t n) (later-left t os ns rest)
   where
-    -- the second list of what is kept is later than the first, whether or not the debt that only the second has is kept
+    -- the second list of what is kept is later than the first, whether or not the debt that only the second has is kept, which b says
     by : (b : Bool) → Later (filter (keep_at t) os) (filter (keep_at t) ns) → Later (filter (keep_at t) os) (if b then n ∷ filter (keep_at t) ns else filter (keep_at t) ns)
     by true later = extra n (filter (keep_at t) os) (filter (keep_at t) ns) may later
     by false later = later
@@ -234,7 +234,7 @@ fresh-at e x due =
     all-both (λ o. o.must ≡ true → e.moment ≤ o.deadline) (λ o. keep_at e.moment o ≡ true) (λ o. e.moment ≤ o.deadline) (left_at e x) (λ o is_due kept. by o o.must refl is_due kept)
     (All-filter (keep_at e.moment) (λ o. o.must ≡ true → e.moment ≤ o.deadline) x.owes due) (filter_passes (keep_at e.moment) x.owes)
   where
-    -- the deadline of a debt that is kept is not past: one that must be sent is not past, and one that only may be sent is dropped once it is
+    -- the deadline of a debt that is kept is not past: one that must be sent (b says so) is not past, and one that only may be is dropped once it is
     by : (o : Owed) (b : Bool) → o.must ≡ b → (o.must ≡ true → e.moment ≤ o.deadline) → keep_at e.moment o ≡ true → e.moment ≤ o.deadline
     by o true is is_due kept = is_due is
     by o false is is_due kept = leb-true e.moment o.deadline (subst (λ a. (a || nat_le e.moment o.deadline) ≡ true) is kept)

@@ -231,7 +231,8 @@ impl<H: BuildHasher> Tables<H> {
         &self.sets[number as usize - 1]
     }
 
-    /// The set of the key with this number, which the caller may change.
+    /// The set of the key with this number, which the caller may change. Once the borrow ends, the tables have what was left in it, and all
+    /// else is as before (`LendsSet`).
     pub fn set_mut(&mut self, number: u64) -> &mut AnySet
         requires { IsGiven self.old number }
         ensures* writes_back { sem 𝓛 (LendsSet H.row H.Hasher.row H.BuildHasher H.Hasher.Hasher self.entry number result) }

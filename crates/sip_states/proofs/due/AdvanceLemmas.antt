@@ -1,5 +1,6 @@
 -- Sets that wait, one after another, and what the marked sets name.
 -- In the lemmas i and n are indices of sets or places of a list, d is what stands beyond its end, and r the result of a call, whose errors are of the type E.
+-- What holds anyway, as a fact of a value that is not there, holds by `tt`.
 use Rattle.std.proofs.Common.{cond, zero, suc, Bool, true, false, true≢false, Result, Ok, Err, OnOk, OnErr, AllPairs, Contains, ◌↔◌, ◌++◌, [], ◌∷◌, ◌≡◌, ◌≢◌, ◌≤◌, ◌<◌, ◌⊎◌, inl, inr, ℕ, Option, Some, None, List, ◌+◌, map, take, option_copied, All, length, get_or, slice_get, slice_set, refl, sym, ap, ◌∙◌, subst, arith}
 use Rattle.std.specs.List.{flat_map}
 use Rattle.std.specs.Result.{is_ok}

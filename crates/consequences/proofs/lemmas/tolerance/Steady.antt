@@ -1,5 +1,6 @@
 -- The figures by a wider tolerance: their rows stay, and their windows open earlier and close later.
 -- In the lemmas x is a phase, k the kind of a message, and h a moment or what is known of a row.
+-- What holds anyway, as a fact of a value that is not there, holds by `tt`.
 use Rattle.std.proofs.Common.{◌≤◌, ◌*◌, ℕ, Bool, true, false, Some, None, IsSomeAnd, IfSome, List, [], ◌∷◌, All, arith, if◌then◌else◌}
 use Rattle.std.proofs.lemmas.List.Elements.{All-nil, All-cons, All-head}
 use Rattle.sip_standard.specs.declared.kind.Kind.{Kind}

@@ -51,7 +51,7 @@ module _ {X : Type 0} where
   -- those that pass a test up to the next index are those up to k, and the element at k if it passes
   passing-next : (p : X → Bool) (from k : ℕ) (xs : List X) (d : X) → from ≤ k → k < length xs →
       filter p (from_to from (suc k) xs) ≡ filter p (from_to from k xs) ++ cond (p (get_or xs k d)) (get_or xs k d ∷ []) []
-  -- the elements are from the first one on, or from a later one, up to which the first is left out
+  -- the elements are those from the first one on; or those from a later one on, and then the first is left out
   passing-next p zero k xs d le low = let next : suc k ≡ k + 1 = omega arith in ap (λ n. filter p (take n xs)) next ∙ filter_more p xs k d low
   passing-next p (suc from) zero xs d le low = absurd (omega (arith, le))
   passing-next p (suc from) (suc k) [] d le low = absurd (omega (arith, low))

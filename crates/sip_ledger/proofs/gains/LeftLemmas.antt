@@ -69,7 +69,7 @@ pub gone-same : (gains : Gains) (own own' : List Strike) (k : ℕ) →
 unfolding is_gone
 gone-same gains own own' k same = grind (arith, nat_tests)
 
--- a gain that is struck if it is left is gone
+-- a gain is gone where it is not left, or is left and struck
 pub gone-struck : (gains : Gains) (own : List Strike) (k : ℕ) → (is_left gains k ≡ true → is_struck own (entry_at (entries_of gains) k).message k ≡ true) → is_gone gains own k ≡ true
 unfolding is_gone
 gone-struck gains own k struck = grind (arith, nat_tests)

@@ -39,7 +39,7 @@ fn is_overdue(kept: Option<Option<u64>>, moment: u64) -> bool
     }
 }
 
-/// Puts the last moment of the index into the order.
+/// Puts the last moment of the index into the order, if it has one.
 fn enter(
     order: &mut BTreeSet<(u64, usize)>,
     index: usize,

@@ -294,7 +294,7 @@ pub record IsClearedTo (place : ℕ) (strikes : List Strike) (rows : List Accoun
 abbrev pub StartFrom : ℕ → List Account → Type 0
 StartFrom place rows = All (λ a. a.start < a.end → place ≤ a.start) rows
 
--- two accounts begin and end alike, and their strikes are the same
+-- two accounts begin and end alike, from the same place on they must send what they owe if its gain says so, and their strikes are the same
 pub record AreAlike (strikes : List Strike) (one other : Account) : Type 0 where
   pub start : one.start ≡ other.start
   pub end : one.end ≡ other.end

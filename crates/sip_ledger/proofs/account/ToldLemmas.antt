@@ -89,6 +89,7 @@ module _ {gains : Gains} {strikes : List Strike} {one other : Account} (is : IsA
   at-apart {at} {beside} are inside inside_beside apart same =
       let rest = back (owes_at gains strikes one) (must_at gains one) (entries_of gains) (at + 1) in
       let rest_beside = back (owes_at gains strikes other) (must_at gains other) (entries_of gains) (beside + 1) in
+      -- before the places both owe the same debts, so if all are the same, so are the debts at the places
       apart (first (append_cancel_left are.debts (debt_of (entry_at (entries_of gains) at) (must_at gains one at) ∷ rest)
       (debt_of (entry_at (entries_of gains) beside) (must_at gains other beside) ∷ rest_beside)
       (sym (told-here is are.told inside) ∙ same ∙ told-here is_other are.told_beside inside_beside)))

@@ -156,6 +156,7 @@ module _ {gains : Gains} {message t from k : ℕ} {old : List (List Debt)} {stri
   pub paid-next : (owes : List Debt) (left : Option Account) → ArePaidTo gains message t from k old strikes rows → IfSome left (IsAccount gains strikes) →
       map (account_debts gains strikes) (option_to_list left) ≡ paid_rows message t (owes ∷ []) → owes ≡ owed_in old k → from ≤ k → k < length old →
       ArePaidTo gains message t from (k + 1) old strikes (rows ++ option_to_list left)
+  -- no account is left where nothing is owed any more; else the account b that is left is put after the others
   paid-next owes None are is debts same low within = grind (arith, append-nil, next-left message t from k old owes [])
   paid-next owes (Some b) are is debts same low within =
       let put = pushed-to b (account_debts gains strikes b) are.accounts are.debts is refl in

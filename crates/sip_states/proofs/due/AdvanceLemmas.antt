@@ -64,6 +64,7 @@ still_early moment indices old now index set up fresh early at =
     let long = up.long in
     let was : slice_get old index ≡ Some (get_or old index set) = slice_get-get_or old index set (omega arith) in
     elim (up.each index (get_or old index set) set was at) [
+      -- a set that has waited has its index in the list, and this one has not; so the set is as it was
       | inl has ↦ absurd (fresh has.0)
       | inr same ↦ subst (λ s. moment_of s ≤ moment) (sym same.1) (early index set (omega arith))
     ]
@@ -154,6 +155,7 @@ pub marked_push : (P : AnySet → Type 0) (marks : List Bool) (sets : List AnySe
     → ElseHolds P (marks ++ false ∷ []) (sets ++ set ∷ [])
 marked_push P marks sets set long are silent n other at mark =
     elim (push_place sets set n other at) [
+      -- a set at an index is one of before with its mark of before, or the new one
       | inl old ↦ elim (push_place marks false n false mark) [
         | inl was ↦ are n other old was
         | inr new ↦ (let low = slice_get_within sets n other old in absurd (omega (arith, long, low, new.0)))

@@ -241,6 +241,7 @@ module _ (R : Receiving) (is : IsReceiving R) (p : Times) where
   -- what began by a moment began by every later one
   -- x is the phase, and h and m are the two moments
   began-later : (x : InviteClientPhase) (h m : ℕ) → h ≤ m → BeganBy h x → BeganBy m x
+  -- only of calling BeganBy says something: that it began by the moment
   began-later (Calling w) h m low began = omega (arith, low, began)
   began-later Idle h m low began = tt
   began-later Ended h m low began = tt
@@ -256,6 +257,7 @@ module _ (R : Receiving) (is : IsReceiving R) (p : Times) where
 
   -- the row of a response leads to a phase of which BeganBy holds
   answers-began : (reliable : Bool) (request : List ℕ) (k : Kind) (e : MachineEvent) (row : Row) → Answers reliable request k e row → BeganBy e.moment row.0
+  -- a provisional response leads to proceeding, a success to a phase that is done, and any other final response to completed
   answers-began reliable request k e row (code, kind, inl h) = rw h.1 tt
   answers-began reliable request k e row (code, kind, inr (inl h)) = done-began row.0 e.moment h.1
   answers-began reliable request k e row (code, kind, inr (inr h)) = rw h.1 tt
@@ -279,6 +281,7 @@ module _ (R : Receiving) (is : IsReceiving R) (p : Times) where
           ⊎ (¬ (k ≡ Request Invite) × (row ≡ (Idle, keeps))) → BeganBy e.moment row.0
       by (inl leads) = rw leads.1 (omega arith)
       by (inr leads) = rw leads.1 tt
+  -- in calling the INVITE is sent again, and the moment of the first one stays
   sent-began (Calling w) k e row began h = rw (sends-calling p w k e row h).2 began
   sent-began (Proceeding reliable request cancel) k e row began h = by (sends-proceeding p reliable request cancel k e row h).1
     where
@@ -286,6 +289,7 @@ module _ (R : Receiving) (is : IsReceiving R) (p : Times) where
       by : (row ≡ (Proceeding reliable request (Some e.moment), keeps)) ⊎ (row ≡ (Proceeding reliable request cancel, keeps)) → BeganBy e.moment row.0
       by (inl leads) = rw leads tt
       by (inr leads) = rw leads tt
+  -- accepted, completed and ended stay as they are
   sent-began (Accepted set) k e row began h = rw (sends-accepted p set k e row h).1 tt
   sent-began (Completed reliable request set) k e row began h = rw (sends-completed p reliable request set k e row h).1 tt
   sent-began Ended k e row began h = rw (sends-ended p k e row h).1 tt

@@ -112,6 +112,7 @@ module _ (R : Receiving) (is : IsReceiving R) (p : Times) where
 
   -- where Invited holds of a phase, the moments lie apart
   invited-spaced : (ms : List ℕ) (x : invite.InviteClientPhase) → Invited ms x → IsSpaced p next ms
+  -- in idle there are no moments, and in calling they begin the intervals of the phase (Begins); elsewhere Invited says just this
   invited-spaced ms invite.Idle invited = rw invited tt
   invited-spaced ms (invite.Calling w) invited = begins-spaced p next ms w.set w.interval invited
   invited-spaced ms (invite.Proceeding reliable request cancel) invited = invited

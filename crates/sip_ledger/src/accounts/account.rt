@@ -530,7 +530,7 @@ fn least_must(gains: &Gains, strikes: &[Strike], account: Account) -> Option<u64
     ensures { result ≡ earliest (debt_deadlines (account_debts gains.now strikes.now account)) }
 {
     let mut least: Option<u64> = None;
-    // What was gained below `soft` must not be sent any more.
+    // What was gained below `soft` need not be sent any more.
     let mut from = account.start.max(account.soft);
     while let Some(place) = gains.next_must(from) {
         if account.end <= place {

@@ -73,6 +73,7 @@ fn find_or_start<H: BuildHasher>(
                     entry.insert(set);
                     Ok(index)
                 }
+                // There is no memory for the set: the key is taken out of the entry, and dropped.
                 Err(refused) => {
                     entry.into_key();
                     Err(refused)

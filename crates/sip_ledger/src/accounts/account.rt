@@ -52,6 +52,7 @@ pub(crate) fn owes(gains: &Gains, strikes: &[Strike], account: Account, place: u
     requires account { IsAccount gains.now strikes.now account }
     ensures { result ≡ owes_at gains.now strikes.now account place }
 {
+    // An account owes nothing before its start, and nothing from its end on.
     if place < account.start {
         return false;
     }
@@ -196,6 +197,7 @@ pub(crate) fn find_under(
     let mut first = None;
     let mut from = 0;
     for _step in 0..most {
+        // The next message under the key, and the next one from it on of which a gain is left.
         let Some(message) = index.next(key, from) else {
             return Some(first);
         };
@@ -203,13 +205,16 @@ pub(crate) fn find_under(
             return Some(first);
         };
         from = left;
+        // Only where they are the same a gain of a message under the key is left.
         if left == message {
             let mut seek = Seek::new(gains, message, account.start);
             let place = find(gains, strikes, account, &mut seek, message, moment);
             first = sooner(first, place);
+            // Up to this place no greater message was gained, so none is found sooner.
             if gains.is_newest(place) {
                 return Some(first);
             }
+            // No greater message was gained at all.
             if gains.highest <= message {
                 return Some(first);
             }
@@ -318,6 +323,7 @@ pub(crate) fn paid_and_expired(
 {
     let mut seek = Seek::new(gains, message, account.start);
     match find(gains, strikes, account, &mut seek, message, moment) {
+        // The debt at the place is paid, and then what is past goes.
         Some(place) => {
             let rest = without(gains, strikes, account, place)?;
             let left = expired(gains, strikes, rest, moment)?;

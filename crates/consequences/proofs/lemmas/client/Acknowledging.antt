@@ -191,6 +191,7 @@ module _ (R : Receiving) (is : IsReceiving R) (p : Times) (invite : MachineEvent
     -- the row of the response makes a client that waits completed, and owes the ACK of the response
     taken : (es : List MachineEvent) (x : InviteClientPhase) (row : Row) (owes : List Owed) (code : ℕ) → response.kind ≡ Response code → IsUnsuccessful code → Waits es x → R p x response.kind response row
         → IsCompleted row.0 × Contains (changed p response.moment row.1 owes) debt
+    -- in calling and in proceeding the response leads to completed with its ACK owed; in completed the ACK is owed once more
     taken es (Calling w) row owes code kind bad waits h = owes-answer w.reliable w.request response.kind row owes code kind bad waits.1 (is.calling p w response.kind response row h)
     taken es (Proceeding reliable request None) row owes code kind bad waits h = owes-answer reliable request response.kind row owes code kind bad waits.0 (is.proceeding p reliable request None response.kind response row h)
     taken es (Proceeding reliable request (Some first)) row owes code kind bad waits h =

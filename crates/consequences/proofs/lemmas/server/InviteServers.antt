@@ -106,11 +106,15 @@ is-server-3261 p = record {
 
 -- the rows of a received request: an INVITE comes to an idle server, or comes again, or an ACK comes
 pub data ReceivedRow : InviteServerPhase → Kind → MachineEvent → Row → Type 0 where
+  -- the INVITE makes an idle server proceed
   comes : (e : MachineEvent) → ReceivedRow Idle (Request Invite) e (Proceeding e.reliable e.moment None, keeps)
+  -- it comes again in proceeding, and the last response is owed once more, as one that must be sent or may be (`must`)
   again : (e : MachineEvent) (reliable : Bool) (set : ℕ) (last : List ℕ) (must : Bool) →
       ReceivedRow (Proceeding reliable set (Some last)) (Request Invite) e (Proceeding reliable set (Some last), gains must last)
+  -- it comes again in completed, and the final response may be sent once more
   again_after : (e : MachineEvent) (reliable : Bool) (final : List ℕ) (set repeat interval : ℕ) →
       ReceivedRow (Completed reliable final set repeat interval) (Request Invite) e (Completed reliable final set repeat interval, gains false final)
+  -- the ACK makes a completed server confirmed
   acknowledged : (e : MachineEvent) (reliable : Bool) (final : List ℕ) (set repeat interval : ℕ) →
       ReceivedRow (Completed reliable final set repeat interval) (Request Ack) e (Confirmed reliable e.moment, keeps)
 

@@ -413,7 +413,7 @@ module _ (p : Times) (code : ℕ) (e : MachineEvent) (y : Owing plain.PlainClien
   plain_finishes plain.Idle owes low h = absurd (omega arith)
   plain_finishes (plain.Trying w) owes low h = leads_on plain.plain_client p plain_rank _ y e _ (Response code) is (inr (final, refl)) all h
     where
-      -- each row of a final response in trying leads to a phase of rank 2 or more
+      -- each row of a final response in trying leads to a phase of rank 2 or more; the first row is of a provisional response
       all : (other : Row plain.PlainClientPhase) → plain.Receives p (plain.Trying w) (Response code) e other → 2 ≤ plain_rank other.0
       all other (inl h) = absurd (omega (arith, h.0.1, final.0))
       all other (inr h) = rw h.1 (omega arith)

@@ -1,6 +1,9 @@
 use Rattle.sip_states.proofs.due.MarksLemmas.{front_marked, front_once}
 use Rattle.sip_states.proofs.marks.Marks.moved.Goals as goal
 
+-- Of the invariant of marks `c.self.invariant.0` says that the order has each index at the place that `places` gives for it (IsPlaced), and
+-- `c.self.invariant.1` that no more are named than moved.
+
 -- the first indices in the order are those that are marked
 pub returns-clause-members : goal.returns-clause-members
 returns-clause-members c =

@@ -8,6 +8,9 @@ use Rattle.sip_states.specs.inner.Marks.{IsMarked}
 use Rattle.sip_states.proofs.lists.Kept.{all_marked, kept_few, kept_keys, kept_long, kept_values}
 use Rattle.sip_states.proofs.tables.Tables.keep.Goals as goal
 
+-- Of the invariant of the tables (`c.self.invariant`) part 0 says that the keys are few, 1 that the agenda is as long as the keys, 2 and 4 that the marks
+-- `named` and `moved` are, 3 that the first are right (AreMarked), and 5 that the second are (AreMoved). A new invariant has its parts in this order.
+
 -- the agenda keeps at most as many places as flags are true
 pub all-requires : goal.all-requires
 all-requires g c =

@@ -13,6 +13,9 @@ use Rattle.sip_states.proofs.keyed.ByMachine.{numbers_appended}
 use Rattle.sip_states.proofs.due.AdvanceLemmas.{place_among, numbers_at, numbers_at-is, marked_names, named_if}
 use Rattle.sip_states.proofs.tables.Tables.named.Goals as goal
 
+-- Of the invariant of the tables (`c.self.invariant`) part 0 says that the keys are few, 1 that the agenda is as long as the keys, 2 and 4 that the marks
+-- `named` and `moved` are, 3 that the first are right (AreMarked), and 5 that the second are (AreMoved). A new invariant has its parts in this order.
+
 -- an index that is marked is one of the sets
 pub index-requires : goal.index-requires
 index-requires g c =

@@ -11,6 +11,9 @@ use Rattle.sip_states.proofs.due.AdvanceLemmas.{start_names, start_quiet}
 use Rattle.sip_states.proofs.keyed.StartLemmas.{start_endless, else_set}
 use Rattle.sip_states.proofs.tables.Tables.restart_key.Goals as goal
 
+-- Of the invariant of the tables (`c.self.invariant`) part 0 says that the keys are few, 1 that the agenda is as long as the keys, 2 and 4 that the marks
+-- `named` and `moved` are, 3 that the first are right (AreMarked), and 5 that the second are (AreMoved). A new invariant has its parts in this order.
+
 -- the set that begins anew names nothing and is quiet, so the marks are right with it
 pub invariant_of-self-2 : goal.invariant_of-self-2
 invariant_of-self-2 g c =

@@ -9,6 +9,9 @@ use Rattle.sip_states.proofs.lists.Kept.{all_marked, marked_within}
 use Rattle.sip_states.proofs.due.AdvanceLemmas.{all_advance, always_err, place_among, some_advance}
 use Rattle.sip_states.proofs.tables.Tables.wait_all.Goals as goal
 
+-- Of the invariant of the tables (`c.self.invariant`) part 0 says that the keys are few, 1 that the agenda is as long as the keys, 2 and 4 that the marks
+-- `named` and `moved` are, 3 that the first are right (AreMarked), and 5 that the second are (AreMoved). A new invariant has its parts in this order.
+
 -- each marked index is one of the sets
 pub advance_each-requires-clause-inside : goal.advance_each-requires-clause-inside
 advance_each-requires-clause-inside g c =

@@ -43,6 +43,7 @@ not-word f words a text wanted rest is told differ same =
 as-many : {X : Type 0} (f : X → List ℕ) (words : List X) (others : List (List ℕ)) → map f words ≡ others → length words ≡ length others
 as-many f words others same = sym (length-map words f) ∙ ap length same
 
+-- `same` says that the words are those that would ask for `asked`; each arm is one of the four things to ask for, and has 0, 2, 2 or 3 words
 -- one word, and more than three words, ask for nothing
 pub not-long : {X : Type 0} (f : X → List ℕ) (words : List X) → 0 ≢ length words → 2 ≢ length words → 3 ≢ length words → (asked : Asked) → map f words ≡ words_for asked → ⊥
 not-long f words none two three Input same = none (sym (as-many f words [] same))
@@ -54,7 +55,7 @@ not-long f words none two three (States file entry) same = three (sym (as-many f
 -- a and b are the words, and s and t their bytes
 pub not-two : {X : Type 0} (f : X → List ℕ) (words : List X) (a b : X) (s t : List ℕ) → 2 ≤ length words → length words < 3 → a ≡ get_or words 0 a → b ≡ get_or words 0 b → s ≡ f a → t ≡ f b
     → false ≡ bytes_eq s (codes "check") → false ≡ bytes_eq t (codes "show") → (asked : Asked) → map f words ≡ words_for asked → ⊥
--- nothing to ask for has no words, a file to check or to show has a first word of its own, and an entry to list has three words
+-- what asks for the standard input has no words, a file to check or to show has a first word of its own, and an entry to list has three words
 not-two f words a b s t some few is-a is-b told-a told-b check show Input same = let many = as-many f words [] same in omega (arith, many, some)
 not-two f words a b s t some few is-a is-b told-a told-b check show (Check file) same = not-word f words a s (codes "check") (file.now ∷ []) is-a told-a check same
 not-two f words a b s t some few is-a is-b told-a told-b check show (Show file) same = not-word f words b t (codes "show") (file.now ∷ []) is-b told-b show same

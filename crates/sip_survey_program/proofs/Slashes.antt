@@ -22,10 +22,12 @@ digit_lacks d = by (nat_eq (48 + d) 47) refl
     by true e = let same = eqb-true (48 + d) 47 e in absurd (omega (arith, same))
     by false e = e
 
+-- by steps: a number below 10 is one digit, and a greater one is its front and its last digit
 -- a number in digits has no slash
 decimal_lacks : (n : ℕ) → n < 2 ^ 64 → Lacks 47 (decimal n)
 decimal_lacks n low = decimal_by_steps (λ m ds. Lacks 47 ds) (λ m few. (digit_lacks m, tt)) (λ m ds many lacks. lacks-append 47 ds ((48 + m % 10) ∷ []) lacks (digit_lacks (m % 10), tt)) n low
 
+-- `xs` is the text before the slash and `ys` the text after it
 -- where a text without a slash stands before a slash, the first slash stands at the text's length
 slash_at : (xs ys : List ℕ) → Lacks 47 xs → position_or_len is_slash (xs ++ 47 ∷ ys) ≡ length xs
 slash_at [] ys lacks = refl
@@ -33,7 +35,7 @@ slash_at (x ∷ xs) ys (other, lacks) =
     let on = slash_at xs ys lacks in
     ap (λ b. cond (not b) (1 + position_or_len is_slash (xs ++ 47 ∷ ys)) 0) other ∙ omega (arith, on)
 
--- What follows is of a word of two numbers, k and n, with a slash between them.
+-- What follows is of a word of two numbers, k and n, with a slash between them (the byte 47).
 module _ (k n : ℕ) (low : k < 2 ^ 64) where
   -- the first slash of K/N comes right after K
   at : position_or_len is_slash (decimal k ++ 47 ∷ decimal n) ≡ length (decimal k)

@@ -6,6 +6,7 @@ use sip_log::{Broken, Source};
 /// A source that hands out its bytes in pieces: the first piece has one size, and all others have a second one.
 #[derive(Drop)]
 pub(crate) struct Pieces<'a> {
+    /// The bytes that were not handed out yet.
     bytes: &'a [u8],
     /// The size of the next piece.
     first: usize,
@@ -13,6 +14,7 @@ pub(crate) struct Pieces<'a> {
     others: usize,
     /// How many calls are answered before one fails; None where no call fails.
     calls: Option<usize>,
+    /// Whether a call has failed.
     failed: bool,
 }
 

@@ -1,4 +1,4 @@
-//! The lines of surveys, as text.
+//! The lines of surveys, as text: `surveys/rows.rt` says what they tell, and in which words logs are spelled.
 mod rows;
 
 use crate::notation::log_of;
@@ -14,6 +14,7 @@ use std::hash::{BuildHasherDefault, FoldHasher};
 use std::process::Abort;
 use std::test::Fail;
 
+// The hasher of keys, by which no survey differs.
 pub(crate) type Hasher = BuildHasherDefault<FoldHasher>;
 
 /// The words of a log, and the lines of its survey.
@@ -242,6 +243,7 @@ fn takes_all(
     surveyed: &mut Surveyed<'_>,
     found: &mut Vec<Finding>,
 ) -> Result<Option<StepError>, Fail> {
+    // No log of these tests has as many as 200 entries.
     for _ in 0..200 {
         let Some(entry) = surveyed.next()? else {
             break;

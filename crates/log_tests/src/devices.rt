@@ -54,6 +54,7 @@ impl<'a> Pieces<'a> {
 }
 
 impl<'a> Source for Pieces<'a> {
+    // What is left to read is known: the bytes that were not handed out.
     ghost left = { λ s. Some s.bytes.now };
 
     ghost has_failed = { λ s. s.failed };
@@ -110,6 +111,7 @@ impl Room {
 }
 
 impl Sink for Room {
+    // What was written is not known, since no piece is kept.
     ghost written = { λ _. None };
 
     ghost has_failed = { λ s. s.failed };

@@ -64,6 +64,7 @@ fn fills_buffers_of_every_length(rt: HostRuntime) {
     let mut buf = [0; 256];
     for len in 0..=256 {
         let mut whole = FromRead::new(bytes.as_slice());
+        // A reader of std, and bytes as a source, fill the whole buffer; a second call gives what is left of the 300 bytes, up to 256.
         is(&rt, fill_through(&mut whole, &mut buf[..len]), Some(len));
         is(
             &rt,
@@ -76,6 +77,7 @@ fn fills_buffers_of_every_length(rt: HostRuntime) {
             Some(256.min(300 - len)),
         );
         assert!(rt; !whole.has_failed());
+        // A reader that gives one byte a call is not asked twice for one buffer.
         let mut single = FromRead::new(OneByOne {
             failures: 0,
             kind: io::ErrorKind::Other,

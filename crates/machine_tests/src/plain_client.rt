@@ -217,6 +217,7 @@ static FINAL_RESPONSES_AND_FAILURES: &[Row] = &[
         ],
         &[],
     ),
+    // A send that is refused ends the client, where the request may be sent: at first, and from 450 on. A response to nothing leaves it idle.
     (&[(0, Action::Failed, REQUEST)], &[(ENDED, &[])]),
     (
         &[(0, Action::Sent, REQUEST), (500, Action::Failed, REQUEST)],

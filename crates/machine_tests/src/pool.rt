@@ -43,6 +43,7 @@ fn server() -> Result<PlainServer, Fail> {
     Ok(PlainServer::new(params(500)?))
 }
 
+/// A book with the messages.
 fn book(alloc: Global) -> Result<Book, Fail> {
     book_of(alloc, &MESSAGES, "OPTIONS", "UDP")
 }
@@ -252,6 +253,7 @@ fn are_twice(
     pool: &mut Pool<PlainServerPhase>,
     count: usize,
 ) -> Result<(), Fail> {
+    // The rows of the states stand in the pool once, and in the same order once more: from each row up to the middle the next `count` rows differ.
     holds(rt, pool.len() == count.saturating_mul(2), "twice");
     first_ones_follow(rt, pool, count, count)?;
     first_ones_follow(rt, pool, 2, count)?;
@@ -352,6 +354,7 @@ fn keep_two(
     pool: &mut Pool<PlainServerPhase>,
 ) -> Result<(), Fail> {
     holds(rt, pool.len() == 4, "four states");
+    // Neither `fit` nor `tidy`, which give memory back, changes what a state owes.
     pool.copy(0, 3);
     owe(rt, pool, &[1, 2, 3, 1])?;
     let rows = indices(rt.alloc(), 2, pool.len())?;
@@ -405,6 +408,8 @@ fn first_takes<M: Machine>(
 }
 
 /// What the five states owe after the first of three states took its event.
+/// The three states owe 1, 2 and 1; 3; and nothing. The message 1 is sent: it is a new response, after which 1, 2 and 1 are owed as before, or it
+/// pays the first debt, after which 2 and 1 are.
 static OWED_THEN: [u64; 9] = [1, 2, 1, 3, 1, 2, 1, 2, 1];
 
 /// Asserts that there are five states, which owe `OWED_THEN`.
@@ -510,6 +515,7 @@ fn gains_again<M: Machine>(
 {
     holds(rt, pool.len() == 2, "two states");
     let refused = first_takes_again(rt, machine, book, pool, event)?;
+    // The first state owes four messages and the second none, as before; the third owes the same four and the last response once more.
     owe(rt, pool, &[1, 2, 3, 1, 1, 2, 3, 1, LAST])?;
     match refused {
         Some(error) => Err(error.into()),

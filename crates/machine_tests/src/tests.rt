@@ -43,6 +43,7 @@ fn limits(rt: HostRuntime) -> Result<(), Fail> {
 fn keeps_once(rt: &impl Abort, book: &mut Book) -> Result<(), Fail>
     requires { book.old ≡ [] }
 {
+    // `add` answers the number under which the bytes are kept: the given one, or that of equal bytes.
     is(rt, book.add(3, b"OPTIONS")?, 3, "the first");
     is(rt, book.add(5, b"OPTIONS")?, 3, "the same again");
     is(rt, book.add(8, b"")?, 8, "an empty one");
@@ -103,6 +104,7 @@ fn keeps_many_messages(rt: HostRuntime) -> Result<(), Fail> {
 fn keeps_of_one_hash(rt: &(impl Abort + AllocGlobal), book: &mut Book) -> Result<(), Fail>
     requires { book.old ≡ [] }
 {
+    // The last eight bytes are the factor of `FoldHasher`, the lowest byte first.
     let end = b"    \x15\x7c\x4a\x7f\xb9\x79\x37\x9e".as_slice();
     let first = are_numbered(rt.alloc(), book, 0, 20_000, end)?;
     holds(rt, first, "the first half");
@@ -148,6 +150,7 @@ fn full_goes_on(rt: &(impl Abort + AllocGlobal), book: &mut Book) -> Result<(), 
         return Ok(());
     };
     goes_on(rt, book, 64)?;
+    // The last of the 64 messages, which has the number 63 in eight bytes at its front, is still kept.
     keeps(rt, book, 63, Some(b"\0\0\0\0\0\0\0\x3f SIP/2.0 200 OK"));
     Err(error.into())
 }

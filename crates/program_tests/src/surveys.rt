@@ -45,6 +45,7 @@ fn ends(
     Ok(())
 }
 
+/// A log without a finding and one with a breach.
 #[test]
 fn surveys_the_standard_input_or_the_file(rt: HostRuntime) -> Result<(), Fail> {
     let right = registered(rt.alloc())?;

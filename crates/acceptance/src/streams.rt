@@ -334,8 +334,7 @@ fn tells_what_is_due(rt: HostRuntime) -> Result<(), Fail> {
     Ok(())
 }
 
-/// Whether the key of the transaction has this branch, or there is no such transaction.
-/// A `want` of None asks that there is no such transaction.
+/// Whether the key of the transaction has this branch; or, where no branch is wanted, whether there is no such transaction.
 fn has_branch(judge: &Judge<Hasher>, transaction: u64, want: Option<&[u8]>) -> bool {
     match judge.key(transaction) {
         Some(key) => Some(key.branch()) == want,

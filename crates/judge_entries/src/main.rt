@@ -24,6 +24,7 @@ fn main(rt: HostRuntime) -> Result<()> {
         }
         println!(rt; "{}: in no trouble", entry.number)?;
     }
+    // The verdict on all entries that were taken, or the one at which the judge has stopped.
     if let Some(verdict) = judge.end() {
         println!(rt; "{}", render(rt.alloc(), &verdict)?)?;
     }

@@ -5,6 +5,7 @@ use Rattle.std.proofs.lemmas.List.Elements.{All-map, All-set, All-take}
 use Rattle.sip_machine.specs.Pools.{AreFirstOnes, picked}
 
 -- In the lemmas `x` stands for a place that is not in a list, and `rows` are the places of the elements that are picked.
+
 -- what holds of all elements holds of those that are picked
 pub all_picked : {X : Type 0} (P : X → Type 0) (xs : List X) (x : X) (rows : List ℕ) → All P xs → All (λ row. row < length xs) rows → All P (picked xs x rows)
 all_picked P xs x rows all within = All-map P (λ row. get_or xs row x) rows (λ k d low. all (get_or rows k d) x (within k d low))

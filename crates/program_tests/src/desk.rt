@@ -26,6 +26,7 @@ impl<'a> Platform for Desk<'a> {
 
     type File = &'a [u8];
 
+    // The words are handed out as a copy, of which the lemma says that it tells the same bytes.
     #[tactic(auto, using(crate::proofs::WordLemmas::told_alike))]
     fn words(&self) -> io::Result<Vec<String>> {
         Ok(self.words.clone()?)

@@ -56,6 +56,7 @@ impl<P: Platform + Drop, I: Read + Drop> Source for Host<P, I> {
     // What is left to read is that of the log that was opened, or of the standard input.
     ghost left = { λ host. left_of ⟦<FromRead<I> as Source>⟧.left ⟦<FromRead<P::File> as Source>⟧.left host.log };
 
+    // Whether anything has failed is what the flag says.
     ghost has_failed = { λ host. host.failed };
 
     // Bytes come from the log that is open; where a read fails, it is kept that one has.

@@ -18,6 +18,7 @@ fn main(rt: HostRuntime) -> ExitCode {
             let mut system = Host::new(StdPlatform::new(rt), rt.stdin());
             program(rt.alloc(), &mut system, &mut output, &mut errors)
         }
+        // Without memory for the output's buffer the program does not run, and ends as one that has no answer.
         Err(error) => end(Err(read_failure(error)), &mut errors),
     };
     ExitCode::from(status)

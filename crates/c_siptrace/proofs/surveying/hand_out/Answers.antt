@@ -4,6 +4,7 @@ use Rattle.c_siptrace.proofs.Handing.{handed_next, handed_all}
 use Rattle.c_siptrace.proofs.surveying.hand_out.Goals as goal
 
 -- `l` is what holds at the turn of the loop: `l.place` findings stand in the room, which is `l.room`.
+
 -- one finding more stands in the room
 pub loop-place-preserved : goal.loop-place-preserved
 loop-place-preserved c =

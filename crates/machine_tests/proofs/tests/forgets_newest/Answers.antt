@@ -4,6 +4,7 @@ use Rattle.sip_machine.proofs.texts.TextLaws.{Keeps-grow_cases}
 use Rattle.machine_tests.proofs.tests.forgets_newest.Goals as goal
 
 -- The test keeps the numbers 3 and 5, forgets three times (`c.forget-3` is the last), and then adds 8 and 9.
+
 -- the numbers of the book are at most 3, so the next one is above them
 pub keep-requires-2 : goal.keep-requires-2
 keep-requires-2 g c = λ n keeps. let low : n ≤ 3 = c.in_ok-keep.ensures.ok n keeps in omega (arith, low)

@@ -6,6 +6,7 @@ use Rattle.sip_program.proofs.asking.asked.Goals as goal
 
 -- In each answer `len_at_least` and `len_below` say how many words there are, the items are these words in their order, and `same_text` makes of a
 -- test that passed that the first word is the one that is named.
+
 -- two words, `check` and a file, ask for the verdict on the file
 pub returns-in-len2 : goal.returns-in-len2
 returns-in-len2 c = (

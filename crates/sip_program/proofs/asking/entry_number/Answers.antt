@@ -5,6 +5,7 @@ use Rattle.sip_program.proofs.asking.entry_number.Goals.{then-number-lt-LEAST-vi
 use Rattle.sip_program.proofs.asking.entry_number.Goals as goal
 
 -- In both answers `entry` is a number that the word is said to be the plain spelling of (`same`), within the limits (`is`), and that is refuted.
+
 -- the word is no number of 64 bits
 pub returns-in_default : goal.returns-in_default
 returns-in_default c = λ entry is same.

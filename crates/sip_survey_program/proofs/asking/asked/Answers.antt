@@ -11,6 +11,7 @@ returns-then-not-names_forget c =
     without_forget (map string_bytes c.args.words.now) c.rest_of.result other c.rest_of.ensures
 
 -- In the next answers `names` says that the words begin with `--forget` and one word more, and `split` what they are then: these two, and others.
+
 -- the word after `--forget` is no number
 pub returns-in_err-age : goal.returns-in_err-age
 returns-in_err-age c =

@@ -22,6 +22,7 @@ whole word a b None within front rest none = λ part is same.
 
 -- A slash is one byte, so that the clause `byte` of `split_once` tells of it. Its first argument is that it is below 128, and its second that the
 -- search is for this byte. What it tells: without a slash the first one is found at the end of the word (`position_or_len`), and else within.
+
 -- a word without a slash is that of no part
 pub returns-in_err-number : goal.returns-in_err-number
 returns-in_err-number c = rw c.from_residual.ensures (without c.args.word.now (c.in_err-number.ensures.byte (omega arith) (λ w o f. f)))

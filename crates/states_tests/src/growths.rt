@@ -248,7 +248,8 @@ static REPEAT: &[Entry] = &[
     (490, Action::Sent, BUSY),
 ];
 
-/// A 486 answers a repeat of the INVITE, or is sent again by timer G, which fires by 540 or by 1490: the set has a state for each.
+/// The 486 at 490 answers the repeat of the INVITE, and then timer G still fires by 550; or it is that of timer G, which then fires by 1,540: the set has a
+/// state for each.
 #[test]
 fn a_repeat_goes_on_after_a_refused_growth(rt: HostRuntime) -> Result<(), Fail> {
     play_again(

@@ -25,6 +25,7 @@ returns-in-len2-2 c = (
   tt,
 )
 
+-- The last parts say that the third word spells the entry's number, which `entry_number` has read, and that it is within the limits.
 -- three words, `states`, a file and a number, ask for the listing at that entry
 pub returns-in_ok-entry-in-len3 : goal.returns-in_ok-entry-in-len3
 returns-in_ok-entry-in-len3 c = (
@@ -35,7 +36,7 @@ returns-in_ok-entry-in-len3 c = (
   c.in_ok-entry-in-len3.ensures.0,
 )
 
--- Each way names the tests that failed: `lt2` is that there is no word, `len2` are two words, `len3` three, and `eq-2`, `eq-3` the first word.
+-- The ways are: one word (`lt2`); two words, or three, whose first one is not the one that is named (`else-eq-2`, `else-eq-3`); and more than three.
 -- words in none of these forms ask for nothing
 pub returns-in_default : goal.returns-in_default
 returns-in_default c = λ asked meant same.

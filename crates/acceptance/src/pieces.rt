@@ -65,6 +65,7 @@ impl<'a> Source for Pieces<'a> {
 
     ghost has_failed = { λ s. s.failed };
 
+    // Hands out the next piece, as far as the buffer has room and bytes are left; or fails, once as many calls were answered as are to be.
     fn fill(&mut self, buf: &mut [u8]) -> Result<usize, Broken> {
         match self.calls {
             Some(0) => {

@@ -36,6 +36,7 @@ impl Sink for Room {
 
     ghost has_failed = { λ s. s.failed };
 
+    // Takes a piece and counts it, or fails once as many were taken as there is room for.
     fn put(&mut self, _bytes: &[u8]) -> Result<(), Broken> {
         if self.taken >= self.calls {
             self.failed = true;

@@ -59,6 +59,7 @@ impl<'a> Source for Pieces<'a> {
 
     ghost has_failed = { λ s. s.failed };
 
+    // Hands out the next piece, as far as the buffer has room and bytes are left; or fails, once as many calls were answered as are to be.
     fn fill(&mut self, buf: &mut [u8]) -> Result<usize, Broken> {
         match self.calls {
             Some(0) => {
@@ -116,6 +117,7 @@ impl Sink for Room {
 
     ghost has_failed = { λ s. s.failed };
 
+    // Takes a piece and counts it, or fails once as many were taken as there is room for.
     fn put(&mut self, _bytes: &[u8]) -> Result<(), Broken> {
         if self.taken >= self.calls {
             self.failed = true;

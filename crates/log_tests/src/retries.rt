@@ -15,6 +15,7 @@ struct OneByOne {
 }
 
 impl Read for OneByOne {
+    // Fails while failures are left, and then gives an `M` at each call that has room for one.
     fn read(&mut self, buf: &mut [u8]) -> io::Result<usize> {
         if self.failures > 0 {
             self.failures -= 1;
@@ -96,6 +97,7 @@ struct OnceEnded<'a> {
 }
 
 impl<'a> Read for OnceEnded<'a> {
+    // Gives as many bytes as there is room for. Where there is room and none is left, it has told its end, and fails from then on.
     fn read(&mut self, buf: &mut [u8]) -> io::Result<usize> {
         if self.ended {
             return Err(io::Error::from(io::ErrorKind::TimedOut));

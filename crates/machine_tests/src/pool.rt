@@ -328,6 +328,7 @@ fn owe<P: Phase>(
     Ok(())
 }
 
+/// A state that owes the message 1, and one of the same phase that owes nothing.
 #[test]
 fn a_state_is_at_rest_in_its_phase_where_it_owes_nothing(rt: HostRuntime) -> Result<(), Fail> {
     let mut pool = pool_of(rt.alloc(), &[&[1], &[]])?;

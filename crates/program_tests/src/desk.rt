@@ -22,6 +22,7 @@ impl<'a> Platform for Desk<'a> {
 
     ghost file = { λ desk path. if bytes_eq path desk.path.now then Some desk.bytes.now else None };
 
+    // Hashers are those of std, and a file is its bytes.
     type Seed = RandomState;
 
     type File = &'a [u8];

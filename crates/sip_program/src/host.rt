@@ -89,12 +89,14 @@ impl<P: Platform + Drop, I: Read + Drop> System for Host<P, I> {
         Ok(behind_name(words?))
     }
 
+    // A seed is the platform's.
     fn seed(&mut self) -> io::Result<P::Seed> {
         let seed = self.platform.seed();
         self.failed |= seed.is_err();
         seed
     }
 
+    // The file of the platform at this path is read from then on, in place of what was read before.
     fn open(&mut self, path: &str) -> io::Result<()> {
         let file = self.platform.open(path);
         self.failed |= file.is_err();

@@ -11,6 +11,7 @@ use sip_platform::StdPlatform;
 use sip_program::{Host, Output, end, program, read_failure};
 use std::process::ExitCode;
 
+// Joins the program to what std gives: its words, files and seeds, the standard input, the standard output through a buffer, and the standard error.
 fn main(rt: HostRuntime) -> ExitCode {
     let mut errors = ToWrite::new(rt.stderr());
     let status = match Output::new(rt.alloc(), rt.stdout()) {

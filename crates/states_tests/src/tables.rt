@@ -19,6 +19,7 @@ impl Hasher for Zero {
     // This hasher keeps nothing of what it is given.
     ghost write = { λ s _. s };
 
+    // Whatever was written, the hash is 0.
     ghost finish = { λ _. 0 };
 
     fn finish(&self) -> u64 {

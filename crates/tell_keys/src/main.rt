@@ -24,6 +24,7 @@ fn put_key<W: Write>(out: &mut W, key: &Key) -> io::Result<()> {
     Ok(())
 }
 
+// Writes a line for each direction: the key of the message, or that it has none, and the key of the transaction that it cancels, if it cancels one.
 fn main(rt: HostRuntime) -> Result<()> {
     let mut bytes = Vec::new(rt.alloc());
     rt.stdin().read_to_end(&mut bytes)?;

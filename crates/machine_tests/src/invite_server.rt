@@ -600,7 +600,7 @@ const CONFIRMED_OVER_TCP: InviteServerPhase = InviteServerPhase::Confirmed {
     set: 700,
 };
 
-/// When each state may end, and its last moment, over TCP.
+/// When each state may end, and its last moment, over TCP, where timer G does not run: by timer H 64*T1 after the 486, and by timer I, which is 0 there.
 #[test]
 fn ends_over_tcp(rt: HostRuntime) -> Result<(), Fail> {
     let server = server()?;

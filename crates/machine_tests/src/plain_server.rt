@@ -502,7 +502,7 @@ const COMPLETED_OVER_TCP: PlainServerPhase = PlainServerPhase::Completed {
     set: 700,
 };
 
-/// When the completed state may end over TCP, and its last moment.
+/// When the completed state may end over TCP, and its last moment: timer J is 0 there, so that it ends from the 200 on and by the tolerance later.
 #[test]
 fn ends_over_tcp(rt: HostRuntime) -> Result<(), Fail> {
     phase_ends(

@@ -166,6 +166,7 @@ static A_2XX_IS_THE_LAST_OF_A_SERVER: &[Server] = &[
 ];
 
 /// An INVITE that comes at 500, after the 2xx, begins the machine anew: its first response is due by 750.
+/// After another final response a 2xx is always the one of the old transaction, which the user sends again.
 static AN_INVITE_COMES_AGAIN_AFTER_A_2XX: &[Server] = &[
     (
         &[INVITE_CAME, OK_WENT, INVITE_CAME_AGAIN],

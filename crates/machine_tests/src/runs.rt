@@ -275,6 +275,7 @@ pub(crate) fn step<M: Machine>(
     for at in 0..count {
         machine.successors(book, pool, at, event)?;
     }
+    // The states from `count` on are those that the event gave.
     let given = indices(alloc, count, pool.len())?;
     pool.keep(&given);
     Ok(())
@@ -320,6 +321,7 @@ fn step_each_alone<M: Machine>(
 {
     for &(moment, action, number) in entries {
         let event = event_of(alloc, book, moment, action, number)?;
+        // `step` says no where the event gives no state or several.
         if !machine.step(book, pool, &event)? {
             return Ok(false);
         }

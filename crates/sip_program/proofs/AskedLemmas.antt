@@ -26,6 +26,7 @@ pub three-words : {X : Type 0} (f : X → List ℕ) (words : List X) (a b c : X)
     3 ≤ length words → length words < 4 → a ≡ get_or words 0 a → b ≡ get_or words 1 b → c ≡ get_or words 2 c → first ≡ f a → second ≡ f b → third ≡ f c →
     map f words ≡ first ∷ second ∷ third ∷ []
 three-words f [] a b c first second third some few is-a is-b is-c is-first is-second is-third = absurd (omega arith)
+-- the first word is told by its bytes, and the two after it by `two-words`
 three-words f (x ∷ words) a b c first second third some few is-a is-b is-c is-first is-second is-third =
     ap (λ word. word ∷ map f words) (sym (is-first ∙ ap f is-a)) ∙ ap (λ more. first ∷ more) (two-words f words b c second third (omega arith) (omega arith) is-b is-c is-second is-third)
 
@@ -64,6 +65,7 @@ not-two f words a b s t some few is-a is-b told-a told-b check show (States file
 -- three words ask for nothing where the first is not `states`
 pub not-three : {X : Type 0} (f : X → List ℕ) (words : List X) (a : X) (s : List ℕ) → 3 ≤ length words → a ≡ get_or words 0 a → s ≡ f a → false ≡ bytes_eq s (codes "states") → (asked : Asked)
     → map f words ≡ words_for asked → ⊥
+-- no words and two words are fewer than three, and what lists an entry has `states` first
 not-three f words a s some is told states Input same = let many = as-many f words [] same in omega (arith, many, some)
 not-three f words a s some is told states (Check file) same = let many = as-many f words (words_for (Check file)) same in omega (arith, many, some)
 not-three f words a s some is told states (Show file) same = let many = as-many f words (words_for (Show file)) same in omega (arith, many, some)

@@ -5,7 +5,7 @@ use Rattle.c_siptrace.proofs.surveying.hand_out.Goals as goal
 
 -- `l` is what holds at the turn of the loop: `l.place` findings stand in the room, which is `l.room`.
 
--- one finding more stands in the room
+-- one finding more stands in the room: what is written there is the finding in plain numbers, by `of` and `from`
 pub loop-place-preserved : goal.loop-place-preserved
 loop-place-preserved c =
     let l = c.loop-place in

@@ -21,7 +21,7 @@ loop-at-preserved g c =
       in_range = All-append g.M.Machine.in_range before ok.0 is.in_range ok.2.in_range;
     })
 
--- the states that are kept are some of those that were found, so the book has all that they name
+-- the states that are kept are some of those that were found, so the book has all that they name: the rows of `given` are places of the pool (`within`)
 pub returns-clause-known : goal.returns-clause-known
 returns-clause-known g c =
     let first = g.M.Machine.first c.args.machine.now in

@@ -63,7 +63,7 @@ split_slash word within =
     by : (b : ℕ) → not (is_slash b) ≡ false → b ≡ 47
     by b is = or_not (is_slash b) refl is
       where
-        -- a byte that the test calls a slash is one
+        -- a byte that the test calls a slash is one, and any other one does not stop the part
         or_not : (t : Bool) → is_slash b ≡ t → not t ≡ false → b ≡ 47
         or_not true e fails = eqb-true b 47 e
         or_not false e fails = absurd (cc)

@@ -12,7 +12,7 @@ returns-then-not-names_forget c =
 
 -- In the next answers `names` says that the words begin with `--forget` and one word more, and `split` what they are then: these two, and others.
 
--- the word after `--forget` is no number
+-- the word after `--forget` is no number below 2^32 (`in_err-age`), so the words ask for nothing
 pub returns-in_err-age : goal.returns-in_err-age
 returns-in_err-age c =
     let words = c.args.words.now in

@@ -148,7 +148,7 @@ fn surveys_part(
 }
 
 /// A restart ends the client of one branch and the server of the other, each in its own part: FNV-1a of z9hg4bka is 431978031, and that of z9hg4bkb is
-/// 448755650. The client is silent after the restart, and the server answers what nobody has asked for any more.
+/// 448755650, so that the odd one, of a, is in part 2, and that of b in part 1. The client is silent after the restart, and the server answers what nobody has asked for any more.
 #[test]
 fn a_restart_stands_in_each_part(rt: HostRuntime) -> Result<(), Fail> {
     let words = "early 50 late 50; S 0 OPTIONS a; R 0 OPTIONS b; Z 100; M 600; S 700 OPTIONS b 200";

@@ -107,7 +107,8 @@ fn push_asked<M: Machine>(
     take_entry(alloc, machine, book, pool, (0, Action::Received, REQUEST))
 }
 
-/// Puts a state that owes these messages after the others: it has sent each of them, and then its request came again.
+/// Puts a state that owes these messages after the others: it has sent each of them, and then its request came again. The 180 is sent last, so that
+/// all such states are in one phase.
 fn push_owing<M: Machine>(
     alloc: Global,
     machine: &M,

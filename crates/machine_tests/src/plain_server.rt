@@ -196,6 +196,7 @@ fn before_the_final_response(rt: HostRuntime) -> Result<(), Fail> {
 }
 
 /// A request that comes again must be answered by what was sent last, but need not be by a 100.
+/// What may be sent until 60 is dropped at 61. A 100 that is sent then is a new one.
 static A_100_NEED_NOT_BE_REPEATED: &[Row] = &[
     (
         &[FIRST, TRYING_ONCE, (10, Action::Received, REQUEST)],

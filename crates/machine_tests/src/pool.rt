@@ -302,7 +302,7 @@ fn the_same_debts_compare_as_lists(rt: HostRuntime) -> Result<(), Fail> {
     are_told_apart(&rt, &lists)
 }
 
-/// The messages that the states owe, one state after another.
+/// The messages that the states owe, one state after another, of each run of equal debts one.
 fn owed_in_turn<P: Phase>(alloc: Global, pool: &Pool<P>) -> Result<Vec<u64>, Fail> {
     let mut messages = Vec::new(alloc);
     for state in &states_of(alloc, pool)? {

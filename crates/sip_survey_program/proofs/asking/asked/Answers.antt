@@ -20,7 +20,7 @@ returns-in_err-age c =
     let split = split_first string_bytes (codes "--forget") words c.index-words-1.result names c.index-words-1.is in
     rw c.from_residual.ensures (no_forget (map string_bytes words) _ _ split (λ age low is. c.in_err-age.ensures age low (c.as_str.ensures.value ∙ is)))
 
--- the words are `--forget`, an age, and what the others ask for
+-- the words are `--forget`, an age, and what the others ask for: those after the first two (`take_rest`), of which the second call of `rest_of` tells
 pub returns : goal.returns
 returns c =
     let words = c.args.words.now in

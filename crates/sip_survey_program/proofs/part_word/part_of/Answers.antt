@@ -16,6 +16,7 @@ without word none part is same =
 whole : (word a b : List ℕ) (r : Option PartOf) → position_or_len is_slash word < length word → a ≡ before_first is_slash word → b ≡ after_first is_slash word → IsPartBetween a b r → IsPartFor word r
 whole word a b (Some part) within front rest (is, one, two) =
     (is, split_slash word within ∙ ap (λ t. t ++ 47 ∷ after_first is_slash word) (sym front ∙ one) ∙ ap (λ t. decimal part.number ++ 47 ∷ t) (sym rest ∙ two))
+-- the word of a part would have the part's numbers before and after its first slash, and these name no part
 whole word a b None within front rest none = λ part is same.
     none part is (front ∙ ap (before_first is_slash) same ∙ number_before part.number part.count (omega (arith, is)))
     (rest ∙ ap (after_first is_slash) same ∙ number_after part.number part.count (omega (arith, is)))

@@ -411,6 +411,7 @@ fn takes_or_fails(
     entry: &Entry,
 ) -> Result<(), StepError> {
     let Err(error) = take(rt, judge, entry) else {
+        // An entry that was taken may not come again.
         holds(rt, !judge.may_take(entry), "an entry that was taken");
         return Ok(());
     };

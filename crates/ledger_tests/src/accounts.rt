@@ -551,7 +551,8 @@ fn equal_debts_count_as_often_as_they_were_gained(rt: HostRuntime) -> Done {
     Ok(())
 }
 
-/// A moment at which debts come to both rows, and the rows pay or let others expire.
+/// A moment at which a debt comes to both rows, of one of five messages; each seventh must be sent. Then each row pays another message, and both lose
+/// what is past.
 fn lives(rt: &impl Abort, played: &mut Played, moment: u64) -> Done {
     let debt = owed(moment % 5, moment.saturating_add(3), moment % 7 == 0);
     played.gain_and_expire(rt, 0, debt, 0)?;

@@ -44,8 +44,8 @@ not-word f words a text wanted rest is told differ same =
 as-many : {X : Type 0} (f : X → List ℕ) (words : List X) (others : List (List ℕ)) → map f words ≡ others → length words ≡ length others
 as-many f words others same = sym (length-map words f) ∙ ap length same
 
--- `same` says that the words are those that would ask for `asked`; each arm is one of the four things to ask for, and has 0, 2, 2 or 3 words
 -- one word, and more than three words, ask for nothing
+-- `same` says that the words are those that would ask for `asked`; each arm is one of the four things to ask for, and has 0, 2, 2 or 3 words
 pub not-long : {X : Type 0} (f : X → List ℕ) (words : List X) → 0 ≢ length words → 2 ≢ length words → 3 ≢ length words → (asked : Asked) → map f words ≡ words_for asked → ⊥
 not-long f words none two three Input same = none (sym (as-many f words [] same))
 not-long f words none two three (Check file) same = two (sym (as-many f words (words_for (Check file)) same))

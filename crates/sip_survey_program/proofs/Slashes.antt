@@ -22,13 +22,13 @@ digit_lacks d = by (nat_eq (48 + d) 47) refl
     by true e = let same = eqb-true (48 + d) 47 e in absurd (omega (arith, same))
     by false e = e
 
--- by steps: a number below 10 is one digit, and a greater one is its front and its last digit
 -- a number in digits has no slash
+-- by steps: a number below 10 is one digit, and a greater one is its front and its last digit
 decimal_lacks : (n : ℕ) → n < 2 ^ 64 → Lacks 47 (decimal n)
 decimal_lacks n low = decimal_by_steps (λ m ds. Lacks 47 ds) (λ m few. (digit_lacks m, tt)) (λ m ds many lacks. lacks-append 47 ds ((48 + m % 10) ∷ []) lacks (digit_lacks (m % 10), tt)) n low
 
--- `xs` is the text before the slash and `ys` the text after it
 -- where a text without a slash stands before a slash, the first slash stands at the text's length
+-- `xs` is the text before the slash and `ys` the text after it
 slash_at : (xs ys : List ℕ) → Lacks 47 xs → position_or_len is_slash (xs ++ 47 ∷ ys) ≡ length xs
 slash_at [] ys lacks = refl
 slash_at (x ∷ xs) ys (other, lacks) =

@@ -26,9 +26,9 @@ pub moment-after : {M S T E : Type 0} (moment : ℕ) (old new : Held M S) (r : R
 moment-after moment old new (Ok x) at stays early = (let is = at.1 in omega arith)
 moment-after moment old new (Err e) at stays early = subst (λ h. h.moment ≤ moment) (sym stays) early
 
+-- a set that has waited until a moment has that moment
 -- `a` is the set before and `b` after, and `s` and `t` are what they hold: `some_machine` gives the machine of `a`, and `of_sets` says that `b` is of the
 -- same one and what has become of `s` there (`HasWaited`)
--- a set that has waited until a moment has that moment
 waits_moment : (moment : ℕ) (a b : AnySet) → SetWaits moment a b → moment_of b ≡ moment
 waits_moment moment a b waits =
     let (machine, s, is) = some_machine a in

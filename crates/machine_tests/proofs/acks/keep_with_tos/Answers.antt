@@ -6,8 +6,8 @@ use Rattle.machine_tests.proofs.acks.keep_with_tos.Goals.{then-number-below+in_o
 pub keep_text-requires : goal.keep_text-requires
 keep_text-requires c = λ n keeps. let low = c.loop-number.invariant n keeps in let above = c.if-number-last.false in omega (arith, low, above)
 
--- whether the To of the message was kept beside it (`then`) or not (`else`), the messages of the book are the same
 -- with the message the book keeps none after it
+-- whether the To of the message was kept beside it (`then`) or not (`else`), the messages of the book are the same
 pub loop-number-preserved : goal.loop-number-preserved
 loop-number-preserved c = λ n keeps. elim c.if-number-below.branch [
   | then-number-below+in_ok-keep_to w ↦ c.in_ok-keep_text.ensures n (rw (w.book-is, w.keep_to.ensures) at keeps)

@@ -7,7 +7,7 @@ use Rattle.machine_tests.proofs.pool.take.Goals as goal
 -- `ok` says what the call `successors` has left: the old states, and after them `ok.0`, those that it gave (`ok.1`), of which `ok.2` tells.
 -- `given` is both, `count` how many the old states are, and `first` stands for a place that is not in a list.
 
--- the first state that was given is moved to the last old place, and the others are dropped: the book has all that is left names
+-- the first state that was given is moved to the last old place, and the others are dropped: the book has all that those that are left name
 pub returns-then-len-count-clause-known : goal.returns-then-len-count-clause-known
 returns-then-len-count-clause-known g c =
     let first = g.M.Machine.first c.args.machine.now in

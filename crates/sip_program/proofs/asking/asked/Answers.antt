@@ -25,8 +25,8 @@ returns-in-len2-2 c = (
   tt,
 )
 
--- The last parts say that the third word spells the entry's number, which `entry_number` has read, and that it is within the limits.
 -- three words, `states`, a file and a number, ask for the listing at that entry
+-- The last parts say that the third word spells the entry's number, which `entry_number` has read, and that it is within the limits.
 pub returns-in_ok-entry-in-len3 : goal.returns-in_ok-entry-in-len3
 returns-in_ok-entry-in-len3 c = (
   three-words string_bytes c.args.words.now c.word-item-then-words-lt4.result c.file-item-then-words-lt4.result c.entry-item.result _ _ _
@@ -36,8 +36,8 @@ returns-in_ok-entry-in-len3 c = (
   c.in_ok-entry-in-len3.ensures.0,
 )
 
--- The ways are: one word (`lt2`); two words, or three, whose first one is not the one that is named (`else-eq-2`, `else-eq-3`); and more than three.
 -- words in none of these forms ask for nothing
+-- The ways are: one word (`lt2`); two words, or three, whose first one is not the one that is named (`else-eq-2`, `else-eq-3`); and more than three.
 pub returns-in_default : goal.returns-in_default
 returns-in_default c = λ asked meant same.
     elim c.in_default.branch [

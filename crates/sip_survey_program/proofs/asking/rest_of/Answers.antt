@@ -5,8 +5,8 @@ use Rattle.sip_survey_program.specs.Asked.{begin_with}
 use Rattle.sip_survey_program.proofs.AskedLemmas.{split_first}
 use Rattle.sip_survey_program.proofs.asking.rest_of.Goals as goal
 
--- `names` says that the words begin with `--part`, `split` what they are then, and `part` that the second word is that of the part
 -- the words are `--part`, its word, and what the others ask for
+-- `names` says that the words begin with `--part`, `split` what they are then, and `part` that the second word is that of the part
 pub returns : goal.returns
 returns c =
     let words = c.args.words.now in

@@ -11,8 +11,8 @@ without : (word : List ℕ) → position_or_len is_slash word ≡ length word �
 without word none part is same =
     has_slash part.number part.count (omega (arith, is)) (subst (λ w. position_or_len is_slash w ≡ length w) same none)
 
--- `a` and `b` are what stands before the slash and after it, and `r` is the part that these two name, if they name one
 -- where the word has a slash, the part between its two numbers is the part of the word
+-- `a` and `b` are what stands before the slash and after it, and `r` is the part that these two name, if they name one
 whole : (word a b : List ℕ) (r : Option PartOf) → position_or_len is_slash word < length word → a ≡ before_first is_slash word → b ≡ after_first is_slash word → IsPartBetween a b r → IsPartFor word r
 whole word a b (Some part) within front rest (is, one, two) =
     (is, split_slash word within ∙ ap (λ t. t ++ 47 ∷ after_first is_slash word) (sym front ∙ one) ∙ ap (λ t. decimal part.number ++ 47 ∷ t) (sym rest ∙ two))

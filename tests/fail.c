@@ -8,6 +8,7 @@
 #include <sys/syscall.h>
 #include <unistd.h>
 
+/* How many bytes one read or write takes at most, so that a log of some length has many of them. tests/surveys counts them by this number. */
 enum { PIECE = 4096 };
 
 /* The scripts ./siptrace and ./sipsurvey give their program that name; on its own it is called siptrace-SOURCES-KIT or sipsurvey-SOURCES-KIT. */
@@ -42,6 +43,7 @@ static ssize_t fail(void) {
 }
 
 ssize_t read(int file, void *bytes, size_t size) {
+  /* Each read is numbered in the order in which it is called; those that are interrupted have no number. */
   static long call;
   if (!is_ours()) return syscall(SYS_read, file, bytes, size);
   if (is_interrupted()) return -1;
@@ -49,6 +51,7 @@ ssize_t read(int file, void *bytes, size_t size) {
 }
 
 ssize_t write(int file, const void *bytes, size_t size) {
+  /* What does not go to standard output is written as ever, and has no number. */
   static long call;
   if (!is_ours() || file != STDOUT_FILENO) return syscall(SYS_write, file, bytes, size);
   if (is_interrupted()) return -1;

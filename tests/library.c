@@ -56,6 +56,7 @@ static int is_as_it_was(const struct siptrace_verdict *it) {
          it->unit == 77 && it->line == 77;
 }
 
+/* Any 16 bytes: no answer depends on them. */
 static const struct siptrace_seed seed = {{1, 2, 3, 4, 5, 6, 7, 8, 9, 10, 11, 12, 13, 14, 15, 16}};
 
 /* Judges a log with each growth refused in turn, and prints the line of the log. The answer is 1 where something is not as it should be. */

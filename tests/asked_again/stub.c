@@ -25,6 +25,7 @@
 #include <sys/wait.h>
 #include <unistd.h>
 
+/* The most bytes of a log, and of an answer, which are 4 MiB. */
 enum { MOST = 1 << 22 };
 
 static char log_bytes[MOST], answer[MOST];

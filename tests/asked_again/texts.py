@@ -38,6 +38,7 @@ def windows_in(told):
     found = set()
     for one in told.values() if isinstance(told, dict) else told if isinstance(told, list) else ():
         if isinstance(one, list) and len(one) == 2 and isinstance(one[0], int):
+            # A list of two, of which the first is a number, may be a window; the second is None where it has no end.
             found.add(tuple(one))
         found |= windows_in(one)
     return found

@@ -19,6 +19,7 @@ static int make_survey(const uint8_t *log, size_t length, const struct siptrace_
   return status == SIPTRACE_ANSWERED;
 }
 
+/* Writes each finding, and the last line: how the log ends, or its fault. */
 static void print_survey(const struct survey *survey) {
   const struct siptrace_summary *summary = &survey->summary;
   for (size_t at = 0; at < summary->findings; at++) print_verdict(&survey->findings[at]);

@@ -12,8 +12,8 @@ from typing import NamedTuple
 
 from sip_lines import COOKIE, HEADER, MOST_ENTRIES, RULES, Log, branch_of, die, keys_of
 
-# The first form is that of nearly all entries: the line of the entry, a start line, and as the first field a Via that is plain up to its branch. The second has
-# such a Via after other lines, none of which is folded. An entry of neither form is read by `keys_of`.
+# The first form is that of nearly all entries: the line of the entry, a start line, and as the first field a Via that is plain up to its branch. The second
+# has such a Via after other lines, none of which is folded. An entry of neither form is read by `keys_of`.
 LINE = rb"([SRF]) (\d+) (\d+)\n(?:SIP/2\.0 |([^ /\r\n]+) )[^\n]*\n"
 PLAIN = (rb'SIP/2\.0/[A-Za-z]+ ([^\s;:,"\[\]]+)(?::(\d{1,5}))?(?:;(?![Bb][Rr])[^\s;,"]*)*;branch=([^\s;,"]+)(?=[;\r])')
 VIA_FIRST = re.compile(LINE + rb"(?:Via|v): " + PLAIN)

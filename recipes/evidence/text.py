@@ -138,7 +138,8 @@ def ladder(told):
     has_date = len(dates) == 1
     date = "; %s, UTC, # packet" % dates.pop() if has_date else "; UTC, # packet" if dates else ""
     yield Row("    entry   moment   since  (milliseconds; ---> sent, --x its transport refused, <--- received, ! in question%s)" % date)
-    # Of many rows the first FIRST_ROWS are shown and so many of the last ones that they are MOST_ROWS together; one line tells which are left out between them.
+    # Of many rows the first FIRST_ROWS are shown and so many of the last ones that they are MOST_ROWS together; one line tells which are left out between
+    # them.
     cut = len(rows) > MOST_ROWS + 1
     for place, one in enumerate(rows):
         if cut and place == FIRST_ROWS:

@@ -42,6 +42,7 @@ class Axis:
             # A gap takes from 14 to 90 units, and each doubling of a long one takes 8 more.
             if before is not None:
                 y += min(90, 14 + 8 * math.log2(1 + max(0, moment - before) / 4))
+            # The arrows of one moment have rows below each other, none closer than ROW to the one above.
             own = [n for n, one in enumerate(arrows) if one.moment == moment]
             for place, n in enumerate(own):
                 y = max(y, floor)
@@ -61,6 +62,7 @@ class Ladder:
         self.windows, self.missed, self.about, self.out = windows[:MOST_WINDOWS], missed, about, []
         edges = [moment for one in self.windows for moment in (one.first, one.last) if moment is not None]
         self.axis = Axis(self.arrows, edges + ([missed[0]] if missed else []))
+        # The lanes stand to the right of all windows.
         begin = LEFT + WINDOW * len(self.windows) + 16
         self.x = {lane: begin + LANE * n for n, lane in enumerate(self.lanes)}
         self.width = begin + LANE * (len(self.lanes) - 1) + 150

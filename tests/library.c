@@ -23,6 +23,7 @@ extern void __libc_free(void *old);
 
 /* How many growths of a call are let through before one is refused, how many the call has asked for, and how many blocks it holds. */
 static long before_refusal, growths, held;
+/* Whether a call is going on, in which growths and blocks are counted. */
 static int is_counting;
 
 /* Whether the growth that is asked for is the one to refuse. Only growths within a call are counted. */

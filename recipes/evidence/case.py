@@ -130,6 +130,7 @@ class Case:
     def of_client(self):
         """What a client might send next: the ACK of a refusal, its request again, or a CANCEL."""
         invite = self.first_request() if self.is_invite else None
+        # An ACK belongs to an INVITE that the client sent.
         if invite is not None and invite.letter != "R":
             for one in self.refusals()[:MOST_CANDIDATES]:
                 yield Candidate("the ACK of entry %d's %s" % (one.number, short(one.data)), ack_for(invite.data, one.data), of=one.number)

@@ -113,6 +113,7 @@ class Capture:
     def elements(self):
         """The elements, those first that sent and received most messages. An element is an address, or each port of an address that speaks to itself. Last come
         the elements that sent nothing."""
+        # An address that sends to itself has several elements, which its ports tell apart.
         to_itself = {address_of(source) for source, target in self.flows if address_of(source) == address_of(target)}
         found, silent = Counter(), Counter()
         speaking = {address_of(end) for end in self.sent} | set(self.sent)

@@ -205,6 +205,7 @@ def near(case):
         # A mark, or a message that is malformed.
         if not one.data or case.judge.verdict(log_of(case.times, [one[1:]]))[0] == "malformed":
             continue
+        # It is of the same call and role, and of another transaction.
         keys = keys_or_none(one.letter, one.data)
         if call_id(one.data) == call and any(key[0] == case.role for key in keys) and case.found.key not in keys:
             row = {"entry": number, "letter": one.letter, "moment": one.moment, "what": short(one.data), "branch": latin(spelled_branch(one.data))}

@@ -107,12 +107,14 @@ LINKS = {0: on_loopback, 1: on_ethernet, 12: on_raw, 14: on_raw, 101: on_raw, 10
 # the addresses with the ports; and the length of UDP. Beside it the kind of IPv4, and how far IPv4 begins within the frame.
 
 def ordinary(before, kind):
-    """How the header of an ordinary link is read: its layout, where its kind stands, and how long it is before the addresses."""
+    """How the headers of an ordinary frame are read: their layout, the bytes by which its kind is IPv4, and how long the link's own header is. In the
+    layout 26 bytes of IPv4 and UDP come after that."""
     beginning = struct.Struct(">" + before + "BxHxxHBBxx12sH")
     return beginning, kind, beginning.size - 26
 
 
-# How ordinary frames are read, by the number of their link.
+# How ordinary frames are read, by the number of their link. Ethernet has its kind after 12 bytes, Linux cooked after 14, and the second format of that
+# first, with 18 bytes after it; a loopback device has 4 bytes for it, and raw IP nothing.
 ORDINARY = {1: ordinary("12x2s", b"\x08\0"), 113: ordinary("14x2s", b"\x08\0"), 276: ordinary("2s18x", b"\x08\0"), 0: ordinary("4s", b"\2\0\0\0"),
             12: ordinary("0s", b""), 101: ordinary("0s", b""), 228: ordinary("0s", b"")}
 NONE = ordinary("0s", None)  # links of any other type have no ordinary frame

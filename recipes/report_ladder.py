@@ -96,12 +96,14 @@ class Ladder:
 
     def window(self, n, one):
         """Draws a window beside the axis: from when until when a message may or must be sent."""
+        # A bar from the first moment to the last one; where it has none, to the bottom, with an arrow down.
         x, top = LEFT + WINDOW * n, self.axis.at[one.first]
         bottom = self.axis.at[one.last] if one.last is not None else self.axis.bottom - 4
         self.draw("rect", tag("title", shown(one.text)), x=x, y=top, width=WINDOW - 6, height=max(4.0, bottom - top), rx=2, class_="must" if one.is_due else "may")
         self.text(x + 1.5, top - 4, LETTERS[n], font_weight="700")
         if one.last is None:
             self.out.append(tag("text", "&#8595;", x=x + 1, y="%.1f" % (self.axis.bottom + 6), class_="soft"))
+        # A moment of the window that no arrow has is written at the left, with a dotted line to the bar.
         shown_moments = {each.moment for each in self.arrows}
         for moment in (one.first, one.last):
             if moment is not None and moment not in shown_moments:
@@ -120,6 +122,7 @@ class Ladder:
 
     def svg(self):
         """Draws the whole ladder."""
+        # Each lane has its name and a line down; then come the windows, the arrows, and the cross for what is missing.
         for lane, x in self.x.items():
             self.text(x, 14, lane, 34, text_anchor="middle" if len(self.lanes) > 1 and x > self.x[self.lanes[0]] else "start", font_weight="700")
             if lane == self.element:

@@ -143,6 +143,7 @@ class History:
     def states(self):
         """The states after the last entry of the history, as the program lists them."""
         if "states" not in self.kept:
+            # A transaction has a line with its number, role and method, and below it a line for each state, two blanks to the right.
             found, is_mine = [], False
             for line in self.judge.listing(self.prefix, len(self.entries)) if self.entries else []:
                 if line.startswith("  "):

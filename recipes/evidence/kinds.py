@@ -21,6 +21,7 @@ def kind_of(case):
     states = case.history.states()
     facts = {"history": [[one.number, case.letters[one.number]] for one in case.before], "moment": case.moment, "states": states,
              "phases": list(dict.fromkeys(state.split()[0] for state in states))}
+    # A response without a request comes first, then a silence that was too long, and last a send that was wrong.
     if case.is_send and case.act_of(case.breach.data) == "no request":
         return {**facts, **not_begun(case)}
     facts["last_wait"] = case.history.last_wait()
@@ -80,6 +81,7 @@ def silence(case):
     due = due_alone(case)
     together = [] if due else due_together(case)
     facts = {"deadline": case.history.last_wait(), "due": due, "together": together}
+    # `wanted` is what was due. Where it came after all it is too late, and else it never came.
     wanted = [Candidate(one["what"], one["bytes"].encode("latin-1")) for one in due + together]
     late = came_late(case) or group_came_late(case, len(together))
     if late:
@@ -284,6 +286,7 @@ def wrong_send(case):
     facts = {"sent": message.told(entry=one.number, moment=one.moment, windows=told(windows)), "act": case.act_of(one.data)}
     if windows:
         return {**facts, **nearest(windows, one.moment)}
+    # It is allowed at no moment: as another ACK, with other bytes, or not at all.
     return {**facts, **(ack_put_right(case) or bytes_put_right(case) or allowed_at_no_moment(case))}
 
 

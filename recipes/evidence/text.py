@@ -102,6 +102,7 @@ def difference(found, subject):
 def instead_of(told):
     """The lines on what was allowed in place of a message that is allowed at no moment, and on what took it away."""
     moment = told["sent"]["moment"]
+    # First what was allowed at the moment of the send; then each change with which the send itself would have been allowed.
     allowed = [one["what"] for one in told["allowed_then"]]
     if allowed:
         yield "At %d it was allowed to send %s%s." % (moment, listed(allowed), ", or to be silent" if told["could_be_silent"] else "")
@@ -188,6 +189,7 @@ def nearby(told):
 
 def settled(told):
     """The lines on what would excuse the breach, and on what was asked and would not."""
+    # The questions whose yes excuses the breach, each with what weakens that, and then the others in short.
     helping = [one for one in told["excuses"] if one["helps"]]
     if helping:
         yield "Settle these before you send it. A yes to any of them, and it is no breach:"

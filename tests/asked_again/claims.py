@@ -292,6 +292,7 @@ class Claims:
     def all_due(self):
         """Checks that the evidence tells each message that alone would have settled what was due, of those that the transaction sent and of the ACKs."""
         case, told = self.case, self.told
+        # Each message that was sent before, and the ACK of each refusal, is either named as due or settles nothing at any of these moments.
         named = [latin(one["bytes"]) for one in told["due"]]
         moments = [case.start, case.end()] + [moment for moment in case.net([], 4)]
         for other in {one.data for one in case.history if one.letter in "SF" and method_of(one.data) == case.method}:

@@ -50,6 +50,7 @@ class Story:
     def __init__(self, chance, late, early, branch, start):
         self.chance, self.late, self.early = chance, late, early
         self.branch, self.start = branch, start
+        # One story of four goes over a reliable transport, and one of three has another host in its Via.
         self.transport = chance.choice(["UDP", "UDP", "UDP", "TCP"])
         self.host = chance.choice(["a", "a", "b"])
         self.entries = []

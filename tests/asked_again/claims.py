@@ -18,6 +18,7 @@ KINDS = (NEVER, EARLY, LATE, BYTES, ACK, STRAY, NONE)
 MOST_LATER = 3  # how many sends after the breach may be the one that was due
 
 # The timers and sections that may be named of each transaction, by its role and whether its method is INVITE.
+# A timer is one letter, as A of an INVITE's client. (RFC 3261 table 4, and M and L of RFC 6026.)
 TIMERS = {("client", True): "ABDM", ("client", False): "EFK", ("server", True): "GHIL", ("server", False): "J"}
 SECTIONS = {("client", True): ("3261 section 17.1.1", "3261 section 9.1", "3261 section 13.2.2.4", "6026 section 7.2"), ("client", False): ("3261 section 17.1.2",),
             ("server", True): ("3261 section 17.2", "6026 section 7.1", "3261 section 13.3.1.4"), ("server", False): ("3261 section 17.2",)}

@@ -47,7 +47,7 @@ def widened(states, branch=1):
     sent = [("S", 0, reply(code, "w", branch)) for code in (181, 182)]
     for response, owed in zip(sent, SETS[states]):
         if owed:
-            # Each repeat after a response is owed that response. (181 and 182 stand for two provisional responses.)
+            # Each INVITE that comes after a response is to be answered by it again: the response is owed as often. 181 and 182 are the two responses.
             entries += [response, *owed * [ask]]
     for response, owed in zip(sent, SETS[states]):
         # Each send pays one debt, or is a repeat of its own.

@@ -355,6 +355,7 @@ class Log:
 
     def __init__(self, name):
         self.file = opened(name)
+        # The first two lines.
         found = HEADER.fullmatch(self.file.readline() + self.file.readline())
         if not found:
             die("this is no log: see recipes/why-no-log", 2)
@@ -365,6 +366,7 @@ class Log:
         if rules:
             self.line = self.file.readline()
         # a log of format 1 has one tolerance, for early and for late
+        # The format is 1 where there are four numbers, and 2 where there are five.
         self.times = Times(*numbers[:4], numbers[-1], int(rules[1]) if rules else 0, len(numbers) - 3)
         self.header = self.times.header()
         self.last = 0

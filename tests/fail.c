@@ -42,6 +42,7 @@ static ssize_t fail(void) {
   return -1;
 }
 
+/* Stands for the C library's read, and reads a piece at most. */
 ssize_t read(int file, void *bytes, size_t size) {
   /* Each read is numbered in the order in which it is called; those that are interrupted have no number. */
   static long call;
@@ -50,6 +51,7 @@ ssize_t read(int file, void *bytes, size_t size) {
   return is_failed("FAILED_READ", ++call) ? fail() : syscall(SYS_read, file, bytes, piece(size));
 }
 
+/* Stands for the C library's write, and writes a piece of standard output at most. */
 ssize_t write(int file, const void *bytes, size_t size) {
   /* What does not go to standard output is written as ever, and has no number. */
   static long call;
@@ -58,6 +60,7 @@ ssize_t write(int file, const void *bytes, size_t size) {
   return is_failed("FAILED_WRITE", ++call) ? fail() : syscall(SYS_write, file, bytes, piece(size));
 }
 
+/* Stands for the C library's getentropy, which gives the program its random bytes. */
 int getentropy(void *bytes, size_t size) {
   if (is_ours() && getenv("REFUSED_RANDOM")) return (int)fail();
   return syscall(SYS_getrandom, bytes, size, 0) == (long)size ? 0 : -1;

@@ -29,6 +29,7 @@ static int is_counting;
 /* Whether the growth that is asked for is the one to refuse. Only growths within a call are counted. */
 static int is_refused(void) { return is_counting && growths++ == before_refusal; }
 
+/* These three stand for those of the C library. A block is held from malloc, or from realloc of no block, until free. */
 void *malloc(size_t size) {
   if (is_refused()) return NULL;
   void *block = __libc_malloc(size);
@@ -179,6 +180,7 @@ static int survey_with_refusals(const char *path, const uint8_t *log, size_t len
   }
 }
 
+/* Tries the log of each file by the call that the first word names, and ends at the first that is not as it should be. */
 int main(int count, char **words) {
   if (count < 2) return 2;
   const int is_survey = strcmp(words[1], "survey") == 0;

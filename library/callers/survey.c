@@ -29,6 +29,7 @@ static void print_survey(const struct survey *survey) {
     printf("log fault %" PRIu64 " %" PRIu32 " %s\n", summary->entry, summary->reason, reasons[summary->reason]);
 }
 
+/* The status is 4 where a file cannot be read, or memory or random bytes are wanting. */
 int main(int count, char **paths) {
   struct siptrace_seed seed;
   if (!fill_seed(&seed)) return 4;

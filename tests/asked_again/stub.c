@@ -164,6 +164,7 @@ static long count_question(void) {
   return stat(name, &seen) ? 0 : (long)seen.st_size;
 }
 
+/* Reads the log unless it is a file's, asks the genuine program, and answers falsely where its way says so. */
 int main(int count, char **words) {
   const char *way = getenv("STUB_WAY"), *number = getenv("STUB_NUMBER") ? getenv("STUB_NUMBER") : "0";
   long long wanted = atoll(number), entry, key;

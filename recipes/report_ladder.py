@@ -85,9 +85,11 @@ class Ladder:
         if one.is_refused:
             end = (start + end) / 2
             self.text(end + 6, y + 14, "refused", class_="badtext")
+        # The classes of the style: of a line own, other or badline, and of a head ownhead, otherhead or badhead.
         head = "%sline" % one.kind if one.kind == "bad" else one.kind
         self.draw("line", x1=start, x2=end - side, y1=y, y2=y, class_=head)
         self.draw("polygon", points="%.1f,%.1f %.1f,%.1f %.1f,%.1f" % (end, y, end - side, y - 4.5, end - side, y + 4.5), class_=one.kind + "head")
+        # The text stands above the line, and is cut to the length of the line.
         room = int((abs(end - start) - 16) / CHARACTER)
         label = tag("text", shown(one.text, max(12, room)), x="%.1f" % (min(start, end) + 8), y="%.1f" % (y - 5),
                     class_={"bad": "badtext", "other": "soft"}.get(one.kind, "plain"))
@@ -116,6 +118,7 @@ class Ladder:
         x, y = self.x[self.element], self.axis.at[moment]
         for one, other in ((-6, 6), (6, -6)):
             self.draw("line", x1=x + one, x2=x + other, y1=y - 6, y2=y + 6, class_="cross")
+        # Beside the last lane the words stand to its left, and else to the right.
         is_last = self.lanes[-1] == self.element and len(self.lanes) > 1
         for n, words in enumerate(("by %d never came:" % moment, text)):
             self.text(x - 12 if is_last else x + 12, y + 4 + 15 * n, words, 46, class_="badtext", text_anchor="end" if is_last else "start")

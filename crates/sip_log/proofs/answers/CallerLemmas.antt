@@ -96,6 +96,7 @@ last_of-append last (x ∷ xs) ys = last_of-append x.moment xs ys
 -- the entries with which an input begins are the first entries of a log of it
 Begins-log : (input : List ℕ) (format : Format) (p : Times) (items : List Item) (rest : List ℕ) → Begins input format p items rest → (more : List Item) × (end : LogEnd) × LogSays input p (items ++ more) end
 Begins-log input format p items rest is =
+    -- others follow in the rest, up to an end, and what follows is spelled there
     let (more, end, follow) = Follow-some format (length items) (last_of 0 items) rest in
     let spelled = follow-spelled format (length items) (last_of 0 items) rest more end is.few follow in
     let long : length items + length more ≡ length (items ++ more) = sym (length-append items more) in

@@ -25,7 +25,7 @@ use Rattle.sip_log.proofs.logs.LogExists.{limits-or-not}
 
 -- What follows is of faults.
 
--- a message that cannot be read for case 6 or 7 is read as that fault
+-- a message that cannot be read, since it is not whole with its LF (case 6) or the byte after it is no LF (case 7), is read as that fault
 message-stops : (action : Action) (moment len : ℕ) (behind : List ℕ) (fault : LogReason) → AtBody action len behind fault → read.MessageComes action moment len behind (stops fault)
 message-stops action moment len behind fault (other, inl (short, same)) = inl ((λ more. omega arith), ap stops same)
 message-stops action moment len behind fault (other, inr (long, (unclosed, same))) =
@@ -35,7 +35,9 @@ message-stops action moment len behind fault (other, inr (long, (unclosed, same)
 -- a message's line whose numbers or message are at fault is read as that fault
 message-numbers : (last : ℕ) (action : Action) (moment len : ℕ) (behind : List ℕ) (fault : LogReason) → HasMessage action → AtNumbers last action moment len behind fault
     → read.HeadComes last (message action moment len) behind (stops fault)
+-- the moment or the length is outside its limits
 message-numbers last action moment len behind fault other (inl (outside, same)) = inl ((λ k. outside (message-within action moment len k)), ap stops same)
+-- both are within them, and the order or the message is at fault
 message-numbers last action moment len behind fault other (inr (inside, rest)) = elim (limits-or-not (message action moment len)) [
   | inr outside ↦ absurd (inside (λ w. outside (within-message action moment len other w)))
   | inl keeps ↦ inr (keeps, order rest)
@@ -95,6 +97,7 @@ letter-lacks Restart same = absurd (omega arith)
 -- the line of an entry within the limits has no LF, and fewer than 32 bytes
 line-lacks : (action : Action) (moment len : ℕ) → moment ≤ last_moment → (HasMessage action → len ≤ 65535) → Lacks line_feed (line_text action moment len) × (length (line_text action moment len) < 32)
 line-lacks action moment len low small = elim (message-or-not action) as (λ _. Lacks line_feed (line_text action moment len) × (length (line_text action moment len) < 32)) [
+  -- without a message the line is the letter, SP and the moment
   | inr none ↦
       let text = length-plain action len none in (
         Lacks-cons line_feed (letter action) _ (letter-lacks action) (Lacks-cons line_feed space _ (λ e. omega arith)

@@ -53,9 +53,12 @@ within a n b = both (a ≤ n) (n ≤ b) (at_most a n) (at_most n b)
 
 -- a list is cut at its first m, or has no m
 cut-or-lacks : (m : ℕ) (xs : List ℕ) → ((front : List ℕ) × (back : List ℕ) × Cut m xs front back) ⊎ Lacks m xs
+-- an empty list has no m
 cut-or-lacks m [] = inr (record { nowhere = λ k inside. absurd (omega arith) })
 cut-or-lacks m (x ∷ xs) = elim (cases_eq x m) as (λ _. ((front : List ℕ) × (back : List ℕ) × Cut m (x ∷ xs) front back) ⊎ Lacks m (x ∷ xs)) [
+  -- the first element is m, so the list is cut before it
   | inl same ↦ inl ([], xs, record { whole = ap (λ y. y ∷ xs) same; first = record { nowhere = λ k inside. absurd (omega arith) } })
+  -- the first element is another, so it is put before the cut of the others, or none of all is m
   | inr other ↦ elim (cut-or-lacks m xs) as (λ _. ((front : List ℕ) × (back : List ℕ) × Cut m (x ∷ xs) front back) ⊎ Lacks m (x ∷ xs)) [
     | inl at ↦ inl (x ∷ at.0, at.1, record { whole = ap (λ (t : List ℕ). x ∷ t) at.2.whole; first = Lacks-cons m x at.0 other at.2.first })
     | inr lacks ↦ inr (Lacks-cons m x xs other lacks)
@@ -128,6 +131,7 @@ ActionOrNot format b = ((a : Action) × IsOf format a × (b ≡ letter a)) ⊎ (
 -- the letter of a restart is a letter of format 2 and none of format 1
 restart-or-not : (format : Format) (b : ℕ) → b ≢ letter Sent → b ≢ letter Received → b ≢ letter Failed → b ≢ letter Mark → b ≡ letter Restart → ActionOrNot format b
 restart-or-not One b sent received failed mark is =
+    -- in format 1 no action has this letter: those before it have others, and a restart is none of this format
     inr (λ a. elim a as (λ a. IsOf One a → b ≢ letter a) [
       | Sent ↦ λ of. sent
       | Received ↦ λ of. received
@@ -135,6 +139,7 @@ restart-or-not One b sent received failed mark is =
       | Mark ↦ λ of. mark
       | Restart ↦ λ of. absurd (one-has-none of)
     ])
+-- in format 2 the byte is the letter of a restart
 restart-or-not Two b sent received failed mark is = inl (Restart, (λ same. refl), is)
 
 -- a byte is the letter of an action of the format, or of none
@@ -210,6 +215,7 @@ front-or-not rest = elim (cut-or-lacks line_feed rest) [
   | inr lacks ↦ inr (λ line behind is. Lacks-cut line_feed rest line behind lacks is.whole)
   | inl at ↦ elim (at_most (suc (length at.0)) longest_line) [
     | inl short ↦ inl (at.0, at.1, record { whole = at.2.whole; first = at.2.first.nowhere; short = short })
+    -- the line before the first line feed is too long, and every front line ends at that line feed
     | inr long ↦ inr (λ line behind is.
         let parts = cut-one line_feed line behind at.0 at.1 (record { nowhere = is.first }) at.2.first (sym is.whole ∙ at.2.whole) in
         long (subst (λ t. suc (length t) ≤ longest_line) parts.0 is.short))
@@ -235,6 +241,7 @@ message-some action moment len behind = Unless-some (len < length behind) faults
     let text = take len behind in
     let b = get_or behind len 0 in
     let after = drop (len + 1) behind in
+    -- b is the byte after the message: with a line feed the entry comes, with another byte the fault
     let close = Unless-some (b ≡ line_feed) faults.EntryLine (λ next. next ≡ gives (record { action = action; moment = moment; text = text }) after)
     (cases_eq b line_feed) (λ is. (gives (record { action = action; moment = moment; text = text }) after, refl)) in
     (close.0, (text, b, after, cut-at behind len inside, length-take-le len behind (omega arith), close.1)))
@@ -255,6 +262,7 @@ limits-or-not (plain action moment) = at_most moment last_moment
 -- something comes by the front line of the rest: it is an entry, or a fault
 line-some : (format : Format) (last : ℕ) (rest : List ℕ) → Comes (LineComes format last rest)
 line-some format last rest = elim (front-or-not rest) [
+  -- without a front line the input is cut off, or the line is too long
   | inr none ↦
       let next = Unless-some (longest_line ≤ length rest) faults.Truncated (λ next. next ≡ stops faults.EntryLine) (at_most longest_line (length rest)) (λ long. (stops faults.EntryLine, refl)) in
       (next.0, inl (none, next.1))
@@ -283,10 +291,12 @@ Unless-gives Demand reason a behind Follows (inr (holds, follows)) = follows
 -- what is left after the message of an entry is no longer than what was left before it
 body-shorter : (head : Head) (rest : List ℕ) (e : Item) (behind : List ℕ) → BodyComes head rest (gives e behind) → length behind ≤ length rest
 body-shorter (message action moment len) rest e behind is =
+    -- the message and a byte are taken of the rest
     let (text, b, after, whole, size, close) = Unless-gives _ _ e behind _ is in
     let closed = Unless-gives _ _ e behind _ close in
     let same : behind ≡ after = cc in
     omega (arith, ap length same, ap length whole, length-append text (b ∷ after))
+-- without a message nothing is taken
 body-shorter (plain action moment) rest e behind is =
     let same : behind ≡ rest = cc in
     omega (arith, ap length same)
@@ -350,6 +360,7 @@ number_after-or-not : (word text : List ℕ) → NumberOrNot word text
 number_after-or-not word text = elim (begins-or-not word text) [
   | inr none ↦ inr (λ n behind is. none _ is.whole)
   | inl is ↦ elim (cut-or-lacks space is.0) [
+    -- the number stands up to the first blank, or up to the end
     | inl at ↦ part-or-not word text at.0 (space ∷ at.1) (is.1 ∙ ap (λ (t : List ℕ). word ++ t) at.2.whole) at.2.first (inr (at.1, refl))
     | inr lacks ↦ part-or-not word text is.0 [] (is.1 ∙ ap (λ (t : List ℕ). word ++ t) (sym (append-nil is.0))) lacks (inl refl)
   ]
@@ -383,6 +394,7 @@ TolerancesOrNot format text = ((early : ℕ) × (late : ℕ) × Tolerances forma
 -- a text has tolerances of the format, or has none
 tolerances-or-not : (format : Format) (text : List ℕ) → TolerancesOrNot format text
 tolerances-or-not One text = elim (last-or-not (codes " tolerance ") text) as (λ _. TolerancesOrNot One text) [
+  -- format 1 has one tolerance, which ends the text and is both
   | inl is ↦ inl (is.0, is.0, (is.1, refl))
   | inr none ↦ inr (λ early late is. none late is.0)
 ]
@@ -403,6 +415,7 @@ TimesOrNot format line = ((p : Times) × TimesLine format line p) ⊎ ((p : Time
 -- a line is a line 2 of the format, or it is not
 times-or-not : (format : Format) (line : List ℕ) → TimesOrNot format line
 times-or-not format line = elim (number_after-or-not (codes "t1 ") line) as (λ _. TimesOrNot format line) [
+  -- where t1 or t2 does not stand there, no times of a line 2 do, since they would begin with it
   | inr none ↦ inr (λ p is. none _ _ is.t1_is)
   | inl t1 ↦ elim (number_after-or-not (codes " t2 ") t1.1) as (λ _. TimesOrNot format line) [
     | inr none ↦ inr (λ p is. none _ _ (t2-after format line p is t1.0 t1.1 t1.2))
@@ -434,12 +447,13 @@ times-or-not format line = elim (number_after-or-not (codes "t1 ") line) as (λ 
 -- times are within their limits, or are not
 are-times-or-not : (p : Times) → Settled (AreTimes p)
 are-times-or-not p =
+    -- T1 is 1 to 10,000 ms, T2 and T4 are 1 to 60,000 ms, and both tolerances at most 10,000 ms
     elim (both _ _ (both _ _ (within 1 p.t1 10000) (within 1 p.t2 60000)) (both _ _ (within 1 p.t4 60000) (both _ _ (at_most p.early 10000) (at_most p.late 10000)))) as (λ _. Settled (AreTimes p)) [
       | inl is ↦ inl (record {
+        -- each of T1, T2 and T4 has its least and its greatest value, the tolerances the greatest alone
         t1_low = is.0.0.0;
         t1_high = is.0.0.1;
         t2_low = is.0.1.0;
-        -- each number has its least and its greatest value, the tolerances the greatest alone
         t2_high = is.0.1.1;
         t4_low = is.1.0.0;
         t4_high = is.1.0.1;
@@ -476,6 +490,7 @@ second-or-not format rest = elim (cut-or-lacks line_feed rest) as (λ _. SecondO
 -- the rest after line 2 has a line of rules, or has none and the rules are those of RFC 6026
 rules-some : (rest : List ℕ) → (rules : Rules) × (behind : List ℕ) × RulesLine rules rest behind
 rules-some rest = elim (begins-or-not (rules_text R3261) rest) as (λ _. (rules : Rules) × (behind : List ℕ) × RulesLine rules rest behind) [
+  -- the rest begins with the line of RFC 3261, with that of RFC 6026, or with none
   | inl is ↦ (R3261, is.0, inl is.1)
   | inr old ↦ elim (begins-or-not (rules_text R6026) rest) as (λ _. (rules : Rules) × (behind : List ℕ) × RulesLine rules rest behind) [
     | inl is ↦ (R6026, is.0, inl is.1)
@@ -495,6 +510,7 @@ second-some format rest = elim (second-or-not format rest) as (λ _. Comes (Come
 -- something comes first in an input: it is a header, or a fault
 first-some : (input : List ℕ) → Comes (HeaderComes input)
 first-some input = elim (begins-or-not (title_text One) input) as (λ _. Comes (HeaderComes input)) [
+  -- line 1 is that of format 1, that of format 2, or none
   | inl is ↦ let next = second-some One is.0 in (next.0, inl (One, is.0, is.1, next.1))
   | inr one ↦ elim (begins-or-not (title_text Two) input) as (λ _. Comes (HeaderComes input)) [
     | inl is ↦ let next = second-some Two is.0 in (next.0, inl (Two, is.0, is.1, next.1))

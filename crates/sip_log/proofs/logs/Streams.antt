@@ -102,6 +102,7 @@ pub stream_is_some : (input : List ℕ) → LacksHeader input ⊎ ((p : Times) �
 stream_is_some input = elim (header-or-not input) [
   | inr none ↦ inl none
   | inl is ↦
+      -- entries follow the header up to an end, and what stands there is their spelling
       let (items, end, follow) = follows_some is.0 0 is.2 in
       let rest = follows_spelled is.0 0 is.2 items end follow in
       inr (is.1, items, end, record { format = is.0; rest = rest.left; header = subst (Header is.0 is.1 input) rest.whole is.3; order = rest.order; next = rest.next })

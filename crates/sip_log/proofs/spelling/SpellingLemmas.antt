@@ -146,6 +146,7 @@ one-tolerance Two text early late is same = cc
 
 -- a header that is read is spelled
 pub header-spelled : (format : Format) (input : List ℕ) (p : Times) (behind : List ℕ) → HeaderComes input (gives (format, p) behind) → Header format p input behind
+-- where line 1 or line 2 is missing, a fault comes and no header
 header-spelled format input p behind (inr (none, same)) = cc
 header-spelled format input p behind (inl (f, rest, title, inr (none, same))) = cc
 header-spelled format input p behind (inl (f, rest, title, inl (q, rest2, front, (rules, left, line, same)))) =

@@ -35,14 +35,18 @@ alphanumeric_low : (b : ℕ) → is_ascii_alphanumeric b ≡ true → b < 128
 alphanumeric_low b is =
     elim (or_cases (is_in_range 48 57 b || is_in_range 65 90 b) (is_in_range 97 122 b) is) [
       | inl more ↦ elim (or_cases (is_in_range 48 57 b) (is_in_range 65 90 b) more) [
+        -- the byte is a digit
         | inl one ↦ (let low = range_low 48 57 b one in omega (arith, low))
+        -- the byte is a great letter
         | inr one ↦ (let low = range_low 65 90 b one in omega (arith, low))
       ]
+      -- the byte is a small letter
       | inr one ↦ (let low = range_low 97 122 b one in omega (arith, low))
     ]
 
 -- a byte that is one of some ASCII bytes is ASCII
 one_of_low : (bytes : List ℕ) → list_all (λ c. nat_lt c 128) bytes ≡ true → (b : ℕ) → list_any (λ c. c == b) bytes ≡ true → b < 128
+-- no byte is one of none
 one_of_low [] all b is = cc
 one_of_low (c ∷ cs) all b is =
     let parts = and_parts (nat_lt c 128) (list_all (λ d. nat_lt d 128) cs) all in

@@ -29,7 +29,9 @@ joined x y r j small rl jl low =
     -- bit j of x, moved down by r, is bit r + j of x; y has been moved up so far that it does not reach bit j
     test-or (x / 2 ^ r) (shl (63 - r) (shl 1 y)) j
     ∙ ap₂ (λ a b. a || b) (test-shr x r j) (elim (cases_lt j (63 - r)) [
+      -- below 63 - r the move up has left zeros
       | inl before ↦ test-shl_low (63 - r) j (shl 1 y) before jl
+      -- bit 63 - r is bit 0 of y moved up by one, which is 0
       | inr at ↦
           let is : 63 - r + 0 ≡ j = omega (arith, at) in
           subst (λ i. test (shl (63 - r) (shl 1 y)) i ≡ false) is (test-shl_high (63 - r) 0 (shl 1 y) (omega arith) ∙ test-shl_low 1 0 y (omega arith) (omega arith))

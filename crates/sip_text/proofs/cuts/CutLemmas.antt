@@ -78,6 +78,7 @@ parts-mark mark u v lacks =
 pub before-nowhere : (mark : ℕ) (text : List ℕ) → Nowhere (Passes (is_byte mark) text) 0 (length text) → (before mark text ≡ text) × (behind mark text ≡ None)
 before-nowhere mark [] none = (refl, refl)
 before-nowhere mark (b ∷ text) none =
+    -- the first byte is not the mark, and no byte of the rest is
     let other : nat_eq b mark ≡ false = false_from_ne_true (nat_eq b mark) (none 0 (omega arith) (omega arith)) in
     let rest = before-nowhere mark text (λ k low high. none (suc k) (omega arith) (omega arith)) in (
       ap (λ same. cond same [] (b ∷ before mark text)) other ∙ ap (λ t. b ∷ t) rest.0,

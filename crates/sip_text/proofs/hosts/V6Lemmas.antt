@@ -49,11 +49,14 @@ tail-yes text pass = at (before_last colon text) refl pass
     at : (o : Option (List ℕ)) → before_last colon text ≡ o → option_map_or (λ f. is_v4 v4 && is_before_v4 f) o false ≡ true → Ipv6 text
     at None is passes = cc
     at (Some front) is passes =
+        -- what stands after the last colon is an IPv4 address, and what stands before it passes one of two tests
         let both = and_parts (is_v4 v4) (is_before_v4 front) passes in
         let address = v4-yes v4 both.0 in
         let whole = last-whole colon text front is in
         elim (or_cases (is_hexpart front) (is_open front) both.1) [
+          -- a hexpart stands before the colon
           | inl hexpart ↦ inl (front, colon ∷ v4, hexpart-yes front hexpart, inr (colon ∷ [], v4, refl, address, refl), whole)
+          -- what stands before the colon ends with a colon, so that both make "::"
           | inr ends ↦ inr (front ++ (colon ∷ []), v4, open-yes front ends, address, whole ∙ sym (append_assoc front (colon ∷ []) v4))
         ]
 

@@ -103,10 +103,12 @@ blank-step = record { at_piece = blank-at_front; moves = blank-moves; piece = bl
 -- the first n bytes of a text are its longest blank run where they are blanks and no blank follows them
 pub longest-blanks : (text : List ℕ) (n : ℕ) → HasFront (Many Blank) text n → blank_len (drop n text) ≡ 0 → IsLongestFront Blanks text n
 longest-blanks text n front stops = record {
+  -- a blank run in pieces is one of the grammar, or nothing
   front = elim (blanks-units front.0 front.2) [
     | inl none ↦ inl (front.4 ∙ ap length none)
     | inr blanks ↦ inr (front.0, front.1, blanks, front.3, front.4)
   ];
+  -- no longer front is a blank run: it would have one piece more, and no piece follows
   longest = λ m other.
       longest_many Blank blank_len text n blank-step front stops m
       (other.0, other.1, units-blanks other.0 other.2, other.3, other.4);

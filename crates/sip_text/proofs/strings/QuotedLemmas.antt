@@ -30,6 +30,7 @@ plain_wsp b wsp = elim (or_cases (nat_eq b space) (nat_eq b tab) wsp) [
 -- where a blank stands at the front of a text, `item_len` gives what `blank_len` gives
 item-blank : (u v : List ℕ) → Blank u → item_len (u ++ v) ≡ blank_len (u ++ v)
 item-blank u v (front, b, inl none, one, whole) =
+    -- the blank is SP or HTAB, which is a piece of one byte by both
     let text : u ≡ one.0 ∷ [] = whole ∙ ap (λ t. t ++ b) none ∙ one.2 in
     let plain = plain_wsp one.0 one.1 in
     ap (λ t. item_len (t ++ v)) text
@@ -198,8 +199,10 @@ closes : (text inner : List ℕ) (n k : ℕ) (blanks items rest : List ℕ) (fro
 closes text inner n k blanks items rest front contents stops found ends quotes =
     let at_rest = front-rest (Many QuotedItem) inner k contents in
     let opened = opens text n blanks items rest front stops quotes in
+    -- the text opens with its blanks and the quote, so that the pieces and the last quote stand in what follows
     let both : dquote ∷ inner ≡ dquote ∷ (items ++ (dquote ∷ rest)) = sym (past-some dquote (drop n text) inner found) ∙ opened.1 in
     let inner_is : inner ≡ items ++ (dquote ∷ rest) = cc in
+    -- the pieces are read in one way, up to where no piece follows
     let same = same_many QuotedItem item_len contents.0 contents.1 items (dquote ∷ rest) item-step contents.2 quotes.are_items (sym contents.3 ∙ inner_is) (ap item_len (sym at_rest) ∙ ends) refl in
     (same.0, at_rest ∙ same.1)
 

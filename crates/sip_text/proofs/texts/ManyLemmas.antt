@@ -82,6 +82,7 @@ front-within P text n front = omega (arith, ap length front.3, length-append fro
 pub run-more : (P : List ℕ → Type 0) (len : List ℕ → ℕ) (text : List ℕ) (n k : ℕ) → IsStep P len → HasFront (Many P) text n → k ≡ len (drop n text) → (k ≡ 0 → ⊥) → HasFront (Many P) text (n + k)
 run-more P len text n k step front k_is some =
     elim (step.piece front.1) [
+      -- k is not 0, so a piece stands there
       | inl stops ↦ absurd (some (at_rest ∙ stops))
       -- one piece more follows, which has k bytes
       | inr next ↦ (

@@ -27,6 +27,7 @@ escaped-bytes text (mark, digits, is_mark, (u, v, (high, high_is, u_is), (low, l
   high,
   low,
   (high_is, low_is),
+  -- the text is "%" and the two digits
   whole ∙ ap (λ t. t ++ digits) is_mark
       ∙ ap (λ t. percent ∷ t) (both ∙ ap (λ t. t ++ v) u_is ∙ ap (λ t. high ∷ t) v_is),
 )
@@ -43,6 +44,7 @@ strips-escape high low rest digits =
 
 -- a text that has a rest after an escape at its front is "%", two hexadecimal digits and that rest
 stripped-escape : (text rest : List ℕ) → behind_escape text ≡ Some rest → (high : ℕ) × (low : ℕ) × AreDigits high low × (text ≡ percent ∷ high ∷ low ∷ rest)
+-- a text of fewer than three bytes begins with no escape, so it has no rest after one
 stripped-escape [] rest is = cc
 stripped-escape (mark ∷ []) rest is = cc
 stripped-escape (mark ∷ high ∷ []) rest is = cc
@@ -54,6 +56,7 @@ stripped-escape (mark ∷ high ∷ low ∷ text) rest is = at _ refl is
     at : (t : Bool) → (mark == percent && is_ascii_hexdigit high && is_ascii_hexdigit low) ≡ t → (if t then Some text else None) ≡ Some rest → (x : ℕ) × (y : ℕ) × AreDigits x y × (mark ∷ high ∷ low ∷ text ≡ percent ∷ x ∷ y ∷ rest)
     at false test is = cc
     at true test is =
+        -- the test passed, so each of its three parts does
         let last = and_parts (mark == percent && is_ascii_hexdigit high) (is_ascii_hexdigit low) test in
         let first = and_parts (mark == percent) (is_ascii_hexdigit high) last.0 in
         let mark_is : mark ≡ percent = eqb-true mark percent first.0 in
@@ -160,6 +163,7 @@ chars-past class text stop rest no_percent run is =
 
 -- where no escape follows the run, the text is characters exactly if it ends there
 pub chars-stop : (class : Class) (text stop : List ℕ) → is_in class percent ≡ false → IsRun (is_in class) text stop → behind_escape stop ≡ None → Decides (length stop == 0) (Many (ClassChar class) text)
+-- nothing follows the run, so the text is the run alone, whose bytes are characters
 chars-stop class text [] no_percent run is = (
   λ _. subst (Many (ClassChar class)) (sym run.whole) (chars-before class run.run [] run.all (many-nil (ClassChar class))),
   λ _. refl,
@@ -168,6 +172,7 @@ chars-stop class text [] no_percent run is = (
 chars-stop class text (b ∷ stop) no_percent run is = (
   λ empty. absurd (omega (arith, eqb-true (length (b ∷ stop)) 0 empty)),
   λ many.
+      -- if the text were characters, a character would stand after the run: a byte of the class does not, since the run stops, and an escape does not
       let here : Many (ClassChar class) (b ∷ stop) =
       chars-behind class run.run _ no_percent run.all (subst (Many (ClassChar class)) run.whole many) in
       elim (chars-cons class b stop here) [

@@ -72,6 +72,7 @@ lack-hname = lack-some equals HeaderChar (lack-char equals is_hnv_unreserved ref
 -- what decides the name and the value of a parameter, cut at the first "=", decides the parameter
 pub decides-param : (text name : List ℕ) (value : Option (List ℕ)) (r : Bool) → name ≡ before equals text → value ≡ behind equals text → Decides r (ParamWord name × IfSome value ParamWord) → Decides r (UriParameter text)
 decides-param text name value r name_is value_is =
+    -- the text is a parameter where its name and its value are words, and only there, since a word has no "="
     Decides-like r
     (λ both.
     optional-cut equals ParamWord ParamWord text
@@ -82,6 +83,7 @@ decides-param text name value r name_is value_is =
 
 -- what decides the name and the value of a header, cut at the first "=", decides the header
 pub decides-header : (text name : List ℕ) (value : Option (List ℕ)) (r : Bool) → name ≡ before equals text → value ≡ behind equals text → Decides r (OneOrMore HeaderChar name × IsSomeAnd value (Many HeaderChar)) → Decides r (Header text)
+-- the text is a header where its name has characters and its value is of characters, and only there, since a name has no "="
 decides-header text name value r name_is value_is =
     Decides-like r
     (λ both.
@@ -129,6 +131,7 @@ past-is mark (b ∷ text) rest is = at (b == mark) refl is
 -- where the first part is of P, all parts of what follows it are exactly if all parts of the text are, and what follows is shorter
 pub each-past : (mark : ℕ) (P : List ℕ → Type 0) (text part rest : List ℕ) → part ≡ before mark text → Some rest ≡ behind mark text → P part → (Each mark P rest ↔ Each mark P text) × (length rest < length text)
 each-past mark P text part rest part_is rest_is one =
+    -- the parts of the text are the first one and the parts of the rest
     let split : parts mark text ≡ part ∷ parts mark rest =
     parts-cut mark text ∙ ap (λ t. t ∷ later_parts mark (behind mark text)) (sym part_is)
     ∙ ap (λ o. part ∷ later_parts mark o) (sym rest_is) in

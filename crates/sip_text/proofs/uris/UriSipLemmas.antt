@@ -210,6 +210,7 @@ not-lacks mark (b ∷ u) v lacks = not-lacks mark u v lacks.1
 -- where all bytes after the userinfo are of a class without "?", ";" and ":", they are the host, and no other part follows
 pub host-cut : (test : ℕ → Bool) (text : List ℕ) (user password : Option (List ℕ)) (rest : List ℕ) → test question ≡ false → test semicolon ≡ false → test colon ≡ false → IsInfoCut text user password rest → list_all test rest ≡ true → IsSipCut text (record { user = user; password = password; host = rest; port = None; params = []; headers = None })
 host-cut test text user password rest no_question no_semicolon no_colon info all =
+    -- the rest has no "?" and no ";", so nothing is cut off it there
     let headers = uncut question rest (lacks-all question test rest no_question all) in
     let params = uncut semicolon rest (lacks-all semicolon test rest no_semicolon all) in
     let whole : before semicolon (before question rest) ≡ rest = ap (before semicolon) (headers.0) ∙ params.0 in
@@ -228,6 +229,7 @@ host-cut test text user password rest no_question no_semicolon no_colon info all
 -- the reader's cuts, one after the other, are those of a SIP URI
 pub sip-cut : (text : List ℕ) (cut : CutParts) (rest front hostport : List ℕ) → IsInfoCut text cut.user cut.password rest → front ≡ before question rest → cut.headers ≡ behind question rest → hostport ≡ before semicolon front → IsPortCut hostport cut.host cut.port → cut.params ≡ drop (length hostport) front → IsSipCut text cut
 sip-cut text cut rest front hostport info front_is headers_is hostport_is port params_is =
+    -- the host and the port stand before the first ";" of what stands before the first "?"
     let hostport_cut : hostport ≡ before semicolon (before question rest) = hostport_is ∙ ap (before semicolon) front_is in
     let whole : front ≡ hostport ++ led semicolon (behind semicolon front) =
     cut-whole semicolon front ∙ ap (λ t. t ++ led semicolon (behind semicolon front)) (sym hostport_is) in
@@ -244,11 +246,14 @@ sip-cut text cut rest front hostport info front_is headers_is hostport_is port p
 
 -- a text is its userinfo and the rest
 info-whole : (text : List ℕ) (user password : Option (List ℕ)) (rest : List ℕ) → IsInfoCut text user password rest → text ≡ userinfo_text user password ++ rest
+-- without a user the rest is the whole text
 info-whole text None password rest (_, _, rest_is) = sym rest_is
 info-whole text (Some user) password rest (behind_is, user_is, password_is) =
+    -- the userinfo stands before the first "@", and is cut at its first ":"
     let info : before at_sign text ≡ user ++ led colon password =
     cut-whole colon (before at_sign text) ∙ ap (λ t. t ++ led colon (behind colon (before at_sign text))) (sym user_is)
     ∙ ap (λ o. user ++ led colon o) (sym password_is) in
+    -- the text is the userinfo, the "@" and the rest
     cut-whole at_sign text ∙ ap (λ o. before at_sign text ++ led at_sign o) behind_is
     ∙ ap (λ t. t ++ at_sign ∷ rest) info ∙ sym (append_assoc (user ++ led colon password) (at_sign ∷ []) rest)
 

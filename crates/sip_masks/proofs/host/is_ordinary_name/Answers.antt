@@ -80,11 +80,14 @@ returns-then-len-eq0 c = (
       let len = c.args.len in
       -- the name is empty, longer than a window has, or at the end of the text
       elim c.then-len-eq0.branch [
+        -- no ordinary name is empty
         | then-len-eq0-via-then-len-eq0 e ↦
             let none : len ≡ 0 = omega (arith, e.if-len-eq0.true) in
             absurd (not-empty (subst (λ n. OrdinaryName (take n w)) none is.0))
+        -- an ordinary name has at most 32 bytes
         | then-len-eq0-via-else-len-eq0+then-len-gt-LONGEST e ↦
             absurd (omega (arith, e.if-len-gt-LONGEST.true, is.0.1, length-take-le len w (omega (arith, c.requires, prefix_len-le-length is_plain w))))
+        -- the claim is of windows of 32 bytes or more alone
         | then-len-eq0-via-else-len-eq0+else-len-gt-LONGEST+then-window-lt-LONGEST e ↦ absurd (omega (arith, e.if-window-lt-LONGEST.true, is.1))
       ],
 )

@@ -8,6 +8,7 @@ use Rattle.sip_text.proofs.uri.is_port.Goals.{then-is_empty-via-then-is_empty, t
 -- a text without a byte, or with more than five, is no port
 pub returns-then-is_empty : goal.returns-then-is_empty
 returns-then-is_empty c = decides-not (λ port.
+    -- a port has one to five bytes; the branch is taken where the text is empty, or else where it is longer
     let (some, few) = port-length c.args.text.now port in
     elim c.then-is_empty.branch [
       | then-is_empty-via-then-is_empty w ↦
@@ -31,6 +32,7 @@ returns-then-number-gt-LAST_PORT c = decides-not (λ port.
 -- after one digit more, the number is that of the digits up to it, and not above 65535
 pub loop-byte-preserved : goal.loop-byte-preserved
 loop-byte-preserved c =
+    -- `more` says that one digit more passes, and which number the digits then write
     let more = digit-more c.args.text.now c.loop-byte.byte-index c.loop-byte.number c.loop-byte-test.true
     c.loop-byte.invariant (sym c.has.ensures ∙ c.if-not-has.false) in
     record {

@@ -33,11 +33,13 @@ returns-then-is_sip c =
 -- another scheme with bytes of a URI after it is that URI
 pub returns-then-is_some_chars : goal.returns-then-is_some_chars
 returns-then-is_some_chars c =
+    -- `cut` says that the scheme and the rest are what stands before and after the first ":"
     let cut = scheme-at c.args.text.now c.cut_scheme.result.0.now c.cut_scheme.result.1 c.in_ok-rest.rest c.cut_scheme.ensures.front c.cut_scheme.ensures.rest c.in_ok-rest.was in
     -- the scheme is neither `sip` nor `sips`
     let neither = not-sip c.cut_scheme.result.0.now
     (λ same. both_ways c.same_text-is_sip.result c.if-is_sip.false (c.same_text-is_sip.ensures.1 same))
     (λ same. both_ways c.same_text.result c.if-same_text.false (c.same_text.ensures.1 same)) in
+    -- `uric` says that the rest is one character of a URI or more exactly if the test passes
     let uric = decides-some is_reserved c.in_ok-rest.rest.now c.is_some_chars.result c.is_some_chars.ensures in (
       other-fits c.args.text.now c.cut_scheme.result.0.now c.in_ok-rest.rest.now cut neither
           (c.is_scheme.ensures.0 c.if-is_scheme.true) (uric.0 c.if-is_some_chars.true),

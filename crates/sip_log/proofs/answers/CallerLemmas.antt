@@ -160,6 +160,7 @@ module _ (start left : Option (List ℕ)) (before after : Bool) where
     where
       -- where the header comes first in what was left, it was read
       has : (s : Option (List ℕ)) → IfSome s (λ xs. (ys : List ℕ) × (prepend_known place.held left ≡ Some ys) × Heads place.format xs (gives p ys)) → HasRead s place.format (Some p) [] (prepend_known place.held left)
+      -- of an input that is not known nothing is to be shown
       has None says = tt
       has (Some xs) (ys, left_is, header) = (ys, left_is, Begins-header xs place.format p ys header)
 

@@ -21,6 +21,7 @@ returns-in_default c =
       | in_default-via-in-Some+else-is_port w ↦
           both_ways w.is_port.result w.if-is_port.false
           (w.is_port.ensures.1 (subst Port (sym c.cut_last.ensures.rest) port))
+      -- no colon stands in the text, though u would be what stands before its last one
       | in_default-via-in_default w ↦
           let none = ap option_copied (sym w.in_default.is) ∙ c.cut_last.ensures.front ∙ there in
           cc

@@ -24,6 +24,7 @@ returns-then-not-has c = decides-not (λ port.
 -- where the digits so far write a number that is too great for a port, the text is no port
 pub returns-then-number-gt-LAST_PORT : goal.returns-then-number-gt-LAST_PORT
 returns-then-number-gt-LAST_PORT c = decides-not (λ port.
+    -- `more` says which number the digits write with this one, which is above 65535
     let more = digit-more c.args.text.now c.loop-byte.byte-index c.loop-byte.number c.loop-byte-test.true
     c.loop-byte.invariant (sym c.has.ensures ∙ c.if-not-has.false) in
     port-large c.args.text.now (c.loop-byte.byte-index + 1) (c.loop-byte.number * 10 + c.from.result)

@@ -20,6 +20,7 @@ pub returns-then-is_sip : goal.returns-then-is_sip
 returns-then-is_sip c =
     let is_sip = c.same_text-is_sip.result in
     let scheme = c.cut_scheme.result.0.now in
+    -- `cut` says that the scheme and the rest are what stands before and after the first ":"
     let cut = scheme-at c.args.text.now scheme c.cut_scheme.result.1 c.in_ok-rest.rest c.cut_scheme.ensures.front c.cut_scheme.ensures.rest c.in_ok-rest.was in
     -- where the scheme is not `sip`, it is `sips`
     let sips_named : is_sip ≡ false → SameText scheme (scheme_name true) =
@@ -49,11 +50,13 @@ returns-then-is_some_chars c =
 -- where the scheme is neither, and no scheme or no bytes of a URI follow, the text is no URI
 pub returns-else-is_scheme : goal.returns-else-is_scheme
 returns-else-is_scheme c = λ x is.
+    -- `cut` says that the scheme and the rest are what stands before and after the first ":"
     let cut = scheme-at c.args.text.now c.cut_scheme.result.0.now c.cut_scheme.result.1 c.in_ok-rest.rest c.cut_scheme.ensures.front c.cut_scheme.ensures.rest c.in_ok-rest.was in
     -- the scheme is neither `sip` nor `sips`
     let neither = not-sip c.cut_scheme.result.0.now
     (λ same. both_ways c.same_text-is_sip.result c.if-is_sip.false (c.same_text-is_sip.ensures.1 same))
     (λ same. both_ways c.same_text.result c.if-same_text.false (c.same_text.ensures.1 same)) in
+    -- if the text were a URI x, its scheme and its rest would fit
     let fits = other-only c.args.text.now c.cut_scheme.result.0.now c.in_ok-rest.rest.now x cut neither is in
     -- what follows the colon is not bytes of a URI, or what stands before it is no scheme
     elim c.else-is_scheme.branch [

@@ -1,4 +1,4 @@
--- The entry that stands whole among the bytes that are held back.
+-- The entry that stands whole among the bytes that are held.
 use Rattle.std.specs.Prelude.{◌≡◌, ◌≢◌, ◌≤◌, ◌+◌, ◌++◌, ℕ, List, [], length, drop}
 use Rattle.sip_standard.specs.declared.action.Action.{Action}
 use Rattle.sip_standard.specs.LogEntry.{Item}

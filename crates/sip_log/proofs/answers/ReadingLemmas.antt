@@ -68,6 +68,7 @@ fault-first input fault is = (no-header input fault is, header-is is)
   where
     -- a fault of the header is `Header`
     header-is : read.HeaderComes input (stops fault) → fault ≡ faults.Header
+    -- where lines 1 and 2 are both read, no fault comes; where one of them is not, `Header` does
     header-is (inl (format, rest, title, inl (p, behind, front, (rules, more, line, same)))) = cc
     header-is (inl (format, rest, title, inr (none, same))) = ap fault_of same
     header-is (inr (none, same)) = ap fault_of same
@@ -100,6 +101,7 @@ Says-headed old mid new before between after format p (Ok a) first says = (says.
         let h = subst (λ o. IfSome o (λ xs. (zs : List ℕ) × (new ≡ Some zs) × entry.EntryComes format 0 0 xs (next_of a zs))) is.1 behind in
         (h.0, h.1, header-gives format xs p is.0 (next_of a h.0) is.2 (next-told format 0 0 is.0 (next_of a h.0) h.2))
 Says-headed old mid new before between after format p (Err e) first says =
+    -- the fault that comes after the header comes first in the input, and the source has failed by it if it has not before
     subst (λ b. FailsAs b after (λ fault. IfSome old (λ xs. ComesFirst format (Some p) xs (stops fault))) e) first.0
     (FailsAs-map between after _ _ e (λ fault. value old fault first.1) says)
   where

@@ -123,11 +123,11 @@ lines-parts Two p rest =
 -- times within their limits are within them under any rules
 pub within-under : (rules : Rules) (p : Times) → AreTimes p → AreTimes (under rules p)
 within-under rules p is = record {
+  -- the limits are those of the same numbers
   t1_low = is.t1_low;
   t1_high = is.t1_high;
   t2_low = is.t2_low;
   t2_high = is.t2_high;
-  -- the limits are those of the same numbers
   t4_low = is.t4_low;
   t4_high = is.t4_high;
   early_high = is.early_high;

@@ -68,6 +68,7 @@ single-colon (b ∷ u) v lacks starts single =
 
 -- a hex4 begins with no colon
 starts-hex4 : (u v : List ℕ) → Hex4 u → Starts (u ++ v)
+-- a hex4 has a byte
 starts-hex4 [] v group = absurd (omega (arith, length-ones is_ascii_hexdigit group.0 group.1, ap length group.2, group.3))
 starts-hex4 (b ∷ u) v group = (lack-hex4 (b ∷ u) group).0
 
@@ -129,6 +130,7 @@ single-double (b ∷ u) v single =
 -- two optional hexseqs with "::" between them pass the test of a hexpart
 double-is : (u v text : List ℕ) → Optional Hexseq u → Optional Hexseq v → text ≡ u ++ (double_colon ++ v) → is_hexpart text ≡ true
 double-is u v text left right whole =
+    -- the first "::" is the one between the two, so the text is cut there
     let cut = single-double u v (single-optional u left) in
     let front : before_double text ≡ u = ap before_double whole ∙ cut.0 in
     let rest : behind_double text ≡ Some v = ap behind_double whole ∙ cut.1 in
@@ -137,6 +139,7 @@ double-is u v text left right whole =
 
 -- a hexpart passes the test of one
 pub hexpart-is : (text : List ℕ) → Hexpart text → is_hexpart text ≡ true
+-- a hexseq has no "::", so it is tested as one
 hexpart-is text (inl seq) =
     ap (λ o. option_map_or (λ r. is_optional_hexseq (before_double text) && is_optional_hexseq r) o (is_hexseq text)) (single-none text (single-hexseq text seq))
     ∙ hexseq-is text seq

@@ -16,12 +16,14 @@ use Rattle.sip_text.proofs.hosts.HexLemmas.{hexpart-yes, hexpart-is, open-yes, o
 -- a front that may stand before the last colon, a colon and an IPv4 address pass the test `has_v4_tail`
 tail-is : (text front v4 : List ℕ) → is_before_v4 front ≡ true → Ipv4 v4 → text ≡ front ++ (colon ∷ v4) → has_v4_tail text ≡ true
 tail-is text front v4 before address whole =
+    -- an IPv4 address has no colon, so the text is cut at the last one into the front and the address
     let lacks = lack-v4 colon refl refl v4 address in
     ap (λ o. option_map_or (λ f. is_v4 (behind_last colon text) && is_before_v4 f) o false) (ap (before_last colon) whole ∙ before_last-mark colon front v4 lacks)
     ∙ and_from _ _ (ap (λ t. is_v4 (behind_last colon t)) whole ∙ ap is_v4 (behind_last-mark colon front v4 lacks) ∙ v4-is v4 address) before
 
 -- an IPv6 address passes its test
 pub v6-is : (text : List ℕ) → Ipv6 text → is_v6 text ≡ true
+-- this clause is of a hexpart alone
 v6-is text (inl (hexpart, end, is_hex, inl none, whole)) =
     let all : text ≡ hexpart = whole ∙ ap (λ t. hexpart ++ t) none ∙ append-nil hexpart in
     or_left (is_hexpart text) (has_v4_tail text) (ap is_hexpart all ∙ hexpart-is hexpart is_hex)

@@ -79,6 +79,7 @@ blank-piece (a ∷ text) = at (is_wsp a) refl
   where
     -- CR, LF and a WSP are a blank of three bytes
     fold : (t : List ℕ) → a ≡ carriage_return → slice_index t 0 ≡ line_feed → is_wsp (slice_index t 1) ≡ true → HasFront Blank (a ∷ t) 3
+    -- a text of fewer bytes is no fold
     fold [] cr lf wsp = absurd (omega (arith, lf))
     fold (l ∷ []) cr lf wsp = cc
     fold (l ∷ b ∷ t) cr lf wsp = (crlf ++ (b ∷ []), t, blank-fold b wsp, ap (λ x. x ∷ l ∷ b ∷ t) cr ∙ ap (λ x. carriage_return ∷ x ∷ b ∷ t) lf, refl)
@@ -87,6 +88,7 @@ blank-piece (a ∷ text) = at (is_wsp a) refl
     folds : (is : Bool) → begins_with_fold (a ∷ text) ≡ is → (fold_len is ≡ 0) ⊎ HasFront Blank (a ∷ text) (fold_len is)
     folds false is = inl refl
     folds true is =
+        -- the first two bytes are CR and LF, and the third is a WSP
         let both = and_parts _ _ is in
         let ends = and_parts _ _ both.0 in
         inr (fold text (eqb-true _ _ ends.0) (eqb-true _ _ ends.1) both.1)

@@ -90,6 +90,7 @@ plain-or-not : (text : List ℕ) → Settled (get_or text 0 0 ≡ digit_zero →
 plain-or-not text = elim (cases_eq (length text) 1) as (λ _. Settled (get_or text 0 0 ≡ digit_zero → length text ≡ 1)) [
   | inl one ↦ inl (λ none. one)
   | inr many ↦ elim (cases_eq (get_or text 0 0) digit_zero) as (λ _. Settled (get_or text 0 0 ≡ digit_zero → length text ≡ 1)) [
+    -- a text with other bytes may not begin with 0, and may begin with another byte
     | inl none ↦ inr (λ plain. many (plain none))
     | inr other ↦ inl (λ none. absurd (other none))
   ]

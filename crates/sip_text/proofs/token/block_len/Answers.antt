@@ -1,3 +1,4 @@
+-- v is the 16 bytes of the block, `long` says that they are so many, and `fits` that each of them is a byte.
 use Rattle.std.proofs.Common.{eqb, sym, ap, ◌∙◌, arith, w8}
 use lib.Count.{count_trailing_zeros}
 use lib.Lanes.{chunk}

@@ -140,8 +140,10 @@ plain-whole line action moment behind none is =
 -- where a line of an entry without a message stands with what comes after it, the spelling says the same
 plain-line-told : (format : Format) (last : ℕ) (line : List ℕ) (action : Action) (moment : ℕ) (behind : List ℕ) (next : Next Item) → ¬ (HasMessage action) → IsOf format action → line ≡ line_says action moment 0
     → read.HeadComes last (plain action moment) behind next → Told (LineFault format last line behind) (Entered format last line behind) next
+-- the moment is outside its limits
 plain-line-told format last line action moment behind next none of is (inl (outside, same)) =
     inl (faults.Limit, same, inr (action, moment, 0, of, is, inl ((λ w. outside w.0), refl)))
+-- the moment is within them, and before that of the entry before
 plain-line-told format last line action moment behind next none of is (inr (inside, inl (early, same))) =
     inl (faults.Order, same, inr (action, moment, 0, of, is, inr ((λ out. out (inside, (λ has. absurd (none has)))), inl (not_above last moment early, refl))))
 -- within the limits and in order, the entry is the line alone
@@ -187,8 +189,11 @@ front-told format last rest next (inr (line, behind, front, inr (head, is, at)))
 
 -- what the code reads next is what comes next by the spelling
 pub next-told : (format : Format) (count last : ℕ) (rest : List ℕ) (next : Next Item) → read.EntryComes format count last rest next → ComesNext format count last rest next
+-- nothing is left, so the end comes
 next-told format count last rest next (inl (none, same)) = subst (ComesNext format count last rest) (sym same) none
+-- bytes are left, but the most entries were read
 next-told format count last rest next (inr (some, inl (many, same))) = subst (ComesNext format count last rest) (sym same) (some, inl (not_below count most_entries many, refl))
+-- bytes are left, and fewer entries were read
 next-told format count last rest next (inr (some, inr (few, at))) = go (front-told format last rest next at)
   where
     -- whether the front of the rest is at fault or gives an entry, this comes next

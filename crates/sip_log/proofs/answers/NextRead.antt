@@ -27,7 +27,9 @@ use Rattle.sip_log.proofs.logs.LogExists.{limits-or-not}
 
 -- a message that cannot be read, since it is not whole with its LF (case 6) or the byte after it is no LF (case 7), is read as that fault
 message-stops : (action : Action) (moment len : ℕ) (behind : List ℕ) (fault : LogReason) → AtBody action len behind fault → read.MessageComes action moment len behind (stops fault)
+-- too few bytes follow for the message and its LF
 message-stops action moment len behind fault (other, inl (short, same)) = inl ((λ more. omega arith), ap stops same)
+-- the bytes of the message are there, and the byte after them is no LF
 message-stops action moment len behind fault (other, inr (long, (unclosed, same))) =
     let inside : len < length behind = not_above (length behind) len long in
     inr (inside, (take len behind, get_or behind len 0, drop (len + 1) behind, cut-at behind len inside, length-take-le len behind (omega arith), inl (unclosed, ap stops same)))
@@ -50,7 +52,9 @@ message-numbers last action moment len behind fault other (inr (inside, rest)) =
 
 -- the line of an entry without a message, whose moment is at fault, is read as that fault
 plain-numbers : (last : ℕ) (action : Action) (moment len : ℕ) (behind : List ℕ) (fault : LogReason) → ¬ (HasMessage action) → AtNumbers last action moment len behind fault → read.HeadComes last (plain action moment) behind (stops fault)
+-- the moment is outside its limits
 plain-numbers last action moment len behind fault none (inl (outside, same)) = inl ((λ k. outside (k, (λ has. absurd (none has)))), ap stops same)
+-- the moment is within them, and before that of the entry before
 plain-numbers last action moment len behind fault none (inr (inside, rest)) = elim (limits-or-not (plain action moment)) [
   | inr outside ↦ absurd (inside (λ w. outside w.0))
   | inl keeps ↦ inr (keeps, order rest)
@@ -63,12 +67,14 @@ plain-numbers last action moment len behind fault none (inr (inside, rest)) = el
 
 -- a line at fault is read as that fault
 line-stops : (format : Format) (last : ℕ) (line behind : List ℕ) (fault : LogReason) → length line < 32 → LineFault format last line behind fault → read.FormComes format last line behind (stops fault)
+-- the line is that of no entry
 line-stops format last line behind fault short (inl (none, same)) = inl (unread, ap stops same)
   where
     -- the line is not the first line of an entry
     unread : (h : Head) → ¬ (HeadLine format line h)
     unread (message action moment len) is = none action moment len (message-of format action is.1) (message-spelled format line action moment len short is)
     unread (plain action moment) is = none action moment 0 is.2 (plain-spelled format line action moment 0 short is)
+-- the line is that of an entry, and its numbers or its message are at fault
 line-stops format last line behind fault short (inr (action, moment, len, of, is, numbers)) = elim (message-or-not action) [
   | inr none ↦ inr (plain action moment, plain-read format line action moment len short none of is, plain-numbers last action moment len behind fault none numbers)
   | inl has ↦ inr (message action moment len, message-read format line action moment len short has is, message-numbers last action moment len behind fault has numbers)
@@ -76,14 +82,17 @@ line-stops format last line behind fault short (inr (action, moment, len, of, is
 
 -- a rest whose front is at fault is read as that fault
 front-stops : (format : Format) (last : ℕ) (rest : List ℕ) (fault : LogReason) → AtFront format last rest fault → read.LineComes format last rest (stops fault)
+-- there is no front line, with fewer than 32 bytes or with more
 front-stops format last rest fault (inl (none, inl (few, same))) = inl (none, inl ((λ many. omega arith), ap stops same))
 front-stops format last rest fault (inl (none, inr (many, same))) = inl (none, inr (not_below (length rest) 32 many, ap stops same))
+-- there is a front line, which is at fault
 front-stops format last rest fault (inr (line, behind, front, at)) = inr (line, behind, front, line-stops format last line behind fault front.short at)
 
 -- What follows is of entries.
 
 -- a moment in decimals has no line feed
 lacks-decimal : (n : ℕ) → n ≤ last_moment → Lacks line_feed (decimal n)
+-- a moment has at most 13 digits
 lacks-decimal n low = IsNumber-no_line_feed (decimal n) n (number-decimal n (omega (arith, low, powers 13 64 (omega arith))))
 
 -- no letter of an entry is a line feed
@@ -169,8 +178,12 @@ entry-some e = omega (
 
 -- what comes next by the spelling is what the code reads next
 pub next-read : (format : Format) (count last : ℕ) (rest : List ℕ) (next : Next Item) → ComesNext format count last rest next → read.EntryComes format count last rest next
+-- nothing is left, so the end comes
 next-read format count last rest ends is = inl (is, refl)
+-- the entry is spelled there, so bytes are left
 next-read format count last rest (gives e behind) (whole, few, order, entry) =
     inr ((λ none. omega (arith, ap length whole, ap length none, length-append (entry_says e) behind, entry-some e)), inr (few, entry-read format last rest e behind whole order entry))
+-- bytes are left, but the most entries were read
 next-read format count last rest (stops fault) (some, inl (many, same)) = inr (some, inl ((λ few. omega arith), ap stops same))
+-- bytes are left, and fewer entries were read, so the fault is that of what stands at the front
 next-read format count last rest (stops fault) (some, inr (few, front)) = inr (some, inr (not_above most_entries count few, front-stops format last rest fault front))

@@ -44,6 +44,7 @@ item-blank u v (front, b, inr fold, one, whole) =
 
 -- where a piece of a quoted string stands at the front of a text, `item_len` gives its length
 item-at_front : (u v : List ℕ) → QuotedItem u → item_len (u ++ v) ≡ length u
+-- the piece is one byte of qdtext
 item-at_front u v (inl byte) =
     ap (λ t. item_len (t ++ v)) byte.2
     ∙ ap (λ q. cond q 1 (cond (begins_with_pair (byte.0 ∷ v)) 2 (blank_len (byte.0 ∷ v)))) byte.1
@@ -211,6 +212,7 @@ pub none-opens : (text : List ℕ) (n : ℕ) → HasFront (Many Blank) text n �
 none-opens text n front stops missing m quoted =
     let parse = quotes-front text m quoted in
     let opened = opens text n parse.0 parse.1 parse.2 front stops parse.3 in
+    -- a quote would stand after the blanks, but none does
     let found = ap (past dquote) opened.1 in
     cc
 
@@ -219,6 +221,7 @@ pub none-closes : (text inner : List ℕ) (n k : ℕ) → HasFront (Many Blank) 
 none-closes text inner n k front contents stops first ends missing m quoted =
     let parse = quotes-front text m quoted in
     let closed = closes text inner n k parse.0 parse.1 parse.2 front contents stops first ends parse.3 in
+    -- a quote would stand after the pieces, but none does
     let found = ap (past dquote) closed.1 in
     cc
 

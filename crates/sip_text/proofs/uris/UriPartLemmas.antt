@@ -21,6 +21,7 @@ use Rattle.sip_text.proofs.texts.JoinedLemmas.{parts-joined, joined-parts}
 
 -- where P lacks the mark, a text of P [ mark Q ] is of P before its first mark, and of Q after it if there is one
 pub cut-optional : (mark : ℕ) (P Q : List ℕ → Type 0) (text : List ℕ) → AllLack mark P → (P then Optional (Byte mark then Q)) text → P (before mark text) × IfSome (behind mark text) Q
+-- nothing follows the text of P
 cut-optional mark P Q text lack (u, v, one, inl none, whole) =
     let same : text ≡ u ++ led mark None = whole ∙ ap (λ t. u ++ t) none in (
       subst P (sym (ap (before mark) same ∙ before-led mark u None (lack u one))) one,
@@ -120,11 +121,13 @@ Each mark P text = AllByRecursion P (parts mark text)
 
 -- a text that has a rest past the mark at its front is the mark and that rest
 past-is : (mark : ℕ) (text rest : List ℕ) → past mark text ≡ Some rest → text ≡ mark ∷ rest
+-- an empty text has no mark at its front
 past-is mark [] rest is = cc
 past-is mark (b ∷ text) rest is = at (b == mark) refl is
   where
     -- the text is the mark and the rest, since the first byte is the mark
     at : (same : Bool) → (b == mark) ≡ same → (if same then Some text else None) ≡ Some rest → b ∷ text ≡ mark ∷ rest
+    -- the first byte is not the mark, so there is no rest past it
     at false same is = cc
     at true same is = let tail : text ≡ rest = cc in ap (λ x. x ∷ text) (eqb-true b mark same) ∙ ap (λ t. mark ∷ t) tail
 
@@ -212,7 +215,9 @@ joined-params text (p, v, one, more, whole) =
 pub params-led : (text : List ℕ) → UriParameters text → (rest : Option (List ℕ)) × (text ≡ led semicolon rest)
 params-led text many =
     elim (some-many (Byte semicolon then UriParameter) text many) [
+      -- there are no parameters
       | inl empty ↦ (None, empty)
+      -- u is the ";" (m) and the first parameter p, and v the others
       | inr (u, v, (m, p, is_mark, one, both), more, whole) ↦
           (Some (p ++ v), whole ∙ ap (λ t. t ++ v) (both ∙ ap (λ t. t ++ p) is_mark))
     ]

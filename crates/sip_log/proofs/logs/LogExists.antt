@@ -108,6 +108,7 @@ numbers-or-not : (text : List ℕ) → ((moment : ℕ) × (len : ℕ) × Numbers
 numbers-or-not text = elim (cut-or-lacks space text) [
   | inr lacks ↦ inr (λ moment len is. Lacks-cut space text is.moment_text is.len_text lacks is.whole)
   | inl at ↦ elim (number-or-not at.0) [
+    -- what stands before the first blank is no number
     | inr other ↦ inr (λ moment len is. other moment (Numbers-parts text at.0 at.1 moment len at.2 is).0)
     -- what stands before the blank is a number, and what stands after it is one or none
     | inl first ↦ elim (number-or-not at.1) [
@@ -309,6 +310,7 @@ line-shorter format last rest e behind (inl (none, next)) = absurd (no-entry (Un
     -- what gives an entry does not stop with a fault
     no-entry : gives e behind ≢ stops faults.EntryLine
     no-entry same = cc
+-- the front line is that of no entry, so a fault comes
 line-shorter format last rest e behind (inr (line, after, front, inl (other, same))) = cc
 line-shorter format last rest e behind (inr (line, after, front, inr (head, is, next))) =
     let body = Unless-gives _ _ e behind _ (Unless-gives _ _ e behind _ next) in
@@ -316,6 +318,7 @@ line-shorter format last rest e behind (inr (line, after, front, inr (head, is, 
 
 -- what is left after an entry is shorter than what was left before it
 pub next-shorter : (format : Format) (count last : ℕ) (rest : List ℕ) (e : Item) (behind : List ℕ) → EntryComes format count last rest (gives e behind) → length behind < length rest
+-- nothing is left, so the end comes
 next-shorter format count last rest e behind (inl (none, same)) = cc
 next-shorter format count last rest e behind (inr (some, next)) = line-shorter format last rest e behind (Unless-gives _ _ e behind _ next)
 
@@ -326,6 +329,7 @@ Follows format count last rest = (es : List Item) × (end : LogEnd) × Follow fo
 -- the rest has entries and an end where what is left after its first entry, if there is one, has
 follows-from : (format : Format) (count last : ℕ) (rest : List ℕ) (next : Next Item) → EntryComes format count last rest next
     → ((e : Item) (behind : List ℕ) → length behind < length rest → Follows format (count + 1) e.moment behind) → Follows format count last rest
+-- the end or a fault comes, and no entry
 follows-from format count last rest ends next more = ([], Clean, next)
 follows-from format count last rest (stops reason) next more = ([], Stops reason, next)
 follows-from format count last rest (gives e behind) next more =
@@ -334,6 +338,7 @@ follows-from format count last rest (gives e behind) next more =
 
 -- a rest of fewer than `most` bytes has entries and an end
 follows-some : (format : Format) (most count last : ℕ) (rest : List ℕ) → length rest < most → Follows format count last rest
+-- no rest has fewer than 0 bytes
 follows-some format zero count last rest short = absurd (omega arith)
 follows-some format (suc most) count last rest short =
     let next = next-some format count last rest in

@@ -75,7 +75,7 @@ fn front(bytes: &[u8]) -> &[u8]
     }
 }
 
-// The place of the empty line after the field lines from `at` on, where these are ordinary ones. Their
+// The place of the empty line after the field lines from `from` on, where these are ordinary ones. Their
 // fields are put into the vector, and what is asked for is kept in `asked`.
 #[inline(never)]
 fn ordinary_fields<'a>(

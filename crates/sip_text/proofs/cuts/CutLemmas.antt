@@ -88,6 +88,7 @@ before-nowhere mark (b ∷ text) none =
 -- where k is the first place of the mark, the first part of the text is its first k bytes, and what follows the mark is the rest after it
 pub before-first : (mark k : ℕ) (text : List ℕ) → k < length text → Nowhere (Passes (is_byte mark) text) 0 k → Passes (is_byte mark) text k → (before mark text ≡ take k text) × (behind mark text ≡ Some (drop (k + 1) text))
 before-first mark k [] within none is = absurd (omega (arith, within))
+-- the first byte is the mark
 before-first mark zero (b ∷ text) within none is = (
   ap (λ same. cond same [] (b ∷ before mark text)) is,
   ap (λ same. cond same (Some text) (behind mark text)) is,

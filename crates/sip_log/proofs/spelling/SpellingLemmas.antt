@@ -283,6 +283,7 @@ plain-text action moment len none = ap (λ (t : List ℕ). letter action ∷ spa
 pub plain-spelled : (format : Format) (line : List ℕ) (action : Action) (moment len : ℕ) → length line < 32 → HeadLine format line (plain action moment) → line ≡ line_says action moment len
 plain-spelled format line action moment len short is =
     let size = ap length is.4 in
+    -- the line has fewer than 32 bytes, so its moment is short, and spelled as std spells it
     let text = decimal-number is.0 moment (omega (arith, size)) is.3 in
     is.4 ∙ ap (λ (t : List ℕ). letter action ∷ space ∷ t) text ∙ sym (plain-text action moment len is.1) ∙ line-same action moment len
 

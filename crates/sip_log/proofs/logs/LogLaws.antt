@@ -1,6 +1,7 @@
 -- What is read of an input is only one thing.
 -- In the lemmas n and n2 are what comes by two readings of the same bytes; what belongs to the second reading has a 2.
 -- Of an entry's line a is the action, m the moment and l the length of the message; es are entries, and e the first of them.
+-- `coe 0 1 (i. P (e i)) h`: by the equation e, h, which says P of its left side, says it of the right one. `λ i. f (e i)`: f of both sides is equal.
 use Rattle.std.proofs.Common.{◌≡◌, ◌≢◌, inl, inr, ℕ, ◌+◌, List, [], ◌∷◌, ◌++◌, length, get_or, drop, if◌then◌else◌, ◌==◌, refl, subst, sym, ap, ◌∙◌, arith}
 use Rattle.std.proofs.lemmas.List.{append_cancel_left}
 use Rattle.sip_standard.specs.Times.{Times}
@@ -117,6 +118,7 @@ Numbers-one text moment len moment2 len2 is is2 =
 
 -- a line tells only one thing as the line of an entry
 HeadLine-one : (format : Format) (line : List ℕ) (h h2 : Head) → HeadLine format line h → HeadLine format line h2 → h ≡ h2
+-- both lines are of messages: the letter, the moment and the length are the same
 HeadLine-one format line (message a m l) (message a2 m2 l2) is is2 =
     let same = sym is.3 ∙ is2.3 in
     let action : a ≡ a2 = letter-one a a2 (ap (λ (t : List ℕ). get_or t 0 0) same) in

@@ -1,5 +1,6 @@
 -- Lemmas of the log of an input: there is one, and only one.
 -- In the lemmas n and n2 are what comes next by two readings, and es and es2 entries, with the times p and p2; e is the first entry.
+-- `coe 0 1 (i. P (e i)) h`: by the equation e, h, which says P of its left side, says it of the right one. `λ i. f (e i)`: f of both sides is equal.
 use Rattle.std.proofs.Common.{◌≡◌, ◌≢◌, ◌⊎◌, inl, inr, ◌≤◌, ◌+◌, ℕ, suc, List, [], ◌∷◌, ◌++◌, length, get_or, refl, subst, sym, ap, ◌∙◌, arith, append_assoc}
 use Rattle.std.specs.Prelude.{flat_map, All, codes}
 use Rattle.std.proofs.lemmas.List.{append-nil, append_cancel_left, length-append}

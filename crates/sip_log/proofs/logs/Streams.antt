@@ -1,5 +1,6 @@
 -- The log of an input in which any number of entries may come: there is one, and only one.
 -- In the lemmas es and es2 are the entries by two readings, e and e2 the first of them, and n and n2 what comes next by each.
+-- `coe 0 1 (i. P (e i)) h`: by the equation e, h, which says P of its left side, says it of the right one. `λ i. f (e i)`: f of both sides is equal.
 use Rattle.std.proofs.Common.{◌≡◌, ◌⊎◌, inl, inr, ◌<◌, ◌≤◌, ◌+◌, ℕ, zero, suc, List, [], ◌∷◌, ◌++◌, length, refl, subst, sym, ap, ◌∙◌, arith, append_assoc}
 use Rattle.std.specs.Prelude.{◌↔◌, flat_map}
 use Rattle.sip_standard.specs.Times.{Times}

@@ -1,5 +1,6 @@
 -- A header and an entry's line are read as what they spell, by the relations by which the code reads them, and spell what is read of them.
 -- In the lemmas f is a format and q the times that were read; behind is what follows the header.
+-- `coe 1 0 (i. P (e i)) h`: by the equation e, h, which says P of its right side, says it of the left one. `λ i. f (e i)`: f of both sides is equal.
 use Rattle.std.proofs.Common.{◌≡◌, ◌⊎◌, inl, inr, ◌<◌, ℕ, List, [], ◌∷◌, ◌++◌, length, refl, sym, ap, ◌∙◌, arith, append_assoc}
 use Rattle.std.specs.Prelude.{codes, decimal}
 use Rattle.std.proofs.lemmas.List.{append-nil, length-append}

@@ -1,5 +1,6 @@
 -- Of a number that was read, .0 is the number, .1 says that it stands after its word, and .2 that the code keeps it, `cut` at 10^15.
 -- Of the tolerances, .0 and .1 are the numbers, .2 says that they stand there, and .3 and .4 that the code keeps them.
+-- `λ i. f (e i)`: by the equation e, f of its left side is equal to f of its right side.
 use Rattle.sip_standard.specs.Times.{Times}
 use Rattle.sip_standard.specs.declared.rules.Rules.TheVariants.{R6026}
 use Rattle.std.proofs.Common.{refl}

@@ -37,7 +37,7 @@ alphanumeric_low b is =
       | inl more ↦ elim (or_cases (is_in_range 48 57 b) (is_in_range 65 90 b) more) [
         -- the byte is a digit
         | inl one ↦ (let low = range_low 48 57 b one in omega (arith, low))
-        -- the byte is a great letter
+        -- the byte is a capital letter
         | inr one ↦ (let low = range_low 65 90 b one in omega (arith, low))
       ]
       -- the byte is a small letter
@@ -51,6 +51,7 @@ one_of_low [] all b is = cc
 one_of_low (c ∷ cs) all b is =
     let parts = and_parts (nat_lt c 128) (list_all (λ d. nat_lt d 128) cs) all in
     elim (or_cases (c == b) (list_any (λ c. c == b) cs) is) [
+      -- the byte is the first of them, or one of the others
       | inl same ↦ subst (λ d. d < 128) (eqb-true c b same) (ltb-true c 128 parts.0)
       | inr more ↦ one_of_low cs parts.1 b more
     ]

@@ -104,6 +104,7 @@ module _ (f q : ℕ → Bool) (opposite : (x : ℕ) → q x ≡ not (f x)) (nul 
       -- all bytes before the found one pass; and the text does not end before it, since its end would be found first
       let low = λ (j : ℕ) (h : j < n). sym (shows j (omega (arith, h, fits))) ∙ found.2 j h in
       let inside : p + n ≤ length text = elim (cases_lt (length text) (p + n)) [
+        -- where the text ended before the found byte, the bit at its end would be set, since 0 fails; but no bit before the found one is set
         | inl short ↦
             let is : p + (length text - p) ≡ length text = omega (arith, within) in
             let set_there : q (get_or text (p + (length text - p)) 0) ≡ true = ap q (get_or_past text (p + (length text - p)) 0 (omega (arith, is))) ∙ nul in

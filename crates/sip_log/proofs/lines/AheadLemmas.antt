@@ -119,6 +119,7 @@ pub NoLine-without : (format : Format) (count last : ℕ) (held : List ℕ) → 
 NoLine-without format count last [] few none = (ends, inl (refl, refl), tt)
 NoLine-without format count last (x ∷ xs) few none =
     Line-without format count last (x ∷ xs) (omega arith) few (elim (cases_lt (length (x ∷ xs)) longest_line) as (λ _. ComesWithout (LineComes format last ((x ∷ xs) ++ []))) [
+      -- where fewer bytes are held than the longest line has, the log ends within its line; else the line is too long
       | inl short ↦ (stops faults.Truncated, AtLine-truncated format last (x ∷ xs) [] none short refl, tt)
       | inr long ↦ (stops faults.EntryLine, AtLine-long format last (x ∷ xs) [] none long, tt)
     ])

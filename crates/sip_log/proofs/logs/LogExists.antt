@@ -74,6 +74,7 @@ begins-or-not (w ∷ word) (x ∷ xs) = elim (cases_eq x w) as (λ _. ((rest : L
   -- where the first byte is not that of the word, the list does not begin with it; else this is asked of what follows both
   | inr other ↦ inr (λ rest same. other (ap (λ (t : List ℕ). get_or t 0 0) same))
   | inl first ↦ elim (begins-or-not word xs) as (λ _. ((rest : List ℕ) × (x ∷ xs ≡ w ∷ word ++ rest)) ⊎ ((rest : List ℕ) → x ∷ xs ≢ w ∷ word ++ rest)) [
+    -- the list begins with the word exactly if what follows the first byte begins with the rest of the word
     | inl is ↦ inl (is.0, λ i. first i ∷ is.1 i)
     | inr other ↦ inr (λ rest same. other rest (ap (drop 1) same))
   ]
@@ -208,6 +209,7 @@ head-or-not : (format : Format) (line : List ℕ) → HeadOrNot format line
 head-or-not format [] = inr (no-head format [] (λ b text same. cc))
 head-or-not format (b ∷ []) = inr (no-head format (b ∷ []) (λ c text same. cc))
 head-or-not format (b ∷ s ∷ text) = elim (cases_eq s space) as (λ _. HeadOrNot format (b ∷ s ∷ text)) [
+  -- a line whose second byte is no blank is no line of an entry; else the letter before the blank and the text after it decide
   | inr other ↦ inr (no-head format (b ∷ s ∷ text) (λ c t same. other (ap (λ (t : List ℕ). get_or t 1 0) same)))
   | inl blank ↦ subst (λ s. HeadOrNot format (b ∷ s ∷ text)) (sym blank) (letter-or-not format b text)
 ]
@@ -407,6 +409,7 @@ tolerances-or-not One text = elim (last-or-not (codes " tolerance ") text) as (�
 ]
 -- format 2 has two tolerances, one after the other
 tolerances-or-not Two text = elim (number_after-or-not (codes " early ") text) as (λ _. TolerancesOrNot Two text) [
+  -- the text has no `early`, or after it stands `late`, or there is none; `NumberAfter-one`: only one number is read after a word
   | inr none ↦ inr (λ early late is. none early is.0 is.1)
   | inl early ↦ elim (last-or-not (codes " late ") early.1) as (λ _. TolerancesOrNot Two text) [
     | inl late ↦ inl (early.0, late.0, (early.1, early.2, late.1))
@@ -477,6 +480,7 @@ SecondOrNot format rest = ((p : Times) × (behind : List ℕ) × TimesFront form
 -- the rest begins with a line 2 whose times are within their limits, or does not
 second-or-not : (format : Format) (rest : List ℕ) → SecondOrNot format rest
 second-or-not format rest = elim (cut-or-lacks line_feed rest) as (λ _. SecondOrNot format rest) [
+  -- without a line feed there is no line 2
   | inr lacks ↦ inr (λ p behind is. Lacks-cut line_feed rest is.line behind lacks is.whole)
   | inl at ↦ elim (times-or-not format at.0) as (λ _. SecondOrNot format rest) [
     -- the line before the first line feed tells no times, or times out of their limits, or times within them
@@ -520,6 +524,7 @@ first-some input = elim (begins-or-not (title_text One) input) as (λ _. Comes (
   -- line 1 is that of format 1, that of format 2, or none
   | inl is ↦ let next = second-some One is.0 in (next.0, inl (One, is.0, is.1, next.1))
   | inr one ↦ elim (begins-or-not (title_text Two) input) as (λ _. Comes (HeaderComes input)) [
+    -- the other format fits, or none does
     | inl is ↦ let next = second-some Two is.0 in (next.0, inl (Two, is.0, is.1, next.1))
     | inr two ↦ (stops faults.Header, inr ((λ format. elim format as (λ format. (rest : List ℕ) → input ≢ title_text format ++ rest) [ One ↦ one | Two ↦ two ]), refl))
   ]

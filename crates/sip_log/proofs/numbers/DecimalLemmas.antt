@@ -92,6 +92,7 @@ number-decimal n low =
     -- the text of a number begins with 0 only if it has this one digit
     plain : get_or (decimal n) 0 0 ≡ digit_zero → length (decimal n) ≡ 1
     plain zero_first = elim (cases_lt 0 n) as (λ _. length (decimal n) ≡ 1) [
+      -- the text of a number above 0 begins with no 0, and that of 0 is one digit
       | inl above ↦ absurd (omega (arith, (leads n low).first above, zero_first))
       | inr none ↦ let z : n ≡ 0 = omega arith in ap (λ m. length (decimal m)) z ∙ ap length (decimal_digit 0 (omega arith))
     ]

@@ -83,7 +83,7 @@ alphanumeric-label b pass other = elim (or_cases (is_ascii_alphanumeric b) (nat_
 -- a letter is a letter or digit
 pub alphanumeric-alphabetic : (b : ℕ) → is_ascii_alphabetic b ≡ true → is_ascii_alphanumeric b ≡ true
 alphanumeric-alphabetic b pass = elim (or_cases (is_in_range 65 90 b) (is_in_range 97 122 b) pass) [
-  -- a great letter is in the second of the three ranges, and a small one in the third
+  -- a capital letter is in the second of the three ranges, and a small one in the third
   | inl upper ↦ or_left (is_in_range 48 57 b || is_in_range 65 90 b) (is_in_range 97 122 b) (or_right (is_in_range 48 57 b) (is_in_range 65 90 b) upper)
   | inr lower ↦ or_right (is_in_range 48 57 b || is_in_range 65 90 b) (is_in_range 97 122 b) lower
 ]

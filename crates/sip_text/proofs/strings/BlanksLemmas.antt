@@ -123,6 +123,7 @@ blanks-longest text n run = (units, stops (blank_len (drop n text)) refl)
     -- the run is any number of blanks
     units : HasFront (Many Blank) text n
     units = elim run.front [
+      -- the run has no byte, or its bytes are blanks, which are one blank after another
       | inl none ↦ subst (HasFront (Many Blank) text) (sym none) ([], text, many-nil Blank, refl, refl)
       | inr front ↦ (front.0, front.1, units-blanks front.0 front.2, front.3, front.4)
     ]

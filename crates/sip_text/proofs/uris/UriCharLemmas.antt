@@ -176,6 +176,7 @@ chars-stop class text (b ∷ stop) no_percent run is = (
       let here : Many (ClassChar class) (b ∷ stop) =
       chars-behind class run.run _ no_percent run.all (subst (Many (ClassChar class)) run.whole many) in
       elim (chars-cons class b stop here) [
+        -- a byte of the class is ruled out by the end of the run, and an escape since none stands there
         | inl plain ↦ absurd (both_ways (is_in class b) (run.stops b stop refl) plain.0)
         | inr (rest, other, _, _) ↦ cc
       ],

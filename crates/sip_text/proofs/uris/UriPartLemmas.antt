@@ -238,6 +238,7 @@ decides-no_params (b ∷ text) r none is = (
   λ many.
       let (rest, led_is) = params-led (b ∷ text) many in
       elim rest as (λ o. b ∷ text ≡ led semicolon o → r ≡ true) [
+        -- without parameters the text would be empty; with some, it would have a semicolon at the front
         | None ↦ λ none. cc
         | Some more ↦ λ some.
             let other : None ≡ Some more = none ∙ ap (past semicolon) some in

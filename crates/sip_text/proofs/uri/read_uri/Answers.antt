@@ -26,6 +26,7 @@ returns-then-is_sip c =
     -- where the scheme is not `sip`, it is `sips`
     let sips_named : is_sip ≡ false → SameText scheme (scheme_name true) =
     λ no. elim c.then-is_sip.branch [
+      -- the branch is taken where the scheme is `sip`, which is ruled out here, or else where it is `sips`
       | then-is_sip-via-then-is_sip w ↦ absurd (both_ways is_sip no w.if-is_sip.true)
       | then-is_sip-via-else-is_sip+then-same_text w ↦ w.same_text.ensures.0 w.if-same_text.true
     ] in

@@ -60,6 +60,7 @@ one_of_low (c ∷ cs) all b is =
 token_low : (b : ℕ) → is_token_byte b ≡ true → b < 128
 token_low b is =
     elim (or_cases (is_ascii_alphanumeric b) (is_among "-.!%*_+`'~" b) is) [
+      -- the byte is a letter or digit, or one of the marks, which are all ASCII
       | inl word ↦ alphanumeric_low b word
       | inr mark ↦ one_of_low (codes "-.!%*_+`'~") refl b mark
     ]

@@ -219,6 +219,7 @@ module _ (window : List ℕ) (len bs ds hs : ℕ) (room : 32 ≤ length window) 
       -- bit i is not set
       unset : (i : ℕ) → i < 64 → test bad_word i ≡ false
       unset i below = elim (cases_order i len) [
+        -- the bit stands for the dot after the last byte, for a byte of the text, or for none
         | inl last ↦ ap (test bad_word) last ∙ end-is ∙ ap (λ n. bad (prev_is n) dot) (sym long) ∙ good-end dot text is_good
         | inr (inl inside) ↦ bad-is i inside ∙ good-at dot text is_good i (omega (arith, inside, long))
         | inr (inr past) ↦ none-higher i past below
@@ -231,6 +232,7 @@ module _ (window : List ℕ) (len bs ds hs : ℕ) (room : 32 ≤ length window) 
   -- the last label begins within the text
   pub top-within : (top : ℕ) → test (bit_and begin_word all) top ≡ true → top < len
   top-within top set = elim (cases_lt top len) [
+    -- the words were cut to the text, so no bit after it is set
     | inl low ↦ low
     | inr high ↦ absurd (false≢true (sym (cut begin_word top high) ∙ set))
   ]

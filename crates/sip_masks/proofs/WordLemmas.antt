@@ -74,6 +74,7 @@ from_place words p j small jl =
 pub marks-more : (p : ℕ → Bool) (text words : List ℕ) (k w : ℕ) → k < length words → BitsTell p text words (64 * k) → ((i : ℕ) → i < 64 → test w i ≡ p (get_or text (64 * k + i) 0)) → BitsTell p text (set words k w) (64 * (k + 1))
 marks-more p text words k w within before now i below =
     elim (cases_lt i (64 * k)) [
+      -- a bit below 64 k is one of the words before, which are as they were
       | inl low ↦
           ap (λ x. test x (i % 64)) (get_or-set_other words k (i / 64) w 0 (λ same. omega (arith, same, low))) ∙ before i low
       | inr high ↦

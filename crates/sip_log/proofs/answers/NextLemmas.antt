@@ -166,6 +166,7 @@ line-told format last line (plain action moment) behind next short is at =
 -- a line that spells an entry of the format, of fewer than 32 bytes, can be read
 line-read : (format : Format) (line : List ℕ) (action : Action) (moment len : ℕ) → length line < 32 → IsOf format action → line ≡ line_says action moment len → (head : Head) × HeadLine format line head
 line-read format line action moment len short of is = elim (message-or-not action) [
+  -- the action has no message, and its line only a moment; or it has one, and its line also the length
   | inr none ↦ (plain action moment, plain-read format line action moment len short none of is)
   | inl has ↦ (message action moment len, message-read format line action moment len short has is)
 ]

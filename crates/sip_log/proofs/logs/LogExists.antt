@@ -90,6 +90,7 @@ digits-or-not (c ∷ cs) = both (digit_value c < 10) (AllDigits 10 cs) (at_most 
 -- it is settled whether a text begins with 0 only where that is all of it
 plain-or-not : (text : List ℕ) → Settled (get_or text 0 0 ≡ digit_zero → length text ≡ 1)
 plain-or-not text = elim (cases_eq (length text) 1) as (λ _. Settled (get_or text 0 0 ≡ digit_zero → length text ≡ 1)) [
+  -- a text of one byte may begin with 0
   | inl one ↦ inl (λ none. one)
   | inr many ↦ elim (cases_eq (get_or text 0 0) digit_zero) as (λ _. Settled (get_or text 0 0 ≡ digit_zero → length text ≡ 1)) [
     -- a text with other bytes may not begin with 0, and may begin with another byte
@@ -101,6 +102,7 @@ plain-or-not text = elim (cases_eq (length text) 1) as (λ _. Settled (get_or te
 -- a text is a number, or it is no number
 number-or-not : (text : List ℕ) → ((n : ℕ) × IsNumber text n) ⊎ ((n : ℕ) → ¬ (IsNumber text n))
 number-or-not text = elim (both _ _ (both _ _ (at_most 1 (length text)) (digits-or-not text)) (plain-or-not text)) as (λ _. ((n : ℕ) × IsNumber text n) ⊎ ((n : ℕ) → ¬ (IsNumber text n))) [
+  -- the number is the one that the digits make
   | inl is ↦ inl (digits_value 10 text, record { digits = is.0; plain = is.1; value = refl })
   | inr other ↦ inr (λ n is. other (is.digits, is.plain))
 ]
@@ -108,6 +110,7 @@ number-or-not text = elim (both _ _ (both _ _ (at_most 1 (length text)) (digits-
 -- a text has a moment and a length, or has not
 numbers-or-not : (text : List ℕ) → ((moment : ℕ) × (len : ℕ) × Numbers text moment len) ⊎ ((moment len : ℕ) → ¬ (Numbers text moment len))
 numbers-or-not text = elim (cut-or-lacks space text) [
+  -- without a blank there are not two numbers
   | inr lacks ↦ inr (λ moment len is. Lacks-cut space text is.moment_text is.len_text lacks is.whole)
   | inl at ↦ elim (number-or-not at.0) [
     -- what stands before the first blank is no number
@@ -149,6 +152,7 @@ restart-or-not Two b sent received failed mark is = inl (Restart, (λ same. refl
 -- a byte is the letter of an action of the format, or of none
 action-or-not : (format : Format) (b : ℕ) → ActionOrNot format b
 action-or-not format b = elim (cases_eq b (letter Sent)) [
+  -- the byte is compared with the letters, one after another; `cc`: of these four none is Restart, which format 1 lacks
   | inl is ↦ inl (Sent, (λ same. cc), is)
   | inr sent ↦ elim (cases_eq b (letter Received)) [
     | inl is ↦ inl (Received, (λ same. cc), is)
@@ -186,6 +190,7 @@ no-head format line other (plain action moment) is = other (letter action) is.0 
 -- a line with a letter of the format and a blank is an entry's line, or it is not
 lettered-or-not : (format : Format) (action : Action) (text : List ℕ) → IsOf format action → HeadOrNot format (letter action ∷ space ∷ text)
 lettered-or-not format action text of = elim (message-or-not action) as (λ _. HeadOrNot format (letter action ∷ space ∷ text)) [
+  -- with a message a moment and a length stand after the letter
   | inl has ↦ elim (numbers-or-not text) as (λ _. HeadOrNot format (letter action ∷ space ∷ text)) [
     | inl is ↦ inl (message action is.0 is.1, (text, has, is.2, refl))
     | inr none ↦ inr (HeadLine-no_numbers format (letter action ∷ space ∷ text) action has refl none)
@@ -200,6 +205,7 @@ lettered-or-not format action text of = elim (message-or-not action) as (λ _. H
 -- a line with a byte and a blank is an entry's line, or it is not
 letter-or-not : (format : Format) (b : ℕ) (text : List ℕ) → HeadOrNot format (b ∷ space ∷ text)
 letter-or-not format b text = elim (action-or-not format b) as (λ _. HeadOrNot format (b ∷ space ∷ text)) [
+  -- the byte is the letter of no action, so the line is no entry's; or it is that of one
   | inr none ↦ inr (HeadLine-unlettered format (b ∷ space ∷ text) none)
   | inl by ↦ subst (λ c. HeadOrNot format (c ∷ space ∷ text)) (sym by.2) (lettered-or-not format by.0 text by.1)
 ]
@@ -217,6 +223,7 @@ head-or-not format (b ∷ s ∷ text) = elim (cases_eq s space) as (λ _. HeadOr
 -- the rest has a front line, or has none
 front-or-not : (rest : List ℕ) → ((line : List ℕ) × (behind : List ℕ) × FrontLine rest line behind) ⊎ ((line behind : List ℕ) → ¬ (FrontLine rest line behind))
 front-or-not rest = elim (cut-or-lacks line_feed rest) [
+  -- without a line feed there is no front line
   | inr lacks ↦ inr (λ line behind is. Lacks-cut line_feed rest line behind lacks is.whole)
   | inl at ↦ elim (at_most (suc (length at.0)) longest_line) [
     | inl short ↦ inl (at.0, at.1, record { whole = at.2.whole; first = at.2.first.nowhere; short = short })
@@ -259,6 +266,7 @@ body-some (plain action moment) behind = (gives (record { action = action; momen
 -- the numbers of an entry's line are within the limits, or are not
 pub limits-or-not : (head : Head) → Settled (KeepsLimits head)
 limits-or-not (message action moment len) = elim (both _ _ (at_most moment last_moment) (within 1 len 65535)) as (λ _. Settled (KeepsLimits (message action moment len))) [
+  -- the moment is at most the last one and the length lies from 1 to 65535, or one of these fails
   | inl is ↦ inl (is.0, is.1.0, is.1.1)
   | inr other ↦ inr (λ is. other (is.0, (is.1, is.2)))
 ]
@@ -360,6 +368,7 @@ NumberOrNot word text = ((n : ℕ) × (behind : List ℕ) × NumberAfter word te
 -- a text with the word has a number before its first blank, or has none
 part-or-not : (word text front back : List ℕ) → text ≡ word ++ (front ++ back) → Lacks space front → Parted back → NumberOrNot word text
 part-or-not word text front back after lacks parted = elim (number-or-not front) [
+  -- the number after the word is what stands before its first blank, so this is a number or there is none
   | inl is ↦ inl (is.0, back, NumberAfter-of word text front back after lacks parted is.0 is.1)
   | inr none ↦ inr (λ n behind is. none n (NumberAfter-part word text front back after lacks parted n behind is))
 ]
@@ -382,6 +391,7 @@ LastOrNot word text = ((n : ℕ) × NumberAfter word text n []) ⊎ ((n : ℕ) �
 -- a text ends with a number after the word, or does not
 last-or-not : (word text : List ℕ) → LastOrNot word text
 last-or-not word text = elim (number_after-or-not word text) as (λ _. LastOrNot word text) [
+  -- no number stands after the word, or one does, and then what is left after it decides
   | inr none ↦ inr (λ n is. none n [] is)
   | inl is ↦ ends-here is.0 is.1 is.2
 ]
@@ -512,6 +522,7 @@ rules-some rest = elim (begins-or-not (rules_text R3261) rest) as (λ _. (rules 
 -- something comes after line 1: it is a header, or a fault
 second-some : (format : Format) (rest : List ℕ) → Comes (ComesSecond format rest)
 second-some format rest = elim (second-or-not format rest) as (λ _. Comes (ComesSecond format rest)) [
+  -- without a line 2 the fault is the header; with one the header ends after it, or after a line of rules that follows it
   | inr none ↦ (stops faults.Header, inr (none, refl))
   | inl front ↦
       let line = rules-some front.1 in

@@ -118,6 +118,7 @@ from_nil n = refl
 -- a number whose decimal text has at most 63 digits is below 10^64
 pub decimal-short : (n : ℕ) → length (decimal n) ≤ 63 → n < 10 ^ 64
 decimal-short n short = elim (cases_lt n (10 ^ 64)) as (λ _. n < 10 ^ 64) [
+  -- a number of 10^64 or more would have at least 64 digits, by `long`
   | inl low ↦ low
   | inr high ↦ absurd (omega (arith, long 64 n [] high, ap length (from_nil n), short))
 ]

@@ -10,6 +10,7 @@ use Rattle.sip_text.proofs.texts.LacksLemmas.{Lacks}
 pub last_byte : (text : List ℕ) → (text ≡ []) ⊎ ((u : List ℕ) × (b : ℕ) × (text ≡ u ++ (b ∷ [])))
 last_byte [] = inl refl
 last_byte (a ∷ text) = elim (last_byte text) [
+  -- what follows the first byte is empty, so the first byte is the last; or it has a last byte, which is that of the text
   | inl none ↦ inr ([], a, ap (λ t. a ∷ t) none)
   | inr more ↦ inr (a ∷ more.0, more.1, ap (λ t. a ∷ t) more.2)
 ]
@@ -49,6 +50,7 @@ up_to-mark mark u = up_to-end mark u mark ∙ ap (λ same. cond same (Some u) No
 -- where u is the text up to the mark at the end of a text, the text is u and the mark
 pub up_to-some : (mark : ℕ) (text u : List ℕ) → up_to mark text ≡ Some u → text ≡ u ++ (mark ∷ [])
 up_to-some mark text u found = elim (last_byte text) [
+  -- an empty text has no mark at its end; else its last byte decides
   | inl none ↦ let missing = sym (ap (up_to mark) none) ∙ found in cc
   | inr more ↦ at more.0 more.1 more.2 (nat_eq more.1 mark) refl (sym (up_to-end mark more.0 more.1) ∙ sym (ap (up_to mark) more.2) ∙ found)
 ]

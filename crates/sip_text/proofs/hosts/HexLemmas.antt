@@ -36,6 +36,7 @@ hexseq-is text seq = joined-is is_hex4 colon Hex4 text lack-hex4 (group-between 
 optional-yes : (text : List ℕ) → is_optional_hexseq text ≡ true → Optional Hexseq text
 optional-yes [] pass = inl refl
 optional-yes (b ∷ text) pass = elim (or_cases (nat_eq (length (b ∷ text)) 0) (is_hexseq (b ∷ text)) pass) [
+  -- the text has a byte, so it is not empty; then it is a hexseq
   | inl none ↦ absurd (omega (arith, eqb-true (length (b ∷ text)) 0 none))
   | inr seq ↦ inr (hexseq-yes (b ∷ text) seq)
 ]
@@ -184,6 +185,7 @@ open-yes text pass = at (up_to colon text) refl pass
 -- a hexpart that ends with "::" passes the test `is_open` without its last colon
 pub open-is : (text : List ℕ) → OpenHexpart text → (front : List ℕ) × (text ≡ front ++ (colon ∷ [])) × (is_open front ≡ true)
 open-is text hexpart = elim hexpart [
+  -- a hexseq stands before the "::", or nothing does
   | inl ends ↦ at ends.0 (inr ends.2) (ends.4 ∙ ap (λ t. ends.0 ++ t) ends.3)
   | inr is ↦ at [] (inl refl) is
 ]

@@ -29,6 +29,7 @@ bracketed text reference lacks =
 -- a letter is no digit
 no_digit : (b : ℕ) → is_ascii_alphabetic b ≡ true → is_ascii_digit b ≡ false
 no_digit b letter = and_right _ _ (lt-leb b 57 (elim (or_cases (is_in_range 65 90 b) (is_in_range 97 122 b) letter) [
+  -- a capital letter is at least 65 and a small one at least 97, and the last digit is 57
   | inl upper ↦ omega (arith, leb-true 65 b (and_parts _ _ upper).0)
   | inr lower ↦ omega (arith, leb-true 97 b (and_parts _ _ lower).0)
 ]))

@@ -76,6 +76,7 @@ other_byte test mark b fails pass = at (nat_eq b mark) refl
 -- a byte of a label that is no hyphen is a letter or digit
 alphanumeric-label : (b : ℕ) → is_label_byte b ≡ true → nat_eq b hyphen ≡ false → is_ascii_alphanumeric b ≡ true
 alphanumeric-label b pass other = elim (or_cases (is_ascii_alphanumeric b) (nat_eq b hyphen) pass) [
+  -- a byte of a label is a letter or digit, or a hyphen, which is ruled out
   | inl is ↦ is
   | inr is ↦ absurd (both_ways (nat_eq b hyphen) other is)
 ]

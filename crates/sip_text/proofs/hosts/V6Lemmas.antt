@@ -65,6 +65,7 @@ tail-yes text pass = at (before_last colon text) refl pass
 -- a text that passes the test of an IPv6 address is one
 pub v6-yes : (text : List ℕ) → is_v6 text ≡ true → Ipv6 text
 v6-yes text pass = elim (or_cases (is_hexpart text) (has_v4_tail text) pass) [
+  -- the text is a hexpart with no IPv4 address after it, or has one
   | inl hexpart ↦ inl (text, [], hexpart-yes text hexpart, inl refl, sym (append-nil text))
   | inr tail ↦ tail-yes text tail
 ]

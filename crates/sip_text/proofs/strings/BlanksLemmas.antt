@@ -131,6 +131,7 @@ blanks-longest text n run = (units, stops (blank_len (drop n text)) refl)
     -- no blank run at the front of the text is longer than n bytes
     longer : (k : ℕ) → HasFront (Many Blank) text (n + suc k) → ⊥
     longer k front = elim (blanks-units front.0 front.2) [
+      -- a run of n + 1 bytes or more is not empty, and as blanks it would be longer than the longest
       | inl none ↦ absurd (omega (arith, front.4, ap length none))
       | inr blanks ↦ absurd (omega (arith, run.longest (n + suc k) (front.0, front.1, blanks, front.3, front.4)))
     ]

@@ -23,6 +23,7 @@ IsPlain b = (is_quoted_byte b ≡ false) × (nat_eq b backslash ≡ false)
 -- a WSP is no byte of qdtext, and begins no quoted pair
 plain_wsp : (b : ℕ) → is_wsp b ≡ true → IsPlain b
 plain_wsp b wsp = elim (or_cases (nat_eq b space) (nat_eq b tab) wsp) [
+  -- a WSP is SP or HTAB
   | inl is ↦ subst IsPlain (sym (eqb-true b space is)) (refl, refl)
   | inr is ↦ subst IsPlain (sym (eqb-true b tab is)) (refl, refl)
 ]
@@ -82,6 +83,7 @@ item-piece (a ∷ text) = at (is_quoted_byte a) refl
     -- a blank at the front is a piece
     blank_at : (blank_len (a ∷ text) ≡ 0) ⊎ HasFront QuotedItem (a ∷ text) (blank_len (a ∷ text))
     blank_at = elim (blank-step.piece (a ∷ text)) [
+      -- no blank stands there, or one does, which is the third kind of piece
       | inl none ↦ inl none
       | inr front ↦ inr (front.0, front.1, inr (inr front.2), front.3, front.4)
     ]

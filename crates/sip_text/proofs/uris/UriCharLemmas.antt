@@ -87,6 +87,7 @@ chars-cons class b text many =
 chars-tail : (class : Class) (b : ℕ) (text : List ℕ) → is_in class percent ≡ false → IsTrue (is_in class b) → Many (ClassChar class) (b ∷ text) → Many (ClassChar class) text
 chars-tail class b text no_percent test many =
     elim (chars-cons class b text many) [
+      -- the byte is a character of its own; or an escape begins with it, but then it is "%", which is not of the class
       | inl plain ↦ plain.1
       | inr (rest, _, is, _) ↦ absurd (both_ways (is_in class percent) no_percent (ap (is_in class) (sym is) ∙ test))
     ]
@@ -191,6 +192,7 @@ run-slice test text n is =
 pub some-decides : (P : List ℕ → Type 0) (text : List ℕ) (r : Bool) → (length text == 0) ≡ false → Decides r (Many P text) → Decides r (OneOrMore P text)
 some-decides P text r full decides =
     Decides-like r (λ many. elim (some-many P text many) [
+      -- the pieces are none, and then the text would be empty, or some
       | inl empty ↦ absurd (both_ways (length text == 0) full (ap (λ t. length t == 0) empty))
       | inr some ↦ some
     ]) (many-some P text) decides
@@ -217,6 +219,7 @@ own-first own u (inr (inr escape)) = inr escape
 first-own : (own : ℕ → Bool) (u : List ℕ) → Own own u → CharOf own u
 first-own own u (inl (b, test, is)) =
     elim (or_cases (is_unreserved b) (own b) test) [
+      -- the byte is unreserved, or one of the part's own
       | inl unreserved ↦ inr (inl (b, unreserved, is))
       | inr other ↦ inl (b, other, is)
     ]

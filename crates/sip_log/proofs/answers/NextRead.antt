@@ -98,6 +98,7 @@ lacks-decimal n low = IsNumber-no_line_feed (decimal n) n (number-decimal n (ome
 
 -- no letter of an entry is a line feed
 letter-lacks : (a : Action) → letter a ≢ line_feed
+-- the letters have other codes than the line feed
 letter-lacks Sent same = absurd (omega arith)
 letter-lacks Received same = absurd (omega arith)
 letter-lacks Failed same = absurd (omega arith)

@@ -21,6 +21,7 @@ told {held = held} {held2 = held2} {left = Some xs} {left2 = Some ys} reads P fa
 -- bytes that came from a source, and then more, are bytes that came from it one after the other
 Consumes-then : (left left2 left3 : Option (List ℕ)) (came more : List ℕ) → Consumes left left2 came → Consumes left2 left3 more → Consumes left left3 (came ++ more)
 Consumes-then None left2 left3 came more first second = tt
+-- a source whose bytes are known does not come to have unknown ones
 Consumes-then (Some xs) None left3 came more first second = absurd first
 Consumes-then (Some xs) (Some ys) None came more first second = absurd second
 Consumes-then (Some xs) (Some ys) (Some zs) came more first second =

@@ -232,6 +232,7 @@ ComesNext-one format count last rest n n2 (inr a) (inr b) = Unless-one _ _ n n2 
 -- ends of a log after which the same comes next are the same
 pub next_at-one : (end end2 : LogEnd) → next_at end ≡ next_at end2 → end ≡ end2
 next_at-one Clean Clean same = refl
+-- after a clean end the input ends, and after a stop comes a fault, which are not the same
 next_at-one Clean (Stops reason) same = cc
 next_at-one (Stops reason) Clean same = cc
 next_at-one (Stops reason) (Stops reason2) same = ap Stops (cc)

@@ -129,7 +129,7 @@ log_has_header input p es end none is = none is.format p _ is.header
 entry-first : (e : Item) (rest : List ℕ) → get_or (entry_says e ++ rest) 0 0 ≢ 114
 entry-first e rest = letter-other e.action
   where
-    -- no action is spelled with the letter r
+    -- no action is spelled with the letter r, which is 114
     letter-other : (a : Action) → get_or ((line_says a e.moment (length e.text) ++ (codes "\n" ++ body_says e.action e.text)) ++ rest) 0 0 ≢ 114
     letter-other Sent same = absurd (omega arith)
     letter-other Received same = absurd (omega arith)

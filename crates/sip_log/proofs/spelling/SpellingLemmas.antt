@@ -190,6 +190,7 @@ pub line-same : (action : Action) (moment len : ℕ) → line_text action moment
 line-same Sent moment len = refl
 line-same Received moment len = refl
 line-same Failed moment len = refl
+-- a mark and a restart have nothing after the moment, and the empty text that is appended there adds nothing
 line-same Mark moment len = append-nil (line_says Mark moment len)
 line-same Restart moment len = append-nil (line_says Restart moment len)
 
@@ -198,6 +199,7 @@ pub message-or-not : (action : Action) → HasMessage action ⊎ ¬ (HasMessage 
 message-or-not Sent = inl ((λ same. cc), (λ same. cc))
 message-or-not Received = inl ((λ same. cc), (λ same. cc))
 message-or-not Failed = inl ((λ same. cc), (λ same. cc))
+-- a mark is ruled out by the first part of `HasMessage`, and a restart by the second
 message-or-not Mark = inr (λ has. has.0 refl)
 message-or-not Restart = inr (λ has. has.1 refl)
 
@@ -218,6 +220,7 @@ pub length-message : (action : Action) (len : ℕ) → HasMessage action → len
 length-message Sent len has = refl
 length-message Received len has = refl
 length-message Failed len has = refl
+-- a mark and a restart have no message
 length-message Mark len has = absurd (has.0 refl)
 length-message Restart len has = absurd (has.1 refl)
 
@@ -226,11 +229,13 @@ pub body-message : (action : Action) (text : List ℕ) → HasMessage action →
 body-message Sent text has = refl
 body-message Received text has = refl
 body-message Failed text has = refl
+-- a mark and a restart have no message
 body-message Mark text has = absurd (has.0 refl)
 body-message Restart text has = absurd (has.1 refl)
 
 -- the line of an entry without a message has nothing after the moment
 pub length-plain : (action : Action) (len : ℕ) → ¬ (HasMessage action) → length_text action len ≡ []
+-- the first three actions have a message, which `none` denies
 length-plain Sent len none = absurd (none has-sent)
 length-plain Received len none = absurd (none has-received)
 length-plain Failed len none = absurd (none has-failed)
@@ -239,6 +244,7 @@ length-plain Restart len none = refl
 
 -- an entry without a message has nothing after its line
 pub body-plain : (action : Action) (text : List ℕ) → ¬ (HasMessage action) → body_says action text ≡ []
+-- the first three actions have a message, which `none` denies
 body-plain Sent text none = absurd (none has-sent)
 body-plain Received text none = absurd (none has-received)
 body-plain Failed text none = absurd (none has-failed)

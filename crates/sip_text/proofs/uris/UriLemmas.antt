@@ -42,6 +42,7 @@ scheme-lacks =
 one-scheme : (scheme : List ℕ) (a b : Bool) → SameText scheme (scheme_name a) → SameText scheme (scheme_name b) → a ≡ b
 one-scheme scheme true true same also = refl
 one-scheme scheme false false same also = refl
+-- a scheme cannot be both names, since they have not as many letters
 one-scheme scheme true false same also = let names = sym same ∙ also in cc
 one-scheme scheme false true same also = let names = sym same ∙ also in cc
 

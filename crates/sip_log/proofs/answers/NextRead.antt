@@ -120,6 +120,7 @@ line-lacks action moment len low small = elim (message-or-not action) as (λ _. 
       let far = small has in
       let digits = length-decimal-le 5 len (omega arith) (omega arith) (omega arith) in
       let text = length-message action len has in (
+        -- no LF stands in the letter, the blanks or the digits, and these are fewer than 32 bytes
         Lacks-cons line_feed (letter action) _ (letter-lacks action) (Lacks-cons line_feed space _ (λ e. omega arith)
             (subst (λ (t : List ℕ). Lacks line_feed (decimal moment ++ t)) (sym text) (Lacks-append line_feed (decimal moment) (space ∷ decimal len) (lacks-decimal moment low) (Lacks-cons line_feed space (decimal len) (λ e. omega arith) (lacks-decimal len (omega arith)))))),
         omega (arith, length-append (decimal moment) (length_text action len), ap length text, digits, size),

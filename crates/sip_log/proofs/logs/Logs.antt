@@ -156,6 +156,7 @@ header-written format p items times one = record {
   times = times;
   one = one;
   rest = written_rules p.rules ++ flat_map entry_says items;
+  -- after the two lines stand the line of rules, if one is written, and the entries
   lines = append_assoc (lines_text format p) (written_rules p.rules) (flat_map entry_says items);
   rules = rules-written p.rules items;
 }
@@ -166,6 +167,7 @@ pub clean-log : (format : Format) (input : List ℕ) (p : Times) (items : List I
 clean-log format input p items header few order = record {
   format = format;
   rest = [];
+  -- nothing is left after the last entry, so the log ends there without a fault
   header = subst (Header format p input) (sym (append-nil (flat_map entry_says items))) header;
   few = few;
   order = order;

@@ -81,6 +81,7 @@ follows_spelled format last rest (e ∷ es) end (behind, next, follow) =
     let first = next-told format 0 last rest (gives e behind) next in
     let more = follows_spelled format e.moment behind es end follow in
     record {
+      -- the two spellings, one after the other, are that of all entries, which are in order since the first keeps it
       left = more.left;
       whole = first.0 ∙ ap (λ (t : List ℕ). entry_says e ++ t) more.whole ∙ sym (append_assoc (entry_says e) (flat_map entry_says es) more.left);
       order = (first.2, first.3, more.order);
@@ -90,8 +91,10 @@ follows_spelled format last rest (e ∷ es) end (behind, next, follow) =
 -- entries in order, spelled before the end, follow there
 spelled_follows : (format : Format) (last : ℕ) (items : List Item) (rest : List ℕ) (end : LogEnd) → InOrder format last items → EndsWith format 0 (last_of last items) rest end
     → Follows format last (flat_map entry_says items ++ rest) items end
+-- without entries the end stands there
 spelled_follows format last [] rest end order next = next-read format 0 last rest (next_at end) (end-comes format 0 last rest end next)
 spelled_follows format last (e ∷ es) rest end order next =
+    -- the first entry is spelled at the front, and the others follow in what is left
     let whole : (entry_says e ++ flat_map entry_says es) ++ rest ≡ entry_says e ++ (flat_map entry_says es ++ rest) = append_assoc (entry_says e) (flat_map entry_says es) rest in (
       flat_map entry_says es ++ rest,
       next-read format 0 last ((entry_says e ++ flat_map entry_says es) ++ rest) (gives e (flat_map entry_says es ++ rest)) (whole, omega arith, order.0, order.1),

@@ -106,8 +106,10 @@ name-yes text pass =
         let rest = go next labels both.1 in (
           (label ++ (dot ∷ [])) ++ rest.0,
           rest.1,
+          -- the first label with its dot stands before the labels of the rest; the top label is that of the rest
           many-cons (Label is_ascii_alphanumeric then Byte dot) (label ++ (dot ∷ [])) rest.0 (label, dot ∷ [], domain-yes label both.0, refl, refl) rest.2,
           rest.3,
+          -- the text is the first label, a dot and the text of the rest
           ap (λ t. label ++ (dot ∷ t)) rest.4
               ∙ sym (append_assoc (label ++ (dot ∷ [])) rest.0 rest.1 ∙ append_assoc label (dot ∷ []) (rest.0 ++ rest.1)),
         )

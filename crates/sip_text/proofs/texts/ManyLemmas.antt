@@ -89,6 +89,7 @@ run-more P len text n k step front k_is some =
         front.0 ++ next.0,
         next.1,
         many-push P front.0 next.0 front.2 next.2,
+        -- the text is the pieces before, the next one and what is left, and its length is counted so too
         front.3 ∙ ap (λ t. front.0 ++ t) next.3 ∙ sym (append_assoc front.0 next.0 next.1),
         ap (λ m. m + k) front.4 ∙ ap (λ m. length front.0 + m) (at_rest ∙ next.4) ∙ sym (length-append front.0 next.0),
       )

@@ -143,9 +143,11 @@ each-past mark P text part rest part_is rest_is one =
     cut-whole mark text ∙ ap (λ t. t ++ led mark (behind mark text)) (sym part_is)
     ∙ ap (λ o. part ++ led mark o) (sym rest_is) in (
       (
+        -- what holds of all parts holds of the first one and of the others, and the other way round
         λ each. subst (AllByRecursion P) (sym split) (one, each),
         λ each. (subst (AllByRecursion P) split each).1,
       ),
+      -- the rest is shorter than the text
       omega (arith, ap length whole, length-append part (mark ∷ rest)),
     )
 

@@ -45,7 +45,7 @@ HeadComes-ahead last action moment len rest text keeps order comes (message a m 
     (subst (λ x. HeadComes last (message action x l) (rest ++ more) (gives (item_ahead action moment text) (drop (len + 1) rest ++ more))) (sym same_moment)
     (subst (λ x. HeadComes last (message action moment x) (rest ++ more) (gives (item_ahead action moment text) (drop (len + 1) rest ++ more))) (sym same_len) as_told))
 
--- numbers within the limits are kept as they are
+-- numbers within the limits are kept as they are, since a number that is cut is above every limit
 limits-kept : (h : Head) → KeepsLimits (head_of (cut_head h)) → KeepsLimits h × (moment_of (head_of (cut_head h)) ≡ moment_of h) × (len_of (head_of (cut_head h)) ≡ len_of h)
 limits-kept (message action moment len) keeps =
     ((omega (arith, keeps.0), omega (arith, keeps.1), omega (arith, keeps.2)), omega (arith, keeps.0), omega (arith, keeps.2))

@@ -110,6 +110,7 @@ past-some mark (b ∷ text) rest is = at (nat_eq b mark) refl is
     -- the claim holds whether or not the first byte is the mark
     at : (same : Bool) → nat_eq b mark ≡ same → cond same (Some text) None ≡ Some rest → b ∷ text ≡ mark ∷ rest
     at true same found = let rest_is : text ≡ rest = cc in ap (λ x. x ∷ text) (eqb-true b mark same) ∙ ap (λ t. mark ∷ t) rest_is
+    -- where the first byte is another one, nothing is found past the mark
     at false same found = cc
 
 -- what stands after a mark is shorter than the text

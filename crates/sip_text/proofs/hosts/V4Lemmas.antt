@@ -24,6 +24,7 @@ decimal_dot-yes later Q text each pass = at (is_decimal (before dot text)) (behi
   where
     -- the text is digits, a dot and a text of Q, since the test passes only where digits stand before a dot
     at : (digits : Bool) (o : Option (List ℕ)) → is_decimal (before dot text) ≡ digits → behind dot text ≡ o → option_map_or later (cond digits o None) false ≡ true → (DecimalGroup then Byte dot then Q) text
+    -- where no 1*3DIGIT stands before the first dot, or there is no dot, the test fails
     at false o none is passes = cc
     at true None some is passes = cc
     -- the digits, the dot and what follows it are the text

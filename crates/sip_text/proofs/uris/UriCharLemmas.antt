@@ -54,6 +54,7 @@ stripped-escape (mark ∷ high ∷ low ∷ text) rest is = at _ refl is
     -- the test of an escape passes, since there is a rest, and so the text begins with an escape
     -- t is the answer of the test, and x and y are the two digits
     at : (t : Bool) → (mark == percent && is_ascii_hexdigit high && is_ascii_hexdigit low) ≡ t → (if t then Some text else None) ≡ Some rest → (x : ℕ) × (y : ℕ) × AreDigits x y × (mark ∷ high ∷ low ∷ text ≡ percent ∷ x ∷ y ∷ rest)
+    -- where the test fails, there is no rest
     at false test is = cc
     at true test is =
         -- the test passed, so each of its three parts does

@@ -298,6 +298,7 @@ next-some format count last (x ∷ xs) =
 
 -- where a case gives something, it does not stop with the reason, so what it gives is what follows
 Unless-gives : {A : Type 0} (Demand : Type 0) (reason : LogReason) (a : A) (behind : List ℕ) (Follows : Type 0) → Unless Demand reason (gives a behind) Follows → Follows
+-- a stop gives nothing, so the first case cannot be
 Unless-gives Demand reason a behind Follows (inl (fails, same)) = cc
 Unless-gives Demand reason a behind Follows (inr (holds, follows)) = follows
 
@@ -551,6 +552,7 @@ no-header input fault is format p behind header = absurd (other (ComesFirst-one 
 
 -- what comes first in an input is not its end
 first-not-ends : (input : List ℕ) → ¬ (HeaderComes input ends)
+-- a header that is read gives something, and where none is read a fault comes
 first-not-ends input (inl (format, rest, title, inl (p, behind, front, (rules, more, line, same)))) = cc
 first-not-ends input (inl (format, rest, title, inr (none, same))) = cc
 first-not-ends input (inr (none, same)) = cc

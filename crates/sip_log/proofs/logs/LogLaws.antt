@@ -239,6 +239,7 @@ next_at-one (Stops reason) (Stops reason2) same = ap Stops (cc)
 
 -- the end of a log is no entry that comes next
 pub next_at-not_gives : (end : LogEnd) (e : Item) (behind : List ℕ) → next_at end ≢ gives e behind
+-- what comes at it is the end of the input, or a fault
 next_at-not_gives Clean e behind same = cc
 next_at-not_gives (Stops reason) e behind same = cc
 

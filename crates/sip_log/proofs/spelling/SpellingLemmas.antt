@@ -143,6 +143,7 @@ lines-under Two rules p = refl
 -- in format 1 the early and the late tolerance are the same
 one-tolerance : (format : Format) (text : List ℕ) (early late : ℕ) → Tolerances format text early late → format ≡ One → early ≡ late
 one-tolerance One text early late is same = is.1
+-- format 2 is not format 1
 one-tolerance Two text early late is same = cc
 
 -- a header that is read is spelled

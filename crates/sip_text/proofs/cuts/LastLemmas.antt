@@ -65,6 +65,7 @@ last-split mark (b ∷ text) u is = later (before_last mark text) (last-split ma
     here true same at =
         let empty : [] ≡ u = cc in
         ap (λ x. x ∷ text) (eqb-true b mark same) ∙ ap (λ t. t ++ (mark ∷ drop (suc (length t)) (b ∷ text))) empty
+    -- where the first byte is another one, nothing stands before a mark here
     here false same at = cc
 
     -- the claim holds whether or not the mark stands in the text after the first byte

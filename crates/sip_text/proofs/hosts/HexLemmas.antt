@@ -179,6 +179,7 @@ open-yes text pass = at (up_to colon text) refl pass
 
     -- the claim holds whether or not the text ends with a colon
     at : (o : Option (List ℕ)) → up_to colon text ≡ o → option_map_or is_optional_hexseq o false ≡ true → OpenHexpart (text ++ (colon ∷ []))
+    -- without a colon at the end the test fails
     at None is passes = cc
     at (Some u) is passes = ends u (optional-yes u passes) (up_to-some colon text u is)
 

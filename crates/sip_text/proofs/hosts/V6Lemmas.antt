@@ -49,6 +49,7 @@ tail-yes text pass = at (before_last colon text) refl pass
 
     -- the claim holds whether or not the text has a colon
     at : (o : Option (List ℕ)) → before_last colon text ≡ o → option_map_or (λ f. is_v4 v4 && is_before_v4 f) o false ≡ true → Ipv6 text
+    -- without a colon the test fails
     at None is passes = cc
     at (Some front) is passes =
         -- what stands after the last colon is an IPv4 address, and what stands before it passes one of two tests

@@ -1,3 +1,4 @@
+-- `each-past`: where the first part is a parameter, all parts of the text are exactly if those of the rest are (`.0`), and the rest is shorter (`.1`)
 use Rattle.std.proofs.Common.{sym, ap, ◌∙◌, refl, option_copied}
 use Rattle.std.proofs.lemmas.Bool.{both_ways, false≢true}
 use Rattle.sip_text.specs.Bytes.{semicolon}

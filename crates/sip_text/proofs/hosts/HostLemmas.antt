@@ -40,6 +40,7 @@ no_dot b letter = ne_eqb dot b (λ same. both_ways (is_ascii_alphabetic dot) ref
 
 -- a label whose first byte is a letter is a letter and what follows it
 starts_with : (text : List ℕ) → Label is_ascii_alphabetic text → (b : ℕ) × (rest : List ℕ) × (is_ascii_alphabetic b ≡ true) × (text ≡ b ∷ rest)
+-- the label is the letter alone, or more bytes follow it
 starts_with text (inl one) = (one.0, [], one.1, one.2)
 starts_with text (inr more) = (more.2.0, more.1, more.2.1, more.4 ∙ ap (λ t. t ++ more.1) more.2.2)
 

@@ -22,6 +22,7 @@ returns-then-not-userinfo_fits c = λ x is.
     let fits = info-fits c.args.secure c.args.text.now (cut_parts c.cut_sip-cuts.result) x c.cut_sip-cuts.ensures is in
     -- one of the two tests failed, though by `fits` it passes
     elim c.then-not-userinfo_fits.branch [
+      -- the user was refused, or else what follows the host
       | then-not-userinfo_fits-via-then-not-userinfo_fits w ↦
           both_ways c.userinfo_fits.result w.if-not-userinfo_fits.true (c.userinfo_fits.ensures.1 fits.0)
       | then-not-userinfo_fits-via-else-not-userinfo_fits+then-not-tail_fits w ↦

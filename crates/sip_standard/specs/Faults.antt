@@ -4,15 +4,13 @@ use Rattle.sip_standard.specs.declared.fault.Fault.{Fault}
 use Rattle.sip_standard.specs.declared.fault.Unit.TheVariants as place
 use Rattle.sip_standard.specs.declared.fault.Reason.{Reason}
 
--- a fault of the head as a whole, for this reason
 abbrev pub fault_in_head : Reason → Fault
 fault_in_head why = record { unit = place.Head; reason = why }
 
--- a fault of the line with this number, 0 being the start line, for this reason
+-- a fault of the line with this number, 0 being the start line
 abbrev pub fault_in_line : ℕ → Reason → Fault
 fault_in_line n why = record { unit = place.Line n; reason = why }
 
--- a fault of the body, for this reason
 abbrev pub fault_in_body : Reason → Fault
 fault_in_body why = record { unit = place.Body; reason = why }
 

@@ -1,6 +1,5 @@
 -- Sets of texts, and how sets are made of sets: the algebra of ABNF (RFC 5234, sections 3 and 4).
--- A text is a list of bytes, and a set of texts is a fact about a text. `infixr` says that a sign stands between two sets: the greater its number, the
--- closer it binds.
+-- A text is a list of bytes, and a set of texts is a fact about a text.
 use Rattle.std.specs.Prelude.{◌≡◌, ℕ, ◌≤◌, ◌⊎◌, Bool, List, [], ◌∷◌, ◌++◌, length, IsTrue}
 use Rattle.std.specs.List.{AllByRecursion, concat}
 

@@ -32,7 +32,8 @@ impl<'s, 'a> Model for Vias<'s, 'a> {
     // Contracts see this as the list of the elements that are left.
     ghost Value = { List Element };
 
-    // Elements are written as lists and numbers, so that equality of them is a fact without content.
+    // Elements are written as lists and numbers, as `coded` asks: of such values two proofs of one equality are the same, and so there is one proof at most
+    // that exactly one list is left.
     ghost coded = { elements_code };
 
     // The elements that are left are the one list for which `left` stands.

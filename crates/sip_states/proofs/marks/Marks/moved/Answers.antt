@@ -1,3 +1,4 @@
+-- Of the marks, `named` are the flags of the sets that may name a message, and `moved` those of the sets that a restart may change.
 use Rattle.sip_states.proofs.due.MarksLemmas.{front_marked, front_once}
 use Rattle.sip_states.proofs.marks.Marks.moved.Goals as goal
 

@@ -1,3 +1,4 @@
+-- Of the marks, `named` are the flags of the sets that may name a message, and `moved` those of the sets that a restart may change.
 use Rattle.std.proofs.Common.{◌+◌, ◌∙◌, map, sym, ap, subst, arith}
 use Rattle.std.proofs.lemmas.List.{take_all}
 use Rattle.std.proofs.lemmas.Map.Entries.{length-values_of, length-keys_of}

@@ -33,13 +33,16 @@ MOST_ENTRIES = 1_000_000
 def write_capture(path, count):
     """Writes a pcap of `count` messages: Ethernet, IPv4, UDP, from port 5060 to 5060."""
     with open(path, "wb", buffering=1 << 20) as out:
+        # The head of a pcap: its number, format 2.4, no zone, no accuracy, the most bytes of a packet, and Ethernet.
         out.write(struct.pack("<IHHiIII", 0xA1B2C3D4, 2, 4, 0, 0, 262144, 1))
         for number, (letter, moment, text) in enumerate(judge.calls(count)):
             data = text.encode()
             source, target = (ELEMENT, OTHER) if letter == "S" else (OTHER, ELEMENT)
+            # The headers of IPv4 (20 bytes, not to be cut into fragments, 64 hops, UDP) and of UDP (the ports, the length, no checksum).
             ip = struct.pack(">BBHHHBBH", 0x45, 0, 28 + len(data), number & 0xFFFF, 0x4000, 64, 17, 0) + source + target
             frame = ETHERNET + ip + struct.pack(">HHHH", 5060, 5060, 8 + len(data), 0) + data
             seconds, milliseconds = divmod(BEGIN + moment, 1000)
+            # The moment in seconds and microseconds, and twice the length of the frame.
             out.write(struct.pack("<IIII", seconds, 1000 * milliseconds, len(frame), len(frame)) + frame)
 
 
@@ -48,6 +51,7 @@ def piped(commands):
     children."""
     started, given = [], subprocess.DEVNULL
     for command in commands:
+        # Each command is run by a program that measures it, and reads what the one before writes.
         one = subprocess.Popen(["/usr/bin/env", "python3", "-c", MEASURED, *map(str, command)], stdin=given, stdout=subprocess.PIPE, stderr=subprocess.PIPE)
         if given is not subprocess.DEVNULL:
             given.close()
@@ -55,6 +59,7 @@ def piped(commands):
         started.append(one)
     said = started[-1].communicate()
     errors = [one.stderr.read() for one in started[:-1]] + [said[1]]
+    # The last two words on standard error are the seconds and the megabytes.
     numbers = [tuple(map(float, error.split()[-2:])) for error in errors]
     return said[0].decode().strip(), numbers
 
@@ -74,6 +79,7 @@ def measure(path, count, reader, program):
     making = [RECIPES / "to-log", "192.0.2.1:5060"]
     # `numbers` has the seconds and the megabytes of each step; to-log reads a capture by itself, in one step less.
     said, numbers = piped([[*making, "--capture", path], [program]] if reader == "to-log" else [[RECIPES / reader, path], making, [program]])
+    # A call of five messages has two transactions: the INVITE's, and that of the ACK to its 200.
     if said != "legal entries %d transactions %d" % (count, count // 5 * 2):
         sys.exit("%s: %s" % (reader, said))
     numbers = [(0, 0)] * (reader == "to-log") + numbers
@@ -82,6 +88,7 @@ def measure(path, count, reader, program):
 
 
 def main():
+    # Whole calls, of five messages each.
     counts = [int(word) // 5 * 5 for word in sys.argv[1:]] or [10_000, 100_000, 1_000_000]
     program = os.environ.get("SIPTRACE") or TOP / "siptrace"
     # The program is run once, so that it is there when it is measured.

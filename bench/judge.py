@@ -71,6 +71,7 @@ def merged(transactions, step):
         while open_ones and open_ones[0][0] <= start:
             yield heapq.heappop(open_ones)[2:]
         for place, (moment, letter, text) in enumerate(entries):
+            # Those of one moment come in the order of their transactions, and within a transaction as they stand.
             heapq.heappush(open_ones, (start + moment, (number, place), letter, start + moment, text))
     while open_ones:
         yield heapq.heappop(open_ones)[2:]
@@ -84,6 +85,7 @@ def calls(entries):
 
     def call(number):
         """The messages of the call with this number, with their moments and directions."""
+        # The bodies have one to sixteen codecs more, so that the messages differ in length.
         sdp = SDP + "".join(f"a=rtpmap:{it} CODEC{it}/8000\r\n" for it in range(96, 97 + number % 16))
         return [
             (0, "S", request("INVITE", number, body=sdp)),
@@ -158,9 +160,11 @@ def proxy(entries):
         begun = [(0, "R", invite), (1, "S", trying), (2, "S", out(invite)), (20, "R", out(trying)), (200, "R", out(ringing)), (201, "S", back(ringing))]
         if number % 8 == 0:
             busy, ack = response(486, "INVITE", number), request("ACK", number, tag=";tag=a6c85cf")
+            # The ACK of a refusal goes from hop to hop: the proxy sends its own, with its Via alone, and receives that of its caller.
             hop = re.sub("\r\nVia:[^\r]*", own, ack, count=1)
             return begun + [(900, "R", out(busy)), (901, "S", hop), (902, "S", busy), (920, "R", ack)]
         answer, ack = response(200, "INVITE", number, body=SDP), request("ACK", number, "ack", ";tag=a6c85cf")
+        # The ACK of a 2xx goes on through the proxy, with a branch of its own.
         sent = out(ack, own.replace("bKp", "bKq"))
         return begun + [(900, "R", out(answer)), (901, "S", back(answer)), (920, "R", ack), (921, "S", sent)]
 
@@ -172,6 +176,7 @@ def keys(entries):
     numbers = list(range(entries // 2))
     for number in numbers:
         yield "R", number, request("OPTIONS", number)
+    # The same order at each run.
     random.Random(1).shuffle(numbers)
     for place, number in enumerate(numbers):
         yield "S", entries // 2 + place, response(200, "OPTIONS", number)
@@ -227,6 +232,7 @@ def widening(number):
 def wide(entries):
     """Servers that stand in 1,024 states, with up to 62 debts, when they answer. Each has 128 entries: 127 that widen it, and its 200."""
     for number in range(max(1, entries // 128)):
+        # A server begins each 200 ms, and its entries come a millisecond apart.
         for place, (letter, text) in enumerate(widening(number) + [("S", response(200, "INVITE", number))]):
             yield letter, 200 * number + place, text
 
@@ -286,6 +292,7 @@ def at_one_moment(entries):
 def wide_and_over(entries):
     """The servers of `wide`, each of which begins once the one before is over."""
     for number in range(max(1, entries // 128)):
+        # A minute later the one before is over, with its tolerance of 10 seconds.
         for place, (letter, text) in enumerate(widening(number) + [("S", response(200, "INVITE", number))]):
             yield letter, 60000 * number + place, text
 
@@ -347,6 +354,7 @@ def restarts_after_many(entries):
 def restarts_after_a_million(entries):
     """CANCELs that the transport refused, each of which leaves two transactions that are over, and then restarts: 900,000 entries have a million
     transactions and 400,000 restarts."""
+    # With 900,000 entries 500,000 are CANCELs.
     count = entries * 5 // 9
     for number in range(count):
         yield "F", 10 * number, small("CANCEL sip:b@example.com SIP/2.0", "CANCEL", number)
@@ -434,6 +442,7 @@ def check_legal(kind, entries, text):
 def counted(program, log, out):
     """What callgrind counts of a run: all events by their names, and how often each instruction ran."""
     run = subprocess.run([*CALLGRIND, f"--callgrind-out-file={out}", program, "check", log], stdout=subprocess.PIPE, stderr=subprocess.DEVNULL, check=True)
+    # A line of the counts that begins with 0x is an instruction: its address, its line, and how often it ran.
     events, totals, runs, is_call = [], {}, {}, False
     with out.open() as lines:
         for line in lines:
@@ -467,6 +476,7 @@ def print_counted(program, folder):
             check_legal(kind, count, text)
             got.append((count, totals, runs))
             sizes.append(log.stat().st_size)
+        # What the longer log takes more is what its further entries take, so that the beginning and the end of the program do not count.
         (few, before, runs_before), (many, after, runs) = got
         entries = many - few
 
@@ -505,6 +515,7 @@ def measured(command):
     """The text that a command writes, its processor seconds, the most memory that it held, and its page faults."""
     with tempfile.TemporaryFile() as out:
         process = subprocess.Popen(command, stdout=out, stderr=subprocess.STDOUT)
+        # The kernel tells the most that a process has held while it still runs.
         peak, ended = 0, 0
         while not ended:
             # What the process held a millisecond before its end counts as its most.
@@ -513,6 +524,7 @@ def measured(command):
             ended, status, usage = os.wait4(process.pid, os.WNOHANG)
         process.returncode = os.waitstatus_to_exitcode(status)
         out.seek(0)
+        # A verdict has fewer bytes than these, and of a longer text the beginning is enough.
         return out.read(100), usage.ru_utime + usage.ru_stime, peak, usage.ru_minflt
 
 
@@ -522,6 +534,7 @@ def print_timed(program, folder, verb, kinds, size):
           f"{'cat: MB/s':>9} {'peak MB':>8}")
     log = folder / "log"
     for kind, share in kinds.items():
+        # `cat` of the same log tells what the machine takes to read it.
         entries = write_log(log, kind, int(size * share))
         megabytes = log.stat().st_size / 1e6
         text, seconds, peak, faults = measured([program, verb, log])

@@ -27,6 +27,7 @@ SETS = {1: (0, 0), 2: (1, 0), 100: (99, 0), 1024: (31, 31)}
 def text(start, method="INVITE", branch=1, tag=""):
     """A message as short as it may be, some 100 bytes."""
     to = f"<sip:b>;tag={tag}" if tag else "<sip:b>"
+    # The names of fields are the compact ones, and no blank stands after a colon.
     return f"{start}\r\nv:SIP/2.0/UDP a;branch=z9hG4bK{branch}\r\nf:<sip:a>;tag=1\r\nt:{to}\r\ni:1\r\nCSeq:1 {method}\r\n\r\n"
 
 
@@ -46,8 +47,10 @@ def widened(states, branch=1):
     sent = [("S", 0, reply(code, "w", branch)) for code in (181, 182)]
     for response, owed in zip(sent, SETS[states]):
         if owed:
+            # Each INVITE that comes after a response is to be answered by it again: the response is owed as often. 181 and 182 are the two responses.
             entries += [response, *owed * [ask]]
     for response, owed in zip(sent, SETS[states]):
+        # Each send pays one debt, or is a repeat of its own.
         entries += owed * [response]
     return entries
 
@@ -195,6 +198,7 @@ def hundreds_then_past(count, states):
     for number in range(count):
         yield "S", 0, reply(100, f"h{number}")
         yield ASK
+    # The tolerance is 10,000, so that all that is owed at 0 is past.
     yield "M", 30000, ""
 
 

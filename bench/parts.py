@@ -36,6 +36,7 @@ def print_counted(program, folder):
     surveys |= {f"part {number} of {PARTS}": lambda log, number=number: part(program, number, log) for number in range(1, PARTS + 1)}
     surveys |= {"part 1 of 16": lambda log: part(program, 1, log, 16), "part 1 of 1": lambda log: part(program, 1, log, 1)}
     got = dict.fromkeys(surveys, 0)
+    # What the longer log takes is added, and what the shorter one takes is subtracted.
     for size, sign in zip(COUNTED, (-1, 1)):
         write_log(folder / "log", calls, size)
         for name, survey in surveys.items():
@@ -47,6 +48,7 @@ def print_counted(program, folder):
 def at_once(commands):
     """Runs the commands at once, each on a processor of its own. Answers the seconds until the last has ended, and the processor seconds of each."""
     began = time.monotonic()
+    # The first processors that this process may use, one for each command.
     processes = [subprocess.Popen(command, stdin=subprocess.DEVNULL, stdout=subprocess.DEVNULL, preexec_fn=lambda cpu=cpu: os.sched_setaffinity(0, {cpu}))
                  for cpu, command in zip(sorted(os.sched_getaffinity(0)), commands)]
     used = []

@@ -106,6 +106,7 @@ def message(start, line="", method="OPTIONS", tag=""):
     """A message with this line in place of the field of its name, or after a Via that it has."""
     name = line.partition(":")[0]
     fields = {**FIELDS, "CSeq": f"1 {method}", "To": FIELDS["To"] + tag}
+    # A line of another name, as `s` or `Route`, stands besides.
     lines = [f"{it}: {value}" for it, value in fields.items() if it != name or it == "Via"]
     return "\r\n".join([start, *lines, *([line] if line else []), "", ""])
 
@@ -118,12 +119,14 @@ def shaped(front, unit, end, size):
         line = front + count * unit + end
         return message(line) if line.startswith("OPTIONS ") else message("OPTIONS sip:example.com SIP/2.0", line)
 
+    # As many units as fit between the message without one and the size.
     return with_units(max(0, size - len(with_units(0))) // len(unit))
 
 
 def counted(program, log):
     """The verdict on a log, and how many instructions it takes."""
     run = subprocess.run(["valgrind", "--tool=callgrind", "--callgrind-out-file=/dev/null", program, "check", log], capture_output=True)
+    # Valgrind ends with `Collected : N`.
     return run.stdout.decode(), int(re.search(rb"Collected : (\d+)", run.stderr)[1])
 
 
@@ -154,8 +157,10 @@ def print_repeated(program, log, name, begun, again, states):
     costs = []
     for count in ENTRIES:
         write_entries(log, begun + count * again)
+        # Its log is legal, and stands in as many states as are told.
         verdict, cost = counted(program, log)
         expect(name, verdict, r"legal entries \d+ transactions 1")
+        # The difference of both counts is what the further entries took.
         costs.append(cost)
     listed = subprocess.run([program, "states", log, str(len(begun))], capture_output=True, text=True).stdout
     expect(name, listed.partition("\n")[0] + "\n", rf".* states {states}")
@@ -166,6 +171,7 @@ def server(first, second, third):
     """A server that owes this many of three responses, and may have paid the last two."""
     ask = ("R", 0, message("OPTIONS sip:example.com SIP/2.0"))
     sent = [("S", 0, message(f"SIP/2.0 {code} Reply")) for code in (181, 182, 183)]
+    # Each response is sent, and then asked for again as often as it is owed.
     owed = [it for reply, count in zip(sent, (first, second, third)) for it in [reply, *count * [ask]]]
     return [ask, *owed, *(second + 1) * [sent[1]], *(third + 1) * [sent[2]]], [sent[2]]
 

@@ -49,6 +49,7 @@ def stream():
 def most_memory(process):
     """The most memory that a process took until now, in MB."""
     with open(f"/proc/{process.pid}/status", encoding="ascii") as status:
+        # VmHWM is the most that the process has held, in kB.
         return next(int(line.split()[1]) for line in status if line.startswith("VmHWM:")) / 1000
 
 

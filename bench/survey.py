@@ -35,6 +35,7 @@ def commands(programs, log):
 def check_survey(kind, entries, verdict, survey):
     """Ends the script unless the log is legal and its survey finds nothing."""
     check_legal(kind, entries, verdict)
+    # `legal entries N transactions M` becomes `end entries N transactions M findings 0`.
     if survey != verdict.replace(b"legal", b"end").rstrip() + b" findings 0\n":
         sys.exit(f"{name_of(kind)}: {survey[:200]!r}")
 
@@ -49,6 +50,7 @@ def print_counted(programs, folder):
             (before, verdict), (after, survey) = map(instructions, commands(programs, log))
             check_survey(kind, count, verdict, survey)
             got.append((count, before, after))
+        # What the longer log takes more, by its further entries: of the verdict, and of the survey.
         (few, *less), (many, *more) = got
         verdict, survey = [(b - a) / (many - few) for a, b in zip(less, more)]
         print(f"{name_of(kind):<24} {verdict:>9.0f} {survey:>9.0f} {survey / verdict:>6.3f}", flush=True)

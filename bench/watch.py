@@ -45,6 +45,7 @@ def lines(rate):
     # A call has five messages (a bad one four), so that one begins each `step` seconds; `due` has the messages still to come.
     step, due = 5 / rate, []
     for number in range(int(SECONDS * rate / 5)):
+        # The messages of earlier calls that come before this one begins.
         while due and due[0][0] <= number * step:
             yield heapq.heappop(due)
         for moment, is_sent, text in call(number):
@@ -57,6 +58,7 @@ def lines(rate):
 def memory(number):
     """The MB of a process and of those that it started, with what they share counted once for each."""
     children = Path("/proc/%d/task/%d/children" % (number, number)).read_text().split()
+    # VmRSS is what a process holds in memory, in kB.
     return sum(int(line.split()[1]) for one in (number, *children) for line in status_of(one) if line.startswith("VmRSS")) // 1024
 
 
@@ -102,6 +104,7 @@ class Feeding:
 
     def feed(self):
         """Writes the lines at their moments, and reads the memory of the watch three times."""
+        # The watch begins.
         time.sleep(1)
         begun, waiting = time.time(), []
         for moment, line in lines(self.rate):
@@ -110,6 +113,7 @@ class Feeding:
                 self.flush(waiting)
                 time.sleep(wait)
             self.watch.stdin.write(b"%.6f " % (begun + moment) + line)
+            # What stands in the pipe, unsent, by its moments.
             waiting.append(int((begun + moment) * 1000))
             # The memory is read after each third of the time; the last reading comes after all lines.
             if len(self.sizes) < 2 and moment > (len(self.sizes) + 1) * SECONDS / 3:
@@ -137,7 +141,8 @@ def moment_of(one):
 
 def measure(rate, counts):
     """Feeds a watch this many messages a second, and prints how late it told the troubles and what it used."""
-    # `before` and `used` are what child processes took that had ended before the measurement, and after it; the beat is a process that tells how late it is woken.
+    # `before` and `used` are what child processes took that had ended before the measurement, and after it; the beat is a process that tells how late it is
+    # woken.
     before = resource.getrusage(resource.RUSAGE_CHILDREN)
     beat = subprocess.Popen([sys.executable, "-c", BEAT, str(SECONDS)], stdout=subprocess.PIPE)
     fed = Feeding(rate, counts)

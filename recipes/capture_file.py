@@ -52,6 +52,7 @@ class Window:
         try:
             self.file = stdin if name == "-" else open(name, "rb")
             self.number = self.file.fileno()
+            # So begins what gzip has packed.
             if self.file.peek(2)[:2] == b"\x1f\x8b":
                 self.file = io.BufferedReader(gzip.GzipFile(fileobj=self.file), PIECE)
         except OSError as error:
@@ -94,6 +95,7 @@ class Pcap:
         if not window.has(24):
             raise Damaged("it ends within its header")
         self.preamble = window.data[:24]  # what must stand before a copy of the rest
+        # The last four of the 24 bytes of the header tell the type of the link.
         self.link = struct.unpack(self.order + "I", window.data[20:24])[0] & LINK
         self.header = struct.Struct(self.order + "IIII")
         window.at = 24
@@ -102,12 +104,15 @@ class Pcap:
         """The packets of a pcap file, each as the numbers that say where it lies."""
         # `window` is the part of the file that was read, and `at` the place of the next packet in its bytes.
         window, read, link, scale, number = self.window, self.header.unpack_from, self.link, SECOND // self.units, 0
+        # Where the next frame is there as a whole, all whole frames of the window are handed on.
         while window.has(16 + self.length_of_next(number)):
             data, at = window.data, window.at
             length = len(data)
             while at + 16 <= length:
+                # The head of a frame: its second, the fraction of it, and how many of its bytes were kept and how many were sent.
                 seconds, fraction, kept, sent = read(data, at)
                 begin, end = at + 16, at + 16 + kept
+                # The rest of this frame has to be read first, or its length is wrong: the outer loop tells which.
                 if end > length or kept > MOST_FRAME:
                     break
                 number, window.at = number + 1, at
@@ -139,9 +144,11 @@ class Interface:
             code, length = struct.unpack_from(order + "HH", block, at)
             value = block[at + 4:min(at + 4 + length, len(block) - 4)]
             if code == TIME_RESOLUTION and len(value) == 1:
+                # The upper bit says whether the others are a power of 2 or of 10.
                 self.units = 2 ** (value[0] & 0x7F) if value[0] & 0x80 else 10 ** value[0]
             elif code == TIME_OFFSET and len(value) == 8:
                 self.offset, = struct.unpack(order + "q", value)
+            # A value is filled up to 4 bytes.
             at += 4 + length + -length % 4
 
     def moment_of(self, ticks):
@@ -159,10 +166,12 @@ class Pcapng:
     def block(self, number):
         """The type and the length of the next block, all of which has been read then. At the end of the file there is no type."""
         window = self.window
+        # A block has at least its kind and its length, twice.
         if not window.has(12):
             if window.has(1):
                 raise Damaged("it ends after packet %d within a block" % number)
             return None, 0
+        # A section tells its own order of bytes, which holds up to the next one.
         if window.data[window.at:window.at + 4] == PCAPNG:
             self.order = BYTE_ORDER.get(window.data[window.at + 8:window.at + 12])
             if not self.order:
@@ -199,13 +208,16 @@ class Pcapng:
             raise Damaged("the description of an interface cannot be read")
         else:
             self.interfaces.append(Interface(self.order, block))
+        # The sections and interfaces that must stand before a copy of the rest.
         self.preamble += block
 
     def packet(self, number, length):
         """The packet of a block: its number, moment, link, where it lies, and whether it was cut."""
         data, at = self.window.data, self.window.at
+        # A block of a packet has 28 bytes before the packet, and its length once more after it.
         if length < 32:
             raise Damaged("packet %d has a block of %d bytes" % (number, length))
+        # Its interface, the two halves of its moment, and how many of its bytes were kept and how many were sent.
         index, high, low, kept, sent = struct.unpack_from(self.order + "IIIII", data, at + 8)
         if index >= len(self.interfaces) or kept > length - 32:
             raise Damaged("packet %d names an interface or a length that is not there" % number)

@@ -89,11 +89,13 @@ def on_cooked_2(frame):
 
 def on_loopback(frame):
     """The kind of what a loopback frame carries. Its family stands in the byte order of the machine that captured, or in that of the network."""
+    # Read in the wrong order the number is a great one.
     return FAMILIES.get(min(int.from_bytes(frame[:4], order) for order in ("little", "big")), 0), 4
 
 
 def on_raw(frame):
     """What a frame without a head of its own carries: IPv4 or IPv6, by its first byte."""
+    # The upper half of the first byte is the version, 4 or 6.
     return (IPV6 if frame[:1] >= b"\x60" else IPV4), 0
 
 
@@ -105,12 +107,14 @@ LINKS = {0: on_loopback, 1: on_ethernet, 12: on_raw, 14: on_raw, 101: on_raw, 10
 # the addresses with the ports; and the length of UDP. Beside it the kind of IPv4, and how far IPv4 begins within the frame.
 
 def ordinary(before, kind):
-    """How the header of an ordinary link is read: its layout, where its kind stands, and how long it is before the addresses."""
+    """How the headers of an ordinary frame are read: their layout, the bytes by which its kind is IPv4, and how long the link's own header is. In the
+    layout 26 bytes of IPv4 and UDP come after that."""
     beginning = struct.Struct(">" + before + "BxHxxHBBxx12sH")
     return beginning, kind, beginning.size - 26
 
 
-# How ordinary frames are read, by the number of their link.
+# How ordinary frames are read, by the number of their link. Ethernet has its kind after 12 bytes, Linux cooked after 14, and the second format of that
+# first, with 18 bytes after it; a loopback device has 4 bytes for it, and raw IP nothing.
 ORDINARY = {1: ordinary("12x2s", b"\x08\0"), 113: ordinary("14x2s", b"\x08\0"), 276: ordinary("2s18x", b"\x08\0"), 0: ordinary("4s", b"\2\0\0\0"),
             12: ordinary("0s", b""), 101: ordinary("0s", b""), 228: ordinary("0s", b"")}
 NONE = ordinary("0s", None)  # links of any other type have no ordinary frame
@@ -123,10 +127,12 @@ def ipv4(data, at):
     if len(data) < at + IPV4_HEADER.size:
         return None
     first, total, identification, flags, ttl, protocol, source, target = IPV4_HEADER.unpack_from(data, at)
+    # The lower half of the first byte is the length of the header in units of 4 bytes, and the upper one the version.
     length = 4 * (first & 15)
     if first >> 4 != 4 or length < IPV4_HEADER.size:
         return None
     end = at + total if total else len(data)  # the total is 0 where the network card is to cut the packet
+    # The lower 13 bits are the place of the fragment in units of 8 bytes, and one bit says whether more come.
     offset, more = 8 * (flags & 0x1FFF), bool(flags & 0x2000)
     return Packet(source, target, ttl, protocol, data[at + length:end], (identification, offset, more) if offset or more else None)
 
@@ -173,6 +179,7 @@ class Pieces:
 
     def add(self, offset, more, data):
         """Takes a fragment. Answers the datagram where it is whole then, and else None."""
+        # `at` has the fragments by their places, and `length` how many bytes these have; `total` is how many the datagram has, once its last one came.
         self.is_begun |= not offset
         if offset not in self.at:
             self.at[offset] = data
@@ -183,6 +190,7 @@ class Pieces:
             return None
         pieces = sorted(self.at.items())
         whole = b"".join(data for _, data in pieces)
+        # Each fragment stands at its own place in the whole.
         if all(whole.startswith(data, offset) for offset, data in pieces) and len(whole) == self.total:
             return whole
         self.at, self.length, self.total = {}, 0, None  # fragments overlap: no piece is joined twice
@@ -199,8 +207,10 @@ class Fragments:
         """Takes a packet that is a fragment. Answers the whole packet with its last one."""
         identification, offset, more = packet.fragment
         key = packet.source, packet.target, packet.protocol, identification
+        # The datagram that waits longest is given up.
         if key not in self.waiting and len(self.waiting) == MOST_WAITING:
             self.forget(next(iter(self.waiting)))
+        # No datagram is as long as that.
         if offset + len(packet.data) > MOST_DATAGRAM:
             return None
         whole = self.waiting.setdefault(key, Pieces()).add(offset, more, packet.data)
@@ -241,7 +251,8 @@ class Datagrams:
                     at = begin + offset
                     if (kind == ordinary_kind and first == 0x45 and protocol == UDP and not fragment & 0x3FFF and 8 < length <= total - 20 and at + total <= end
                             and not is_cut):
-                        # The payload stands after 20 bytes of IPv4 and 8 of UDP. `flows` has the ends for the bytes of a frame that have the addresses and the ports (`key`).
+                        # The payload stands after 20 bytes of IPv4 and 8 of UDP. `key` are the bytes of a frame that have the addresses and the ports, by
+                        # which `flows` has the ends.
                         ends, payload = flows.get(key) or self.flow(key, key[:4], key[4:8], key[8:]), data[at + 28:at + 20 + length]
                         if ttl != ends.ttl:
                             # A message that came with another TTL may be one that was seen twice.
@@ -254,6 +265,7 @@ class Datagrams:
                 if one:
                     yield number, moment, *one
         except Unread as unread:
+            # The frame in hand was not read.
             unread.read = number - 1 if unread.read is None else unread.read
             raise
         finally:
@@ -294,12 +306,14 @@ class Datagrams:
         """The ends and the payload of a frame of any kind; None where it is no datagram, or one that is not whole yet."""
         kind, at = LINKS[link](frame) if link in LINKS else self.other_link(link)
         packet = packet_in(kind, frame, at)
+        # A fragment stands for the whole packet where it is the last one that was missing.
         if packet and packet.fragment:
             packet = self.fragments.take(packet)
         if packet and packet.protocol == UDP:
             return self.udp(packet, is_cut)
         if packet and packet.protocol == TCP:
             self.tcp(packet)
+        # A packet of ICMP whose first byte says that something was not reached.
         elif packet and packet.protocol in UNREACHABLE and packet.data[:1] == bytes([UNREACHABLE[packet.protocol]]):
             self.notes.refused += 1
             self.refusal(number, packet)
@@ -312,7 +326,9 @@ class Datagrams:
         if len(packet.data) < UDP_HEADER.size:
             return None
         ports, length = UDP_HEADER.unpack_from(packet.data)
+        # The length of UDP counts its header of 8 bytes; 0 stands where the network card is to cut the packet.
         payload = packet.data[8:length] if length else packet.data[8:]
+        # Only what would have been SIP is told as missing.
         if is_cut or length > len(packet.data):
             self.notes.missing[CUT if is_cut else WRONG_LENGTH] += looks_like_sip(payload)
             return None
@@ -329,6 +345,7 @@ class Datagrams:
         data = packet.data[4 * (header[12] >> 4):] if len(header) == 20 else b""
         if not data:
             return
+        # Both directions of a connection are one stream, each end being an address with its port.
         stream = frozenset(((packet.source, header[:2]), (packet.target, header[2:4])))
         if stream not in self.secret and data[:2] in TLS_RECORDS and len(self.secret) < MOST_FLOWS:
             self.secret.add(stream)

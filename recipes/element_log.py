@@ -59,6 +59,8 @@ def seen_in_lines(file, idle=lambda: None):
 def messages_of(element, seen, has_restarts, told):
     """The element's own messages and restarts, in the order in which they were seen."""
     for number, moment, source, target, data, place, seconds in seen:
+        # A restart of the element, what is none of its messages, what is no SIP, what no log can hold, and its messages. One that it sent to itself has
+        # two letters, and so comes twice.
         letters = element.letters(source, target)
         if target == RESTART and element.has(source):
             if not has_restarts:
@@ -86,6 +88,7 @@ def in_order(messages, out_of_order):
         if moment >= newest:
             newest, patient = moment, moment - PATIENCE
             queue.append(message)
+        # What is later than this one went out already.
         elif moment < given:
             die(out_of_order)
         else:
@@ -111,6 +114,7 @@ def once_each(messages, span, told):
     seen, recent = {}, deque()
     for message in messages:
         while recent and message.moment - recent[0][0] > span:
+            # `recent` has what came within the span, the oldest first, and `seen` by its letter, bytes and ends the moment of the last.
             moment, old = recent.popleft()
             if seen[old] == moment:
                 del seen[old]
@@ -174,8 +178,10 @@ def behind_what_crossed(messages, skew, told):
 
     for number, message in enumerate(messages):
         waiting.append((number, message))
+        # What has waited for longer than `skew` can have been crossed by nothing that still comes.
         while message.moment - waiting[0][1].moment > skew:
             settle()
+        # What is ready goes out once nothing that waits can come before it.
         while ready and ready[0][0] < waiting[0][0]:
             yield heapq.heappop(ready)[2]
     while waiting:
@@ -247,6 +253,7 @@ def make(seen, element, out, making, told):
     if making.once is not None:
         messages = once_each(messages, making.once, told)
     first = next(messages, None)
+    # A part in which nothing is of the element is a log without entries; a whole log of nothing is none.
     if first is None:
         return write(out, (), making.start, making) if making.part else None
     start = first.moment if making.start is None else making.start

@@ -33,6 +33,7 @@ def as_called(text):
         return text
     of_one_word = [name for name in names() if "-" not in name]
     longer = [*(name for name in names() if "-" in name), "from-*"]
+    # A name with a hyphen is replaced wherever it stands as a word of its own, and one of one word after blanks at a line's beginning, `| ` or a backtick.
     text = re.sub(r"(?<![\w./-])(%s)(?![\w-]|\.\w)" % "|".join(map(re.escape, longer)), PREFIX + r"\1", text)
     text = re.sub(r"(?m)(^  +|\| |`)(%s)(?=[\s`])" % "|".join(of_one_word), r"\1" + PREFIX + r"\2", text)
     text = SECTION.sub("the manual page siptrace-recipes(7)", text)

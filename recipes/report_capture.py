@@ -113,6 +113,7 @@ class Capture:
     def elements(self):
         """The elements, those first that sent and received most messages. An element is an address, or each port of an address that speaks to itself. Last come
         the elements that sent nothing."""
+        # An address that sends to itself has several elements, which its ports tell apart.
         to_itself = {address_of(source) for source, target in self.flows if address_of(source) == address_of(target)}
         found, silent = Counter(), Counter()
         speaking = {address_of(end) for end in self.sent} | set(self.sent)
@@ -130,6 +131,7 @@ class Capture:
         found = {name: [] for name in names if name}
         if not found:
             return found
+        # A Call-ID that stands in a field of its own line, in full or in its compact form.
         pattern = re.compile(rb"\n(?:Call-ID|i)[ \t]*:[ \t]*(%s)[ \t]*\r?\n" % b"|".join(map(re.escape, found)), re.I)
         for _, moment, source, target, data, place, _ in self.messages():
             of = pattern.search(data)

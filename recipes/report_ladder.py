@@ -42,6 +42,7 @@ class Axis:
             # A gap takes from 14 to 90 units, and each doubling of a long one takes 8 more.
             if before is not None:
                 y += min(90, 14 + 8 * math.log2(1 + max(0, moment - before) / 4))
+            # The arrows of one moment have rows below each other, none closer than ROW to the one above.
             own = [n for n, one in enumerate(arrows) if one.moment == moment]
             for place, n in enumerate(own):
                 y = max(y, floor)
@@ -61,6 +62,7 @@ class Ladder:
         self.windows, self.missed, self.about, self.out = windows[:MOST_WINDOWS], missed, about, []
         edges = [moment for one in self.windows for moment in (one.first, one.last) if moment is not None]
         self.axis = Axis(self.arrows, edges + ([missed[0]] if missed else []))
+        # The lanes stand to the right of all windows.
         begin = LEFT + WINDOW * len(self.windows) + 16
         self.x = {lane: begin + LANE * n for n, lane in enumerate(self.lanes)}
         self.width = begin + LANE * (len(self.lanes) - 1) + 150
@@ -83,9 +85,11 @@ class Ladder:
         if one.is_refused:
             end = (start + end) / 2
             self.text(end + 6, y + 14, "refused", class_="badtext")
+        # The classes of the style: of a line own, other or badline, and of a head ownhead, otherhead or badhead.
         head = "%sline" % one.kind if one.kind == "bad" else one.kind
         self.draw("line", x1=start, x2=end - side, y1=y, y2=y, class_=head)
         self.draw("polygon", points="%.1f,%.1f %.1f,%.1f %.1f,%.1f" % (end, y, end - side, y - 4.5, end - side, y + 4.5), class_=one.kind + "head")
+        # The text stands above the line, and is cut to the length of the line.
         room = int((abs(end - start) - 16) / CHARACTER)
         label = tag("text", shown(one.text, max(12, room)), x="%.1f" % (min(start, end) + 8), y="%.1f" % (y - 5),
                     class_={"bad": "badtext", "other": "soft"}.get(one.kind, "plain"))
@@ -94,12 +98,14 @@ class Ladder:
 
     def window(self, n, one):
         """Draws a window beside the axis: from when until when a message may or must be sent."""
+        # A bar from the first moment to the last one; where it has none, to the bottom, with an arrow down.
         x, top = LEFT + WINDOW * n, self.axis.at[one.first]
         bottom = self.axis.at[one.last] if one.last is not None else self.axis.bottom - 4
         self.draw("rect", tag("title", shown(one.text)), x=x, y=top, width=WINDOW - 6, height=max(4.0, bottom - top), rx=2, class_="must" if one.is_due else "may")
         self.text(x + 1.5, top - 4, LETTERS[n], font_weight="700")
         if one.last is None:
             self.out.append(tag("text", "&#8595;", x=x + 1, y="%.1f" % (self.axis.bottom + 6), class_="soft"))
+        # A moment of the window that no arrow has is written at the left, with a dotted line to the bar.
         shown_moments = {each.moment for each in self.arrows}
         for moment in (one.first, one.last):
             if moment is not None and moment not in shown_moments:
@@ -112,12 +118,14 @@ class Ladder:
         x, y = self.x[self.element], self.axis.at[moment]
         for one, other in ((-6, 6), (6, -6)):
             self.draw("line", x1=x + one, x2=x + other, y1=y - 6, y2=y + 6, class_="cross")
+        # Beside the last lane the words stand to its left, and else to the right.
         is_last = self.lanes[-1] == self.element and len(self.lanes) > 1
         for n, words in enumerate(("by %d never came:" % moment, text)):
             self.text(x - 12 if is_last else x + 12, y + 4 + 15 * n, words, 46, class_="badtext", text_anchor="end" if is_last else "start")
 
     def svg(self):
         """Draws the whole ladder."""
+        # Each lane has its name and a line down; then come the windows, the arrows, and the cross for what is missing.
         for lane, x in self.x.items():
             self.text(x, 14, lane, 34, text_anchor="middle" if len(self.lanes) > 1 and x > self.x[self.lanes[0]] else "start", font_weight="700")
             if lane == self.element:

@@ -34,12 +34,14 @@ POLICY = "default-src 'none'; style-src 'unsafe-inline'; base-uri 'none'; form-a
 def shown(text, most=0):
     """A text as HTML: what cannot be printed is spelled, and nothing in it is markup. Where `most` is given, it has at most this many characters of the text."""
     text = text if isinstance(text, str) else text.decode("latin-1")
+    # Up to U+024F are the letters of western languages; what comes after them, marks that turn a text among them, is spelled by its number.
     text = "".join(sign if sign in "\n\t" or sign.isprintable() and ord(sign) < 0x250 else "\\x%02x" % ord(sign) for sign in text)
     return html.escape(text[:most - 2] + ".." if most and len(text) > most else text)
 
 
 def tag(name, content="", **attributes):
     """An element of HTML with this content, which is HTML already, and these attributes, which are texts."""
+    # A name of an attribute that python keeps for itself ends with an underline here, as `class_`, and any other underline stands for a hyphen.
     words = "".join(' %s="%s"' % (key.rstrip("_").replace("_", "-"), html.escape(str(value))) for key, value in attributes.items())
     return "<%s%s>%s</%s>" % (name, words, content, name)
 

@@ -75,6 +75,7 @@ def opened(name):
         if name == "-":
             return sys.stdin.buffer
         file = open(name, "rb")
+        # So begins what gzip has packed.
         packed = file.peek(2)[:2] == b"\x1f\x8b"
         return gzip.open(file) if packed else file
     except OSError as error:
@@ -143,6 +144,7 @@ def read_lines(file, idle=lambda: None):
             moment, source, target, *rest = line.split(None, 3)
             moment, source, target = Decimal(moment.decode()), source.decode(), target.decode()
             data, place = message_and_place(rest[0]) if rest else (b"", "")
+            # A line of a restart has three words.
             if rest and target == RESTART or not moment.is_finite():
                 raise ValueError
         except (ValueError, InvalidOperation):
@@ -154,6 +156,7 @@ def message_and_place(words):
     """The bytes and the place that a line has after its ends."""
     hexadecimal, _, after = words.partition(b" ")
     place = after.strip().decode()
+    # A place is one word.
     if " " in place:
         raise ValueError
     return unhexlify(hexadecimal.strip()), place
@@ -163,6 +166,7 @@ class Element:
     """One element by its addresses: ADDRESS:PORT, or an ADDRESS for all its ports."""
 
     def __init__(self, names):
+        # An address of IPv6 may be named with brackets, and lines have none.
         self.names = {name.replace("[", "").replace("]", "") for name in names}
         self.known = {}
 
@@ -176,6 +180,7 @@ class Element:
         if letters is None:
             if len(self.known) == MOST_KNOWN:
                 self.known.clear()
+            # The letters of most pairs of ends are looked up.
             letters = self.known[source, target] = "S" * self.has(source) + "R" * self.has(target)
         return letters
 
@@ -207,6 +212,7 @@ def code_of(response):
 
 def fields(data, *names):
     """The values of the fields with one of these names, which are in lower case, without the values' folds."""
+    # The head up to the first empty line, whose lines may also end in LF alone, with a blank for each fold.
     head = FOLD.sub(b" ", re.split(rb"\r?\n\r?\n", data, maxsplit=1)[0])
     parted = (line.partition(b":") for line in head.split(b"\n")[1:])
     return [value.strip() for name, _, value in parted if name.strip().lower() in names]
@@ -230,6 +236,7 @@ def cseq(data):
 
 def top_via(data):
     """The first element of the first Via, without the texts in quotes."""
+    # Commas within quotes part nothing.
     return QUOTED.sub(b'""', field(data, b"via", b"v")).split(b",")[0]
 
 
@@ -257,6 +264,7 @@ def part_of(branch, count):
 
 def sent_by_of(data):
     """Host and port of the top Via, by which a server tells its clients apart."""
+    # `SIP/2.0/UDP host:port` without `SIP/2.0/` is the transport, and after a blank host and port. An address of IPv6 stands in brackets.
     words = top_via(data).split(b";")[0].split(b"/", 2)[-1].split(None, 1)
     found = re.fullmatch(rb"(\[[^]]*\]|[^:]*?)\s*(?::\s*(\d{1,5}))?\s*", words[1] if len(words) == 2 else b"")
     host, port = found.groups() if found else (words[-1] if words else b"", None)  # of a malformed Via all that stands in its place
@@ -297,6 +305,7 @@ class Cutter:
             end = self.bytes.find(b"\r\n\r\n")
             if end < 0:
                 return
+            # A message without a Content-Length has no body here.
             length = LENGTH.search(self.bytes, 0, end + 2)
             total = end + 4 + (int(length[1]) if length else 0)
             if len(self.bytes) < total:
@@ -346,15 +355,18 @@ class Log:
 
     def __init__(self, name):
         self.file = opened(name)
+        # The first two lines.
         found = HEADER.fullmatch(self.file.readline() + self.file.readline())
         if not found:
             die("this is no log: see recipes/why-no-log", 2)
+        # Format 1 has four numbers, and format 2 has five.
         numbers = [int(number) for number in found.groups() if number]
         self.line = self.file.readline()  # the line that is read next
         rules = RULES.fullmatch(self.line)
         if rules:
             self.line = self.file.readline()
         # a log of format 1 has one tolerance, for early and for late
+        # The format is 1 where there are four numbers, and 2 where there are five.
         self.times = Times(*numbers[:4], numbers[-1], int(rules[1]) if rules else 0, len(numbers) - 3)
         self.header = self.times.header()
         self.last = 0

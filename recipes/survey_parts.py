@@ -54,6 +54,7 @@ class Parts:
         missing = [] if self.wrong else [number for number in range(1, int(self.count) + 1) if number not in self.ends]
         if self.wrong or missing:
             return self.wrong or "part %d/%s has no last line" % (missing[0], self.count)
+        # The parts must end alike: with as many entries, or at the same fault.
         lasts = {tuple(words[:3] if words[0] == "end" else words) for words in self.ends.values()}
         return None if len(lasts) == 1 else "the parts end otherwise: %s" % " and ".join(" ".join(words) for words in sorted(lasts))
 

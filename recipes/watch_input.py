@@ -73,8 +73,10 @@ class Input:
         """Hears the moment of a line. Answers whether the clock that gives the moments was set back."""
         if not self.is_stored:
             moment = min(moment, now)
+            # A line from before the watch began tells nothing of how late lines come.
             if moment > self.begun:
                 self.delay = max(self.delay, min(now - moment, MOST_LAG))
+        # One line that lies far back is late. Many in a row tell that their clock was set.
         self.back = self.back + 1 if moment < self.heard - MOST_LAG else 0
         self.heard = max(self.heard, moment)
         return self.back == GONE_BACK
@@ -86,6 +88,7 @@ class Input:
 
     def passed(self, now):
         """Looks at the clock at each pass of the loop."""
+        # The watch itself was held up, and so cannot know that no line came.
         if now - self.last_pass > PASS:
             self.still_since = now
         self.last_pass = now
@@ -103,6 +106,7 @@ class Input:
             return self.heard - self.lag
         while self.came and self.came[0][0] <= now - self.lag:
             self.settled = self.came.popleft()[1]
+        # Where no line came for as long as `still` says, all lines up to so long ago have come, and up to as much earlier as lines were late.
         by_clock = now - self.still - self.late() if now - self.still_since > self.still else 0
         return max(self.heard - self.lag, self.settled, by_clock)
 

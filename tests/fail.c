@@ -8,6 +8,7 @@
 #include <sys/syscall.h>
 #include <unistd.h>
 
+/* How many bytes one read or write takes at most, so that a log of some length has many of them. tests/surveys counts them by this number. */
 enum { PIECE = 4096 };
 
 /* The scripts ./siptrace and ./sipsurvey give their program that name; on its own it is called siptrace-SOURCES-KIT or sipsurvey-SOURCES-KIT. */
@@ -41,20 +42,25 @@ static ssize_t fail(void) {
   return -1;
 }
 
+/* Stands for the C library's read, and reads a piece at most. */
 ssize_t read(int file, void *bytes, size_t size) {
+  /* Each read is numbered in the order in which it is called; those that are interrupted have no number. */
   static long call;
   if (!is_ours()) return syscall(SYS_read, file, bytes, size);
   if (is_interrupted()) return -1;
   return is_failed("FAILED_READ", ++call) ? fail() : syscall(SYS_read, file, bytes, piece(size));
 }
 
+/* Stands for the C library's write, and writes a piece of standard output at most. */
 ssize_t write(int file, const void *bytes, size_t size) {
+  /* What does not go to standard output is written as ever, and has no number. */
   static long call;
   if (!is_ours() || file != STDOUT_FILENO) return syscall(SYS_write, file, bytes, size);
   if (is_interrupted()) return -1;
   return is_failed("FAILED_WRITE", ++call) ? fail() : syscall(SYS_write, file, bytes, piece(size));
 }
 
+/* Stands for the C library's getentropy, which gives the program its random bytes. */
 int getentropy(void *bytes, size_t size) {
   if (is_ours() && getenv("REFUSED_RANDOM")) return (int)fail();
   return syscall(SYS_getrandom, bytes, size, 0) == (long)size ? 0 : -1;

@@ -31,6 +31,7 @@ class Count:
     def end(self):
         """Prints the counts, and ends the script."""
         print(f"{self.passed} passed, {self.failed} failed")
+        # A script that checked nothing has failed too.
         sys.exit(self.failed > 0 or self.passed == 0)
 
 
@@ -51,12 +52,14 @@ def script(name):
 
 def status_of(said):
     """The status with which the program ends after this line."""
+    # `no transaction` and `no entry` are told by two words, every other line by its first.
     words = said.split(" ")
     return STATUSES.get(words[0], STATUSES.get(" ".join(words[:2])))
 
 
 def sections_of(page):
     """The text below each heading of a page, by the words of the heading before any bracket."""
+    # The parts are what stands before the first heading, and then each heading and its text by turns.
     pieces = re.split(r"^#+ (.*)$", page.read_text(), flags=re.M)
     return {heading.partition(" (")[0]: text for heading, text in zip(pieces[1::2], pieces[2::2])}
 

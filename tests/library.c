@@ -23,11 +23,13 @@ extern void __libc_free(void *old);
 
 /* How many growths of a call are let through before one is refused, how many the call has asked for, and how many blocks it holds. */
 static long before_refusal, growths, held;
+/* Whether a call is going on, in which growths and blocks are counted. */
 static int is_counting;
 
 /* Whether the growth that is asked for is the one to refuse. Only growths within a call are counted. */
 static int is_refused(void) { return is_counting && growths++ == before_refusal; }
 
+/* These three stand for those of the C library. A block is held from malloc, or from realloc of no block, until free. */
 void *malloc(size_t size) {
   if (is_refused()) return NULL;
   void *block = __libc_malloc(size);
@@ -56,6 +58,7 @@ static int is_as_it_was(const struct siptrace_verdict *it) {
          it->unit == 77 && it->line == 77;
 }
 
+/* Any 16 bytes: no answer depends on them. */
 static const struct siptrace_seed seed = {{1, 2, 3, 4, 5, 6, 7, 8, 9, 10, 11, 12, 13, 14, 15, 16}};
 
 /* Judges a log with each growth refused in turn, and prints the line of the log. The answer is 1 where something is not as it should be. */
@@ -177,6 +180,7 @@ static int survey_with_refusals(const char *path, const uint8_t *log, size_t len
   }
 }
 
+/* Tries the log of each file by the call that the first word names, and ends at the first that is not as it should be. */
 int main(int count, char **words) {
   if (count < 2) return 2;
   const int is_survey = strcmp(words[1], "survey") == 0;

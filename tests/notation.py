@@ -49,6 +49,7 @@ def named_messages():
     """The messages of the file by their sets and names. Each line of theirs ends in CRLF."""
     if not MESSAGES.exists():
         raise ValueError(f"{MESSAGES} is not there")
+    # Each message stands below a line `== SET: NAME`. The parts are the set, the name and the text, and then those of the next one.
     pieces = re.split(r"^== (\S+): (\S+)\n", MESSAGES.read_text(), flags=re.M)[1:]
     sets = zip(pieces[::3], pieces[1::3])
     return dict(zip(sets, (text.replace("\n", "\r\n").encode() for text in pieces[2::3])))
@@ -68,6 +69,7 @@ def expanded(text):
 @functools.cache
 def sed(text, change):
     """The text, changed by sed."""
+    # With -z the whole message is one line for sed, so that a change can take line ends away or put some in.
     command = ["sed", "-z", "-e", change]
     said = subprocess.run(command, input=text, capture_output=True, env={**os.environ, "LC_ALL": "C"})
     if said.returncode:
@@ -134,6 +136,7 @@ class Log:
         elif word == "by moment":
             self.order()
         elif letter == "cut":
+            # What is left is kept as one text, also where the cut is within the header or an entry.
             self.header, self.entries = self.bytes()[: int(rest)], []
         # A mark or a restart, at one or more moments; and messages that were sent, received or refused.
         elif letter in ("M", "Z"):
@@ -175,6 +178,7 @@ class Log:
         change = rest[len(code):].strip()
         if ".." not in branch:
             return [changed(message(first, branch, code), change)] * count
+        # A branch 1..600 gives the first entry the branch z9hG4bK1, the second z9hG4bK2, and so on.
         branches = moments_of(branch)
         if len(branches) != count:
             raise ValueError(f"{count} entries have the branches {branch}")

@@ -50,6 +50,7 @@ class Story:
     def __init__(self, chance, late, early, branch, start):
         self.chance, self.late, self.early = chance, late, early
         self.branch, self.start = branch, start
+        # One story of four goes over a reliable transport, and one of three has another host in its Via.
         self.transport = chance.choice(["UDP", "UDP", "UDP", "TCP"])
         self.host = chance.choice(["a", "a", "b"])
         self.entries = []
@@ -57,6 +58,7 @@ class Story:
 
     def wait(self, length):
         """A length of a timer, mostly as the tolerance has it, and at its edges."""
+        # One wait of 25 is too short by 1 ms, or too long by 1 or by 200 more than the tolerance has it.
         wrong = self.chance.choice([-self.early - 1, self.late + 1, self.late + 200])
         right = self.chance.choice([0, -self.early, self.late, self.chance.randint(-self.early, self.late)])
         return max(0, length + (wrong if self.chance.random() < 0.04 else right))
@@ -66,6 +68,8 @@ class Story:
         data = message(method, self.branch, code)
         data = data.replace(b"/UDP ", b"/%s " % self.transport.encode()).replace(b" a.example", b" %s.example" % self.host.encode())
         own = "INVITE" if method == "ACK" else method
+        # A response that is sent and a request that is received are of a server, whose key has the host of its Via; the other two are of a client. An
+        # ACK is of the INVITE's transaction, and a CANCEL of a client also concerns the INVITE that it cancels.
         if (letter in "SF") == bool(code):
             keys = (("server", self.branch, self.host, own),)
         else:
@@ -76,6 +80,7 @@ class Story:
 
     def repeated(self, method, start, end, most):
         """Adds a request with its repeats until a moment. Two of them are at most `most` apart."""
+        # The first interval is T1, and each is twice the one before, up to `most`: by timer E that is T2, 4000, and by timer A there is no bound.
         moment, interval = start, 500
         while moment < end:
             self.add("S", moment, method)
@@ -87,9 +92,11 @@ class Story:
     def plain_client(self):
         """Adds the entries of a client of another method than INVITE."""
         chance, method = self.chance, self.chance.choice(["OPTIONS", "REGISTER"])
+        # Before the first repeat, after one or more, or after timer F (64 times T1 are 32,000, less the 50 of the tolerance).
         answer = self.start + chance.choice([5, 300, 700, 2000, 5000, 40_000])
         self.repeated(method, self.start, min(answer, self.start + 31_950), 4000)
         self.add("R", answer, method, chance.choice([200, 404]))
+        # The response may come a second time.
         if chance.random() < 0.2:
             self.add("R", answer + 30, method, 200)
 
@@ -100,13 +107,16 @@ class Story:
         # Timer A doubles without a bound, and timer B may end it all 64 times T1 later, less 50.
         self.repeated("INVITE", self.start, min(answer, self.start + 31_950), 1 << 20)
         self.add("R", answer, "INVITE", chance.choice([100, 180]))
+        # The final response to the INVITE, after its provisional one.
         final = answer + chance.choice([10, 1000])
         code = chance.choice([200, 486, 486])
+        # Or the INVITE is cancelled: the CANCEL is repeated until its 200 comes, and with it the 487.
         if chance.random() < 0.4:
             cancelled = answer + chance.choice([0, 20])
             final, code = cancelled + chance.choice([30, 600, 1700]), 487
             self.repeated("CANCEL", cancelled, final, 4000)
             self.add("R", final, "CANCEL", 200)
+        # The final response comes once or twice. Each time the client sends an ACK, unless it is a 2xx, whose ACK is no part of the transaction.
         for moment in [final, final + 400][: chance.choice([1, 1, 2])]:
             self.add("R", moment, "INVITE", code)
             if code != 200:
@@ -118,6 +128,7 @@ class Story:
         self.add("R", self.start, method)
         answer = self.start + chance.choice([5, 300, 3000])
         self.add("S", answer, method, chance.choice([200, 404]))
+        # The code stands after `SIP/2.0 `.
         code = int(self.entries[-1].data[8:11])
         for again in range(chance.choice([0, 0, 1, 2])):
             self.add("R", answer + 500 * (again + 1), method)
@@ -127,6 +138,7 @@ class Story:
         """An INVITE that a server takes, with its responses and its ACK."""
         chance = self.chance
         self.add("R", self.start, "INVITE")
+        # A server of an INVITE has 200 ms for its first response.
         self.add("S", self.start + chance.choice([0, 100, 200, 200 + self.late]), "INVITE", chance.choice([100, 180]))
         final = self.start + chance.choice([300, 1500])
         if chance.random() < 0.5:
@@ -145,6 +157,7 @@ class Story:
     def wide_server(self):
         """Adds a server in more states than are followed, where the tolerance is 10 seconds."""
         self.transport, self.stays = "UDP", self.chance.random() < 0.7
+        # Each of `count` requests after a provisional response may be answered by it; a send pays one of what is owed or is new, so that the states multiply.
         request, ringing, progress = (("R", "OPTIONS"), ("S", "OPTIONS", 180), ("S", "OPTIONS", 181))
         count = self.chance.choice([20, 33, 40])
         for letter, *rest in [request, ringing, *[request] * count, progress, *[request] * count, *[ringing, progress] * 30]:
@@ -153,6 +166,7 @@ class Story:
     def spoil(self):
         """The entries of the story, with some of them left out, moved, said twice, refused or damaged."""
         chance, done = self.chance, []
+        # Of 100 entries 5 are left out, 3 are moved, 3 are said twice, 2 are refused where they are sends and damaged where not, and 2 more are damaged.
         for one in self.entries if not self.stays else ():
             way = chance.random()
             if way < 0.05:
@@ -171,8 +185,10 @@ class Story:
 
 def damaged(chance, one):
     """The entry with a message that is malformed, so that it concerns no transaction."""
+    # No message at all, one without Call-ID, one with a LF where a CRLF has to stand, and one whose CSeq has no number.
     data = chance.choice([b"x", one.data.replace(b"Call-ID: c1@a\r\n", b""), one.data.replace(b"\r\nFrom", b"\nFrom"), one.data.replace(b"CSeq: 1 ", b"CSeq: x ")])
     if one.letter == "S" and not data.startswith(b"SIP") and chance.random() < 0.3:
+        # A request that is sent may have a branch without the cookie instead.
         data = one.data.replace(b"z9hG4bK", b"z9hG4bJ") if not one.data.startswith(b"SIP") else data
     return one._replace(data=data, keys=(), is_malformed=True)
 
@@ -202,4 +218,5 @@ def random_log(seed, number):
         entries.append(Entry("Z", chance.randint(0, last)))
     entries.append(Entry("M", last + chance.choice([0, 0, 51, 700, 40_000])))
     entries.sort(key=lambda one: one.moment)
+    # One log of ten may end with a mark that comes too early, and one with a line that is cut off.
     return Log(header, entries, chance.choice([*[b""] * 8, b"M 0\n" if entries[-1].moment else b"", b"M 1"]))

@@ -12,6 +12,8 @@ static int is_refused(void) {
   return refused && growth == atol(refused);
 }
 
+/* A first piece of memory counts as a growth. */
 void *malloc(size_t size) { return is_refused() ? NULL : __libc_malloc(size); }
 
+/* So does a piece that becomes greater or smaller. */
 void *realloc(void *old, size_t size) { return is_refused() ? NULL : __libc_realloc(old, size); }

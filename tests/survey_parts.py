@@ -11,6 +11,7 @@ from random_logs import SILENT, random_log
 PATIENCE = 60  # seconds for which a program may be silent
 ENVIRONMENT = dict(os.environb)  # posix_spawn would decode and encode os.environ at each call
 # A CANCEL, wherever it stands in a message.
+# But no part of a longer word.
 CANCEL = re.compile(rb"(?<![\w-])CANCEL")
 
 
@@ -22,6 +23,7 @@ class Program:
 
     def says(self, log, *words):
         """The lines that it writes, and its status."""
+        # The log replaces the one before in memory, and the program reads it from its beginning on.
         os.ftruncate(self.file.fileno(), 0)
         os.pwrite(self.file.fileno(), log, 0)
         os.lseek(self.file.fileno(), 0, os.SEEK_SET)
@@ -38,6 +40,7 @@ class Program:
 
 def status_of_survey(lines):
     """The status that belongs to the lines of a survey."""
+    # A fault of the log is 2; else no finding is 0, findings that are all undecided are 3, and any other finding is 1.
     words = {line.split(" ", 1)[0] for line in lines[:-1]}
     return 2 if lines[-1].startswith("log fault") else 0 if not words else 3 if words == {"undecided"} else 1
 
@@ -50,6 +53,7 @@ def verdict_in(line):
 
 def words_of(log, key, at):
     """What a line says of a transaction that is in trouble at this entry: role, method, branch, first and last entry."""
+    # The last entry is the last that concerns it, or a later restart, which concerns all.
     own = [number for number, one in enumerate(log.entries[:at], 1) if key in one.keys]
     restarts = [number for number, one in enumerate(log.entries[:at], 1) if one.letter == "Z"]
     return f"{key[0]} {key[3]} z9hG4bK{key[1]} {own[0]} {max(own + restarts)}"
@@ -68,6 +72,7 @@ def groups_of(log):
     """The groups of transactions that can be cut apart: each transaction by itself, but two together that one entry concerns."""
     groups = {}
     for one in log.entries:
+        # The groups of all transactions that the entry concerns become one.
         joined = frozenset().union(one.keys, *(groups.get(key, ()) for key in one.keys))
         groups.update(dict.fromkeys(joined, joined))
     return set(groups.values())
@@ -90,8 +95,10 @@ class Expected:
 
     def look(self, group):
         """Asks the verdict of the log of a group."""
+        # Only entries of this group stay.
         part = self.log.part(lambda one: bool(one.keys) and group.issuperset(one.keys))
         words = self.verdict(part).split()
+        # The number in the verdict is one among the transactions of the part, and tells which transaction it is.
         found = next(key for key, number in numbers_of(part).items() if number == int(words[3])) if words[0] in ("breach", "undecided") else None
         for key in group:
             self.troubles[key] = (int(words[1]), words[0]) if key == found else None
@@ -102,6 +109,7 @@ class Expected:
         """Looks for the second trouble of a group: of a CANCEL and its INVITE the verdict tells only the first. The CANCEL's own transaction is
         that of a method other than INVITE."""
         for key in group - {found}:
+            # The verdict has told of the INVITE. The CANCEL's entries are judged as those of a method CANCEX, which concerns no INVITE.
             if key[3] == "CANCEL":
                 own = [one._replace(data=CANCEL.sub(b"CANCEX", one.data), keys=one.keys[:1]) if one.keys[:1] == (key,) else one.mark() if one.letter != "Z" else one
                        for one in self.log.entries]
@@ -114,11 +122,13 @@ class Expected:
         """The line of each malformed message."""
         for number, one in enumerate(self.log.entries, 1):
             if one.is_malformed:
+                # A restart stays too, and says nothing of a message that is malformed.
                 yield number, self.verdict(self.log.part(lambda it, one=one: it is one))
 
     def end(self, findings):
         """The last line of the survey: as the log ends, or with the counts."""
         if self.log.tail:
+            # The fault of the log is that of marks alone with what stands after them.
             silent = self.log.part(lambda one: False)._replace(tail=self.log.tail)
             return self.verdict(silent)
         return f"end entries {len(self.log.entries)} transactions {len(self.numbers)} findings {findings}"
@@ -129,6 +139,7 @@ class Expected:
         found = [((number, 0, 0), line) for number, line in self.faults()]
         for key, at in self.unknown.items():
             told = [line.split() for line in said if line.split()[2:4] == ["transaction", str(self.numbers[key])]]
+            # One line may tell of it, and none before the first trouble of its group.
             self.troubles[key] = (int(told[0][1]), told[0][0]) if len(told) == 1 and int(told[0][1]) >= at else None
         for key, trouble in self.troubles.items():
             if trouble:
@@ -143,6 +154,7 @@ def by_branch(log, lines):
     found = defaultdict(list)
     for line in lines[:-1]:
         word, entry, rest = line.split(" ", 2)
+        # What stands after the number: of a fault its reason, and of a transaction its number first, in whose place its key comes.
         key = None if word == "malformed" else keys[int(rest.split()[1])]
         branch = log.entries[int(entry) - 1].branch if key is None else key[1]
         # In a part the numbers are others, so that the lines of one entry may stand in another order.
@@ -152,6 +164,7 @@ def by_branch(log, lines):
 
 def fnv1a(text):
     """FNV-1a of 32 bits."""
+    # The numbers 2166136261 and 16777619 are those by which FNV-1a is defined.
     total = 2166136261
     for byte in text:
         total = (total ^ byte) * 16777619 % 2**32
@@ -160,6 +173,7 @@ def fnv1a(text):
 
 def share_of(key, count):
     """The part, of so many, into which a transaction falls."""
+    # The branch counts in small letters, and parts are numbered from 1 on.
     return fnv1a(b"z9hg4bk" + key[1].lower().encode("latin-1")) % count + 1
 
 
@@ -177,6 +191,7 @@ def shares_faults(surveyor, told, log, lines, count):
     for number in range(1, count + 1):
         part, status = surveyor.says(log.bytes(), "--part", f"{number}/{count}")
         malformed += [line for line in part if line.startswith("malformed")]
+        # A part ends as the log does where that has a fault. Else it tells all entries, its own transactions, and its own findings.
         end = lines[-1] if log.tail else f"end entries {len(log.entries)} transactions {[share_of(it, count) for it in keys].count(number)} findings {len(part) - 1}"
         if [line for line in part if not line.startswith("malformed")] != [*wanted[number], end] or status != status_of_survey(part):
             yield f"{told}: part {number}/{count} wanted {wanted[number]} and {end}\n  says {part}, status {status}"

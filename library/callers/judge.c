@@ -1,6 +1,7 @@
 /* Judges the log in each file that it is given, by libsiptrace, and writes a line for each, as the program siptrace does. */
 #include "telling.h"
 
+/* The status is 4 where a file cannot be read, or memory or random bytes are wanting. */
 int main(int count, char **paths) {
   struct siptrace_seed seed;
   if (!fill_seed(&seed)) return 4;

@@ -54,6 +54,7 @@ class Summary(ctypes.Structure):
     ]
 
     def __str__(self):
+        """The last line of a survey, as `sipsurvey` writes it."""
         if self.end == END_OF_LOG:
             return f"end entries {self.entries} transactions {self.transactions} findings {self.findings}"
         return f"log fault {self.entry} {self.reason} {REASONS.get(self.reason)}"

@@ -19,6 +19,7 @@ static int make_survey(const uint8_t *log, size_t length, const struct siptrace_
   return status == SIPTRACE_ANSWERED;
 }
 
+/* Writes each finding, and the last line: how the log ends, or its fault. */
 static void print_survey(const struct survey *survey) {
   const struct siptrace_summary *summary = &survey->summary;
   for (size_t at = 0; at < summary->findings; at++) print_verdict(&survey->findings[at]);
@@ -28,6 +29,7 @@ static void print_survey(const struct survey *survey) {
     printf("log fault %" PRIu64 " %" PRIu32 " %s\n", summary->entry, summary->reason, reasons[summary->reason]);
 }
 
+/* The status is 4 where a file cannot be read, or memory or random bytes are wanting. */
 int main(int count, char **paths) {
   struct siptrace_seed seed;
   if (!fill_seed(&seed)) return 4;

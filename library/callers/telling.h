@@ -9,6 +9,7 @@
 #include <stdlib.h>
 #include <sys/random.h>
 
+/* The names of the reasons, by their numbers in siptrace.h. */
 static const char *const reasons[] = {
     [SIPTRACE_NO_HEAD_END] = "NoHeadEnd",   [SIPTRACE_BARE_LINE_END] = "BareLineEnd", [SIPTRACE_START_LINE] = "StartLine",
     [SIPTRACE_FIELD_LINE] = "FieldLine",    [SIPTRACE_VALUE] = "Value",               [SIPTRACE_REPEATED] = "Repeated",
@@ -18,6 +19,7 @@ static const char *const reasons[] = {
     [SIPTRACE_TRUNCATED] = "Truncated",     [SIPTRACE_ORDER] = "Order",               [SIPTRACE_LIMIT] = "Limit",
 };
 
+/* Writes a verdict, or a finding of a survey, as the programs write it, but of a finding without the words for its transaction after the number. */
 static void print_verdict(const struct siptrace_verdict *verdict) {
   const uint64_t entry = verdict->entry;
   const uint32_t reason = verdict->reason;
@@ -51,6 +53,7 @@ static uint8_t *read_all(const char *path, size_t *length) {
   size_t room = 0;
   *length = 0;
   do {
+    /* The room doubles where it is full. */
     if (*length == room) {
       room = room ? 2 * room : 65536;
       uint8_t *more = realloc(bytes, room);

@@ -100,6 +100,7 @@ class Judge:
         if log not in self.answers:
             words = self.run(log)[0].split()
             self.answers[log] = words
+            # How many answers were undecided, which the evidence tells.
             self.undecided += words[0] == "undecided"
         return self.answers[log]
 
@@ -132,6 +133,7 @@ class History:
         """Whether the history with these entries after it is possible."""
         if any(one[0] == "Z" for one in more):
             return self.judge.is_possible(self.times, [*self.entries, *more])
+        # The header and the history are the same for each question.
         return is_possible(self.judge.verdict(self.prefix + b"".join(entry(*one) for one in more)))
 
     def can_wait(self, moment):
@@ -141,6 +143,7 @@ class History:
     def states(self):
         """The states after the last entry of the history, as the program lists them."""
         if "states" not in self.kept:
+            # A transaction has a line with its number, role and method, and below it a line for each state, two blanks to the right.
             found, is_mine = [], False
             for line in self.judge.listing(self.prefix, len(self.entries)) if self.entries else []:
                 if line.startswith("  "):
@@ -156,6 +159,7 @@ class History:
         for state in self.states():
             for name, value in re.findall(r"(\w+)=(\d+)(?= |$)", state):
                 if name not in NUMBERS_OF_ENTRIES:
+                    # Of a state `interval` is a length, and any other number a moment, unless it names an entry.
                     (intervals if name == "interval" else moments).add(int(value))
             deadlines |= {int(deadline) for deadline in re.findall(r"owes=\d+/(\d+)/", state)}
         return moments, intervals, deadlines
@@ -165,7 +169,8 @@ class History:
         if "points" not in self.kept:
             moments, intervals, deadlines = self.numbers_of_states()
             lengths = {0, *LENGTHS, 64 * self.times.t1, self.times.t4} | intervals
-            # From `opens` on a timer may fire that was set at one of the moments for one of the lengths, and from `closes` on it is too late, as it is for a debt.
+            # From `opens` on a timer may fire that was set at one of the moments for one of the lengths, and from `closes` on it is too late, as it is for
+            # a debt.
             opens = {moment + max(0, length - self.times.early) for moment in moments for length in lengths}
             closes = {moment + length + self.times.late + 1 for moment in moments for length in lengths} | {deadline + 1 for deadline in deadlines}
             self.kept["points"] = sorted(moment for moment in {self.last} | opens | closes if self.last <= moment <= LAST)
@@ -198,6 +203,7 @@ class History:
 
 def last_true(is_right, points, beyond):
     """The last moment of a yes that turns to a no for good: it is yes at points[0], and no at `beyond`."""
+    # The points are halved between the last yes and the first no, and then the moments between these two.
     low, high = 0, len(points)
     while high - low > 1:  # yes at points[low]; no at points[high], unless that lies beyond
         middle = (low + high) // 2
@@ -218,6 +224,7 @@ def edge(is_right, one, other):
 
 def windows_of(is_right, points, last, samples=0):
     """The windows of yes from points[0] to `last`. Each point is asked, both sides of each edge, and moments between some of the points."""
+    # The middle of each of the first `samples` gaps.
     between = [one + (other - one) // 2 for one, other in list(zip(points, points[1:] + [last]))[:samples] if other - one > 2]
     points = sorted({*points, *between, last}) if points else []
     windows, start = [], None

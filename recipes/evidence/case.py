@@ -49,6 +49,7 @@ def each_once(entries):
     first = {}
     for one in entries:
         first.setdefault(one.data, one)
+    # The messages, that which was sent last first.
     newest = dict.fromkeys(one.data for one in reversed(entries))
     return [first[data] for data in newest]
 
@@ -69,6 +70,7 @@ class Case:
         self.breach = next((one for one in own if one.number == at), None)
         self.moment = found.at_moment
         self.is_send = self.breach is not None and self.breach.letter in ("S", "F")
+        # `letters` is how each entry stands in the history, empty where it is left out; `kept` are answers that were found.
         self.letters = {one.number: one.letter for one in self.before}
         self.history = self.asked_about()
         self.stop = self.breach[1:] if self.breach is not None else mark(self.moment)
@@ -96,6 +98,7 @@ class Case:
     def is_shown(self):
         """Whether the program says that the history is possible, and that it is a breach with `stop` after it, which shows the breach."""
         history = self.history
+        # An empty history is possible.
         return (not history.entries or history.can_wait(history.last)) and not history.allows(self.stop)
 
     def own_from_breach(self):
@@ -127,6 +130,7 @@ class Case:
     def of_client(self):
         """What a client might send next: the ACK of a refusal, its request again, or a CANCEL."""
         invite = self.first_request() if self.is_invite else None
+        # An ACK belongs to an INVITE that the client sent.
         if invite is not None and invite.letter != "R":
             for one in self.refusals()[:MOST_CANDIDATES]:
                 yield Candidate("the ACK of entry %d's %s" % (one.number, short(one.data)), ack_for(invite.data, one.data), of=one.number)
@@ -152,6 +156,7 @@ class Case:
             return
         if self.role == "server":
             yield Candidate("entry %d's %s again" % (asked.number, latin(self.method)), asked.data, "R", asked.number)
+            # An ACK comes for a response of 300 to 699 that the server has sent.
             finals = [one.data for one in self.sent() if is_response(one.data) and code(one.data) >= 300]
             if self.is_invite and finals:
                 yield Candidate("an ACK", ack_for(asked.data, finals[0]), "R")
@@ -159,6 +164,7 @@ class Case:
         if self.is_invite:
             for one in self.refusals()[:2]:
                 yield Candidate("entry %d's %s again" % (one.number, short(one.data)), one.data, "R", one.number)
+        # Codes that hardly any log has, so that the message is a new one.
         for kind, made in (("a provisional response", 183), ("a 2xx", 299), ("a 3xx to 6xx", 699)):
             yield Candidate(kind, response_to(asked.data, made), "R")
 
@@ -170,6 +176,7 @@ class Case:
         if not self.was_asked():
             return "no request"
         responses = [one.data for one in self.sent() if is_response(one.data)]
+        # A response with the same code and method counts as the same, though its bytes differ.
         alike = [other for other in responses if (code(other), cseq(other)[1]) == (code(data), cseq(data)[1])]
         return "response again" if data in responses or alike else "another response" if responses else "first response"
 

@@ -139,12 +139,14 @@ def row_of(one, before, again, side, line):
 def rows_of(case, facts, side):
     """The rows of the transaction's entries, up to that of the breach, or up to the one that came too late."""
     entries = list(case.before) + [case.breach or case.found.entry(case.at)]
+    # Of a message that came too late the rows go on to its entry.
     late = facts["sent"]["entry"] if facts["kind"] == "too late" else case.at
     entries += [one for one in case.after if case.at < one.number <= late]
     own = {one.number for one in case.before + case.own_from_breach()}
     first, rows, before = {}, [], None
     for one in entries:
         is_message = one.number in own and one.data
+        # The first entry of the transaction that has these bytes.
         again = first.setdefault(one.data, one.number) if is_message else one.number
         rows.append(row_of(one, before, None if again == one.number else again, side, first_line(one.data) if is_message else ""))
         before = one

@@ -24,6 +24,7 @@ class Excuses:
 
     def words(self, entries, times=None):
         """The verdict on these entries and a mark, with which the log reaches the breach."""
+        # No entry may be before the one before it.
         closing = mark(max(self.case.moment, entries[-1][1]))
         return self.case.judge.verdict(log_of(times or self.case.times, [*entries, closing]))
 
@@ -60,6 +61,7 @@ class Excuses:
         case = self.case
         if self.kind in ("never came", "not begun"):
             return None
+        # A send that is wrong in another way is asked about with both tolerances.
         sides = {"too early": ["early"], "too late": ["late"]}.get(self.kind, ["early", "late"])
         last = self.facts["sent"]["entry"] if self.kind == "too late" else 0  # where it came after the entry of the breach, it is asked about up to there
         rest = [one for one in case.own_from_breach() if case.at < one.number <= last]
@@ -106,6 +108,7 @@ class Excuses:
         moments = [moment for _, moment, _ in self.history]
         last = self.case.history.last_wait() if self.is_silent() else self.case.moment
         for place in range(len(moments), max(0, len(moments) - GAPS), -1):
+            # In each place the message comes with the next entry, and where that is later also with the one before.
             until = moments[place] if place < len(moments) else last
             yield place, until
             if moments[place - 1] < until:
@@ -120,6 +123,7 @@ class Excuses:
                 self.add("Does the log lack a message: %s, received at %d, after entry %d?" % (one.what, moment, after), "%s received at %d" % (one.what, moment), words,
                          {"insert": [["R", moment, latin(one.data)]], "after": after})
                 return
+        # It helps at no place: the question tells from when to when it was tried.
         first, last = gaps[-1][1], gaps[0][1]
         self.add("Does the log lack a message: %s, received from %d to %d?" % (one.what, first, last), "%s received from %d to %d" % (one.what, first, last), words,
                  {"insert": [["R", last, latin(one.data)]]})
@@ -145,6 +149,7 @@ class Excuses:
         for one, other in list(zip(own, own[1:]))[-5:]:
             if "Z" in (one.letter, other.letter) or (one.letter == "R") == (other.letter == "R") or other.moment - one.moment > SKEW:
                 continue
+            # The entries of both, and all before them.
             order = [entry for entry in own if entry.number <= max(case.at, other.number)]
             # The received one, where it stands first, waited to be read until the other was sent. The sent one, where it stands first, was noted late.
             moment = other.moment if one.letter == "R" else one.moment
@@ -159,6 +164,7 @@ class Excuses:
         case = self.case
         if not case.is_send:
             return
+        # Entries before it with the same letter and bytes, at most COPY ms ago.
         alike = [one for one in case.before if one.letter == case.breach.letter and one.data == case.breach.data and case.moment - one.moment <= COPY]
         for twin in alike[:1]:
             self.add("Was a packet seen twice? Entry %d has the bytes of entry %d, %d ms later." % (case.at, twin.number, case.moment - twin.moment),
@@ -173,6 +179,7 @@ class Excuses:
         # `gaps` are the waits from send to send. With `count` sends before it the first entry moves by `shift`.
         gaps = [case.times.t1 * 2 ** n if case.is_invite else min(case.times.t1 * 2 ** n, case.times.t2) for n in range(max(EARLIER_SENDS))]
         for count in EARLIER_SENDS:
+            # The sends before come at the waits of timer A or E, and the log's first entry after the next wait.
             moments = [sum(gaps[:n]) for n in range(count)]
             shift = sum(gaps[:count]) - first.moment
             entries = [("S", moment, first.data) for moment in moments] + [(letter, moment + shift, data) for letter, moment, data in [*self.history, case.stop]]
@@ -181,6 +188,7 @@ class Excuses:
                 self.add("Did the log begin late? Entry %d would be send %d of that request." % (first.number, count + 1), "a late start of the log", words,
                          {"earlier": [moment - shift - first.moment for moment in moments]})
                 return
+        # None of the counts helps.
         self.add("Did the log begin late?", "a late start of the log", ["breach"], {"earlier": []})
 
     def restarted(self):
@@ -195,6 +203,7 @@ class Excuses:
 def least_with(helps, low, by):
     """The least tolerance above `low` that helps, and None where none does. The program is first asked about the one by which the breach was off."""
     high = MOST_TOLERANCE
+    # The breach was off by `by`: with so much more it mostly goes away, and with 1 less it does not.
     if by is not None and low + by <= high and helps(low + by):
         high = low + by
         if high - 1 <= low or not helps(high - 1):
@@ -211,6 +220,7 @@ def least_with(helps, low, by):
 def excuses_of(case, facts):
     """The answers to all questions, and the least tolerance with which there is no breach."""
     asked = Excuses(case, facts)
+    # The questions stand in this order in the evidence.
     asked.times()
     least = asked.tolerance()
     asked.lacking()

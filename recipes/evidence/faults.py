@@ -64,6 +64,7 @@ class Faulty:
 
     def with_line_ends(self):
         """The message with whole line ends, and with an empty line at its end."""
+        # The first CR without LF, or LF without CR.
         first = re.search(rb"\r(?!\n)|(?<!\r)\n", self.one.data)
         if first:
             head, end, body = self.one.data.partition(HEAD_END)
@@ -86,6 +87,7 @@ class Faulty:
     def with_what_lacks(self):
         """The message with the fields that it lacks."""
         has = {name_of(line) for line in self.lines[1:]}
+        # A response does not tell its method, but in CSeq, which it may lack.
         method = b"OPTIONS" if is_response(self.one.data) else method_of(self.one.data)
         lacking = [line % method if b"%s" in line else line for name, line in NEEDED.items() if name not in has]
         what = "with %s, which it lacks" % " and ".join("a " + latin(line.partition(b":")[0]) for line in lacking)
@@ -115,6 +117,7 @@ CHANGES = {1: Faulty.with_line_ends, 2: Faulty.with_line_ends, 3: Faulty.with_by
 
 def byte_told(byte):
     """A byte in words: by its sign, its name or its number."""
+    # The bytes 33 to 126 are signs that one can see.
     return "the %s" % {32: "blank", 9: "tab"}[byte] if byte in (32, 9) else "%s" % chr(byte) if 33 <= byte <= 126 else "the byte 0x%02x" % byte
 
 
@@ -124,7 +127,9 @@ def malformed(judge, index, at, unit, number):
     faulty = Faulty(judge, index.times, one, unit, number)
     lines = list(enumerate(map(latin, faulty.lines)))
     if faulty.line is not None:
+        # Of a fault of a line this one is shown; of one of two lines (6 and 8) also the first line of its name and the start line.
         lines = [line for line in lines if line[0] == faulty.line or number in (6, 8) and line[0] in (0, first_of_name(faulty))]
+    # Of a branch without its cookie the start line and Via are shown.
     elif number == 12:
         lines = [line for line in lines if line[0] == 0 or name_of(faulty.lines[line[0]]) == b"via"]
     return {"entry": {"number": at, "letter": one.letter, "moment": one.moment, "bytes": latin(one.data)}, "whose": "received" if one.letter == "R" else "sent",
@@ -142,6 +147,7 @@ def log_fault(index, name, at, number):
     """The evidence of an entry that cannot be read."""
     place = 0
     if at:
+        # Where it begins in the file: at a place that the index has, or where the index ends.
         place = index.places[at - 1] if at <= len(index.places) else index.place
     with open(name, "rb") as file:
         file.seek(place)
@@ -154,6 +160,7 @@ def undecided(judge, found, at, transaction):
     own = [one for one in found.entries if one.number <= at and (one.letter == "Z" or found.key in keys_of(one.letter, one.data))]
     before = own[:-1]
     growth, debts = [], 0
+    # The last entries before the verdict, each with the states after it.
     for count in range(max(1, len(before) - GROWTH + 1), len(before) + 1):
         states = states_of(judge.listing(log_of(found.times, [one[1:] for one in before[:count]]), count), found.key)
         growth.append([before[count - 1].number, len(states)])

@@ -12,8 +12,8 @@ from typing import NamedTuple
 
 from sip_lines import COOKIE, HEADER, MOST_ENTRIES, RULES, Log, branch_of, die, keys_of
 
-# The first form is that of nearly all entries: the line of the entry, a start line, and as the first field a Via that is plain up to its branch. The second has
-# such a Via after other lines, none of which is folded. An entry of neither form is read by `keys_of`.
+# The first form is that of nearly all entries: the line of the entry, a start line, and as the first field a Via that is plain up to its branch. The second
+# has such a Via after other lines, none of which is folded. An entry of neither form is read by `keys_of`.
 LINE = rb"([SRF]) (\d+) (\d+)\n(?:SIP/2\.0 |([^ /\r\n]+) )[^\n]*\n"
 PLAIN = (rb'SIP/2\.0/[A-Za-z]+ ([^\s;:,"\[\]]+)(?::(\d{1,5}))?(?:;(?![Bb][Rr])[^\s;,"]*)*;branch=([^\s;,"]+)(?=[;\r])')
 VIA_FIRST = re.compile(LINE + rb"(?:Via|v): " + PLAIN)
@@ -66,6 +66,7 @@ def mapped(name):
 
 def sum_of_branch(branch):
     """A number of the branch that is never 0 or 1, which have another meaning."""
+    # With the second bit set it is neither 0 nor 1.
     return hash(branch) | 2
 
 
@@ -143,6 +144,7 @@ class Index:
         if length is None:
             # A restart is of all branches, and a mark of none.
             return OF_ALL if letter == b"Z" else NO_BRANCH, moment, found.end() - 1
+        # The message ends so many bytes after the line, and a LF comes after it.
         stop = found.end() + int(length)
         data = self.text[found.end():stop]
         keys = [] if len(self.places) + 1 in self.malformed else keys_or_none(letter.decode(), data)
@@ -152,6 +154,7 @@ class Index:
 
     def key_of(self, number):
         """Role, branch, sent-by and method of the transaction with this number, or None where there is none."""
+        # A dictionary keeps the order in which its keys were put in.
         text = next(islice(self.keys, number - 1, None), None)
         return None if text is None else key_in(text)
 
@@ -163,6 +166,7 @@ class Index:
         """The entry with this number."""
         place = self.places[number - 1]
         end = self.text.find(b"\n", place)
+        # A mark and a restart have two words, and a message has its length as the third.
         words = self.text[place:end].split()
         data = self.text[end + 1:end + 1 + int(words[2])] if len(words) == 3 else b""
         return Entry(number, words[0].decode(), int(words[1]), data)
@@ -197,6 +201,7 @@ class Found:
         self.index, self.times, self.at, self.key = index, index.times, at, key
         self.at_moment = index.moments[at - 1]
         limit = self.at_moment + AHEAD * index.times.t1
+        # The log is read on until an entry lies past the limit, or it ends.
         while index.moments[-1] <= limit and index.read():
             pass
         self.end = bisect_right(index.moments, limit)  # the number of the last entry that is looked at

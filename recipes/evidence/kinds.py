@@ -21,6 +21,7 @@ def kind_of(case):
     states = case.history.states()
     facts = {"history": [[one.number, case.letters[one.number]] for one in case.before], "moment": case.moment, "states": states,
              "phases": list(dict.fromkeys(state.split()[0] for state in states))}
+    # A response without a request comes first, then a silence that was too long, and last a send that was wrong.
     if case.is_send and case.act_of(case.breach.data) == "no request":
         return {**facts, **not_begun(case)}
     facts["last_wait"] = case.history.last_wait()
@@ -40,6 +41,7 @@ def not_begun(case):
     """The kind of a response to no request of the log, and the request of the same call that it may mean."""
     facts = {"kind": "not begun", "sent": sent_as(case.breach).told(entry=case.at, moment=case.moment), "act": "no request"}
     for one in requests_of_call(case):
+        # The response may have a wrong Via, a wrong CSeq, or both.
         for names in ((b"via",), (b"cseq",), (b"via", b"cseq")):
             righted = righted_for(case, one, names)
             if righted:
@@ -51,6 +53,7 @@ def requests_of_call(case):
     """The last requests before the breach that have the Call-ID and the CSeq number of its response."""
     data, find = case.breach.data, case.found
     call = call_id(data)
+    # The entries within REACH before the breach in which the Call-ID stands.
     numbers = find.mentions(call, max(0, case.at - REACH), REACH, REACH) if call else []
     before = [find.entry(number) for number in numbers if number < case.at]
     asked = [one for one in before if one.letter == "R" and not is_request(one.data, b"ACK") and not is_response(one.data)
@@ -78,6 +81,7 @@ def silence(case):
     due = due_alone(case)
     together = [] if due else due_together(case)
     facts = {"deadline": case.history.last_wait(), "due": due, "together": together}
+    # `wanted` is what was due. Where it came after all it is too late, and else it never came.
     wanted = [Candidate(one["what"], one["bytes"].encode("latin-1")) for one in due + together]
     late = came_late(case) or group_came_late(case, len(together))
     if late:
@@ -95,8 +99,10 @@ def settles(case, candidate, moment):
 def due_alone(case):
     """Each message that alone would have settled what was due, with its windows."""
     found = {}
+    # What a state owes is tried first, so that it is told by the entry for which it is owed.
     owed = [asked.data for _, asked in owed_messages(case, case.history.last_wait())]
     for one in sorted(case.candidates(), key=lambda one: not (one.of and case.found.entry(one.of).data in owed)):
+        # Messages with the same bytes are asked about once.
         windows = case.history.windows(lambda moment: settles(case, one, moment)) if one.data not in found else []
         if windows:
             found[one.data] = one.told(windows=told(windows))
@@ -142,6 +148,7 @@ def owed_by_states(case):
 def candidate_for(case, owed):
     """The message that is owed for an entry: for a client the ACK of its response, for a server its bytes again."""
     for one in case.candidates():
+        # The entry that the candidate repeats or acknowledges.
         of = next((other for other in case.before if other.number == one.of), None)
         if of is not None and of.data == owed.data and is_request(one.data, b"ACK") is (case.role == "client"):
             return Candidate(one.what, one.data, "S", one.of)
@@ -153,6 +160,7 @@ def came_late(case):
     for one in case.sends_from_breach()[:4]:
         message = sent_as(one)
         windows = case.history.windows(lambda moment: settles(case, message, moment))
+        # A window up to the moment of the send would make it right.
         if windows and windows[-1][1] >= one.moment:
             disagree()
         if windows:
@@ -164,6 +172,7 @@ def group_came_late(case, count):
     """The next sends that together would have settled what was due, had all of them come in time."""
     group = []
     for one in case.sends_from_breach() if count else []:
+        # Only sends that had a window can be of the group.
         if case.history.windows_of_send(one.letter, one.data):
             group.append(one)
         if len(group) == count:
@@ -181,6 +190,7 @@ def compared(one, wanted):
     """In what an entry differs from the wanted message of its kind."""
     for message in wanted:
         if is_same_kind(one.data, message.data):
+            # ACKs are compared by their parts, and other messages line by line.
             if is_request(message.data, b"ACK"):
                 parts = differing_parts(one.data, message.data)
                 return {"entry": one.number, "wanted": message.what, "parts": parts} if parts else None
@@ -194,8 +204,10 @@ def near(case):
     call, found = call_id(first.data), []
     for number in case.found.mentions(call, last.number, 3 * MOST_NEAR, REACH) if call else []:
         one = case.found.entry(number)
+        # A mark, or a message that is malformed.
         if not one.data or case.judge.verdict(log_of(case.times, [one[1:]]))[0] == "malformed":
             continue
+        # It is of the same call and role, and of another transaction.
         keys = keys_or_none(one.letter, one.data)
         if call_id(one.data) == call and any(key[0] == case.role for key in keys) and case.found.key not in keys:
             row = {"entry": number, "letter": one.letter, "moment": one.moment, "what": short(one.data), "branch": latin(spelled_branch(one.data))}
@@ -207,6 +219,7 @@ def would_be_ack(case, one):
     """What must change in an ACK with another branch for it to be an ACK that was due."""
     invite = case.first_request()
     if one.letter == "S" and is_request(one.data, b"ACK") and case.role == "client" and invite is not None:
+        # It is asked about at its own moment, or at the last one at which it would have been in time.
         moment = min(one.moment, case.history.last_wait())
         for refusal in case.refusals():
             parts = parts_to_right(case, one.data, invite.data, refusal.data, moment, mark(case.history.last_wait() + 1))
@@ -235,6 +248,7 @@ def parts_to_right(case, ack, invite, response, moment, *after):
         """Whether the ACK with these parts of the right one is allowed."""
         return case.history.allows(("S", moment, with_parts(ack, parts, right)), *after)
 
+    # It is right as it is, or not even with all parts put right.
     if is_right(()) or not is_right(ACK_PARTS):
         return None
     parts = list(ACK_PARTS)
@@ -254,6 +268,7 @@ def ack_put_right(case):
         parts = parts_to_right(case, ack, invite.data, refusal.data, case.moment)
         if parts:
             return {**of, "repair": parts}
+        # No ACK is allowed at this moment: the right one may be at another.
         right = ack_for(invite.data, refusal.data)
         differs = differing_parts(ack, right)
         windows = case.history.windows_of_send("S", right) if differs else []
@@ -271,11 +286,13 @@ def wrong_send(case):
     facts = {"sent": message.told(entry=one.number, moment=one.moment, windows=told(windows)), "act": case.act_of(one.data)}
     if windows:
         return {**facts, **nearest(windows, one.moment)}
+    # It is allowed at no moment: as another ACK, with other bytes, or not at all.
     return {**facts, **(ack_put_right(case) or bytes_put_right(case) or allowed_at_no_moment(case))}
 
 
 def nearest(windows, moment):
     """By how much a moment lies after the window before it, or before the next one, whichever is less."""
+    # A tie counts as too late.
     late = min((moment - last for _, last in windows if last < moment), default=None)
     early = min((first - moment for first, _ in windows if first > moment), default=None)
     if any(first <= moment <= last for first, last in windows):
@@ -313,6 +330,7 @@ def allowed_at_no_moment(case):
 def taken_away_by(case):
     """The newest of the last entries without which the send would have been allowed at its moment."""
     asked = case.asked()
+    # The first entry is never left out, as nothing would be left of the transaction.
     for place in range(len(asked) - 1, max(0, len(asked) - 1 - MOST_CANDIDATES), -1):
         rest = [case.as_asked(one) for one in asked[:place] + asked[place + 1:]]
         if case.judge.is_possible(case.times, [*rest, case.stop]):

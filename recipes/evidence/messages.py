@@ -19,6 +19,7 @@ def latin(data):
 def lines_and_rest(data):
     """The lines of the head, each with its folds, and what is left from the empty line on."""
     head, end, body = data.partition(HEAD_END)
+    # A line that begins with a blank or a tab goes on with the one before.
     return re.split(rb"\r\n(?![ \t])", head), end + body
 
 
@@ -41,6 +42,7 @@ def values_of(data, name):
 def with_lines(data, name, lines):
     """A message in which these lines are the fields of a name, where the message's own stood, or after its start line."""
     old, rest = lines_and_rest(data)
+    # Line 0 is the start line.
     places = [n for n, line in enumerate(old) if n and name_of(line) == name]
     kept = [line for n, line in enumerate(old) if n not in places]
     place = places[0] if places else 1
@@ -55,6 +57,7 @@ def with_top_via(data, pattern, text):
 
 def over_udp(data):
     """The message with UDP as the transport of its top Via."""
+    # The name of the field, the colon, SIP and its version, and then the transport.
     return with_top_via(data, rb"^([^:]*:\s*[^/]*/[^/]*/\s*)\S+", rb"\1UDP")
 
 
@@ -65,6 +68,7 @@ def with_branch(data, branch):
 
 def transport_of(data):
     """The transport of the top Via."""
+    # After SIP and its version.
     found = re.match(rb"[^/]*/[^/]*/\s*([^\s;,]+)", field(data, b"via", b"v"))
     return latin(found[1]) if found else ""
 
@@ -107,6 +111,7 @@ def cancel_for(invite):
 
 def response_to(asked, code):
     """A new response to a request."""
+    # A response has a tag in To.
     to_lines = [line if b"tag=" in line else line + b";tag=made" for line in lines_of(asked, b"to")]
     return b"\r\n".join([b"SIP/2.0 %d Made" % code, *lines_of(asked, b"via"), *lines_of(asked, b"from"), *to_lines, *lines_of(asked, b"call-id"),
                          *lines_of(asked, b"cseq"), b"Content-Length: 0", b"", b""])
@@ -114,6 +119,7 @@ def response_to(asked, code):
 
 def request_for(response):
     """A request to which this response may be the answer."""
+    # A request that begins a transaction has none.
     to_lines = [line.partition(b";tag=")[0] for line in lines_of(response, b"to")]
     return request(cseq(response)[1], b"sip:made@example.invalid", *lines_of(response, b"via"), *lines_of(response, b"from"), *to_lines,
                    *lines_of(response, b"call-id"), *lines_of(response, b"cseq"))
@@ -132,6 +138,7 @@ def compared_part(message, part):
     """A part of section 17.1.1.3 in the form in which it is compared: numbers as numbers, and From, To, Via and Route without their blanks."""
     text = part_of_ack(message, part)
     if part == "CSeq number":
+        # Zeros before a number do not count.
         return text.lstrip("0")
     return text if part in ("Request-URI", "Call-ID") else re.sub(r"[ \t\r\n]", "", text)
 

@@ -19,6 +19,7 @@ class Side:
 
     def line_after(self, place):
         """The words of the first line that begins at this place of the file or later."""
+        # From the byte before the place on, the rest of that line is passed over: a line that begins at the place is the next one.
         self.file.seek(max(0, place - 1))
         if place:
             self.file.readline()

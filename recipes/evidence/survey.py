@@ -72,6 +72,7 @@ class Surveying:
         if said:
             die(said, 4)
         self.text.seek(0)
+        # The last line counts.
         *lines, _ = self.text.read().decode("latin-1").splitlines()
         return [line.split() for line in lines]
 
@@ -91,6 +92,7 @@ class Survey:
         self.times, self.count = self.index.times, len(self.index.places)
         self.last = self.index.moments[-1] if self.count else 0
         self.restarts = [number for number, one in enumerate(self.index.branches, 1) if one == OF_ALL]
+        # 0 and OF_ALL are the sums of a mark and of a restart.
         self.branches = len(set(self.index.branches) - {0, OF_ALL})
         self.found = defaultdict(list)  # the findings, by the sum of their branch
         for words in found:
@@ -99,6 +101,7 @@ class Survey:
     def check_order(self):
         """Ends the script where the log cannot be read to its end."""
         index = self.index
+        # The first entry whose moment is before that of the one before it. Place n of the pairs is that of the entries n + 1 and n + 2.
         fault = next((n + 2 for n, is_right in enumerate(map(le, index.moments, islice(index.moments, 1, None))) if not is_right), None)
         if fault is None and index.place < len(index.text):
             fault = len(index.places) + 1
@@ -112,6 +115,7 @@ class Survey:
             branch = self.index.branches[at - 1]
             self.found[branch].append(Trouble(words[0], at, (), first, int(words[4 if words[2] == "line" else 3])))
         else:
+            # After the number of the transaction stand its role, its method, its branch, its first entry and its last one.
             role, method, _, number, _ = words[4:]
             first = self.index.entry(int(number))
             key = next(key for key in keys_or_none(first.letter, first.data) if (key[0], key[3]) == (role, method.encode("latin-1")))

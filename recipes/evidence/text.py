@@ -28,6 +28,7 @@ def runs(numbers):
     """Numbers of entries in words, those in a row as a span: entries 1 to 4 and 6."""
     spans_of = []
     for number in numbers:
+        # A number that comes right after the last span makes that longer.
         if spans_of and spans_of[-1][1] + 1 == number:
             spans_of[-1][1] = number
         else:
@@ -101,6 +102,7 @@ def difference(found, subject):
 def instead_of(told):
     """The lines on what was allowed in place of a message that is allowed at no moment, and on what took it away."""
     moment = told["sent"]["moment"]
+    # First what was allowed at the moment of the send; then each change with which the send itself would have been allowed.
     allowed = [one["what"] for one in told["allowed_then"]]
     if allowed:
         yield "At %d it was allowed to send %s%s." % (moment, listed(allowed), ", or to be silent" if told["could_be_silent"] else "")
@@ -137,7 +139,8 @@ def ladder(told):
     has_date = len(dates) == 1
     date = "; %s, UTC, # packet" % dates.pop() if has_date else "; UTC, # packet" if dates else ""
     yield Row("    entry   moment   since  (milliseconds; ---> sent, --x its transport refused, <--- received, ! in question%s)" % date)
-    # Of many rows the first FIRST_ROWS are shown and so many of the last ones that they are MOST_ROWS together; one line tells which are left out between them.
+    # Of many rows the first FIRST_ROWS are shown and so many of the last ones that they are MOST_ROWS together; one line tells which are left out between
+    # them.
     cut = len(rows) > MOST_ROWS + 1
     for place, one in enumerate(rows):
         if cut and place == FIRST_ROWS:
@@ -154,6 +157,7 @@ def row(one, is_breach, has_date):
         what = "the element is started anew" if one["letter"] == "Z" else "silence; the log has come to this moment"
     seen = ""
     if "time" in one:
+        # Beside the time and the ends there is room for 38 characters of the message, and else for 64.
         what = "%-38s" % what[:38]
         seen = " %s %s > %s%s" % (one["time"].split()[1] if has_date else one["time"], one["from"], one["to"], " #" + one["place"] if "place" in one else "")
     return "  %7d %8d %7s %s%s %s%s" % (one["number"], one["moment"], "" if one["since"] is None else "+%d" % one["since"],
@@ -185,6 +189,7 @@ def nearby(told):
 
 def settled(told):
     """The lines on what would excuse the breach, and on what was asked and would not."""
+    # The questions whose yes excuses the breach, each with what weakens that, and then the others in short.
     helping = [one for one in told["excuses"] if one["helps"]]
     if helping:
         yield "Settle these before you send it. A yes to any of them, and it is no breach:"
@@ -249,8 +254,10 @@ def repeated(told, room):
         return wrapped("To repeat it: siptrace check %s. %s" % (shlex.quote(told["log"]), program))
     about = "the log of this %s alone, %s here" % ("branch" if told["word"] == "breach" else "message", runs(again["numbers"]))
     verdict = "Its verdict is: " + again["verdict"]
+    # The log of the branch is packed at its smallest, without a time, and written in lines of base64.
     packed = textwrap.wrap(base64.b64encode(gzip.compress(again["log"].encode("latin-1"), 9, mtime=0)).decode(), WIDTH)
     lines = wrapped("To repeat it, run the lines below. They have %s, and print it where the last command is left out. %s" % (about, program)) + [verdict, "base64 -d <<. | gunzip | siptrace", *packed, "."]
+    # Where the text has no room for these lines, the log has to be sent beside it.
     if len(lines) <= room:
         return lines
     if "file" in again:
@@ -263,5 +270,6 @@ def wrapped(line):
     if isinstance(line, Row):
         return [line]
     line = printable(line)
+    # Further lines stand four blanks to the right of the first one.
     indent = " " * (4 + len(line) - len(line.lstrip()))
     return textwrap.wrap(line, WIDTH, subsequent_indent=indent, break_long_words=False, break_on_hyphens=False) or [""]

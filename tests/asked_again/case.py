@@ -15,11 +15,13 @@ class Case:
         self.at, self.number = int(self.verdict[1]), int(self.verdict[3])
         self.key = self.key_of(self.number)
         self.role, self.branch, self.sent_by, self.method = self.key
+        # `before` are its own entries before the breach. `letters` is how each of them stands in the history, which is empty for one that is left out.
         self.own = self.numbers_of_own()
         self.before = [number for number in self.own if number < self.at]
         self.letters = self.letters_of_history()
         self.history = [Entry(self.letters[number], *self.entry(number)[1:]) for number in self.before if self.letters[number]]
         self.moment = self.entry(self.at).moment
+        # From here on the transaction may be silent.
         self.start = self.history[-1].moment if self.history else 0
 
     def entry(self, number):
@@ -31,6 +33,7 @@ class Case:
         keys = {}
         for letter, _, data in self.entries[:self.at]:
             for key in keys_of(letter, data):
+                # A key that is new gets the next number.
                 if keys.setdefault(key, len(keys) + 1) == number:
                     return key
         raise ValueError(f"the log has no transaction {number} by the checker's reading")
@@ -83,6 +86,7 @@ class Case:
         """The last moment up to which the transaction can be silent after its history, or None where it can be silent for ever. Whether it can is a yes that
         turns to a no only once, so that the moment is found by halves."""
         if not hasattr(self, "found_silence"):
+            # After a yes the next moment is twice as late and a second more, so that a first no is found soon; from there on the rest is halved.
             low, high = self.start, LAST
             if self.can_be_silent_to(high):
                 self.found_silence = None
@@ -99,6 +103,7 @@ class Case:
 
     def settles(self, letter, moment, data):
         """Whether a message at a moment takes the history past its last moment of silence."""
+        # Without it the transaction cannot be silent to the moment after its last one of silence.
         return self.allows(Entry(letter, moment, data), mark(self.end() + 1))
 
     # What follows finds moments at which to ask.
@@ -106,6 +111,7 @@ class Case:
     def edges(self):
         """Moments at which the answer may change, by the timers and the entries. They are guesses, and the judge is only asked about them."""
         times = self.times
+        # The lengths of timers: LENGTHS, T4, T2, 64 times T1, and T1 doubled up to seven times. Each is taken with its tolerances too, and 1 ms beyond.
         lengths = {*LENGTHS, times.t4, times.t2, 64 * times.t1, *(times.t1 * 2 ** n for n in range(8))}
         bases = {entry.moment for entry in self.history[-12:]} | {0}
         return sorted({base + length + side for base in bases for length in lengths for side in (0, -times.early, times.late, times.late + 1, -times.early - 1)})
@@ -113,8 +119,10 @@ class Case:
     def net(self, windows, count):
         """About `count` moments from the last entry of the history to the last moment of silence, and the edges of these windows and the moments beside."""
         start, end, chance = self.start, self.end(), self.chance
+        # The edges of the windows with the moments beside them; half of `count` are edges of timers, a quarter lie anywhere, and a quarter within two seconds.
         near = [moment + side for window in windows for moment in window if moment is not None for side in (-1, 0, 1)]
         edges = self.edges()
+        # No timer is set for longer than this from the last entry on.
         far = min(end, start + 130 * self.times.t1 + 35_000)
         some = [*chance.sample(edges, min(len(edges), count // 2)), *(chance.randint(start, far) for _ in range(count // 4 + 1)),
                 *(start + chance.randint(0, 2000) for _ in range(count // 4 + 1)), start, far]

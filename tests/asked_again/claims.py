@@ -18,6 +18,7 @@ KINDS = (NEVER, EARLY, LATE, BYTES, ACK, STRAY, NONE)
 MOST_LATER = 3  # how many sends after the breach may be the one that was due
 
 # The timers and sections that may be named of each transaction, by its role and whether its method is INVITE.
+# A timer is one letter, as A of an INVITE's client. (RFC 3261 table 4, and M and L of RFC 6026.)
 TIMERS = {("client", True): "ABDM", ("client", False): "EFK", ("server", True): "GHIL", ("server", False): "J"}
 SECTIONS = {("client", True): ("3261 section 17.1.1", "3261 section 9.1", "3261 section 13.2.2.4", "6026 section 7.2"), ("client", False): ("3261 section 17.1.2",),
             ("server", True): ("3261 section 17.2", "6026 section 7.1", "3261 section 13.3.1.4"), ("server", False): ("3261 section 17.2",)}
@@ -68,6 +69,7 @@ class Claims:
         case, told = self.case, self.told
         self.holds("verdict", told["verdict"].split() == case.verdict and told["word"] == "breach" and told["status"] == 1, told["verdict"])
         entry = case.entry(case.at)
+        # `is_own` says whether the entry of the verdict concerns the transaction, or only shows its silence.
         wanted = {"number": case.at, "letter": entry.letter, "moment": entry.moment, "is_own": case.at in case.own}
         self.holds("entry of the verdict", told["entry"] == wanted and told["moment"] == entry.moment, str(told["entry"]))
         times = told["times"]
@@ -83,6 +85,7 @@ class Claims:
         for name, text in wanted.items():
             self.holds("transaction's " + name, own[name] == text, f"{own[name]}, and not {text}")
         self.holds("transaction's cseq", latin(own["cseq"]).split() == value(first, b"cseq").split(), own["cseq"])
+        # The judge lists the transactions of an entry: its last one with a message before the breach has to name this one by its number.
         number = next((number for number in reversed(case.before) if case.entry(number).data), None)
         if number is not None:
             listed = [one[:3] for one in self.judge.listing(case.times, case.entries[:number])]
@@ -97,6 +100,7 @@ class Claims:
         self.holds("history", history == [[number, case.letters[number]] for number in case.before], str(told["history"]))
         self.holds("history is possible", not case.history or case.is_possible(case.history))
         self.holds("the breach shows after its history", not case.allows(case.last_entry()))
+        # A state is listed as its phase and then its parts.
         self.holds("phases are those of the states", told["phases"] == list(dict.fromkeys(state.split()[0] for state in told["states"])))
         listed = self.judge.listing(case.times, case.history) if case.history else []
         states = next((states for _, role, method, states in listed if (role, method) == (case.role, case.method.decode())), [])
@@ -121,6 +125,7 @@ class Claims:
         """Asks about each window at both of its ends and just outside, and about a net of moments between the windows and beside them."""
         case = self.case
         end, start = case.end(), case.start
+        # A window without an end goes on to the last moment of silence.
         spans = [(first, end if last is None else last) for first, last in windows]
         self.holds(what + ": a window without an end", all(last is not None or case.last_silence() is None for _, last in windows))
         for first, last in spans:
@@ -128,6 +133,7 @@ class Claims:
             self.holds(what + ": last moment", is_right(last), last)
             self.holds(what + ": before the first moment", first <= start or not is_right(first - 1), first)
             self.holds(what + ": after the last moment", last >= end or not is_right(last + 1), last)
+        # Where no window is told three times as many moments are asked about, since none of them may be right.
         for moment in case.net(spans, count or (self.density if spans else 3 * self.density)):
             is_in = any(first <= moment <= last for first, last in spans)
             self.holds(what + (": within" if is_in else ": outside"), is_right(moment) == is_in, moment)
@@ -147,6 +153,7 @@ class Claims:
         case = self.case
         if self.is_stray():
             wanted = (STRAY,)
+        # The silence ended before the breach showed.
         elif case.end() < case.moment:
             wanted = (LATE,) if self.came_late() else (NEVER, LATE)
         else:
@@ -162,6 +169,7 @@ class Claims:
     def came_late(self):
         """Whether one of the next sends of the transaction would have settled what was due, had it come in time."""
         case = self.case
+        # Had the message come at some moment up to the end of the silence, nothing would have been missing.
         for number in case.later_sends(self.told["last_moment"])[:MOST_LATER]:
             letter, _, data = case.entry(number)
             if any(case.settles(letter, moment, data) for moment in case.net([], 12) + [case.end()]):
@@ -174,15 +182,19 @@ class Claims:
         if not case.is_own_send():
             return ("the breach of a message that the element did not send",)
         letter, moment, data = case.breach_entry()
+        # There is a moment at which this very message was allowed: it was early or late.
         windows = [(first, case.end() if last is None else last) for first, last in self.told.get("sent", {}).get("windows", [])]
         if any(self.sends(letter, data)(one) for one in case.net(windows, self.density)):
             return (EARLY, LATE)
+        # An ACK that is right once its wrong parts are put right is the wrong ACK.
         is_ack = case.role == "client" and method_of(data) == b"ACK" and bool(case.refusals())
         if is_ack and self.acks_of(data, moment):
             return (ACK,)
+        # A message of the same kind that was sent before, and is allowed now, shows that the bytes are wrong.
         others = {one.data for one in case.history if one.letter in "SF" and one.data != data and is_same_kind(one.data, data)}
         if any(case.allows(Entry(letter, moment, other)) for other in others):
             return (BYTES,)
+        # Else it was not allowed. An earlier message or another ACK may still have been allowed at another moment, so that these kinds may be told too.
         return (NONE, *([BYTES] if others else []), *([ACK] if is_ack else []))
 
     def acks_of(self, data, moment):
@@ -197,6 +209,7 @@ class Claims:
     def of_rule(self):
         """Checks that the words of the rule name timers and sections of this transaction."""
         case, rule = self.case, self.told["rule"]
+        # A rule may name the timers and the sections of this kind of transaction. After a restart, or for a general rule, another section may stand.
         figure = case.role, case.method == b"INVITE"
         is_restart = any(one.letter == "Z" for one in case.history)
         self.holds("timer of the rule", not rule["timer"] or all(letter in TIMERS[figure] for letter in rule["timer"]), rule["timer"])
@@ -219,6 +232,7 @@ class Claims:
             self.holds("row's time since the one above", row["since"] == (None if before is None else entry.moment - before), row["number"])
             line = entry.data.split(b"\r\n")[0].decode("latin-1") if row["number"] in case.own else ""
             self.holds("row's first line", row["line"] == line, row["line"])
+            # An own entry whose bytes came before names the first entry that has them.
             again = first_with.get(entry.data) if row["number"] in case.own else None
             self.holds("row's entry with the same bytes", row["again"] == (again if again != row["number"] else None), row["number"])
             before = entry.moment
@@ -234,6 +248,7 @@ class Claims:
         self.holds("the small log ends at the breach", len(entries) == len(repeat["numbers"]) == int(verdict[1]) and repeat["numbers"][-1] == case.at, verdict[1])
         for number, entry in zip(repeat["numbers"], entries):
             own = case.entry(number)
+            # The entries are those of the log; a breach that shows at another's entry has a mark at its moment.
             self.holds("an entry of the small log", entry == own or (number == case.at and entry == mark(own.moment)), number)
         keys = list(dict.fromkeys(key for entry in entries for key in keys_of(entry.letter, entry.data)))
         self.holds("the small log's transaction", keys[int(verdict[3]) - 1] == case.key)
@@ -241,6 +256,7 @@ class Claims:
     def of_message(self, one):
         """Whether a message of the evidence is what its words say of it."""
         case, what, data = self.case, one["what"], latin(one["bytes"])
+        # The words of a message: the ACK of an entry, an entry's message again, a new response of a class, or a CANCEL.
         named = re.match(r"the ACK of entry (\d+)'s|entry (\d+)'s|(?:a first|another|a new) ([123])xx|a (CANCEL)", what)
         if not self.holds("words that name a message", bool(named), what):
             return
@@ -251,6 +267,7 @@ class Claims:
         elif again:
             self.holds("a message with the bytes of that entry", case.entry(int(again)).data == data and one.get("of") == int(again), what)
         else:
+            # `3xx` stands for 3xx to 6xx.
             self.holds("a message of that kind", str(code_of(data))[0] in ("3456" if code == "3" else code) if code else method_of(data) == cancel.encode(), what)
 
     # What follows asks about a silence that was too long.
@@ -265,6 +282,7 @@ class Claims:
             if one["what"].startswith("the ACK of"):
                 self.holds("the response of an ACK that was due", case.entry(one["of"]).data in owed, one["what"])
         self.holds("each message that was due once", len({one["bytes"] for one in told["due"]}) == len(told["due"]), ", ".join(one["what"] for one in told["due"]))
+        # Each message that alone settles it is asked about at the moments of its windows.
         for one in told["due"]:
             self.windows("due", one["windows"], self.settling(one["letter"], latin(one["bytes"])), self.density // 3)
             self.holds("due has a window", bool(one["windows"]))
@@ -275,6 +293,7 @@ class Claims:
     def all_due(self):
         """Checks that the evidence tells each message that alone would have settled what was due, of those that the transaction sent and of the ACKs."""
         case, told = self.case, self.told
+        # Each message that was sent before, and the ACK of each refusal, is either named as due or settles nothing at any of these moments.
         named = [latin(one["bytes"]) for one in told["due"]]
         moments = [case.start, case.end()] + [moment for moment in case.net([], 4)]
         for other in {one.data for one in case.history if one.letter in "SF" and method_of(one.data) == case.method}:
@@ -287,6 +306,7 @@ class Claims:
     def owed_by(self, deadline):
         """The messages for which a state of the listing owes something that must be sent by this moment. Over a reliable transport timer D ends at once,
         and all that is owed must be sent before."""
+        # A state lists a debt as owes=MESSAGE/DEADLINE/must, where the message is told by the number of an entry of the history.
         found = [(number, until, "reliable=yes" in state) for state in self.told["states"] for number, until in re.findall(r"owes=(\d+)/(\d+)/must", state)]
         return {self.case.history[int(number) - 1].data for number, until, is_reliable in found if is_reliable or int(until) <= deadline}
 
@@ -299,6 +319,7 @@ class Claims:
             return
         self.holds("all together settle it", case.allows(*together, mark(until + 1)))
         for number in range(len(together)):
+            # Without one of them the silence is too long still.
             self.holds("each of those together is needed", not case.allows(*together[:number], *together[number + 1:], mark(until + 1)))
         for one in told["together"]:
             self.windows("one of those together", one["windows"], self.sends(one["letter"], latin(one["bytes"])), self.density // 3)
@@ -310,6 +331,7 @@ class Claims:
         wanted = [latin(one["bytes"]) for one in told["due"]]
         for place, number in enumerate(case.later_sends(told["last_moment"])):
             letter, _, data = case.entry(number)
+            # A send that is none of the first few is only asked about where it has the bytes of what was due.
             if data in wanted or place < MOST_LATER:
                 self.holds("no later send would have settled it", not any(case.settles(letter, moment, data) for moment in case.net([], 6) + [case.end()]), number)
         for row in told.get("near") or []:
@@ -335,6 +357,7 @@ class Claims:
         self.holds("near entry", (row["letter"], row["moment"]) == (letter, moment) and row["branch"] == top_via(data)[3].decode("latin-1"))
         self.holds("near entry in words", row["what"] in self.first_line(row["entry"]), row["what"])
         self.holds("near entry is another transaction's", case.key not in keys_of(letter, data))
+        # The evidence says of this message only that it is of the same call. Then it must not be, put right, what was due.
         if "would_be" not in row:
             is_ack = letter == "S" and not is_response(data) and method_of(data) == b"ACK" and bool(case.requests())
             rights = [right_ack(data, case.requests()[0], response) for response in case.refusals()] if is_ack else []
@@ -363,6 +386,7 @@ class Claims:
             self.group(told["group"], sent)
         else:
             self.windows("late", sent["windows"], self.settling(letter, data))
+        # It is late by the time since the end of its last window.
         last = sent["windows"][-1][1]
         self.holds("size", told["by"] == moment - last and told["by"] > 0, told["by"])
 
@@ -392,6 +416,7 @@ class Claims:
         _, moment, _ = self.sent()
         windows = told["sent"]["windows"]
         if self.holds("has a window", bool(windows)):
+            # How long it is to the next window, and how long since the last one. The nearer one tells the kind and the size.
             early = min((first - moment for first, _ in windows if first > moment), default=None)
             late = min((moment - last for _, last in windows if last is not None and last < moment), default=None)
             nearest = min(size for size in (early, late) if size is not None)
@@ -515,6 +540,7 @@ class Claims:
         for other in {one.data for one in case.history if one.letter in "SF" and method_of(one.data) == case.method}:
             self.holds("what it sent before and may send again is told", other in named or not may_send(other))
         request = case.requests()[0]
+        # A server could send a new response: a provisional one, a 2xx, or one of 3xx to 6xx. Codes that no log has make it a new one.
         for code in (184, 298, 698) if case.role == "server" else ():
             is_told = any(code_of(one) // 100 in ((code // 100,) if code < 300 else (3, 4, 5, 6)) for one in named)
             self.holds("a response that may be sent is told", is_told or not may_send(response_to(request, code)), code)
@@ -528,6 +554,7 @@ class Claims:
     def without(self, number):
         """Checks the entry without which the send would have been allowed."""
         case = self.case
+        # The entries of the history by their numbers.
         kept = [one for one in case.before if case.letters[one]]
 
         def is_right(left_out):
@@ -535,6 +562,7 @@ class Claims:
             return case.is_possible([Entry(case.letters[one], *case.entry(one)[1:]) for one in kept if one != left_out] + [case.breach_entry()])
 
         if number is None:
+            # Of the entries after the first only the last four are asked about.
             self.holds("no entry took it away", not any(is_right(one) for one in kept[1:][-4:]))
         else:
             self.holds("without that entry", number in kept and is_right(number), number)
@@ -564,5 +592,7 @@ class Claims:
     def probe_of_end(self, request):
         """Messages that are possible only where a transaction is over, and how long after them a mark stands."""
         if self.case.role == "client":
+            # A refusal that a client receives calls for an ACK within the tolerance, unless the transaction is over.
             return [("R", response_to(request, 698))], self.case.times.late + 1
+        # A server that is over takes its request as a new one, and may answer it by a new provisional response.
         return [("R", request), ("S", response_to(request, 184))], 0

@@ -19,6 +19,7 @@ class Excuses:
         """Checks each excuse, by the change that it asks about, and that none is left out."""
         for row in self.told["excuses"]:
             change = row["change"]
+            # What the question is about is the part that its change names.
             asked = next(name for name in ("t1", "rules", "tolerance", "insert", "letter", "order", "drop", "earlier") if name in change)
             getattr(self, "ask_" + asked)(row, change)
             self.question_names(row, change)
@@ -29,9 +30,11 @@ class Excuses:
         """Checks that the question names the numbers of its change, and no numbers that are neither of the log nor of the evidence."""
         wanted = [change[name] for name in ("t1", "rules", "tolerance", "drop") if name in change]
         wanted += [int(number) for number in change.get("letter", {})] + [moment for letter, moment, _ in change.get("insert", []) if self.told["kind"] != "not begun"]
+        # The numbers of the question, but those of RFCs and of classes of responses, as 2xx.
         said = set(re.findall(r"\d+", re.sub(r"RFC \d+|\b\dxx\b", "", row["question"])))
         holds = self.claims.holds
         holds("a question names its numbers", all(re.search(rf"\b{number}\b", row["question"]) for number in wanted), row["question"])
+        # A late start names how many sends there would have been, and which send entry 1 would be.
         holds("no question names other numbers", said <= self.numbers_known() | {str(len(change.get("earlier", [])) + 1)} | numbers_in(change), row["question"])
 
     def numbers_known(self):
@@ -55,6 +58,7 @@ class Excuses:
         """The times of the header, with this change."""
         times = self.case.times
         if "tolerance" in change:
+            # A tolerance is never made smaller than the header has it.
             return times._replace(**{side: max(change["tolerance"], getattr(times, side)) for side in change["sides"]})
         return times._replace(**{name: change[name] for name in ("t1", "rules") if name in change})
 
@@ -109,10 +113,12 @@ class Excuses:
         more = [Entry(letter, moment, data.encode("latin-1")) for letter, moment, data in change["insert"]]
         history = [] if self.told["kind"] == "not begun" else list(self.case.history)
         after = self.place_after(change.get("after"))
+        # The messages are put in after this many entries.
         history, rest = history[:after], history[after:]
         self.says("a message that the log lacks", row, self.is_gone([*history, *more, *rest, self.case.last_entry()]))
         if more[0].letter == "Z":
             self.restarts_between(row, more[0].moment)
+        # The question says that no message of this kind, come by this moment, would excuse the breach.
         elif not row["helps"] and history and "received by" in row["question"]:
             self.not_sooner_either(row, more[0])
 
@@ -141,6 +147,7 @@ class Excuses:
     def ask_letter(self, row, change):
         """Asks about a send that the transport refused."""
         case = self.case
+        # The change names by its number each entry that gets the letter F.
         entries = [Entry(change["letter"].get(str(number), case.letters[number]), *case.entry(number)[1:]) for number in case.before if case.letters[number]]
         self.says("a refusal of the transport", row, self.is_gone([*entries, case.last_entry()]))
 
@@ -151,6 +158,7 @@ class Excuses:
         self.says("another order", row, self.is_gone(entries))
         kept = sorted(number for number, _ in change["order"])
         turned = [number for number, _ in change["order"]]
+        # Two places that follow one another have each other's entry, and no moment moved by more than SKEW.
         places = [place for place, (one, other) in enumerate(zip(kept, turned)) if one != other]
         near = all(abs(moment - case.entry(number).moment) <= SKEW for number, moment in change["order"])
         self.claims.holds("neighbours alone changed places", len(places) == 2 and places[1] == places[0] + 1 and near)
@@ -170,6 +178,7 @@ class Excuses:
             self.no_start_is_late()
             return
         first = next(one for one in case.history if one.data)
+        # The earlier sends have moments before the log, below zero. All is moved so that the first of them is at 0.
         shift = -change["earlier"][0] - first.moment
         earlier = [Entry("S", first.moment + moment + shift, first.data) for moment in change["earlier"]]
         rest = [one._replace(moment=one.moment + shift) for one in self.with_breach()]
@@ -183,6 +192,7 @@ class Excuses:
             return
         gaps = [case.times.t1 * 2 ** n if case.method == b"INVITE" else min(case.times.t1 * 2 ** n, case.times.t2) for n in range(5)]
         for count in range(1, 6):
+            # The sends before, at the intervals of the timer, and as the last of these moments that of the log's first entry.
             moments = [sum(gaps[:n]) for n in range(count + 1)]
             earlier = [Entry("S", moment, first.data) for moment in moments[:-1]]
             rest = [one._replace(moment=one.moment - first.moment + moments[-1]) for one in self.with_breach()]
@@ -193,6 +203,7 @@ class Excuses:
         case, told, holds = self.case, self.told, self.claims.holds
         # `changes` are what was asked about, each as what would be changed in the log.
         changes = [row["change"] for row in told["excuses"]]
+        # A T1 that is not greater than that of the header cannot be asked about.
         for t1 in (1000, 2000):
             holds("T1 is asked about", t1 <= case.times.t1 or any(change.get("t1") == t1 for change in changes), t1)
         if case.method == b"INVITE" and case.times.rules != 3261:
@@ -204,6 +215,7 @@ class Excuses:
             holds("the tolerance is asked about", has_tolerance)
         if case.is_own_send() and any(one.data == case.entry(case.at).data and case.moment - one.moment <= COPY and one.letter == case.entry(case.at).letter for one in case.history):
             holds("a packet seen twice is asked about", any("drop" in change for change in changes))
+        # A client whose first entry is its own request may have sent it before the log began.
         first = next((one for one in case.history if one.data), None)
         if case.role == "client" and first is not None and first.letter == "S" and not is_response(first.data) and method_of(first.data) == case.method \
                 and first.moment <= 64 * case.times.t1:

@@ -77,6 +77,7 @@ class FaultClaims:
         if line is None:
             self.holds("no line has no front", length is None)
             return
+        # The line itself, and what comes after the head.
         text, rest = self.lines[line], self.entry.data[len(b"\r\n".join(self.lines)):]
 
         def lacks(size):
@@ -85,6 +86,7 @@ class FaultClaims:
 
         if length is not None:
             self.holds("the front lacks the fault", 0 < length < len(text) and lacks(length), length)
+        # Fault 6 is that a field stands twice, of which no front of its line tells. The next longer front is asked about, and up to eight others.
         if self.fault[-2] != "6" and len(text) <= MOST_ASKED:
             longer = range((length or 0) + 1, len(text))
             for size in {*longer[:1], *self.chance.sample(longer, min(8, len(longer)))}:
@@ -99,6 +101,7 @@ class FaultClaims:
         times, entries = read_log(self.log)
         keys = list(dict.fromkeys(key for letter, _, data in entries[:at] for key in keys_of(letter, data)))
         key = keys[number - 1]
+        # The entries that concern it, and the restarts.
         own = [place for place, (letter, _, data) in enumerate(entries[:at], 1) if letter == "Z" or key in keys_of(letter, data)]
         self.holds("undecided entry", told["entry"] == {"number": at, "letter": entries[at - 1].letter, "moment": entries[at - 1].moment})
         self.holds("undecided transaction", (told["transaction"]["number"], told["transaction"]["role"], told["transaction"]["method"]) == (number, key[0], key[3].decode()))
@@ -106,6 +109,7 @@ class FaultClaims:
         for place, count in told["growth"]:
             states = next((states for one, _, _, states in self.judge.listing(times, entries[:place]) if one == number), [])
             self.holds("states after an entry", count == len(states), place)
+        # The last entry of the growth is its last one before the verdict; `states` are those after it.
         self.holds("states before it", told["states"] == len(states) and told["growth"][-1][0] == own[-2])
         self.holds("most that a state owes", told["most_debts"] == max(state.count("owes=") for state in states))
         if told["decided"]:
@@ -114,6 +118,7 @@ class FaultClaims:
     def decided(self, times, branch):
         """Checks the tolerance with which the branch is decided, and what is said of the branch then."""
         told = self.told["decided"]
+        # No side gets more than the header has.
         most = {side: min(told["tolerance"], getattr(times, side)) for side in ("early", "late")}
         words = self.judge.verdict(write_log(times._replace(**most), [one for _, one in branch]))
         self.holds("decided with a tolerance", words[0] == told["word"] != "undecided", " ".join(words))
@@ -130,6 +135,7 @@ class FaultClaims:
         self.holds("number and name of the fault", (str(told["fault"]["number"]), told["fault"]["name"]) == (number, name))
         self.holds("where it begins", told["there"].encode("latin-1") == self.log[told["at_byte"]:][:100])
         if int(at):
+            # The log cut off there has no fault, and is legal with one entry less, or has a breach before.
             front = self.judge.verdict(self.log[:told["at_byte"]])
             self.holds("all before it can be read", front[0] != "log" and (front[0] != "legal" or front[2] == str(int(at) - 1)), " ".join(front))
             self.holds("it begins where an entry begins", re.match(rb"[^\n]*", self.log[told["at_byte"]:]) is not None and

@@ -44,9 +44,11 @@ def read_log(text):
     while place < len(text):
         end = text.index(b"\n", place)
         words = text[place:end].split()
+        # A mark and a restart have two words. With -1 the next entry begins at the next line.
         length = int(words[2]) if len(words) == 3 else -1
         entries.append(Entry(words[0].decode(), int(words[1]), text[end + 1:end + 1 + max(0, length)]))
         place = end + 1 + length + 1
+    # A header of format 1 has one tolerance, which is both how early and how late: the fourth number and the last.
     return Times(*numbers[:4], numbers[-1], int(rules[1]) if rules else 0), entries
 
 

@@ -15,6 +15,7 @@ PARTS_OF_ACK = ("Request-URI", "Call-ID", "From", "To", "CSeq number", "Route", 
 
 def head_lines(data):
     """The lines of the head, the first one too, each with its folds."""
+    # A line that begins with a blank or a tab goes on with the one before. The head ends at the first empty line.
     return re.split(rb"\r\n(?![ \t])", data.partition(b"\r\n\r\n")[0])
 
 
@@ -46,6 +47,7 @@ def is_response(data):
 
 def code_of(data):
     """The code of the response."""
+    # The code stands after `SIP/2.0 `.
     return int(data[8:11])
 
 
@@ -57,6 +59,7 @@ def method_of(data):
 def top_via(data):
     """The first element of the first Via, and its transport, host with port, and branch as it is spelled."""
     whole = FIRST_ELEMENT.match(value(data, b"via"))[0].strip()
+    # What is quoted is emptied, so that no `;` within it parts anything. `protocol` has the name, the version, the transport, and host with port.
     bare = QUOTED.sub(b'""', whole)
     first, *parameters = [part.strip() for part in bare.split(b";")]
     protocol = re.fullmatch(rb"(.*?)\s*/\s*(.*?)\s*/\s*(\S+)\s+(.*)", first, re.S)
@@ -67,6 +70,7 @@ def top_via(data):
 
 def sent_by(text):
     """Host and port in the form in which two are compared."""
+    # An address of IPv6 in square brackets, or a host up to the colon; then a port, which is 5060 where none is told.
     found = re.fullmatch(rb"(\[[^]]*\]|[^:\s]*)\s*(?::\s*(\d+))?", text.strip())
     return found[1].lower() + b":%d" % int(found[2] or 5060)
 
@@ -82,6 +86,7 @@ def keys_of(letter, data):
     method, answers = method_of(data), is_response(data)
     if method == b"ACK" and not answers:
         method = b"INVITE"
+    # Who receives a response, or sends a request, is the client. A client's transactions are not told apart by host and port.
     if (letter == "R") == answers:
         own = ("client", branch, b"", method)
         return [own, ("client", branch, b"", b"INVITE")] if method == b"CANCEL" and not answers else [own]
@@ -98,6 +103,7 @@ def part_of_ack(data, part):
     if part == "Request-URI":
         return data.split(b" ", 2)[1]
     if part == "CSeq number":
+        # The number of CSeq without zeros before it.
         return b"%d" % int(value(data, b"cseq").split()[0])
     return solid(b",".join(values(data, part.lower().encode())))
 
@@ -118,6 +124,7 @@ def wrong_parts(ack, invite, response):
 
 def with_lines(data, name, lines):
     """A message in which these lines stand in place of the fields of one name, after its start line."""
+    # The end of the head and the body stay as they are.
     first, *others = head_lines(data)
     return b"\r\n".join([first, *lines, *(line for line in others if name_of(line) != name)]) + data[data.index(b"\r\n\r\n"):]
 
@@ -127,6 +134,7 @@ def with_part_of(data, other, part):
     if part == "Request-URI":
         method, _, rest = data.split(b" ", 2)
         return b" ".join([method, other.split(b" ", 2)[1], rest])
+    # The other parts are fields of their own names.
     name = b"cseq" if part == "CSeq number" else part.lower().encode()
     return with_lines(data, name, lines_named(other, name))
 
@@ -146,6 +154,7 @@ def right_ack(ack, invite, response):
 
 def cancel_of(invite):
     """The CANCEL of an INVITE (RFC 3261 section 9.1)."""
+    # Request-URI, top Via, From, To, Call-ID, Route and the number of CSeq are those of the INVITE.
     kept = [line for line in head_lines(invite)[1:] if name_of(line) in (b"from", b"to", b"call-id", b"route")]
     lines = [b"CANCEL " + invite.split(b" ", 2)[1] + b" SIP/2.0", b"Via: " + top_via(invite)[0], *kept,
              b"CSeq: " + value(invite, b"cseq").split()[0] + b" CANCEL", b"Content-Length: 0", b"", b""]
@@ -154,6 +163,7 @@ def cancel_of(invite):
 
 def ack_of(invite, response):
     """The ACK of a refusal of an INVITE (RFC 3261 section 17.1.1.3)."""
+    # An ACK has what a CANCEL has, but for the method and for To, which is that of the response.
     ack = cancel_of(invite).replace(b"CANCEL ", b"ACK ", 1)
     return with_lines(with_lines(ack, b"cseq", [b"CSeq: " + value(invite, b"cseq").split()[0] + b" ACK"]), b"to", lines_named(response, b"to"))
 

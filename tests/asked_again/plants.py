@@ -44,8 +44,10 @@ class Answer(NamedTuple):
 
     def number(self, told):
         """The number that is told at this place, and as much more as is planted."""
+        # Each step is a name or a number within what the step before leads to.
         for step in self.place:
             told = told[step]
+        # A way that needs no number gets 0.
         return told + self.more if self.place else 0
 
 
@@ -136,10 +138,12 @@ class Plants:
             told = json.loads(said)
         except ValueError:
             return None
+        # But for what differs from run to run.
         return {name: value for name, value in told.items() if name not in ("log", "program", "questions")}
 
     def faults_told(self, what, log, explain=None, **variables):
         """What the checker tells of an explanation with a fault."""
+        # A job as tests/evidence has it: name, log, moments, program, script, variables.
         outcome = self.check((what, self.logs[log], DENSITY, self.program, explain or self.explain, {**self.variables, **variables}))
         return outcome.wrong
 
@@ -176,6 +180,7 @@ class Plants:
             shutil.copytree(self.explain.parent, recipes, ignore=shutil.ignore_patterns("__pycache__", "examples"))
             path = recipes / fault.file
             text = path.read_text()
+            # The text must stand there once, or else the plant no longer fits the source.
             if text.count(fault.old) != 1:
                 return fault.what, ["BAD PLANT: its text stands %d times in %s" % (text.count(fault.old), fault.file)]
             path.write_text(text.replace(fault.old, fault.new))
@@ -200,6 +205,7 @@ def are_told(program, explain, check, chance=None, most=None):
     """Tries the plants, or `most` of them by chance; tells of each how the checker told it, and answers whether it told all."""
     with tempfile.TemporaryDirectory() as work, ProcessPoolExecutor() as pool:
         plants = Plants(program, explain, check, work)
+        # Each thing to do has the logs that it needs, what tries it, and what that takes.
         todo = [(fault.logs, plants.fault, fault) for fault in FAULTS]
         if plants.build_stub():
             todo += [((answer.log,), plants.answer, answer) for answer in ANSWERS]
@@ -207,6 +213,7 @@ def are_told(program, explain, check, chance=None, most=None):
         else:
             print("not tried, for want of cc: the wrong answers of the program")
         todo = chance.sample(todo, most) if most else todo
+        # Beside the plants each log is tried without a fault, which must be told nowhere.
         genuine = [pool.submit(plants.genuine, log) for log in sorted({log for logs, *_ in todo for log in logs})]
         waiting = [pool.submit(*one) for _, *one in todo]
         false_alarms = sum(bool(one.result()) for one in genuine)

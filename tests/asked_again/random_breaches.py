@@ -22,14 +22,17 @@ class Spelling:
 
     def __init__(self, chance, number):
         # What is likelier stands more than once.
+        # The top Via: its transport, its branch (also with another case in the cookie), its host, and what may stand after the branch.
         self.transport = chance.choice(["UDP"] * 5 + ["TCP", "TLS", "SCTP"])
         self.branch = chance.choice(["z9hG4bK", "z9hG4bK", "Z9hg4BK"]) + f"r{number}"
         self.host = chance.choice(["a.example.com", "192.0.2.1", "[2001:db8::1]", "b.example.com:5062"])
         self.after = chance.choice(["", "", ";rport", ';x="a b"', ";received=192.0.2.7"])
+        # The number of CSeq (also with a zero before it), the names of the fields (also compact ones and in capitals), and a fold after the name of Via.
         self.number = chance.choice(["1", "1", "01", "7042"])
         self.via, self.sender, self.to, self.call, self.length = chance.choice(
             [("Via", "From", "To", "Call-ID", "Content-Length")] * 3 + [("v", "f", "t", "i", "l"), ("VIA", "FROM", "TO", "CALL-ID", "Content-length")])
         self.fold = chance.choice(["", "", "", "\r\n "])
+        # Fields besides, the display name in From, the Request-URI, the Call-ID, and a Via below the top one.
         self.extra = chance.choice([[], [], ["Route: <sip:p.example.com;lr>"], ["Subject: one, two"], ["Route: <sip:p.example.com;lr>", "Route: <sip:q.example.com;lr>"]])
         self.name = chance.choice(["", '"Bob, \\"B\\"" ', "Bob "])
         self.user = chance.choice(["sip:bob@example.com", "sip:example.com", "sips:bob@example.com;x=y"])
@@ -49,17 +52,20 @@ class Spelling:
 
     def request(self, method, to_tag="", branch=None, more=()):
         """A request of the transaction."""
+        # An ACK and a CANCEL are of one hop, and have one Via.
         vias = self.via_lines(branch) + (self.second_via if method not in ("ACK", "CANCEL") else [])
         return self.head(f"{method} {self.user} SIP/2.0", vias, to_tag, method, [*self.extra, *more])
 
     def response(self, method, code, tag):
         """A response of the transaction."""
+        # A 100 has no tag in To.
         return self.head(f"SIP/2.0 {code} {PHRASES[code]}", self.via_lines() + self.second_via, tag if code > 100 else "", method)
 
 
 def spoiled_ack(chance, spelling, tag):
     """An ACK that is wrong in one part, or in two."""
     ack = spelling.request("ACK", tag)
+    # Another Request-URI, another tag in From, no tag in To, another number, Call-ID or Route, blanks in the top Via, a parameter more in it.
     changes = [(spelling.user.encode(), b"sip:other@example.com"), (b";tag=f", b";tag=g"), (f";tag={tag}".encode(), b""), (b"CSeq: ", b"CSeq: 9"),
                (spelling.call_id.encode(), b"other@call"), (b"Route: <sip:p", b"Route: <sip:z"), (b"SIP/2.0/", b"SIP / 2.0 / "), (b"branch=", b"rport;branch=")]
     for old, new in chance.sample(changes, chance.choice([1, 1, 2])):
@@ -72,9 +78,11 @@ class Walk:
 
     def __init__(self, judge, chance, number):
         self.judge, self.chance = judge, chance
+        # Logs take the eight transactions by turns. Most have the times of RFC 3261 and a tolerance of 50.
         self.role, self.method, rules = TRANSACTIONS[number % len(TRANSACTIONS)]
         self.spelling = Spelling(chance, number)
         t1 = chance.choice([500] * 6 + [1, 100, 1000, 2000])
+        # Where the two tolerances differ the log has to be of format 2.
         early, late = chance.choice([(50, 50)] * 4 + [(0, 0), (10, 10), (500, 500), (0, 100), (100, 0), (1, 300), (3000, 3000)])
         self.times = Times(t1, chance.choice([4000, 4000, 4000, 1000, t1]), chance.choice([5000, 5000, 1, 2500]), early, late,
                            rules or chance.choice([0, 0, 6026]))
@@ -87,11 +95,13 @@ class Walk:
         if not self.entries or self.chance.random() < 0.25:
             return now + self.chance.choice([0, 0, 1, 2, 3, 10, 40, 150])
         times = self.times
+        # What a timer may be set for: nothing, the 200 ms of a server, T4, timer D, 64 times T1, T2, and T1 doubled up to six times.
         lengths = [0, 200, times.t4, 32_000, 64 * times.t1, times.t2] + [times.t1 * 2 ** n for n in range(7)]
         base = self.chance.choice(self.entries[-6:]).moment
         length = self.chance.choice(lengths)
         edge = base + self.chance.choice([max(0, length - times.early), length + times.late, length])
         moment = edge + self.chance.choice([-1, 0, 0, 1, 1, 2, 30])
+        # A moment in the past, or far away, is none.
         return moment if now <= moment <= now + 40_000 else now + self.chance.choice([0, 1, 20])
 
     def tag(self):
@@ -102,10 +112,12 @@ class Walk:
         """An entry that a client may send or receive, right or wrong."""
         spelling, method, chance = self.spelling, self.method, self.chance
         first = spelling.request(method)
+        # What it may send, where what is likelier stands more than once, and what may come.
         sends = [first] * 6
         comes = [spelling.response(method, code, self.tag()) for code in (100, 180, 183, 200, 299, 302, 486, 486, 603)]
         if method == "INVITE":
             sends += [spelling.request("ACK", self.tag())] * 5 + [spoiled_ack(chance, spelling, self.tag()) for _ in range(3)] + [spelling.request("CANCEL")] * 3
+        # A client begins with a send, mostly of its request, which the transport may refuse. Later six of ten entries are sends.
         if not any(entry.letter in "SF" for entry in self.entries):
             return chance.choice("SSSSF"), chance.choice([first] * 9 + sends)
         return (chance.choice("SSSSSSF"), chance.choice(sends)) if chance.random() < 0.6 else ("R", chance.choice(comes))
@@ -115,8 +127,10 @@ class Walk:
         spelling, method, chance = self.spelling, self.method, self.chance
         first = spelling.request(method)
         sends = [spelling.response(method, code, self.tag()) for code in (100, 180, 183, 200, 200, 299, 302, 486, 487)]
+        # Mostly one of its last two messages again.
         sends += self.said()[-2:] * 6
         comes = [first] * 4 + ([spelling.request("ACK", self.tag())] * 2 if method == "INVITE" else [])
+        # A server begins with its request, but for one of twenty.
         if not any(entry.letter == "R" for entry in self.entries):
             return ("R", first) if chance.random() < 0.95 else ("S", chance.choice(sends))
         return (chance.choice("SSSSSSF"), chance.choice(sends)) if chance.random() < 0.6 else ("R", chance.choice(comes))
@@ -152,8 +166,10 @@ class Walk:
             return Entry(chance.choice("SSSSF"), now + chance.choice([0, 1, 5, 60]), spoiled_ack(chance, self.spelling, self.tag()))
         repeat = self.legal_repeat() if way in ("repeat", "bytes") else None
         if repeat and way == "bytes":
+            # One field more, or a blank at the end of the first line.
             return repeat._replace(data=repeat.data.replace(b"\r\n", chance.choice([b"\r\nX: y\r\n", b" \r\n"]), 1))
         if repeat:
+            # A repeat that is right is moved by some milliseconds, so that it may be wrong.
             moved = repeat.moment + chance.choice([-1, -2, -30, -100, -1000, 1, 2, 40, 101])
             return repeat._replace(letter=chance.choice("SSSSF"), moment=max(now, moved))
         return self.entry()
@@ -174,6 +190,7 @@ class Walk:
 
     def breach(self):
         """Leads the transaction to a breach, and answers whether there is one."""
+        # It is led on by some legal entries. For an ACK that is wrong a 486 comes before it.
         way = self.chance.choice(WAYS)
         self.lead(self.chance.choice([1, 2, 2, 3, 3, 4, 5, 6, 8, 12, 20]))
         if way == "ACK" and self.role == "client" and self.method == "INVITE":
@@ -181,6 +198,7 @@ class Walk:
             self.entries += [refusal] if self.verdict([*self.entries, refusal]) == "legal" else []
         for _ in range(MOST_TRIES):
             one = self.wrong_entry(way)
+            # A breach by the first entry of all, as by a response without a request, is taken one time of ten.
             if self.verdict([*self.entries, one]) == "breach" and (self.entries or self.chance.random() < 0.1):
                 self.entries.append(one)
                 return True
@@ -205,6 +223,7 @@ class Walk:
         for number in range(chance.choice([0, 0, 0, 1, 2, 3])):
             moment = chance.choice(self.entries).moment + chance.choice([0, 1, 30])
             data = chance.choice([spelling.request("ACK", self.tag(), f"z9hG4bKack{number}"), spelling.request("BYE", "t", f"z9hG4bKbye{number}")])
+            # A BYE is taken as received; an ACK of another branch is sent by a client, and received by a server.
             letter = "R" if self.role == "server" or data.startswith(b"BYE") else "S"
             place = next((n for n, entry in enumerate(self.entries) if entry.moment > moment), len(self.entries))
             self.entries.insert(place, Entry(letter, moment, data))

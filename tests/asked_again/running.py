@@ -51,6 +51,7 @@ def become(script, words, variables, outputs):
     try:
         runpy.run_path(script, run_name="__main__")
     except SystemExit as ended:
+        # An end with a number has that status, one with nothing 0, and one with a text 1: the text is told.
         status = ended.code if isinstance(ended.code, int) else 0 if ended.code is None else 1
         if isinstance(ended.code, str):
             print(ended.code, file=sys.stderr)
@@ -59,6 +60,7 @@ def become(script, words, variables, outputs):
         status = 1
     sys.stdout.flush()
     sys.stderr.flush()
+    # So nothing of the checker runs at the end.
     os._exit(status)
 
 
@@ -70,6 +72,7 @@ def run(script, *words, **variables):
             try:
                 become(os.fspath(script), [os.fspath(word) for word in words], variables, (said.fileno(), told.fileno()))
             finally:
+                # A script that could not be begun.
                 os._exit(70)
         status = os.waitstatus_to_exitcode(os.waitpid(process, 0)[1])
         texts = []

@@ -25,6 +25,7 @@
 #include <sys/wait.h>
 #include <unistd.h>
 
+/* The most bytes of a log, and of an answer, which are 4 MiB. */
 enum { MOST = 1 << 22 };
 
 static char log_bytes[MOST], answer[MOST];
@@ -42,6 +43,7 @@ static size_t read_all(int from, char *to) {
 /* Finds where the last entry of the log begins: entries are read from the first one on. The header ends at the line that begins with t1, or with rules. */
 static char *last_entry(void) {
   char *at = log_bytes, *last = log_bytes, *end = log_bytes + log_size;
+  /* The header has two lines, and perhaps one of rules. */
   for (int lines = 0; lines < 2 && at; lines++) at = strchr(at, '\n') ? strchr(at, '\n') + 1 : NULL;
   if (at && !strncmp(at, "rules ", 6)) at = strchr(at, '\n') + 1;
   while (at && at < end) {
@@ -61,6 +63,7 @@ static long long last_moment(void) { return log_size ? atoll(last_entry() + 1) :
 /* Puts another moment into the last entry. */
 static void set_last_moment(long long moment) {
   static char changed[MOST];
+  /* After its letter and a blank stands the moment, whose digits are replaced. */
   char *entry = last_entry(), *rest = entry + 2;
   size_t front = (size_t)(entry + 2 - log_bytes), used;
   while (*rest >= '0' && *rest <= '9') rest++;
@@ -76,6 +79,7 @@ static void set_last_moment(long long moment) {
 static void drop_rules(void) {
   char *rules = strstr(log_bytes, "rules 3261\n");
   if (!rules) return;
+  /* The line has 11 bytes with its line feed. */
   log_size -= 11;
   memmove(rules, rules + 11, log_size - (size_t)(rules - log_bytes) + 1);
 }
@@ -160,15 +164,18 @@ static long count_question(void) {
   return stat(name, &seen) ? 0 : (long)seen.st_size;
 }
 
+/* Reads the log unless it is a file's, asks the genuine program, and answers falsely where its way says so. */
 int main(int count, char **words) {
   const char *way = getenv("STUB_WAY"), *number = getenv("STUB_NUMBER") ? getenv("STUB_NUMBER") : "0";
   long long wanted = atoll(number), entry, key;
   int is_file = count > 1 && !strcmp(words[1], "check"), is_listing = count > 1 && !strcmp(words[1], "states");
+  /* The program is asked about a file (`check FILE`), for a listing (`states`), or about a log on its input. */
   long asked = count_question();
   if (!way || !getenv("STUB_PROGRAM")) return 70;
   if (!is_file) log_size = read_all(0, log_bytes);
   long long last = is_file ? -1 : last_moment();
   int is_mark = !is_file && log_size && *last_entry() == 'M';
+  /* The ways that change the log before the program is asked, and below those that change its answer. */
   if (!is_file && !is_listing) {
     if (!strcmp(way, "later") && last == wanted + 1) set_last_moment(wanted);
     if (!strcmp(way, "earlier") && last == wanted) set_last_moment(wanted + 1);

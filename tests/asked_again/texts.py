@@ -4,14 +4,15 @@ import gzip
 import json
 import re
 
-# What is looked for in a text: numbers, names with numbers that are no claims, windows, sizes, and the log that is packed.
+# What is looked for in a text: numbers; names with numbers that are no claims; windows from one moment to another, or from one on; sizes; and the log that
+# is packed.
 NUMBER = re.compile(r"\d+")
 NAME = re.compile(r"\bRFC (?:3261|6026)\b|\b1,024 states\b")
 SPAN = re.compile(r"from (\d+) to (\d+)")
 OPEN = re.compile(r"from (\d+) on\b")
 SIZE = re.compile(r"(?:too early|too late) by (\d+) ms", re.I)
 PACKED = re.compile(r"^base64 -d <<\. \| gunzip \| siptrace\n((?:[A-Za-z0-9+/=]+\n)+)\.$", re.M)
-# A character that a terminal could obey, and the most lines of a text.
+# A character that a terminal could obey, which is any but a line feed, printable ASCII and what comes after the C1 controls; and the most lines of a text.
 UNSAFE = re.compile(r"[^\n\x20-\x7e\xa0-\U0010ffff]")
 MOST_LINES = 40
 
@@ -38,6 +39,7 @@ def windows_in(told):
     found = set()
     for one in told.values() if isinstance(told, dict) else told if isinstance(told, list) else ():
         if isinstance(one, list) and len(one) == 2 and isinstance(one[0], int):
+            # A list of two, of which the first is a number, may be a window; the second is None where it has no end.
             found.add(tuple(one))
         found |= windows_in(one)
     return found

@@ -23,6 +23,7 @@ def flat(text):
 
 def without_comments(text, comment=r"//.*"):
     """A text of code without its comments and without what stands in its strings, its lines without blanks at their ends."""
+    # A string is looked for first, so that signs of a comment within it begin none.
     bare = re.sub(rf'"(?:[^"\\]|\\.)*"|{comment}', lambda found: '""' if found[0].startswith('"') else "", text)
     return re.sub(r"[ \t]+$", "", bare, flags=re.M)
 
@@ -42,7 +43,9 @@ class Code:
     def name_of(self, files, function):
         """The path under which the crate hands a function of this file on, or None where it does not."""
         lib = next(it.bare for it in files if str(it.path) == f"{self.crate}/src/lib.rt")
+        # The path below src/, as the code names it.
         module = "::".join(self.path.with_suffix("").parts[2:])
+        # Either the module is public, or the root file passes the function on by `pub use`, alone or in braces.
         if re.search(rf"^pub mod {module};$", lib, re.M):
             return f"{self.crate}::{module}::{function}"
         if re.search(rf"^pub use (crate::)?{module}::(\{{[^}}]*\b{function}\b[^}}]*\}}|{function});$", lib, re.M):

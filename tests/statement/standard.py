@@ -9,10 +9,14 @@ from statement.files import STANDARD, TOP, flat, text_of, without_comments
 # The folder of the crate.
 CRATE = TOP / "crates/sip_standard"
 # An import of sip_standard, and the head of a definition.
+# `use PATH.{NAMES}` or `use PATH as NAME`, of std, of sip_standard or of Prim.
 USE = re.compile(r"use ((?:Rattle\.(?:std|sip_standard)|Prim)\.[\w.]+?)(?:\.\{([^{}.]+)\}| as (\w+))")
+# Perhaps a fixity with the name of an operator; then the kind of the definition, its name, and the rest of the line.
 HEAD = re.compile(r"(?:infix[lr]? \d+ (◌\w+◌)\n)?(?:abbrev pub|pub record|pub data) (\S+) .*")
 # What is not read in a line of specs/, and what leads out of the crate in a line of code.
+# What is left of a comment that does not begin after a blank, or has brackets; a quotation; and a path that does not stand in an import.
 UNREAD = {"a mark that is not read": r"--|\{-|[«»]", "a path that is not read": r"^(?!use ).*\b(Rattle|package)\."}
+# Another crate, a mark that takes other files or leaves code out, what is included, and an import of all names.
 OUTSIDE = re.compile(r"Rattle\.(?!std\.|sip_standard\.)\w+|package\.|#!?\[\s*(?:path|cfg|cfg_attr)\b|\binclude!|^use .*\*", re.M)
 
 
@@ -21,11 +25,13 @@ class Item:
 
     def __init__(self, name, lines):
         self.name, self.text = name, "\n".join(lines)
+        # A constructor stands two blanks to the right, with its type after a colon; several names may have one type.
         constructors = re.findall(r"^  (\S.*?) : ", self.text, re.M) if lines[0].startswith("pub data") else []
         self.names = {name, *flat(" ".join(constructors)).split()}
 
     def pieces(self):
         """The names by which another definition may need this one."""
+        # An operator, as ◌≡◌, stands in a text without the circles.
         return {it for name in self.names for it in [name, *name.split("◌")] if it}
 
 
@@ -39,6 +45,7 @@ class File:
         at = 1
         for block in self.text.rstrip("\n").split("\n\n"):
             self.read(at, block)
+            # The next block begins after the lines of this one and the empty line.
             at += block.count("\n") + 2
         self.names = [it.name for it in self.items]
 
@@ -46,11 +53,13 @@ class File:
         """Reads what stands between two empty lines, of which the first is this one: imports, or one definition."""
         bare = [without_comments(line, r"(?<!\S)--.*").rstrip() for line in block.split("\n")]
         found = [what for line in bare for what, mark in UNREAD.items() if re.search(mark, line)]
+        # A letter that cannot be seen could make two names look the same.
         found += [f"a letter U+{ord(it):04X}" for it in block if not it.isprintable() and it != "\n"]
         lines = [line for line in bare if line]
         uses, head = [USE.fullmatch(line) for line in lines], HEAD.match("\n".join(lines))
         if all(uses):
             self.uses += uses
+        # One definition: a fixity is that of its own name, and each further line belongs to it.
         elif head and head[1] in (None, head[2]) and all(continues(head[2], line) for line in lines[1 + bool(head[1]) :]):
             self.items.append(Item(head[2], lines[bool(head[1]) :]))
         else:
@@ -64,6 +73,7 @@ class File:
 
 def continues(name, line):
     """Whether a line belongs to a definition of this name: it is indented, or a clause."""
+    # A clause of an operator begins with an argument in brackets, and has the sign of the operator in it.
     return line.startswith(("  ", f"{name} ")) or "◌" in name and line.startswith("(") and name.strip("◌") in line.split()
 
 
@@ -89,8 +99,10 @@ def faults(files):
     yield from [it for file in files for it in file.faults]
     names = Counter(name for file in files for item in file.items for name in item.names)
     for file in files:
+        # A name that an import gives must not be one that a definition has.
         yield from [f"crates/{file.path}: something under the name {it}, which others have" for it in file.renamed() if names[it]]
         yield from [f"crates/{file.path}: {it} is defined twice" for it, times in Counter(file.names).items() if times > 1]
+    # What lies in the folders, and what the lists name.
     stand = {path.relative_to(TOP / "crates") for folder in ("specs", "src") for path in (CRATE / folder).rglob("*.*t") if path.name != "Lib.antt"}
     listed = {file.path for file in files} | {path for path, *_ in code()}
     yield from [f"crates/{path} stands in one of folder and list alone" for path in sorted(stand ^ listed)]
@@ -102,20 +114,24 @@ def faults(files):
 def unneeded(files):
     """The definitions that no other one mentions, and no code but in an import."""
     own = [(file, item, mentioned(item.text)) for file in files for item in file.items]
+    # What the code mentions, but for its imports of definitions.
     by_code = [mentioned(without_comments(re.sub(r"^ghost use .*;$", "", text, flags=re.M))) for _, text, _ in code()]
     times = Counter(name for some in [*(it for *_, it in own), *by_code] for name in some)
     for file, item, some in own:
+        # Each of its names stands in no text, or in its own alone.
         if all(times[it] <= (it in some) for it in item.pieces()):
             yield f"crates/{file.path}: nothing needs {item.name}"
 
 
 def page(files):
     """The text of the whole crate, its contracts last. Of the imports only those stand that give a name, or tell definitions of one name apart."""
+    # The names that several files define.
     doubles = {name for name, times in Counter(name for file in files for name in file.names).items() if times > 1}
     texts = {path: re.sub(r"(?m)^(ghost )?use .*;\n", "", text) for path, text, _ in code() if path.name != "lib.rt"}
     contracts = {path: texts.pop(path) for path in [*texts] if path.stem in ("judges", "program")}
     for file in files:
         left_out = [it[0] for it in file.uses if " as " not in it[0] and not doubles & {*re.findall(r"[^\s{},]+", it[0])}]
+        # Of an import that stays the words after `use ` are shown, in square brackets.
         kept = [line for line in file.text.split("\n") if line not in left_out]
         texts[file.path] = "\n".join(f"[{line[4:]}]" if USE.fullmatch(line) else line for line in kept)
     return "\n\n".join(f"[crates/{path}]\n\n" + re.sub(r"\n{3,}", "\n\n", text).strip() for path, text in (texts | contracts).items())
@@ -124,7 +140,9 @@ def page(files):
 def table(files):
     """A row of the table for each file: what it defines, and how many lines it has without imports and empty lines; and a row of the sums."""
     rows = [(file.path, file.names, file.text) for file in files] + [(path, types, text) for path, text, types in code() if types]
+    # The lines but imports and empty ones.
     rows = [(path, names, len(re.findall(r"^(?!(?:ghost |pub )?use ).*\S", text, re.M))) for path, names, text in rows]
+    # Of the definitions and then of the code: how many names, and how many lines.
     sums = [sum(it) for end in (".antt", ".rt") for it in zip(*[(len(names), lines) for path, names, lines in rows if path.suffix == end])]
     yield from ["| File of `crates/` | What it defines | Lines |", "|---|---|---|"]
     yield from [f"| `{path}` | {', '.join(f'`{it}`' for it in names)} | {lines} |" for path, names, lines in rows]
@@ -137,6 +155,7 @@ def untold(files):
     whole = "".join(text_of(path) for path in sorted(STANDARD.glob("*.md")))
     sections = [it.partition("\n") for it in re.split(r"^#+ ", whole, flags=re.M)]
     for file in files:
+        # The text of the sections whose heading has the file in brackets; what stands in backticks there is named.
         own = "".join(text for heading, _, text in sections if re.search(rf"\(.*\b{file.path.stem}\b", heading))
         told = re.findall(r"`([^`\n]+)`", re.sub(r"``.*?``", "", own))
         yield from [f"docs/standard: no section for crates/{file.path} names {it}" for it in file.names if it.strip("◌") not in told]

@@ -1,4 +1,4 @@
-//! Listings of entries that the program refuses to name: entry 0, and one past the limit of a log.
+//! Listings of entries that the program refuses to name: entry 0, and one past the limit of a log. Logs are spelled as `notation.rt` says.
 use crate::listed::lists;
 use crate::logs::STORED;
 use std::test::Fail;

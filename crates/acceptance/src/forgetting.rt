@@ -1,4 +1,5 @@
-//! Surveys that forget transactions that are over.
+//! Surveys that forget transactions that are over. Logs are spelled in the words of `notation.rt`: `S` sent, `R` received, `M` a mark and `Z` a restart,
+//! each with its moments; then a method, a branch without the cookie, and the code where it is a response.
 use crate::notation::log_of;
 use crate::surveys::{Hasher, Surveyed, take};
 use crate::wants::{holds, reads};
@@ -86,6 +87,7 @@ fn takes_and_forgets(
     found: &mut Vec<Finding>,
     left: &mut Vec<u64>,
 ) -> Result<(), Fail> {
+    // No row has as many as a hundred entries, so that each log is taken to its end.
     for _ in 0..100 {
         let Some(entry) = surveyed.next()? else {
             break;

@@ -1,5 +1,6 @@
 //! Logs that are judged and listed while memory is refused: `tests/growths` refuses each growth in turn. Each test then fails for want of
-//! memory, or passes with the answer that it has with ample memory.
+//! memory, or passes with the answer that it has with ample memory. Logs are spelled in the words of `notation.rt`: `S` sent, `R` received, `M` a mark
+//! and `Z` a restart, each with its moments; then a method, a branch without the cookie, and the code where it is a response.
 use crate::listed::lists;
 use crate::verdicts::judges;
 use std::test::Fail;

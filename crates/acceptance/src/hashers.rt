@@ -8,6 +8,7 @@ use std::random::RandomSource;
 pub(crate) struct Same(pub(crate) u8);
 
 impl RandomSource for Same {
+    // Each byte that is asked for is the one of this value.
     fn fill_bytes(&self, buf: &mut [u8]) -> io::Result<()> {
         buf.fill(self.0);
         Ok(())
@@ -22,6 +23,7 @@ impl Hasher for Zero {
     // This hasher keeps nothing of what it is given.
     ghost write = { λ s _. s };
 
+    // Whatever was written, the hash is 0.
     ghost finish = { λ _. 0 };
 
     fn finish(&self) -> u64 {
@@ -38,6 +40,7 @@ pub(crate) struct AllZero;
 impl BuildHasher for AllZero {
     type Hasher = Zero;
 
+    // Contracts see such a hasher as a value without a field, as `Zero` is.
     ghost build_hasher = { λ _. record {} };
 
     fn build_hasher(&self) -> Zero {

@@ -1,4 +1,5 @@
-//! Logs that several tests judge, list or show, and messages of theirs.
+//! Logs that several tests judge, list or show, and messages of theirs. Logs are spelled in the words of `notation.rt`: `S` sent, `R` received, `M` a
+//! mark and `Z` a restart, each with its moments; then a method, a branch without the cookie, and the code where it is a response.
 use crate::notation::{header, log_of, message_of, push_message};
 use std::alloc::{AllocError, Global};
 use std::test::Fail;
@@ -42,6 +43,7 @@ pub(crate) fn push_own(
 
 /// An OPTIONS of 60,004 bytes, most of which are in its Subject.
 pub(crate) fn long_message(alloc: Global) -> Result<String, AllocError> {
+    // The other lines and the name of the field have 207 bytes.
     let subject = "x".repeat(alloc, 59_797)?;
     let message = message_of(alloc, "OPTIONS", "1", None)?;
     let head = message.as_str().strip_suffix("\r\n").unwrap_or("");
@@ -55,6 +57,7 @@ pub(crate) fn long_log(alloc: Global) -> Result<String, Fail> {
     for moment in [0, 500, 1_500] {
         push_message(&mut log, "S", moment, message.as_str())?;
     }
+    // After the send at 1,500 timer E is set to 2,000: the request has to be sent again by 3,550, the tolerance later, and the log ends then.
     log.push_str("M 3550\n")?;
     Ok(log)
 }

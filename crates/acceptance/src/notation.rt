@@ -24,6 +24,7 @@ fn push_header(log: &mut String, tolerances: &str) -> Result<(), AllocError> {
 
 /// A log with these tolerances and without an entry.
 pub(crate) fn header(alloc: Global, tolerances: &str) -> Result<String, AllocError> {
+    // With so much room a short log is put together by one growth.
     let mut log = String::with_capacity(alloc, 16_384)?;
     push_header(&mut log, tolerances)?;
     Ok(log)
@@ -106,6 +107,7 @@ fn message_in(alloc: Global, words: &str) -> Result<String, Fail> {
     let (Some(method), Some(branch)) = (words.next(), words.next()) else {
         return Err("no message".into());
     };
+    // The third word is a code, unless it is the change; a change may also stand after a code.
     let last = words.next();
     let change = words.next().or(last);
     let code = last.filter(|word| *word != WITHOUT_COOKIE);

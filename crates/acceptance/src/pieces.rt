@@ -6,6 +6,7 @@ use sip_log::{Broken, Source};
 /// A source that hands out its bytes in pieces: the first piece has one size, and all others have a second one.
 #[derive(Drop)]
 pub(crate) struct Pieces<'a> {
+    /// The bytes that were not handed out yet.
     bytes: &'a [u8],
     /// The size of the next piece.
     first: usize,
@@ -13,6 +14,7 @@ pub(crate) struct Pieces<'a> {
     others: usize,
     /// How many calls are answered before one fails; None where no call fails.
     calls: Option<usize>,
+    /// Whether a call has failed.
     failed: bool,
 }
 
@@ -63,6 +65,7 @@ impl<'a> Source for Pieces<'a> {
 
     ghost has_failed = { λ s. s.failed };
 
+    // Hands out the next piece, as far as the buffer has room and bytes are left; or fails, once as many calls were answered as are to be.
     fn fill(&mut self, buf: &mut [u8]) -> Result<usize, Broken> {
         match self.calls {
             Some(0) => {

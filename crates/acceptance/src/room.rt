@@ -6,12 +6,16 @@ use sip_log::{Broken, Sink};
 /// A sink that takes this many pieces, keeps none of them, and then fails.
 #[derive(Drop)]
 pub(crate) struct Room {
+    /// How many pieces are taken before a call fails.
     calls: usize,
+    /// How many pieces were taken.
     taken: usize,
+    /// Whether a call has failed.
     failed: bool,
 }
 
 impl Room {
+    /// A sink that takes `calls` pieces, and fails at the next one.
     pub(crate) fn of(calls: usize) -> Room {
         Room {
             calls,
@@ -32,6 +36,7 @@ impl Sink for Room {
 
     ghost has_failed = { λ s. s.failed };
 
+    // Takes a piece and counts it, or fails once as many were taken as there is room for.
     fn put(&mut self, _bytes: &[u8]) -> Result<(), Broken> {
         if self.taken >= self.calls {
             self.failed = true;

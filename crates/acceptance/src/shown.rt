@@ -35,5 +35,6 @@ pub(crate) fn shown_failing_in(
     calls: usize,
 ) -> Result<Shown, ShowError> {
     let source = &mut Pieces::failing_in(log, size, calls);
+    // The room is larger than any of these logs needs, so that no write fails.
     show(alloc, source, &mut Room::of(1_000))
 }

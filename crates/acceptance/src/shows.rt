@@ -1,4 +1,5 @@
-//! What `show` answers, sources and sinks that fail while it writes, and memory that it is refused.
+//! What `show` answers, sources and sinks that fail while it writes, and memory that it is refused. Logs are spelled in the words of `notation.rt`: `S`
+//! sent, `R` received, `M` a mark, each with its moments; then a method, a branch without the cookie, and the code where it is a response.
 use crate::logs::{FOLDED, STORED, UNFOLDED, folded_log};
 use crate::notation::{log_of, push_message};
 use crate::room::Room;
@@ -115,6 +116,7 @@ fn push_numbered(
     number: &[u8],
     (first, end): (usize, usize),
 ) -> Result<(), Fail> {
+    // The places are counted from the front of the log: its header has 48 bytes, and each entry ends where the next one begins.
     let Some(entry) = log.get(first..end) else {
         return Err("a short log".into());
     };

@@ -1,4 +1,5 @@
-//! Sources that hand out a log in pieces, or fail: what is judged and listed then.
+//! Sources that hand out a log in pieces, or fail: what is judged and listed then. Logs are spelled in the words of `notation.rt`: `S` sent, `R`
+//! received, `M` a mark, each with its moments; then a method, a branch without the cookie, and the code where it is a response.
 use crate::listed::{Listed, listing_failing};
 use crate::logs::{RESTARTED, STORED, long_log};
 use crate::notation::{header, log_of};
@@ -198,7 +199,9 @@ fn answers_io_after_the_last_entry(rt: HostRuntime) -> Result<(), Fail> {
 fn answers_io_in_a_long_log(rt: HostRuntime) -> Result<(), Fail> {
     let log = long_log(rt.alloc())?;
     let bytes = log.as_str().as_bytes();
+    // So many calls hand out full pieces, so that a source that fails before is not read to its end.
     let fewest = bytes.len() / 4_096;
+    // The log needs far fewer calls than a thousand.
     for calls in 0..1_000 {
         let answer = verdict_failing(rt.alloc(), bytes, 4_096, calls);
         if answer.is_ok() {

@@ -1,4 +1,5 @@
-//! Judges that take entries one after another, and how many messages they keep.
+//! Judges that take entries one after another, and how many messages they keep. Logs are spelled in the words of `notation.rt`: `S` sent, `R` received,
+//! `M` a mark and `Z` a restart, each with its moments; then a method, a branch without the cookie, and the code where it is a response.
 ghost use Rattle.std.specs.Prelude.{◌≤◌};
 
 mod rows;
@@ -14,6 +15,7 @@ use std::hash::{BuildHasherDefault, FoldHasher};
 use std::process::Abort;
 use std::test::Fail;
 
+// The hasher of keys, by which no verdict differs.
 type Hasher = BuildHasherDefault<FoldHasher>;
 
 /// The reader of a log's entries, and the judge that takes them.
@@ -71,6 +73,7 @@ fn goes_on(rt: &impl Abort, stream: &mut Stream<'_>) -> Result<bool, Fail> {
 
 /// Takes entries until there is a verdict, and appends how many messages are kept after each.
 fn count_kept(rt: &impl Abort, stream: &mut Stream<'_>, kept: &mut Vec<usize>) -> Result<(), Fail> {
+    // A log has at most 1,000,000 entries.
     for _ in 0..=1_000_000 {
         if !goes_on(rt, stream)? {
             break;
@@ -160,6 +163,7 @@ fn keeps_few(
 #[test]
 fn keeps_few_messages_of_many(rt: HostRuntime) -> Result<(), Fail> {
     let log = answered(rt.alloc(), 1_000)?;
+    // A sweep comes where more than 64 and twice what the last one left are kept: with the 65th message, and later, after one was left, with the 67th.
     let places = [(127, 64), (128, 1), (259, 66), (260, 1)];
     keeps_few(&rt, log.as_str(), &places)
 }
@@ -183,6 +187,7 @@ fn restarted(alloc: Global, count: u64) -> Result<String, Fail>
 #[test]
 fn forgets_after_restarts(rt: HostRuntime) -> Result<(), Fail> {
     let log = restarted(rt.alloc(), 1_000)?;
+    // As above: the first sweep comes with the 65th message that is kept, and the next ones with the 67th.
     let places = [(127, 64), (128, 1), (259, 66), (260, 1)];
     keeps_few(&rt, log.as_str(), &places)
 }
@@ -329,7 +334,7 @@ fn tells_what_is_due(rt: HostRuntime) -> Result<(), Fail> {
     Ok(())
 }
 
-/// Whether the key of the transaction has this branch, or there is no such transaction.
+/// Whether the key of the transaction has this branch; or, where no branch is wanted, whether there is no such transaction.
 fn has_branch(judge: &Judge<Hasher>, transaction: u64, want: Option<&[u8]>) -> bool {
     match judge.key(transaction) {
         Some(key) => Some(key.branch()) == want,
@@ -406,6 +411,7 @@ fn takes_or_fails(
     entry: &Entry,
 ) -> Result<(), StepError> {
     let Err(error) = take(rt, judge, entry) else {
+        // An entry that was taken may not come again.
         holds(rt, !judge.may_take(entry), "an entry that was taken");
         return Ok(());
     };
@@ -447,12 +453,14 @@ fn takes_until_it_fails(
 /// messages.
 #[test]
 fn refused_while_a_judge_sweeps(rt: HostRuntime) -> Result<(), Fail> {
+    // These are 132 entries, of which the 129th brings the first sweep.
     let log = answered(rt.alloc(), 66)?;
     let mut stream = Stream::open(rt.alloc(), log.as_str().as_bytes())?;
     let failed = takes_until_it_fails(&rt, &mut stream, 132);
     let kept = stream.judge.kept();
     let verdict = stream.end();
     let Some(error) = failed? else {
+        // The sweep with the 65th request left that one, and the 66th came after it.
         holds(&rt, kept == 2, "kept at the end");
         return Ok(());
     };

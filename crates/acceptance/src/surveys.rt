@@ -1,4 +1,4 @@
-//! The lines of surveys, as text.
+//! The lines of surveys, as text: `surveys/rows.rt` says what they tell, and in which words logs are spelled.
 mod rows;
 
 use crate::notation::log_of;
@@ -14,6 +14,7 @@ use std::hash::{BuildHasherDefault, FoldHasher};
 use std::process::Abort;
 use std::test::Fail;
 
+// The hasher of keys, by which no survey differs.
 pub(crate) type Hasher = BuildHasherDefault<FoldHasher>;
 
 /// The words of a log, and the lines of its survey.
@@ -147,7 +148,8 @@ fn surveys_part(
 }
 
 /// A restart ends the client of one branch and the server of the other, each in its own part: FNV-1a of z9hg4bka is 431978031, and that of z9hg4bkb is
-/// 448755650. The client is silent after the restart, and the server answers what nobody has asked for any more.
+/// 448755650, so that a is of part 2, as the odd one, and b of part 1. The client is silent after the restart, and the server answers what nobody has
+/// asked for any more.
 #[test]
 fn a_restart_stands_in_each_part(rt: HostRuntime) -> Result<(), Fail> {
     let words = "early 50 late 50; S 0 OPTIONS a; R 0 OPTIONS b; Z 100; M 600; S 700 OPTIONS b 200";
@@ -160,7 +162,7 @@ fn a_restart_stands_in_each_part(rt: HostRuntime) -> Result<(), Fail> {
 }
 
 /// `tests/growths` refuses each growth in turn while a part is surveyed: the message of the other part stands in front of the one that is
-/// taken. Both clients have to send again by 550.
+/// taken, which is that of b (part 1). Both clients have to send again by 550.
 #[test]
 fn refused_while_a_part_is_surveyed(rt: HostRuntime) -> Result<(), Fail> {
     let log = log_of(rt.alloc(), "S 0 OPTIONS a; S 0 OPTIONS b; M 600")?;
@@ -242,6 +244,7 @@ fn takes_all(
     surveyed: &mut Surveyed<'_>,
     found: &mut Vec<Finding>,
 ) -> Result<Option<StepError>, Fail> {
+    // No log of these tests has as many as 200 entries.
     for _ in 0..200 {
         let Some(entry) = surveyed.next()? else {
             break;

@@ -35,6 +35,7 @@ module _ {A B : Type 0} (f : A → B) (xs : List A) (room : List B) where
     pub handed_all : (i : ℕ) (now : List B) → i ≤ length (take n xs) → length (take n xs) ≤ i → now ≡ map f (take i xs) ++ drop i room → now ≡ map f (take (length room) xs) ++ drop (length xs) room
     handed_all i now few all so_far =
         let some = length-take n xs in
+        -- i is now the least of both lengths: as many are taken as the room has places, and as many places are dropped as there are elements
         let at_room : i ≡ min (length room) (length xs) = omega (arith, some) in
         let at_found : i ≡ min (length xs) (length room) = omega (arith, some) in
         so_far ∙ ap (λ k. map f (take k xs) ++ drop i room) at_room ∙ ap (λ ys. map f ys ++ drop i room) (take_min (length room) xs)

@@ -30,7 +30,7 @@ abbrev pub numbers : ℕ → ℕ → ℕ → ℕ → ℕ → ℕ → ℕ → ℕ
 numbers kind entries transactions entry transaction reason unit line =
     record { kind = kind; entries = entries; transactions = transactions; entry = entry; transaction = transaction; reason = reason; unit = unit; line = line }
 
--- the verdict in plain numbers
+-- the verdict in plain numbers: its kind is 1 for a legal log, 2 for a malformed message, 3 for a breach, 4 for an undecided log, 5 for a fault of the log
 abbrev pub plain : Verdict → PlainVerdict
 plain (Legal entries transactions) = numbers 1 entries transactions 0 0 0 0 0
 plain (Malformed entry fault) = numbers 2 0 0 entry 0 (reason_number fault.reason) (unit_number fault.unit) (line_of fault.unit)
@@ -43,7 +43,7 @@ abbrev pub plain_finding : Finding → PlainVerdict
 plain_finding finding = plain (verdict_of finding)
 
 -- the sums of a survey in plain numbers: how many findings there are, and how many entries and transactions the log has, or at which entry and for
--- what reason it cannot be read on; a number that its end does not have is 0
+-- what reason it cannot be read on; its end is 1 where the log was read to its end and else 2, and a number that this end does not have is 0
 abbrev pub plain_summary : ℕ → SurveyEnd → PlainSummary
 plain_summary findings (ended.Clean entries transactions) =
     record { findings = findings; end = 1; entries = entries; transactions = transactions; entry = 0; reason = 0 }

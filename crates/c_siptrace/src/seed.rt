@@ -15,6 +15,7 @@ pub struct Seed {
 
 impl RandomSource for Seed {
     fn fill_bytes(&self, buf: &mut [u8]) -> io::Result<()> {
+        // A hasher asks for 16 bytes at once, so that it gets all of them.
         let count = buf.len().min(self.bytes.len());
         buf[..count].copy_from_slice(&self.bytes[..count]);
         Ok(())

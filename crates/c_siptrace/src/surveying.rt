@@ -54,6 +54,7 @@ fn hand_out(found: &[Finding], room: &mut [PlainVerdict]) -> u32
     ensures status { result ≡ room_status (length found.now) (length room.old) }
 {
     let count = found.len().min(room.len());
+    // A finding has the plain numbers of the verdict in the same words.
     for (place, finding) in found[..count].iter().enumerate() {
         room[place] = PlainVerdict::of(&Verdict::from(*finding));
     }

@@ -1,4 +1,5 @@
 -- What each verdict says by itself, since the entries before the one that it names go well.
+-- What holds anyway, as a fact of a value that is not there, holds by `tt`.
 use Rattle.std.proofs.Common.{◌≡◌, ◌+◌, ◌⊎◌, inl, inr, refl, sym, subst, ◌∙◌, ap, ℕ, List, [], ◌∷◌, ◌++◌, length, append_assoc}
 use Rattle.std.proofs.lemmas.List.{append-nil}
 use Rattle.sip_standard.specs.Key.{KeyParts}
@@ -29,6 +30,7 @@ pub record Ends (p : Times) (es : Entries) (items : List Item) (end : LogEnd) (v
 
 -- a verdict after entries in no trouble has items that go well first, and then the end or an item in trouble
 ends : (p : Times) (es : Entries) (items : List Item) (end : LogEnd) (v : Verdict) → IsVerdictAfter p es items end v → Ends p es items end v
+-- no item is left, so the front is empty and the end follows it
 ends p es [] end v is =
     record { before = []; front = []; rest = []; whole = refl; well = tt; last = inl (refl, subst (λ fs. IsVerdictAfter p fs [] end v) (sym (append-nil es)) is) }
 -- the first item is in trouble, so the front is empty and this item follows it
@@ -77,6 +79,7 @@ module _ (input : List ℕ) where
 
   -- the verdict of a malformed log names the first fault
   pub first_fault : (number : ℕ) (fault : Fault) → IsVerdictOf input (Malformed number fault) → IsFirstFault input number fault
+  -- without a header the verdict is a fault of the log, and no other
   first_fault number fault (inl (lacks, is)) = absurd cc
   first_fault number fault (inr (p, items, end, says, is)) = by (ends p [] items end (Malformed number fault) is)
     where
@@ -99,6 +102,7 @@ module _ (input : List ℕ) where
 
   -- a breach is at the first entry in trouble
   pub first_breach : (number transaction : ℕ) → IsVerdictOf input (Breach number transaction) → IsFirstBreach input number transaction
+  -- without a header the verdict is a fault of the log, and no other
   first_breach number transaction (inl (lacks, is)) = absurd cc
   first_breach number transaction (inr (p, items, end, says, is)) = by (ends p [] items end (Breach number transaction) is)
     where
@@ -121,6 +125,7 @@ module _ (input : List ℕ) where
 
   -- an undecided verdict is at the first entry in trouble
   pub first_wide : (number transaction : ℕ) → IsVerdictOf input (Undecided number transaction) → IsFirstWide input number transaction
+  -- without a header the verdict is a fault of the log, and no other
   first_wide number transaction (inl (lacks, is)) = absurd cc
   first_wide number transaction (inr (p, items, end, says, is)) = by (ends p [] items end (Undecided number transaction) is)
     where
@@ -143,12 +148,14 @@ module _ (input : List ℕ) where
 
   -- a fault of the log is at the first entry that cannot be read
   pub cannot_be_read : (number : ℕ) (reason : LogReason) → IsVerdictOf input (LogFault number reason) → CannotBeRead input number reason
+  -- without a header the fault is that of the header, at entry 0
   cannot_be_read number reason (inl (lacks, is)) = inl (cc, cc, lacks)
   cannot_be_read number reason (inr (p, items, end, says, is)) = by (ends p [] items end (LogFault number reason) is)
     where
       -- where no entry is left, the log stops with the fault, so the input cannot be read
       at_end : (end : LogEnd) → LogSays input p items end → (found : Ends p [] items end (LogFault number reason)) → found.rest ≡ []
           → IsVerdictAfter p found.front [] end (LogFault number reason) → CannotBeRead input number reason
+      -- a log that ends well has no such fault; of one that stops the fault is that of the entry after the last
       at_end Clean says found none is = absurd cc
       at_end (Stops fault) says found none is =
           let same : items ≡ found.before = found.whole ∙ ap (λ xs. found.before ++ xs) none ∙ append-nil found.before in

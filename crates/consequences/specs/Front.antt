@@ -19,7 +19,7 @@ abbrev pub IsUntroubled : Times → List (Observation KeyParts) → Observation 
 IsUntroubled p front e =
     (e.fault ≡ None) × AllRun p (front ++ e ∷ []) × All (λ key. ¬ (IsWideAt p front e key)) (keys_in (front ++ e ∷ []))
 
--- `es` is what is observed of the items that come after the entries `front`, one after another, and none of them is in trouble
+-- `es` is what is observed of the items that come after the entries `front`, one of each item in turn, and none of them is in trouble
 abbrev pub GoWell : Times → List (Observation KeyParts) → List Item → List (Observation KeyParts) → Type 0
 GoWell p front [] [] = ⊤
 GoWell p front (item ∷ items) (e ∷ es) = Sees front item e × IsUntroubled p front e × GoWell p (front ++ e ∷ []) items es

@@ -27,12 +27,13 @@ invites_of events = map (λ e. e.moment) (filter (λ e. sends_invite e.action e.
 abbrev pub requests_of : List MachineEvent → List ℕ
 requests_of events = map (λ e. e.moment) (filter (λ e. sends_request e.action e.kind) events)
 
--- the moments after `last` lie no closer, one to the next, than this interval and those that follow from it, less as early as an element may be
+-- the moments after `last` lie no closer, one to the next, than this interval and those that follow from it, each less by what an element may be early;
+-- `next` gives the interval that follows from one; where no moments are left, nothing is asked
 abbrev pub AreSpaced : Times → (ℕ → ℕ) → ℕ → ℕ → List ℕ → Type 0
 AreSpaced p next last interval [] = ⊤
 AreSpaced p next last interval (m ∷ ms) = (open_at p last interval ≤ m) × AreSpaced p next m (next interval) ms
 
--- the moments after the first lie no closer than T1 and the intervals that follow from it, less as early as an element may be
+-- the moments after the first lie no closer than T1 and the intervals that follow from it, each less by what an element may be early
 abbrev pub IsSpaced : Times → (ℕ → ℕ) → List ℕ → Type 0
 IsSpaced p next [] = ⊤
 IsSpaced p next (m ∷ ms) = AreSpaced p next m p.t1 ms

@@ -22,7 +22,8 @@ pub fn a_wider_tolerance_keeps_a_run()
         (y : Owing (transaction_of machine).Phase) × Stands (transaction_of machine).figure (tolerant early late p) events m y × (y.phase ≡ x.phase) }
 {}
 
-/// A wider tolerance keeps a run of each transaction over the entries of a log.
+/// A wider tolerance keeps a run of each transaction over the entries of a log: `input` is the log, which says `items` and how they end, es are the
+/// observations of the items, and key names the transaction.
 pub fn a_wider_tolerance_keeps_a_transaction()
     ensures { (p : Times) (early late : ℕ) (input : List ℕ) (items : List Item) (end : LogEnd) (es : List (Observation KeyParts)) (key : KeyParts) →
         p.early ≤ early → p.late ≤ late → LogSays input p items end → AreSeen [] items es → RunsOver p es key → RunsOver (tolerant early late p) es key }

@@ -10,6 +10,7 @@ use std::hash::RandomState;
 /// The most entries of a log, and one more, so that the loop reaches the end of the log.
 const MOST: u64 = 1_000_001;
 
+// Reads the header and then the entries, and gives each to the judge, until one is in trouble or there are no more.
 fn main(rt: HostRuntime) -> Result<()> {
     let mut source = FromRead::new(rt.stdin());
     let (params, mut progress) = Progress::open(rt.alloc(), &mut source)?;
@@ -24,6 +25,7 @@ fn main(rt: HostRuntime) -> Result<()> {
         }
         println!(rt; "{}: in no trouble", entry.number)?;
     }
+    // The verdict on all entries that were taken, or the one at which the judge has stopped.
     if let Some(verdict) = judge.end() {
         println!(rt; "{}", render(rt.alloc(), &verdict)?)?;
     }

@@ -14,6 +14,7 @@ struct Text {
     start: &'static str,
     /// The values of Via, From, To, Call-ID and CSeq.
     via: &'static str,
+    // The value of From begins with the blank after the colon, so that a row may have another one there.
     from: &'static str,
     to: &'static str,
     call_id: &'static str,
@@ -559,6 +560,7 @@ static ACKS: [(Text, Text, bool); 17] = [
     ),
     (
         Text {
+            // An empty Route has no value.
             more: "Route:\r\n",
             ..ACK
         },

@@ -1,4 +1,5 @@
-//! Steps by chance, on accounts and on plain lists of debts beside them.
+//! Steps by chance, on accounts and on plain lists of debts beside them. Each method of `Played` does one thing to both: to the accounts by a call, and
+//! to the lists as the call's contract says. After each step both are compared, whatever can be asked of accounts.
 ghost use Rattle.std.specs.Prelude.{◌<◌, length};
 
 use crate::chance::{Chance, evens};
@@ -13,12 +14,14 @@ use std::test::Fail;
 struct Played {
     alloc: Global,
     accounts: Accounts,
+    /// For each row of the accounts the debts that it should owe.
     lists: Vec<Vec<Debt>>,
     /// The moment that steps have come to.
     clock: u64,
 }
 
 impl Played {
+    /// One row that owes nothing.
     fn new(rt: &(impl Abort + AllocGlobal)) -> Result<Self, Fail> {
         let mut played = Played {
             alloc: rt.alloc(),
@@ -46,12 +49,14 @@ impl Played {
         row
     }
 
+    /// A row comes that owes nothing.
     fn push(&mut self) -> Done {
         self.accounts.push()?;
         self.lists.push(Vec::new(self.alloc))?;
         Ok(())
     }
 
+    /// A row comes that owes what this one owes.
     fn push_copy(&mut self, rt: &impl Abort, row: usize) -> Done {
         self.has(rt, row);
         self.accounts.push_copy(row)?;
@@ -60,6 +65,7 @@ impl Played {
         Ok(())
     }
 
+    /// The row `to` owes from now on what the row `from` owes.
     fn copy(&mut self, rt: &impl Abort, from: usize, to: usize) -> Done {
         self.has(rt, from);
         self.has(rt, to);
@@ -116,6 +122,7 @@ impl Played {
         Ok(())
     }
 
+    /// The row loses what it may send and whose deadline is past.
     fn expire(&mut self, rt: &impl Abort, row: usize, moment: u64) -> Done {
         self.has(rt, row);
         self.accounts.expire(row, moment)?;
@@ -123,6 +130,7 @@ impl Played {
         Ok(())
     }
 
+    /// The row gains the debt, and loses what it may send and whose deadline is past.
     fn gain_and_expire(&mut self, rt: &impl Abort, row: usize, debt: Debt, moment: u64) -> Done {
         self.has(rt, row);
         self.accounts.gain_and_expire(row, debt, moment)?;
@@ -131,6 +139,7 @@ impl Played {
         Ok(())
     }
 
+    /// The row pays the first debt that a send of the message pays, if there is one, and loses what it may send and whose deadline is past.
     fn pay_and_expire(&mut self, rt: &impl Abort, row: usize, message: u64, moment: u64) -> Done {
         self.has(rt, row);
         let first = self.lists[row]
@@ -146,6 +155,7 @@ impl Played {
         Ok(())
     }
 
+    /// What the row owes need not be sent any more.
     fn soften(&mut self, rt: &impl Abort, row: usize) {
         self.has(rt, row);
         self.accounts.soften(row);
@@ -154,6 +164,7 @@ impl Played {
         }
     }
 
+    /// The row owes nothing any more.
     fn clear(&mut self, rt: &impl Abort, row: usize) {
         self.has(rt, row);
         self.accounts.clear(row);
@@ -162,6 +173,7 @@ impl Played {
 
     /// The last row goes.
     fn truncate(&mut self) {
+        // One row always stays.
         let kept = self.lists.len().saturating_sub(1).max(1);
         self.accounts.truncate(kept);
         self.lists.truncate(kept);
@@ -202,7 +214,7 @@ impl Played {
         Ok(())
     }
 
-    /// The row has something past where this list has.
+    /// The row says as the list does whether it owes nothing, what it must send first, and whether that is past at its deadline and one later.
     fn owes_in_time(&self, rt: &impl Abort, row: usize, list: &[Debt]) -> Done {
         holds(rt, row < self.accounts.len(), "a row of the accounts");
         let owes_nothing = self.accounts.owes_nothing(row);
@@ -213,6 +225,7 @@ impl Played {
         let moment = least.unwrap_or(0);
         self.pays_one_first(rt, row, list, moment)?;
         holds_of(rt, self.accounts.is_timely(row, moment), "timely", row);
+        // One later the row is timely only where it must send nothing.
         let late = self.accounts.is_timely(row, moment.saturating_add(1));
         holds_of(rt, late == least.is_none(), "late", row);
         Ok(())
@@ -252,6 +265,7 @@ impl Played {
     /// The first debt that a send of a message pays that stands under a key is the first such debt of this list. It is found in three steps,
     /// perhaps in fewer, and not in none.
     fn pays_one_first(&self, rt: &impl Abort, row: usize, list: &[Debt], moment: u64) -> Done {
+        // Each two of the messages 0, 1 and 2.
         for messages in [[2, 1], [0, 2], [1, 0]] {
             let mut index = Index::new(self.alloc);
             put_each(&mut index, messages)?;
@@ -269,6 +283,7 @@ impl Played {
             let first = self.accounts.first_payable(row, index, 7, now, most);
             let told = match first {
                 Some(first) => first == want && most > 0,
+                // Two messages stand under the key, so that three steps always tell.
                 None => most < 3,
             };
             holds_of(rt, told, "first payable", row);
@@ -496,6 +511,7 @@ fn steps(rt: &impl Abort, played: &mut Played, seed: u64, count: u64, kind: u64)
     Ok(())
 }
 
+/// Twelve seeds, of which every second one has deadlines that rise with the clock.
 #[test]
 fn accounts_owe_what_plain_lists_have(rt: HostRuntime) -> Done {
     for seed in 0..12 {
@@ -504,6 +520,7 @@ fn accounts_owe_what_plain_lists_have(rt: HostRuntime) -> Done {
     Ok(())
 }
 
+/// Four seeds of steps in which the clock goes on, and debts pass their deadlines.
 #[test]
 fn rows_gain_and_pay_and_lose_what_is_past(rt: HostRuntime) -> Done {
     for seed in 0..4 {
@@ -534,7 +551,8 @@ fn equal_debts_count_as_often_as_they_were_gained(rt: HostRuntime) -> Done {
     Ok(())
 }
 
-/// A moment at which debts come to both rows, and the rows pay or let others expire.
+/// A moment at which a debt comes to both rows, of one of five messages; each seventh must be sent. Then each row pays another message, and both lose
+/// what is past.
 fn lives(rt: &impl Abort, played: &mut Played, moment: u64) -> Done {
     let debt = owed(moment % 5, moment.saturating_add(3), moment % 7 == 0);
     played.gain_and_expire(rt, 0, debt, 0)?;
@@ -564,6 +582,7 @@ fn pays_in_any_order(rt: &impl Abort, played: &mut Played) -> Done {
         played.gain_and_expire(rt, 0, owed(message, 10, message % 2 == 0), 0)?;
     }
     for step in 0..100_u64 {
+        // The multiples of 37 come to each number below 100 once.
         played.pay_and_expire(rt, 0, step * 37 % 100, 5)?;
         played.accounts.tidy();
         played.agree(rt)?;

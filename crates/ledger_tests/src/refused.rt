@@ -65,6 +65,7 @@ fn names_again(rt: &(impl Abort + AllocGlobal), accounts: &Accounts) -> Done {
         accounts.all_names(&mut names)?;
     }
     for number in &names {
+        // All debts of `step` are of the messages 0, 1 and 2.
         holds(rt, *number < 3, "a name");
     }
     Ok(asked?)
@@ -89,6 +90,7 @@ fn go_on(rt: &(impl Abort + AllocGlobal), accounts: &mut Accounts, twin: &mut Ac
     Ok(())
 }
 
+/// Two accounts take the same steps: where memory is refused to the first, it has to be as the second, which has not taken the step yet.
 #[test]
 fn accounts_are_as_before_after_a_refused_growth(rt: HostRuntime) -> Done {
     let mut accounts = Accounts::new(rt.alloc());

@@ -19,6 +19,7 @@ fn lent(progress: &Progress) -> Option<Lent<'_>> {
 
 /// Bytes after a header, and the entry that stands whole at their front, where one with a message does.
 static ROWS: &[(&[u8], Option<Lent<'static>>)] = &[
+    // Nothing stands there, and then an entry of each action that has a message, with one byte, with another entry after it, or at the last moment.
     (b"", None),
     (
         b"S 7 5\nhello\nM 9\n",
@@ -30,10 +31,12 @@ static ROWS: &[(&[u8], Option<Lent<'static>>)] = &[
         b"S 9999999999999 1\na\n",
         Some((1, 9_999_999_999_999, Action::Sent, b"a", 20)),
     ),
+    // A mark comes first. Then the entry is not whole: its last LF, a byte of its message, or the end of its line is lacking.
     (b"M 0\nS 7 5\nhello\n", None),
     (b"S 7 5\nhello", None),
     (b"S 7 5\nhell", None),
     (b"S 7 5", None),
+    // Another byte stands where the message should end, the length is 0, the moment is above the last one, and in format 1 there is no restart.
     (b"S 7 5\nhelloX", None),
     (b"S 7 0\n\n", None),
     (b"S 10000000000000 1\na\n", None),
@@ -71,6 +74,7 @@ fn reads_on_after_what_was_passed(rt: HostRuntime) -> Result<(), Fail> {
         b"sip-trace 1\nt1 500 t2 4000 t4 5000 tolerance 50\nS 7 5\nhello\nM 9\nR 9 2\nhi\nS 8 1\nx\n";
     let (_, mut progress) = Progress::open(rt.alloc(), &mut bytes)?;
     is(&rt, pass(&mut progress), Some(1));
+    // The mark has no message, so that it is read and not lent. The fourth entry has an earlier moment than the third, which is a fault of order.
     is(&rt, pass(&mut progress), None);
     let mark = progress.next(&mut bytes).ok().flatten().ok_or("no mark")?;
     is(

@@ -54,10 +54,12 @@ impl<'a> Pieces<'a> {
 }
 
 impl<'a> Source for Pieces<'a> {
+    // What is left to read is known: the bytes that were not handed out.
     ghost left = { λ s. Some s.bytes.now };
 
     ghost has_failed = { λ s. s.failed };
 
+    // Hands out the next piece, as far as the buffer has room and bytes are left; or fails, once as many calls were answered as are to be.
     fn fill(&mut self, buf: &mut [u8]) -> Result<usize, Broken> {
         match self.calls {
             Some(0) => {
@@ -110,10 +112,12 @@ impl Room {
 }
 
 impl Sink for Room {
+    // What was written is not known, since no piece is kept.
     ghost written = { λ _. None };
 
     ghost has_failed = { λ s. s.failed };
 
+    // Takes a piece and counts it, or fails once as many were taken as there is room for.
     fn put(&mut self, _bytes: &[u8]) -> Result<(), Broken> {
         if self.taken >= self.calls {
             self.failed = true;

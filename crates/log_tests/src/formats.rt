@@ -318,6 +318,7 @@ fn what_is_not_written(rt: HostRuntime) -> Result<(), Fail> {
         write_entry(&mut room, Action::Restart, 10_000_000_000_000, b""),
         Err(WriteError::Limit),
     );
+    // The sink got nothing. A restart at the last moment is written, whatever bytes come with it.
     is(&rt, room.taken(), 0);
     is(
         &rt,

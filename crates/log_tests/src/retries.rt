@@ -15,6 +15,7 @@ struct OneByOne {
 }
 
 impl Read for OneByOne {
+    // Fails while failures are left, and then gives an `M` at each call that has room for one.
     fn read(&mut self, buf: &mut [u8]) -> io::Result<usize> {
         if self.failures > 0 {
             self.failures -= 1;
@@ -64,6 +65,7 @@ fn fills_buffers_of_every_length(rt: HostRuntime) {
     let mut buf = [0; 256];
     for len in 0..=256 {
         let mut whole = FromRead::new(bytes.as_slice());
+        // A reader of std, and bytes as a source, fill the whole buffer; a second call gives what is left of the 300 bytes, up to 256.
         is(&rt, fill_through(&mut whole, &mut buf[..len]), Some(len));
         is(
             &rt,
@@ -76,6 +78,7 @@ fn fills_buffers_of_every_length(rt: HostRuntime) {
             Some(256.min(300 - len)),
         );
         assert!(rt; !whole.has_failed());
+        // A reader that gives one byte a call is not asked twice for one buffer.
         let mut single = FromRead::new(OneByOne {
             failures: 0,
             kind: io::ErrorKind::Other,
@@ -94,6 +97,7 @@ struct OnceEnded<'a> {
 }
 
 impl<'a> Read for OnceEnded<'a> {
+    // Gives as many bytes as there is room for. Where there is room and none is left, it has told its end, and fails from then on.
     fn read(&mut self, buf: &mut [u8]) -> io::Result<usize> {
         if self.ended {
             return Err(io::Error::from(io::ErrorKind::TimedOut));

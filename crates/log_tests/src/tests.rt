@@ -181,7 +181,7 @@ static HEADERS: &[Row] = &[
         0,
         None,
     ),
-    // The least and the greatest numbers are within the limits.
+    // The numbers above are the greatest that are within the limits, and these are the least.
     (b"sip-trace 1\nt1 1 t2 1 t4 1 tolerance 0\n", 0, None),
     // A header without its second line, of the other format, or whose line ends otherwise.
     (b"", 0, Some(LogError::Header)),
@@ -434,6 +434,7 @@ fn what_is_written(rt: HostRuntime) -> Result<(), Fail> {
     let text = written(&rt, &params);
     assert!(rt; text.as_slice() == WRITTEN);
     is(&rt, read_cut(rt.alloc(), WRITTEN), Some((4, None)));
+    // `read_entries` gives the four entries at once.
     let entries = read_entries(rt.alloc(), &mut FromRead::new(WRITTEN));
     is(&rt, entries.ok().map(|entries| entries.len()), Some(4));
     Ok(())
@@ -449,8 +450,9 @@ fn reads_or_tells_want_of_memory(rt: HostRuntime) {
 /// A row: the action of an entry, its moment, how many bytes its message has, each an x, and what writing it answers.
 type Written = (Action, u64, usize, Result<(), WriteError>);
 
-/// Entries that cannot be written.
+/// Entries that cannot be written, and two that can.
 static NOT_WRITTEN: &[Written] = &[
+    // A message has 1 to 65535 bytes, and a moment at most thirteen digits.
     (Action::Sent, 0, 0, Err(WriteError::Limit)),
     (Action::Received, 0, 65_536, Err(WriteError::Limit)),
     (
@@ -460,6 +462,7 @@ static NOT_WRITTEN: &[Written] = &[
         Err(WriteError::Limit),
     ),
     (Action::Mark, 10_000_000_000_000, 0, Err(WriteError::Limit)),
+    // These can be written: the message of a mark is left out, however long it is, and 65535 bytes are the most of any other.
     (Action::Mark, 0, 65_536, Ok(())),
     (Action::Sent, 0, 65_535, Ok(())),
 ];

@@ -142,12 +142,13 @@ fn nine(alloc: Global) -> Result<Book, Fail> {
 /// How many refusals there are in the next tests: with that many of one call, the book puts the To of each message beside it.
 const MANY: u64 = 256;
 
-/// The number of the 486 with this tag.
+/// The number of the 486 with this tag: 10, 12 and so on, so that 11 is left for another request.
 fn refusal(tag: u64) -> u64 {
     tag.wrapping_mul(2).wrapping_add(10)
 }
 
-/// The INVITE, many 486s with a To each, another request between the first two of them, and an ACK for each.
+/// The INVITE, many 486s with a To each, another request between the first two of them, and an ACK for each: that for the tag N has the number
+/// 1000 and N.
 fn many(alloc: Global) -> Result<Vec<Numbered>, AllocError> {
     let mut messages = Vec::new(alloc);
     push_many(&mut messages)?;
@@ -187,7 +188,7 @@ fn push_entries(entries: &mut Vec<Entry>) -> Result<(), AllocError> {
     Ok(())
 }
 
-/// Whether the debts are those of the first half of the 486s, once each.
+/// Whether the debts are those of the first half of the 486s, which are 128, once each: due by 150, the tolerance after they came.
 fn are_first_half(runs: &[Run]) -> bool {
     runs.len() == 128
         && runs.iter().zip(0..128).all(|(run, tag)| {
@@ -285,7 +286,7 @@ fn keep_with_tos(
     Ok(())
 }
 
-/// The INVITE, many refusals of which each two have one To, and an ACK for each To.
+/// The INVITE, many refusals of which each two have one To, and an ACK for each To, from the number 1000 on.
 fn pairs(alloc: Global) -> Result<Vec<Numbered>, AllocError> {
     let mut messages = Vec::new(alloc);
     push_pairs(&mut messages)?;
@@ -370,7 +371,7 @@ fn push_one_again(entries: &mut Vec<Entry>) -> Result<(), AllocError> {
     Ok(())
 }
 
-/// The number of the last of the refusals.
+/// The number of the last of the refusals. Those of the others are at most 518.
 const LAST: u64 = 521;
 
 /// The INVITE, the ACK for the last of many refusals, and these refusals.

@@ -30,6 +30,7 @@ fn told_kind(alloc: Global, text: &[u8]) -> Result<(Kind, bool), Fail> {
     let Ok(message) = Message::read(alloc, text) else {
         return Err("not a message".into());
     };
+    // The moment 700, the action and the number 3 are any: the event tells them as they were given.
     let event = Event::of(700, Action::Sent, 3, &message);
     if event.moment() != 700 || event.action() != Action::Sent || event.number() != 3 {
         return Err("another event".into());

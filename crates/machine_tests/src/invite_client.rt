@@ -209,6 +209,7 @@ const WAITS: Entry = (100, Action::Received, TRYING);
 const CANCELLED: Entry = (150, Action::Sent, CANCEL);
 
 /// What may happen in proceeding, and what may not: no INVITE is sent again. After a 2xx a CANCEL and a late 486 change nothing.
+/// A CANCEL counts from its first send on, whether or not the transport took it.
 static PROCEEDING: &[Row] = &[
     (&[FIRST, WAITS], &[(WAITS_ON, &[])]),
     (
@@ -295,6 +296,7 @@ fn completed(rt: HostRuntime) -> Result<(), Fail> {
 }
 
 /// After a 486 each response of 300 to 699 that comes is owed an ACK, and nothing else is.
+/// The 480 (`GONE`) has another tag than the 486, so that each has an ACK of its own. An ACK pays the first debt that it is for.
 static OWES_EACH_RESPONSE: &[Row] = &[
     (
         &[FIRST, WAITS, BUSY_NOW, (1_010, Action::Received, OK)],
@@ -346,6 +348,8 @@ fn owes_each_response(rt: HostRuntime) -> Result<(), Fail> {
 const NOT_SENT: Entry = (0, Action::Failed, INVITE);
 
 /// Rows of a client that sent nothing, and of one that has ended.
+/// An ACK, a CANCEL and a response leave an idle client idle, and it sends no OPTIONS. One that has ended sends a CANCEL, and neither an INVITE nor an
+/// ACK.
 static IDLE_AND_ENDED: &[Row] = &[
     (&[(0, Action::Sent, ACK)], &[(IDLE, &[])]),
     (&[(0, Action::Failed, ACK)], &[(IDLE, &[])]),
@@ -378,6 +382,7 @@ const BUSY_AGAIN: Entry = (40, Action::Received, BUSY);
 const ACK_OF_ONE: Entry = (50, Action::Sent, ACK);
 
 /// What may happen over TCP, where no timer repeats a request.
+/// Timer D is 0 there, so that the client lasts until 50 after the 486 at 0: its second ACK, though due by 90, is sent at 50 and not at 51.
 static OVER_A_RELIABLE_TRANSPORT: &[Row] = &[
     (&[FIRST, (500, Action::Sent, INVITE)], &[]),
     (&[FIRST, (500, Action::Failed, INVITE)], &[]),
@@ -414,6 +419,8 @@ fn over_a_reliable_transport(rt: HostRuntime) -> Result<(), Fail> {
 const TIMER_B: Option<(u64, Option<u64>)> = Some((31_950, Some(32_050)));
 
 /// When the states after the entries may end, over UDP: the window, if there is one, and the last moment until which the state can wait, if any.
+/// A client that was cancelled at 150 may end from 64*T1 later on, give or take the tolerance, and one whose 486 came at 1,000 by timer D, which is
+/// at least 32 s: neither has to. While an ACK is owed a client does not end. Timer M ends one whose 200 came at 100, 64*T1 later.
 static ENDS: &[EndsRow] = &[
     (&[], None, None),
     (&[FIRST], TIMER_B, Some(550)),
@@ -440,6 +447,7 @@ fn ends(rt: HostRuntime) -> Result<(), Fail> {
 const OK_NOW: Entry = (100, Action::Received, OK);
 
 /// When the states after the entries may end, over TCP.
+/// Over TCP timer A does not run, and timer D is 0: after the 486 at 0 the client ends by 50, but not while it owes an ACK, and never lasts longer.
 static ENDS_OVER_TCP: &[EndsRow] = &[
     (&[FIRST], TIMER_B, Some(32_050)),
     (&OWING, None, Some(50)),
@@ -464,6 +472,7 @@ fn ends_over_tcp(rt: HostRuntime) -> Result<(), Fail> {
 }
 
 /// When the states after the entries may end, with a T1 of 1,000.
+/// Timer M is 64 times T1, here 64,000 from the 200 at 100 on.
 static ENDS_OF_SLOW_TIMERS: &[EndsRow] = &[(
     &[FIRST, OK_NOW],
     Some((64_050, Some(64_150))),

@@ -190,6 +190,7 @@ const TRYING_ONCE: Entry = (5, Action::Sent, TRYING);
 /// has the last response sent again by 60. Where a response is sent that is owed, it pays for the debt or is a new one: a state for each.
 static BEFORE_THE_FINAL_RESPONSE: &[Row] = &[
     (&[], &[(IDLE, &[])]),
+    // Before the INVITE nothing is sent, and an ACK changes nothing. An INVITE that comes again before any response changes nothing either.
     (&[(0, Action::Sent, BUSY)], &[]),
     (&[(0, Action::Received, ACK)], &[(IDLE, &[])]),
     (&[FIRST], &[(QUIET, &[])]),
@@ -261,6 +262,7 @@ fn before_the_final_response(rt: HostRuntime) -> Result<(), Fail> {
 }
 
 /// An INVITE that comes again must be answered by what was sent last, but need not be by a 100.
+/// What may be sent until 60 is dropped at 61. A 100 that is sent then is a new one.
 static A_100_NEED_NOT_BE_REPEATED: &[Row] = &[
     (
         &[FIRST, TRYING_ONCE, (10, Action::Received, INVITE)],
@@ -529,6 +531,8 @@ fn after_the_ack(rt: HostRuntime) -> Result<(), Fail> {
 }
 
 /// When the states after the entries may end: the window, if there is one, and the last moment until which the state can wait, if any.
+/// The first response is due by 250, and the 180 again by 60. Timers L and H end a server 64*T1 after its final response, at 10 or 20, and timer I T4
+/// after the ACK, each give or take the tolerance; but timer G has the 486 sent again by 550 after it.
 static ENDS: &[EndsRow] = &[
     (&[], None, None),
     (&[FIRST], None, Some(250)),
@@ -596,7 +600,7 @@ const CONFIRMED_OVER_TCP: InviteServerPhase = InviteServerPhase::Confirmed {
     set: 700,
 };
 
-/// When each state may end, and its last moment, over TCP.
+/// When each state may end, and its last moment, over TCP, where timer G does not run: by timer H 64*T1 after the 486, and by timer I, which is 0 there.
 #[test]
 fn ends_over_tcp(rt: HostRuntime) -> Result<(), Fail> {
     let server = server()?;

@@ -77,6 +77,7 @@ pub(crate) fn forget(book: &mut Book, number: u64, highest: u64)
     ensures { (n : ℕ) → Keeps book.new n → n ≤ highest }
 {
     book.forget_newest(number);
+    // The contract alone needs `highest`.
     let _ = highest;
 }
 
@@ -124,6 +125,7 @@ pub(crate) fn event_of(
 ) -> Result<Event, Fail>
     ensures { IfOk result (λ event. FitsBook book.now event) }
 {
+    // That is the last moment that a log can name. A mark is no event of a transaction.
     if moment > 9_999_999_999_999 || action == Action::Mark {
         return Err("not an entry".into());
     }

@@ -217,6 +217,7 @@ static FINAL_RESPONSES_AND_FAILURES: &[Row] = &[
         ],
         &[],
     ),
+    // A send that is refused ends the client, where the request may be sent: at first, and from 450 on. A response to nothing leaves it idle.
     (&[(0, Action::Failed, REQUEST)], &[(ENDED, &[])]),
     (
         &[(0, Action::Sent, REQUEST), (500, Action::Failed, REQUEST)],
@@ -262,7 +263,8 @@ const COMPLETED_OVER_TCP: PlainClientPhase = PlainClientPhase::Completed {
 fn ends(rt: HostRuntime) -> Result<(), Fail> {
     let client = client()?;
     phase_ends(&rt, &client, IDLE, (None, None), "idle")?;
-    // Timer E fires by 550, and timer F later.
+    // Timer E fires by 550, or by 35,550 where it was set at 31,500, and timer F from 31,950 to 32,050. Timer K fires T4 after the final response, and
+    // over TCP at once: there it ends the client by the tolerance later.
     phase_ends(&rt, &client, TRYING, (TIMER_F, Some(550)), "trying")?;
     phase_ends(
         &rt,

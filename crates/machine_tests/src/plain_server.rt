@@ -116,6 +116,7 @@ const FINAL_ONCE: Entry = (10, Action::Sent, FINAL);
 /// is owed, it pays for the debt or is a new one: a state for each.
 static BEFORE_THE_FINAL_RESPONSE: &[Row] = &[
     (&[], &[(IDLE, &[])]),
+    // Before the request nothing is sent. A request that comes again before any response changes nothing.
     (&[(0, Action::Sent, FINAL)], &[]),
     (&[FIRST], &[(QUIET, &[])]),
     (&[FIRST, (10, Action::Received, REQUEST)], &[(QUIET, &[])]),
@@ -182,6 +183,7 @@ static BEFORE_THE_FINAL_RESPONSE: &[Row] = &[
         &[(PROGRESSED, &[(PROGRESS, 60, MUST)])],
     ),
     (
+        // A response that a server receives changes nothing.
         &[FIRST, RINGING_ONCE, (20, Action::Received, FINAL)],
         &[(RANG, &[])],
     ),
@@ -194,6 +196,7 @@ fn before_the_final_response(rt: HostRuntime) -> Result<(), Fail> {
 }
 
 /// A request that comes again must be answered by what was sent last, but need not be by a 100.
+/// What may be sent until 60 is dropped at 61. A 100 that is sent then is a new one.
 static A_100_NEED_NOT_BE_REPEATED: &[Row] = &[
     (
         &[FIRST, TRYING_ONCE, (10, Action::Received, REQUEST)],
@@ -409,10 +412,14 @@ fn holds_of_first(rt: &impl Abort, is_so: bool, len: usize) {
 
 /// How many of the entries of `REPEATS` are taken, and the last response and the debts of each state then.
 static RUNS: &[(usize, &[(u64, Turns)])] = &[
+    // The 180 is owed three times. Then a 101 is sent, and owed once as the request comes again.
     (5, &[(RINGING, [3, 0, 0, 0])]),
     (7, &[(PROGRESS, [3, 1, 0, 0])]),
+    // A 180 is sent: it is a new one, or pays one of the three. Then what was sent last is owed once more.
     (8, &[(RINGING, [3, 1, 0, 0]), (PROGRESS, [2, 1, 0, 0])]),
     (9, &[(RINGING, [3, 1, 1, 0]), (PROGRESS, [2, 2, 0, 0])]),
+    // A 101 is sent: from each of the two states it is a new one, or pays one. Where it paid the only one, the 180s around it are one run.
+    // Then the request comes again, and the last response of each state is owed once more.
     (
         10,
         &[
@@ -446,6 +453,8 @@ fn equal_debts_stand_in_runs(rt: HostRuntime) -> Result<(), Fail> {
 }
 
 /// When the states after the entries may end: the window, if there is one, and the last moment until which the state can wait, if any.
+/// The 180 is due again by 60, and a 200 that is owed by 550. Timer J ends a server 64*T1 after its final response at 10 or 20, give or take the
+/// tolerance, but not while it must send.
 static ENDS: &[EndsRow] = &[
     (&[], None, None),
     (&[FIRST], None, None),
@@ -494,7 +503,7 @@ const COMPLETED_OVER_TCP: PlainServerPhase = PlainServerPhase::Completed {
     set: 700,
 };
 
-/// When the completed state may end over TCP, and its last moment.
+/// When the completed state may end over TCP, and its last moment: timer J is 0 there, so that it ends from the 200 on and by the tolerance later.
 #[test]
 fn ends_over_tcp(rt: HostRuntime) -> Result<(), Fail> {
     phase_ends(

@@ -43,6 +43,7 @@ fn server() -> Result<PlainServer, Fail> {
     Ok(PlainServer::new(params(500)?))
 }
 
+/// A book with the messages.
 fn book(alloc: Global) -> Result<Book, Fail> {
     book_of(alloc, &MESSAGES, "OPTIONS", "UDP")
 }
@@ -106,7 +107,8 @@ fn push_asked<M: Machine>(
     take_entry(alloc, machine, book, pool, (0, Action::Received, REQUEST))
 }
 
-/// Puts a state that owes these messages after the others: it has sent each of them, and then its request came again.
+/// Puts a state that owes these messages after the others: it has sent each of them, and then its request came again. The 180 is sent last, so that
+/// all such states are in one phase.
 fn push_owing<M: Machine>(
     alloc: Global,
     machine: &M,
@@ -252,6 +254,7 @@ fn are_twice(
     pool: &mut Pool<PlainServerPhase>,
     count: usize,
 ) -> Result<(), Fail> {
+    // The rows of the states stand in the pool once, and in the same order once more: from each row up to the middle the next `count` rows differ.
     holds(rt, pool.len() == count.saturating_mul(2), "twice");
     first_ones_follow(rt, pool, count, count)?;
     first_ones_follow(rt, pool, 2, count)?;
@@ -299,7 +302,7 @@ fn the_same_debts_compare_as_lists(rt: HostRuntime) -> Result<(), Fail> {
     are_told_apart(&rt, &lists)
 }
 
-/// The messages that the states owe, one state after another.
+/// The messages that the states owe, one state after another, of each run of equal debts one.
 fn owed_in_turn<P: Phase>(alloc: Global, pool: &Pool<P>) -> Result<Vec<u64>, Fail> {
     let mut messages = Vec::new(alloc);
     for state in &states_of(alloc, pool)? {
@@ -326,6 +329,7 @@ fn owe<P: Phase>(
     Ok(())
 }
 
+/// A state that owes the message 1, and one of the same phase that owes nothing.
 #[test]
 fn a_state_is_at_rest_in_its_phase_where_it_owes_nothing(rt: HostRuntime) -> Result<(), Fail> {
     let mut pool = pool_of(rt.alloc(), &[&[1], &[]])?;
@@ -352,6 +356,7 @@ fn keep_two(
     pool: &mut Pool<PlainServerPhase>,
 ) -> Result<(), Fail> {
     holds(rt, pool.len() == 4, "four states");
+    // Neither `fit` nor `tidy`, which give memory back, changes what a state owes.
     pool.copy(0, 3);
     owe(rt, pool, &[1, 2, 3, 1])?;
     let rows = indices(rt.alloc(), 2, pool.len())?;
@@ -405,6 +410,8 @@ fn first_takes<M: Machine>(
 }
 
 /// What the five states owe after the first of three states took its event.
+/// The three states owe 1, 2 and 1; 3; and nothing. The message 1 is sent: it is a new response, after which 1, 2 and 1 are owed as before, or it
+/// pays the first debt, after which 2 and 1 are.
 static OWED_THEN: [u64; 9] = [1, 2, 1, 3, 1, 2, 1, 2, 1];
 
 /// Asserts that there are five states, which owe `OWED_THEN`.
@@ -510,6 +517,7 @@ fn gains_again<M: Machine>(
 {
     holds(rt, pool.len() == 2, "two states");
     let refused = first_takes_again(rt, machine, book, pool, event)?;
+    // The first state owes four messages and the second none, as before; the third owes the same four and the last response once more.
     owe(rt, pool, &[1, 2, 3, 1, 1, 2, 3, 1, LAST])?;
     match refused {
         Some(error) => Err(error.into()),

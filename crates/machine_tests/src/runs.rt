@@ -257,7 +257,7 @@ fn stay<P: Phase>(alloc: Global, pool: &Pool<P>, before: &[State<P>]) -> Result<
     }
 }
 
-/// Puts the states that the event gives in the place of those that take it.
+/// Puts the states that the event gives in the place of those that take it: the former stand after the latter, which are `count`, and alone are kept.
 pub(crate) fn step<M: Machine>(
     alloc: Global,
     machine: &M,
@@ -320,6 +320,7 @@ fn step_each_alone<M: Machine>(
 {
     for &(moment, action, number) in entries {
         let event = event_of(alloc, book, moment, action, number)?;
+        // `step` says no where the event gives no state or several.
         if !machine.step(book, pool, &event)? {
             return Ok(false);
         }

@@ -43,6 +43,7 @@ fn limits(rt: HostRuntime) -> Result<(), Fail> {
 fn keeps_once(rt: &impl Abort, book: &mut Book) -> Result<(), Fail>
     requires { book.old ≡ [] }
 {
+    // `add` answers the number under which the bytes are kept: the given one, or that of equal bytes.
     is(rt, book.add(3, b"OPTIONS")?, 3, "the first");
     is(rt, book.add(5, b"OPTIONS")?, 3, "the same again");
     is(rt, book.add(8, b"")?, 8, "an empty one");
@@ -52,6 +53,7 @@ fn keeps_once(rt: &impl Abort, book: &mut Book) -> Result<(), Fail>
     Ok(())
 }
 
+/// Equal bytes have one number, that of their first entry.
 #[test]
 fn keeps_equal_bytes_once(rt: HostRuntime) -> Result<(), Fail> {
     let mut book = Book::new(rt.alloc());
@@ -75,13 +77,14 @@ fn forgets_newest(rt: &impl Abort, book: &mut Book) -> Result<(), Fail>
     Ok(())
 }
 
+/// A message is forgotten only while it is the newest one.
 #[test]
 fn forgets_the_newest_message_alone(rt: HostRuntime) -> Result<(), Fail> {
     let mut book = Book::new(rt.alloc());
     forgets_newest(&rt, &mut book)
 }
 
-/// Asserts that an empty book keeps 200,000 messages, the first half of them first.
+/// Asserts that an empty book keeps 100,000 messages, and that each has its first number when it is added once more under a later one.
 fn keeps_many(rt: &(impl Abort + AllocGlobal), book: &mut Book) -> Result<(), Fail>
     requires { book.old ≡ [] }
 {
@@ -93,16 +96,18 @@ fn keeps_many(rt: &(impl Abort + AllocGlobal), book: &mut Book) -> Result<(), Fa
     Ok(())
 }
 
+/// The messages differ in their first eight bytes.
 #[test]
 fn keeps_many_messages(rt: HostRuntime) -> Result<(), Fail> {
     let mut book = Book::new(rt.alloc());
     keeps_many(&rt, &mut book)
 }
 
-/// Asserts that an empty book keeps 40,000 messages of one hash, the first half of them first.
+/// Asserts that an empty book keeps 20,000 messages of one hash, and that each has its first number when it is added once more under a later one.
 fn keeps_of_one_hash(rt: &(impl Abort + AllocGlobal), book: &mut Book) -> Result<(), Fail>
     requires { book.old ≡ [] }
 {
+    // The last eight bytes are the factor of `FoldHasher`, the lowest byte first.
     let end = b"    \x15\x7c\x4a\x7f\xb9\x79\x37\x9e".as_slice();
     let first = are_numbered(rt.alloc(), book, 0, 20_000, end)?;
     holds(rt, first, "the first half");
@@ -111,7 +116,7 @@ fn keeps_of_one_hash(rt: &(impl Abort + AllocGlobal), book: &mut Book) -> Result
     Ok(())
 }
 
-/// The second word of each message is the factor of `FoldHasher`, so that all messages have the hash 0.
+/// The last eight bytes of each message are the factor of `FoldHasher`, which takes them by XOR with it and multiplies: all messages have the hash 0.
 #[test]
 fn keeps_messages_of_one_hash(rt: HostRuntime) -> Result<(), Fail> {
     let mut book = Book::new(rt.alloc());
@@ -148,6 +153,7 @@ fn full_goes_on(rt: &(impl Abort + AllocGlobal), book: &mut Book) -> Result<(), 
         return Ok(());
     };
     goes_on(rt, book, 64)?;
+    // The last of the 64 messages, which has the number 63 in eight bytes at its front, is still kept.
     keeps(rt, book, 63, Some(b"\0\0\0\0\0\0\0\x3f SIP/2.0 200 OK"));
     Err(error.into())
 }
@@ -178,7 +184,7 @@ fn keeps(rt: &impl Abort, book: &Book, number: u64, bytes: Option<&[u8]>) {
 }
 
 /// Adds messages that differ in their first eight bytes alone, under the numbers from `first` on. Returns whether each has the number
-/// of its place, and is found by it.
+/// of its place, and is found by it: where `first` is not 0, the book has these messages from an earlier call, under the numbers of their places.
 fn are_numbered(
     alloc: Global,
     book: &mut Book,

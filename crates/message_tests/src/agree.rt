@@ -29,8 +29,9 @@ fn with_fold(alloc: Global, text: &[u8]) -> Result<Vec<u8>, AllocError> {
     Ok(out)
 }
 
-/// The text with one byte left out, put in or replaced, as the seed says: its two lowest bits tell what is done (3: the byte is left out), the bits from 8
-/// on which byte comes, and those from 16 on at which place.
+/// The text with one byte left out, put in or replaced, as the seed says. Its two lowest bits tell what is done: 0 puts a mark before the byte, 1 a mark
+/// in its place, 2 any byte in its place, and 3 leaves it out. The bits from 8
+/// on tell which byte comes, and those from 16 on at which place.
 fn mutated(alloc: Global, text: &[u8], seed: u64) -> Result<Vec<u8>, AllocError> {
     let place = (seed >> 16).checked_rem(text.len() as u64).unwrap_or(0);
     let mark = MARKS[(seed >> 8) as usize % 16];
@@ -64,7 +65,8 @@ fn agrees(rt: &(impl Abort + AllocGlobal), text: &[u8]) -> Result<(), Fail> {
     Ok(())
 }
 
-/// Asserts that each of the messages made of the text is answered as it is with a folded line.
+/// Asserts that each of the messages made of the text is answered as it is with a folded line. The sequence of seeds goes on from `start`, which may be
+/// any number but 0.
 fn mutated_agree(rt: &(impl Abort + AllocGlobal), text: &[u8], start: u64) -> Result<(), Fail> {
     let mut seed = start;
     for _ in 0..COUNT {

@@ -1,4 +1,5 @@
-//! The IPv6 messages of RFC 5118, by their sections there.
+//! The IPv6 messages of RFC 5118, by their sections there. The comment of a row says what its message is about; the other lines make it whole. An
+//! answer is how many bytes the body has, or the first fault: its line, which counts from 0 for the start line, and its reason.
 
 use crate::answer::{Answer, Row};
 use sip_message::Reason;

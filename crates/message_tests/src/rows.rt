@@ -137,6 +137,7 @@ pub(crate) static VIAS: &[Change] = &[
         b"",
         READ,
     ),
+    // After an equals sign a value stands, and after a semicolon a parameter. Without a Via something is missing.
     (&[(1, b"Via: SIP/2.0/UDP a;x=")], b"", Line(1, Value)),
     (&[(1, b"Via: SIP/2.0/UDP a;")], b"", Line(1, Value)),
     (&[(1, NO_LINE)], b"", Head(Missing)),
@@ -212,6 +213,7 @@ pub(crate) static NAMES: &[Change] = &[
         b"",
         Line(4, Repeated),
     ),
+    // A name counts in its compact form and in any case; of Content-Length too there is one.
     (&[(6, b"Content-Length: 0\r\nl: 0")], b"", Line(7, Repeated)),
     // Without a Call-ID or a CSeq something is missing.
     (&[(4, NO_LINE)], b"", Head(Missing)),
@@ -237,6 +239,7 @@ pub(crate) static BODIES: &[Change] = &[
         Body(ShortBody),
     ),
     (
+        // Nor are these numbers cut: in 64 bits this one would be 0, and in 32 bits the next one would be 1.
         &[(6, b"Content-Length: 18446744073709551616")],
         b"a",
         Body(ShortBody),

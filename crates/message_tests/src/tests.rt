@@ -95,6 +95,7 @@ fn reads_bodies(rt: HostRuntime) -> Result<(), Fail> {
 fn tells_a_head_from_none(rt: HostRuntime) -> Result<(), Fail> {
     let mut text = changed(rt.alloc(), &[], b"")?;
     let no_end = Answer::Head(Reason::NoHeadEnd);
+    // The last four bytes are the end of the last line and the empty line. Without the last two the head does not end.
     is(&rt, text.len(), 196, &"its length");
     text.truncate(194);
     is(&rt, answer_to(rt.alloc(), &text)?, no_end, &"a front");
@@ -107,6 +108,7 @@ fn tells_a_head_from_none(rt: HostRuntime) -> Result<(), Fail> {
 /// The folded request, and its canonical form itself, have the one canonical form.
 #[test]
 fn writes_the_canonical_form(rt: HostRuntime) -> Result<(), Fail> {
+    // The lengths show that both texts have the bytes that are meant, whatever their escapes and folds are spelled like.
     holds(&rt, FOLDED.len() == 181 && UNFOLDED.len() == 202, "lengths");
     comes_to(&rt, FOLDED, UNFOLDED)?;
     comes_to(&rt, UNFOLDED, UNFOLDED)
@@ -165,6 +167,7 @@ fn are_same(alloc: Global, one: &Message<'_>, other: &Message<'_>) -> Result<boo
 fn is_read_back(alloc: Global, bytes: &[u8]) -> Result<bool, AllocError> {
     let message = match Message::read(alloc, bytes) {
         Ok(message) => message,
+        // The reason 12 is that of a request without the cookie, which reading a message does not ask for.
         Err(ReadError::Fault(fault)) => return Ok((1..=11).contains(&fault.reason.number())),
         Err(ReadError::Memory) => return Err(AllocError),
     };
@@ -319,6 +322,7 @@ static LONG_LINES: &[LongLine] = &[
 /// Asserts that a long line that is read has the canonical form of a short one.
 fn reads_a_long_fold(rt: &(impl Abort + AllocGlobal)) -> Result<(), Fail> {
     let text = long_line(rt.alloc(), b"s: a", b"\r\n ", 20_000, b"b")?;
+    // The request has 196 bytes, and `Subject: a b` with its line end 14: all the folds are one SP.
     is(rt, canonical(rt.alloc(), &text)?.len(), 210, &"its length");
     Ok(())
 }

@@ -1,4 +1,6 @@
-//! The torture messages of RFC 4475, by their names there, as far as they are told apart by what this profile reads.
+//! The torture messages of RFC 4475, by their names there, as far as they are told apart by what this profile reads. The comment of a row says what its
+//! message is about; the other lines make it whole. An answer is how many bytes the body has, or the first fault: its reason and its line, which
+//! counts from 0 for the start line, with folded lines as one.
 
 use crate::answer::{Answer, Row};
 use sip_message::Reason;

@@ -43,6 +43,7 @@ fn asks_for(rt: &(impl Abort + AllocGlobal), words: &[&str], want: Asked<'_>) ->
     Ok(())
 }
 
+/// Each form of words. The path of a file may be any word: a hyphen, the name of a form, or no byte at all.
 #[test]
 fn words_ask_for_one_thing(rt: HostRuntime) -> Result<(), Fail> {
     asks_for(&rt, &[], Asked::Input)?;
@@ -55,6 +56,7 @@ fn words_ask_for_one_thing(rt: HostRuntime) -> Result<(), Fail> {
     )
 }
 
+/// Words that lack a file, that begin otherwise, or that have none, another spelling, a number out of the limits or one word more for an entry.
 #[test]
 fn other_words_ask_for_nothing(rt: HostRuntime) -> Result<(), Fail> {
     for words in [

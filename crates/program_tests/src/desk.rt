@@ -22,10 +22,12 @@ impl<'a> Platform for Desk<'a> {
 
     ghost file = { λ desk path. if bytes_eq path desk.path.now then Some desk.bytes.now else None };
 
+    // Hashers are those of std, and a file is its bytes.
     type Seed = RandomState;
 
     type File = &'a [u8];
 
+    // The words are handed out as a copy, of which the lemma says that it tells the same bytes.
     #[tactic(auto, using(crate::proofs::WordLemmas::told_alike))]
     fn words(&self) -> io::Result<Vec<String>> {
         Ok(self.words.clone()?)

@@ -148,6 +148,7 @@ fn checks_the_file(rt: HostRuntime) -> Result<(), Fail> {
     answers(&rt, &words, right.as_str(), wrong.as_str(), breach)
 }
 
+/// The messages of the log are spelled in their canonical form already, so that each is shown as it stands, after its entry's number.
 #[test]
 fn shows_the_file(rt: HostRuntime) -> Result<(), Fail> {
     let file = registered(rt.alloc())?;
@@ -180,6 +181,7 @@ fn lists_the_states_of_an_entry_of_the_file(rt: HostRuntime) -> Result<(), Fail>
     Ok(())
 }
 
+/// Where there is an answer, the standard error gets nothing.
 #[test]
 fn tells_nothing_of_an_answer(rt: HostRuntime) -> Result<(), Fail> {
     let file = hasty(rt.alloc())?;
@@ -214,6 +216,7 @@ fn tells_of_each_failure(rt: HostRuntime) -> Result<(), Fail> {
     Ok(())
 }
 
+/// The writer has room for one byte less than the answer has.
 #[test]
 fn tells_that_the_answer_cannot_be_written(rt: HostRuntime) -> Result<(), Fail> {
     let file = registered(rt.alloc())?;

@@ -7,6 +7,7 @@ use std::random::RandomSource;
 pub(crate) struct Same(pub(crate) u8);
 
 impl RandomSource for Same {
+    // Each byte that is asked for is the one of this value.
     fn fill_bytes(&self, buf: &mut [u8]) -> io::Result<()> {
         buf.fill(self.0);
         Ok(())

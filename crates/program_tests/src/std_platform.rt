@@ -4,6 +4,7 @@ use sip_platform::StdPlatform;
 use sip_program::Platform;
 use std::test::Fail;
 
+/// The process that runs the test has a word at least, its own name.
 #[test]
 fn gives_words_seeds_and_files_of_std(rt: HostRuntime) -> Result<(), Fail> {
     let platform = StdPlatform::new(rt);

@@ -45,6 +45,7 @@ fn ends(
     Ok(())
 }
 
+/// A log without a finding and one with a breach.
 #[test]
 fn surveys_the_standard_input_or_the_file(rt: HostRuntime) -> Result<(), Fail> {
     let right = registered(rt.alloc())?;
@@ -161,7 +162,7 @@ fn asks_by_at_most_one_word(rt: HostRuntime) -> Result<(), Fail> {
     asks_for(&rt, &["--part"], Some("--part"), None)
 }
 
-// FNV-1a of z9hg4bka is 431978031, and FNV-1a of z9hg4bkb is 448755650.
+// FNV-1a of z9hg4bka is 431978031, which is odd, and FNV-1a of z9hg4bkb is 448755650: the branch a falls into part 2 of 2, and b into part 1, in any case.
 #[test]
 fn asks_for_a_part_by_two_words(rt: HostRuntime) -> Result<(), Fail> {
     let words = texts(rt.alloc(), &["--part", "2/2"])?;

@@ -30,6 +30,7 @@ fn is_on_its_line(rt: &(impl Abort + AllocGlobal), failure: &Failure) -> Result<
     Ok(())
 }
 
+/// Each failure says as a text what its line says.
 #[test]
 fn failures_say_what_the_program_tells(rt: HostRuntime) -> Result<(), Fail> {
     for (failure, told) in &ROWS {

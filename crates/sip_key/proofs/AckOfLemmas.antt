@@ -44,6 +44,7 @@ solid-joined value (next ∷ values) =
 -- the first of some values, or no bytes where there is none, and each other one after a comma are the values joined by commas, without their blanks
 pub solid-begins : (values more : List (List ℕ)) (first : Option (Bor (List ℕ))) (none : Bor (List ℕ)) → YieldsFirstRef (λ it. it) values first more → none.now ≡ []
     → solid (unwrap_or first none).now ++ each more ≡ solid (join_with_byte comma values)
+-- where there is no value, nothing is joined
 solid-begins values more None none steps empty =
     ap₂ (λ (t : List ℕ) (vs : List (List ℕ)). solid t ++ each vs) empty steps.1 ∙ ap (λ vs. solid (join_with_byte comma vs)) (sym steps.0)
 solid-begins values more (Some x) none steps empty =

@@ -1,4 +1,5 @@
 -- What a key feeds a hasher: one text, which tells its parts.
+-- `λ i. f (e i)`: by the equation e, f of its left side is equal to f of its right side.
 use Rattle.std.proofs.Common.{◌≡◌, ◌/◌, ◌%◌, ◌<◌, ◌++◌, ◌∷◌, [], ℕ, zero, suc, List, length, take, drop, get_or, replicate, refl, sym, ap, ap₂, ◌∙◌, append_assoc, arith}
 use Rattle.std.specs.Bool.{one_answer}
 use Rattle.std.specs.Cmp.Lexicographic.{bytes_decides}
@@ -15,6 +16,7 @@ use Rattle.sip_key.specs.inner.KeyText.{role_byte, length_bytes, key_text}
 role-by_its_byte : (r s : Role) → role_byte r ≡ role_byte s → r ≡ s
 role-by_its_byte Client Client same = refl
 role-by_its_byte Server Server same = refl
+-- the bytes of the two roles are 0 and 1
 role-by_its_byte Client Server same = absurd (omega (arith, same))
 role-by_its_byte Server Client same = absurd (omega (arith, same))
 
@@ -22,6 +24,7 @@ role-by_its_byte Server Client same = absurd (omega (arith, same))
 -- q and p tell how many bytes 64 the two lengths have, r and s are their last bytes, and t and u are the rests
 length-ends : (q p r s : ℕ) (t u : List ℕ) → r < 64 → s < 64 → (replicate q 64 ++ r ∷ []) ++ t ≡ (replicate p 64 ++ s ∷ []) ++ u → (q ≡ p) × (r ≡ s) × (t ≡ u)
 length-ends zero zero r s t u r_small s_small same = (refl, ap (λ bytes. get_or bytes 0 0) same, ap (drop 1) same)
+-- a byte of 64 says that a length goes on, and one below 64 ends it, so both lengths go on equally long
 length-ends zero (suc p) r s t u r_small s_small same = let goes_on : r ≡ 64 = ap (λ bytes. get_or bytes 0 0) same in absurd (omega arith)
 length-ends (suc q) zero r s t u r_small s_small same = let goes_on : 64 ≡ s = ap (λ bytes. get_or bytes 0 0) same in absurd (omega arith)
 length-ends (suc q) (suc p) r s t u r_small s_small same =

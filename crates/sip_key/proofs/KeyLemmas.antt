@@ -1,4 +1,5 @@
 -- The text of a key: its head, and then its branch, its sent-by and its method, one after another.
+-- `λ i. f (e i)`: by the equation e, f of its left side is equal to f of its right side.
 use Rattle.std.proofs.Common.{◌≡◌, ◌==◌, ◌+◌, ◌-◌, ◌*◌, ◌/◌, ◌%◌, ◌<◌, ◌≤◌, ◌++◌, ◌∷◌, [], ℕ, zero, suc, false, cond, List, length, map, take, drop, replicate, refl, sym, ap, ap₂, subst, ◌∙◌, append_assoc, arith}
 use Rattle.std.specs.Prelude.{slice_range}
 use Rattle.std.specs.Char.{to_ascii_lowercase}
@@ -21,6 +22,7 @@ between front text rest from to begins ends =
 pub parts-are : (branch sent_by method texts : List ℕ) (from to : ℕ) → texts ≡ (branch ++ sent_by) ++ method → from ≡ length branch → to ≡ from + length sent_by
     → (take from texts ≡ branch) × (slice_range texts from to ≡ sent_by) × (drop to texts ≡ method)
 parts-are branch sent_by method texts from to whole first second =
+    -- the branch stands first, then the sent-by, and then the method
     let apart : texts ≡ branch ++ (sent_by ++ method) = whole ∙ append_assoc branch sent_by method in
     let both = length-append branch sent_by in (
       ap (take from) apart ∙ take_at branch (sent_by ++ method) from (sym first),
@@ -92,9 +94,11 @@ built role branch host port method begun text begun_is whole =
 bytes-read : (q r : ℕ) (rest : List ℕ) → r < 64 →
     (length_in ((replicate q 64 ++ r ∷ []) ++ rest) ≡ 64 * q + r) × (after_length ((replicate q 64 ++ r ∷ []) ++ rest) ≡ rest)
 bytes-read zero r rest small =
+    -- r is below 64, so its byte is the last of the length
     let last : (r == 64) ≡ false = grind (arith, nat_tests, small) in
     (ap (λ b. cond b (64 + length_in rest) r) last ∙ omega arith, ap (λ b. cond b (after_length rest) rest) last)
 bytes-read (suc q) r rest small =
+    -- one byte of 64 more makes the length 64 more
     let more = bytes-read q r rest small in
     (ap (λ n. 64 + n) more.0 ∙ omega arith, more.1)
 
@@ -112,11 +116,14 @@ role-read Server rest = refl
 
 -- the text tells the parts of this key
 pub record Tells (k : KeyParts) (text : List ℕ) : Type 0 where
+  -- the first byte is the role, and then come the two lengths
   pub some : 0 < length text
   pub role : role_in text ≡ k.role
   pub branch : length_in (drop 1 text) ≡ length k.branch
   pub method : length_in (after_length (drop 1 text)) ≡ length k.method
+  -- after the lengths stand the texts in a row
   pub texts : after_length (after_length (drop 1 text)) ≡ (k.branch ++ k.sent_by) ++ k.method
+  -- no length is more than what follows it
   pub branch_short : length k.branch ≤ length (drop 1 text)
   pub method_short : length k.method ≤ length (after_length (drop 1 text))
 
@@ -131,6 +138,7 @@ tells k text is =
     let first = length-read (length k.branch) (methods ++ texts) in
     let second = length-read (length k.method) texts in
     let after : after_length (drop 1 text) ≡ methods ++ texts = ap after_length rest ∙ first.1 in
+    -- the lengths of what stands in a row are sums of the lengths of the parts
     let all = length-append (k.branch ++ k.sent_by) k.method in
     let both = length-append k.branch k.sent_by in
     let end = length-append methods texts in

@@ -35,18 +35,23 @@ alphanumeric_low : (b : ℕ) → is_ascii_alphanumeric b ≡ true → b < 128
 alphanumeric_low b is =
     elim (or_cases (is_in_range 48 57 b || is_in_range 65 90 b) (is_in_range 97 122 b) is) [
       | inl more ↦ elim (or_cases (is_in_range 48 57 b) (is_in_range 65 90 b) more) [
+        -- the byte is a digit
         | inl one ↦ (let low = range_low 48 57 b one in omega (arith, low))
+        -- the byte is a capital letter
         | inr one ↦ (let low = range_low 65 90 b one in omega (arith, low))
       ]
+      -- the byte is a small letter
       | inr one ↦ (let low = range_low 97 122 b one in omega (arith, low))
     ]
 
 -- a byte that is one of some ASCII bytes is ASCII
 one_of_low : (bytes : List ℕ) → list_all (λ c. nat_lt c 128) bytes ≡ true → (b : ℕ) → list_any (λ c. c == b) bytes ≡ true → b < 128
+-- no byte is one of none
 one_of_low [] all b is = cc
 one_of_low (c ∷ cs) all b is =
     let parts = and_parts (nat_lt c 128) (list_all (λ d. nat_lt d 128) cs) all in
     elim (or_cases (c == b) (list_any (λ c. c == b) cs) is) [
+      -- the byte is the first of them, or one of the others
       | inl same ↦ subst (λ d. d < 128) (eqb-true c b same) (ltb-true c 128 parts.0)
       | inr more ↦ one_of_low cs parts.1 b more
     ]
@@ -55,6 +60,7 @@ one_of_low (c ∷ cs) all b is =
 token_low : (b : ℕ) → is_token_byte b ≡ true → b < 128
 token_low b is =
     elim (or_cases (is_ascii_alphanumeric b) (is_among "-.!%*_+`'~" b) is) [
+      -- the byte is a letter or digit, or one of the marks, which are all ASCII
       | inl word ↦ alphanumeric_low b word
       | inr mark ↦ one_of_low (codes "-.!%*_+`'~") refl b mark
     ]

@@ -37,7 +37,7 @@ no e = cc
 -- t and w are the rests, o and p what the next steps yielded of them, and u and v what these steps left
 last-same : (r : Bool) (o p : Option ℕ) (t u w v : List ℕ) → Steps t o u → Steps w p v
     → MatchOption o (MatchOption p (r ≡ true) (λ _. r ≡ false)) (λ x. (r ≡ false) × IfSome p (λ y. (x == y) ≡ false)) → IsTrue r ↔ (t ≡ w)
--- where both end, both rests are empty; where one alone ends, or two different items come, the rests are not the same
+-- where both end, both rests are empty; where one alone ends, or two different items come, the rests are not the same; h forbids each other answer r
 last-same true None None t u w v a b h = (λ _. a.0 ∙ sym b.0, λ _. refl)
 last-same false None None t u w v a b h = cc
 last-same true None (Some y) t u w v a b h = cc

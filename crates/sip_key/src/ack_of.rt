@@ -48,6 +48,7 @@ fn is_ack_line(ack: StartLine<'_>, invite: StartLine<'_>) -> bool
 fn has_one_via(message: &Message<'_>) -> bool
     ensures { IsTrue result ↔ ((said_of message.now).others ≡ []) }
 {
+    // The first element of Via is always there.
     let mut vias = message.vias();
     vias.next();
     vias.next().is_none()
@@ -75,8 +76,10 @@ impl<'s, 'a> Model for SolidRoute<'s, 'a> {
     ghost use Rattle.sip_message.specs.inner.Marks.{comma};
     ghost use Rattle.sip_standard.specs.Solid.{solid};
 
+    // Contracts see this as the bytes that are still handed out.
     ghost Value = { List ℕ };
 
+    // They are those of the rest, and then a comma and the bytes of each value that is left, all without blanks.
     ghost view = { λ it. solid it.rest.now ++ flat_map (λ value. comma ∷ solid value) it.values };
 }
 
@@ -98,8 +101,10 @@ impl<'s, 'a> Iterator for SolidRoute<'s, 'a> {
 
     type Item = u8;
 
+    // A call gives the first of these bytes, and leaves the others.
     ghost next_gives = { YieldsFirst (λ it. it) };
 
+    // No more bytes come than are left.
     ghost remaining = { item_count (λ it. it) };
 
     fn next(&mut self) -> Option<u8> {

@@ -33,6 +33,7 @@ impl From<AllocError> for KeyError {
     ghost use Rattle.std.specs.Prelude.{◌≡◌};
     ghost use Rattle.sip_key.specs.declared.concern.KeyError.TheVariants.{Memory};
 
+    // Whatever was refused, the error is `Memory`.
     ghost from_gives = { λ _ e. e ≡ Memory };
 
     fn from(_error: AllocError) -> Self {
@@ -50,6 +51,7 @@ pub fn key_of(
 ) -> Result<Option<Key>, KeyError>
     ensures { IsOwnKey (said_of message.now) direction result }
 {
+    // Some bytes are read as this message, so that the port of its Via is one.
     message.known();
     let start = message.start();
     let via = message.top_via();

@@ -30,10 +30,12 @@ impl Model for Key {
     ghost use Rattle.sip_standard.specs.Key.{KeyParts};
     ghost use Rattle.sip_key.specs.inner.KeyText.{key_text, parts_of};
 
+    // Contracts see a key as its parts, which its text tells.
     ghost Value = { KeyParts };
 
     ghost view = { λ k. parts_of k.text.items };
 
+    // At all times the text is that of the parts that it tells.
     ghost invariant = { λ k. k.text.items ≡ key_text (parts_of k.text.items) };
 }
 
@@ -44,6 +46,7 @@ const GOES_ON: usize = 64;
 fn head_room(branch: usize, method: usize) -> usize
     ensures { (role : Role) → result ≡ length (key_head role branch method) }
 {
+    // The role takes one byte, and each length one and another for each 64 of it.
     3 + branch / GOES_ON + method / GOES_ON
 }
 
@@ -202,8 +205,10 @@ impl Key {
 }
 
 impl PartialEq for Key {
+    // Keys are equal where their parts are.
     ghost eq = { same_key };
 
+    // The laws of equality hold, since the test decides whether keys are the same.
     ghost laws = { partial_equiv_from_equiv (decided same_key same_key-decides) };
 
     fn eq(&self, other: &Key) -> bool {
@@ -212,12 +217,15 @@ impl PartialEq for Key {
 }
 
 impl Eq for Key {
+    // The same laws, which include that a key is equal to itself.
     ghost laws = { decided same_key same_key-decides };
 }
 
 impl Hash for Key {
+    // What a hasher is fed is the text of the key, in one piece.
     ghost hash_input = { λ k. key_text k ∷ [] };
 
+    // Equal keys are the same, so that they feed a hasher alike.
     ghost respects_eq = { (fed.same_Alike _ same_key-decides).fed };
 
     fn hash<H: Hasher>(&self, state: &mut H) {

@@ -37,6 +37,7 @@ impl<'a> Model for Solid<'a> {
     ghost use Rattle.std.specs.Prelude.{ℕ, List};
     ghost use Rattle.sip_standard.specs.Solid.{solid};
 
+    // Contracts see this as the bytes that are still handed out: those of the rest that are no blanks.
     ghost Value = { List ℕ };
 
     ghost view = { λ it. solid it.rest.now };
@@ -47,8 +48,10 @@ impl<'a> Iterator for Solid<'a> {
 
     type Item = u8;
 
+    // A call gives the first of these bytes, and leaves the others.
     ghost next_gives = { YieldsFirst (λ it. it) };
 
+    // No more bytes come than are left.
     ghost remaining = { item_count (λ it. it) };
 
     fn next(&mut self) -> Option<u8> {

@@ -1,3 +1,4 @@
+-- What one account owes, and how it loses a debt or gains one.
 pub mod AccountLemmas
 pub mod FindLemmas
 pub mod ToldLemmas

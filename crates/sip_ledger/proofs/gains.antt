@@ -1,1 +1,2 @@
+-- Which gains are left, and whether deadlines rise over them.
 pub mod LeftLemmas

@@ -1,3 +1,4 @@
+-- Lists of any elements, and indexes.
 pub mod EachLemmas
 pub mod FrontLemmas
 pub mod IndexLemmas

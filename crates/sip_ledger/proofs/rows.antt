@@ -1,2 +1,3 @@
+-- What many rows owe, as contracts see them.
 pub mod PaidLemmas
 pub mod SeenLemmas

@@ -1,1 +1,2 @@
+-- Which gains the strikes of an account strike.
 pub mod MovedLemmas

@@ -15,11 +15,12 @@ abbrev pub paid_rows : ℕ → ℕ → List (List Debt) → List (List Debt)
 paid_rows message t rows =
     map (λ owes. filter (counts_at t) (paid_by message t owes)) (filter (λ owes. list_any (is_payable message t) owes && is_timely t owes) rows)
 
--- a number that is made of another one and a word
+-- a number that is made of another one and a word; the factor is odd and near 2^64 divided by the golden ratio, so that it spreads the bits of near
+-- numbers, and 2^64 is where the code's numbers end
 abbrev pub mixed : ℕ → ℕ → ℕ
 mixed print word = bit_xor print word * 11400714819323198485 % 2 ^ 64
 
--- a number for a message and a deadline, which tells most apart at once
+-- a number for a message and a deadline, which tells most apart at once; its upper half, what is left of it by 2^32, is mixed in at the end
 unfoldable pub worth_of : ℕ → ℕ → ℕ
 worth_of message deadline = mixed (mixed (mixed 1 message) deadline) (mixed (mixed 1 message) deadline / 2 ^ 32)
 

@@ -1,2 +1,3 @@
+-- What callers do not see: accounts over gains and strikes, and the names that inner contracts cite.
 pub mod Accounts
 pub mod Words

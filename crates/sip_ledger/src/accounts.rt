@@ -39,13 +39,14 @@ pub struct Accounts {
     gains: Gains,
     strikes: Vec<Strike>,
     rows: Vec<Account>,
-    /// The message that was paid last, while what was gained of it may stand before what is owed of it.
+    /// The message that was paid since the last call of `tidy`, if there is one: its first gains may be owed by no row any more.
     paid: Option<u64>,
 }
 
 impl Model for Accounts {
     ghost use Rattle.sip_ledger.specs.inner.Words.{List, Debt, AreAccounts, accounts_debts};
 
+    // What accounts mean is the debts of each row. Gains, strikes and rows fit together at all times (`AreAccounts`).
     ghost Value = { List (List Debt) };
 
     ghost view = { λ a. accounts_debts a.gains a.strikes.items a.rows.items };

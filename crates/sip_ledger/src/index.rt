@@ -15,6 +15,7 @@ pub struct Index {
 impl Model for Index {
     ghost use Rattle.std.specs.Prelude.{ℕ, List};
 
+    // What an index means is its pairs, which the set keeps in order.
     ghost Value = { List (ℕ × ℕ) };
 
     ghost view = { λ index. index.pairs.keys };
@@ -67,7 +68,7 @@ impl Index {
             _ => None,
         }
     }
-    /// Two keys between which all keys are under which numbers stand.
+    /// Two keys: the least and the greatest under which numbers stand, or 0 and 0 where no number stands anywhere.
     pub(crate) fn span(&self) -> (u64, u64)
         ensures { (k n : ℕ) → holds self.now k n ≡ true → (result.0 ≤ k) × (k ≤ result.1) }
     {

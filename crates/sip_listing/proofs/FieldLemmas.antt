@@ -23,5 +23,6 @@ pub debts_told : (number : List ℕ → ℕ) (texts : Texts) (debts : List Debt)
     Tells number texts (owes_names debts) → owes_fields number (owes_seen texts debts) ≡ debts_fields debts
 debts_told number texts [] told = refl
 debts_told number texts (debt ∷ debts) told =
+    -- the first debt is told by the number of its message, and so are the others
     ap₂ (λ message more. owed_field message debt.deadline debt.must ++ more) (first_told number texts debt.message (owes_names debts) told)
     (debts_told number texts debts (others_told number texts debt.message (owes_names debts) told))

@@ -35,10 +35,12 @@ telling name fields = record { name = name; fields = fields }
 module _ (number : List ℕ → ℕ) (texts : Texts) where
   -- where messages are told by their numbers in the book, fields that are told by what their numbers stand for are the fields again
   fields_back : (fields : List (ToldField ℕ)) → Tells number texts (filter_map field_message fields) → map (field_by number) (map (field_by (text_of texts)) fields) ≡ fields
+  -- a flag, a number and a message that is none name no message, and stay as they are
   fields_back [] tells = refl
   fields_back (Flag name is ∷ fields) tells = ap (λ more. Flag name is ∷ more) (fields_back fields tells)
   fields_back (Number name value ∷ fields) tells = ap (λ more. Number name value ∷ more) (fields_back fields tells)
   fields_back (Message name None ∷ fields) tells = ap (λ more. Message name None ∷ more) (fields_back fields tells)
+  -- a message with a number is told by its bytes, and these again by the number
   fields_back (Message name (Some n) ∷ fields) tells =
       ap₂ (λ m more. Message name (Some m) ∷ more) (first_told number texts n (filter_map field_message fields) tells)
       (fields_back fields (others_told number texts n (filter_map field_message fields) tells))
@@ -79,12 +81,14 @@ module _ (number : List ℕ → ℕ) (texts : Texts) where
 -- where states are told as those of a set, and lines are theirs in order, the lines list the set
 pub listed : (set : AnySet) (states : List ToldState) (lines : List (List ℕ)) → AreTold set states → AreInOrder (map state_line states) lines → Lists set lines
 listed set states lines are in_order = λ number texts tells.
+    -- s is the set as one of its machine, c what the code has for the states of that machine, and `words` tells its phases
     let (machine, s, is) = some_machine set in
     let c = coded_of machine in
     let words = words_of machine in
     -- the states of the set's machine are told one by one
     let told = of_machine (λ kind held. AreToldAs (words_of kind) (coded_of kind).seen (coded_of kind).names held.states states) machine s
     (subst (λ x. AreTold x states) is are) in
+    -- the set's messages are told by their numbers, so that the texts of its states are the lines of the told ones
     let known = of_set (λ X M S m s. All (λ x. Tells number texts (m.names x)) s.states) machine s (subst (TellsSet number texts) is tells) in
     let same = states_told number texts words c.seen c.names s.states states (told texts) known in
     subst (λ x. AreLinesOfSet number texts x lines) (sym is)

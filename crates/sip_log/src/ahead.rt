@@ -50,6 +50,7 @@ pub(crate) fn entry_ahead(
         moment,
         action,
         message,
+        // The line and the message each have a line feed after them.
         size: len + message.len() + 2,
     })
 }

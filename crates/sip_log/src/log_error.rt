@@ -36,6 +36,7 @@ pub enum LogError {
 }
 
 impl From<Broken> for LogError {
+    // A source that has failed makes the error `Io`.
     ghost from_gives = { λ _ e. e ≡ Io };
 
     fn from(_broken: Broken) -> LogError {
@@ -44,6 +45,7 @@ impl From<Broken> for LogError {
 }
 
 impl From<AllocError> for LogError {
+    // Memory that was refused makes the error `Memory`.
     ghost from_gives = { λ _ e. e ≡ Memory };
 
     fn from(_error: AllocError) -> LogError {

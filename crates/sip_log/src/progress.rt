@@ -51,6 +51,7 @@ impl Model for Progress {
     ghost use Rattle.std.specs.Prelude.{◌≤◌};
     ghost use Rattle.sip_log.specs.Reading.{ProgressState};
 
+    // Contracts see this as a `ProgressState`: the stage, the bytes that are held, the format, the times, the count and the last moment.
     ghost Value = { ProgressState };
 
     ghost use Rattle.sip_log.specs.inner.Place.{stage_of, held_at, FitsStage};
@@ -58,6 +59,7 @@ impl Model for Progress {
 
     ghost view = { λ p. record { stage = stage_of p.stage; held = held_at p.stage; format = p.format; times = p.params; count = p.count; last = p.last } };
 
+    // At all times no more entries were counted than a log may have, and the other parts are those of the stage.
     ghost invariant = { λ p. (p.count ≤ most_entries) × FitsStage p.stage p.params p.count p.last };
 }
 
@@ -140,6 +142,7 @@ impl Progress {
         ensures { Nexts (beside_source self.old (R.left source.old) (R.has_failed source.old))
             (beside_source self.new (R.left source.new) (R.has_failed source.new)) result }
     {
+        // The stage is set anew below; where an error is answered it stays `Failed`.
         match mem::replace(&mut self.stage, Stage::Failed) {
             Stage::Fresh => {
                 let mut window = Window::new(self.alloc)?;

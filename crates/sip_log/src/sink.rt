@@ -27,8 +27,10 @@ impl<W: Write> ToWrite<W> {
 }
 
 impl<W: Write> Sink for ToWrite<W> {
+    // What was written is what the writer holds.
     ghost written = { λ s. W.contents s.writer };
 
+    // The sink has failed where a write has.
     ghost has_failed = { λ s. s.failed };
 
     fn put(&mut self, bytes: &[u8]) -> Result<(), Broken> {

@@ -51,14 +51,17 @@ impl<R: Read> FromRead<R> {
                 }
             }
         }
+        // So many interruptions never come; the loop has an end, so that this call has one.
         self.failure = Some(ErrorKind::TimedOut);
         Err(Broken)
     }
 }
 
 impl<R: Read> Source for FromRead<R> {
+    // Nothing is left once the reader told its end, and before that what the reader has left.
     ghost left = { λ s. if s.ended then Some [] else R.remaining s.reader };
 
+    // The source has failed where the kind of a failure is kept.
     ghost has_failed = { λ s. is_some s.failure };
 
     fn fill(&mut self, buf: &mut [u8]) -> Result<usize, Broken> {
@@ -66,6 +69,7 @@ impl<R: Read> Source for FromRead<R> {
             return Ok(0);
         }
         let count = self.read_on(buf)?;
+        // A read into some room that brings nothing tells the end.
         self.ended = count == 0 && !buf.is_empty();
         Ok(count)
     }

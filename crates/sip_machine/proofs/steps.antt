@@ -1,4 +1,4 @@
--- The steps of one state, and of many states of one phase.
+-- The steps of one state, and of many states of one phase; what the rows of servers add; no answer, one, or two; and which bytes are a 100.
 pub mod OwingSteps
 pub mod OwingEachLemmas
 pub mod RepliesLemmas

@@ -1,3 +1,4 @@
+-- The definitions that contracts of this crate cite. What they rest on, and the laws of it, stand in `inner`.
 pub use Rattle.sip_times.specs.Limits
 pub mod Texts
 pub mod Told

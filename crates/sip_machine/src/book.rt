@@ -88,8 +88,10 @@ impl Model for Book {
     // A book means its texts with their numbers: it keeps each text once, finds it by runs of places, and has the Tos that ACKs are owed for beside them.
     ghost Value = { Texts };
 
+    // The texts are those of the kept messages.
     ghost view = { λ b. texts_of b.kept.items };
 
+    // The messages are a book, their places stand in the runs, and each To is that of one of them.
     ghost invariant = { λ b. IsBook (texts_of b.kept.items) × StandInRuns (texts_of b.kept.items) b.order.items b.loose × AreTos (texts_of b.kept.items) b.tos };
 }
 
@@ -236,6 +238,7 @@ impl Book {
             ⊎ ((self.new ≡ self.old ++ (entry, bytes.now) ∷ []) × (n ≡ entry))) }
         ensures err { OnErr result (self.new ≡ self.old) }
     {
+        // The message before this one gets its place first, so that all places are there for the search.
         place_newest(&self.kept, &mut self.order, &mut self.loose)?;
         let hash = hash(bytes);
         match find(&self.kept, &self.order, hash, bytes) {
@@ -246,6 +249,7 @@ impl Book {
                     number: entry,
                     bytes,
                 })?;
+                // Its place is put into the gap when the next message comes.
                 self.loose = Some(Loose { hash, gap });
                 Ok(entry)
             }
@@ -430,10 +434,12 @@ fn place_newest(
     let Some(newest) = *loose else {
         return Ok(());
     };
+    // The newest message is the last one of the list.
     let place = Place {
         hash: newest.hash,
         position: kept.len().saturating_sub(1),
     };
+    // Where memory is refused, a run may have been halved, and so the gap is looked for anew.
     if let Err(refused) = insert(runs, newest.gap, place) {
         *loose = loosened(kept, runs, true);
         return Err(refused);
@@ -523,6 +529,7 @@ fn make_room(runs: &mut Vec<PlaceRun>, gap: Gap) -> Result<Gap, AllocError>
     let places = runs[gap.run].places.split_off(MOST / 2)?;
     let first = places[0];
     runs.insert(gap.run + 1, PlaceRun { first, places })?;
+    // A gap in the first half, or at its end, stays where it is.
     if gap.place <= MOST / 2 {
         return Ok(gap);
     }
@@ -532,7 +539,8 @@ fn make_room(runs: &mut Vec<PlaceRun>, gap: Gap) -> Result<Gap, AllocError>
     })
 }
 
-/// The place of the message with these bytes and this hash among places in order, or where it would go.
+/// The place of the message with these bytes and this hash among places in order, or where it would go. The clauses say that it is the place of one that
+/// compares as equal, or, where the places are in order, that those before it compare as less and the others as greater.
 fn search(kept: &[KeptMessage], places: &[Place], hash: u64, bytes: &[u8]) -> Result<usize, usize>
     ensures within { IsSearchInRange result (length places.now) }
     ensures found { IsBinarySearchResult (λ place. compare (key_of (texts_of kept.now) place) (hash, bytes.now)) places.now result }

@@ -46,8 +46,10 @@ impl Model for Dues {
     ghost use Rattle.sip_ledger.specs.declared.debt.Debt.{Debt};
     ghost use Rattle.sip_machine.specs.inner.Dues.{rows_of};
 
+    // Dues mean what each row owes, with accounts or without.
     ghost Value = { List (List Debt) };
 
+    // Each row owes what its account has, or nothing.
     ghost view = { λ d. rows_of d.rows };
 }
 
@@ -312,6 +314,7 @@ impl Dues {
         let Rows::WithAccounts(accounts) = &self.rows else {
             return Ok(());
         };
+        // The numbers are put into a vector of their own first, so that on an error the other one is as before.
         let mut owed = Vec::new(alloc);
         accounts.names(alloc, row, &mut owed)?;
         numbers.append(&mut owed)

@@ -83,13 +83,16 @@ impl Model for Event {
     ghost use Rattle.sip_standard.specs.Times.{last_moment};
     ghost use Rattle.sip_machine.specs.NumberedEvent.{NumberedEvent};
 
-    // An event means what it has. It is no mark, and its moment is within the limit of a log.
+    // An event means what it has.
     ghost Value = { NumberedEvent };
 
+    // Its parts are its fields.
     ghost view = { λ e. record { moment = e.moment; action = e.action; number = e.number; kind = e.kind; reliable = e.reliable } };
 
+    // It is no mark, and its moment is within the limit of a log.
     ghost invariant = { λ e. (e.action ≢ Mark) × (e.moment ≤ last_moment) };
 
+    // From its parts the fields are had back.
     ghost inverse = { λ e. record { moment = e.moment; action = e.action; number = e.number; kind = e.kind; reliable = e.reliable } };
 }
 
@@ -124,6 +127,7 @@ impl Event {
         Event {
             moment,
             action: Action::Restart,
+            // Nothing asks for the message of a restart, so that its number and its kind are any.
             number: 0,
             kind: Kind::Request(Method::Other),
             reliable: false,

@@ -19,7 +19,7 @@ use std::alloc::{AllocError, Global};
 use std::hash::Hash;
 use std::marker::Model;
 
-/// Timer D over an unreliable transport, in milliseconds.
+/// Timer D over an unreliable transport, in milliseconds (RFC 3261 section 17.1.1.2).
 const TIMER_D: u64 = 32_000;
 
 /// A phase of the INVITE client transaction. Moments are in milliseconds, and messages are numbers of the `Book`.
@@ -46,6 +46,7 @@ pub enum InviteClientPhase {
         request: u64,
         set: u64,
     },
+    /// The transaction is over.
     Ended,
 }
 
@@ -68,8 +69,10 @@ impl Model for InviteClient {
     // A client means the times by which it was made.
     ghost Value = { Times };
 
+    // What a client means is read off its fields.
     ghost view = { λ m. m.params };
 
+    // From these times the fields are had back.
     ghost inverse = { λ p. record { params = p } };
 }
 
@@ -90,38 +93,47 @@ impl Phases for InviteClient {
     ghost use Rattle.sip_machine.specs.inner.Coded.{has_phases};
     ghost use Rattle.sip_machine.specs.inner.InviteClient.Laws.{invite_client_is_coded};
 
+    // The phases of the code.
     type Phase = InviteClientPhase;
 
-    // The figure is that of the INVITE client, and the phases stand for those of the figure.
-    // `seen` gives the figure's phase for one of the code, `names` the messages that it names, `in_range` that its moments are within the limits, and
-    // `told` the words by which it is listed.
+    // The figure is that of the INVITE client; `Seen` is the type of its phases, for which those of the code stand.
     ghost Seen = { Seen };
 
+    // The figure: what may happen, and when.
     ghost figure = { invite_client };
 
+    // The times by which it runs are all that a machine means.
     ghost times = { λ p. p };
 
+    // The phase of the figure for which one of the code stands beside a book.
     ghost seen = { invite_client_seen };
 
+    // The numbers of the messages that a phase names.
     ghost names = { invite_client_names };
 
+    // The moments of a phase are within the limits.
     ghost in_range = { InviteClientInRange };
 
+    // The words by which a phase is listed.
     ghost told = { invite_client_told };
 
+    // The phase before anything was sent or received.
     ghost idle = { λ p. Idle };
 
+    // The phase after the end.
     ghost ended = { λ p. Ended };
 
-    // The times and rules are those with which the machine was made; a transaction begins in idle, and is over in ended.
+    // The times and rules are those with which the machine was made.
     fn params(&self) -> &Params {
         &self.params
     }
 
+    // Nothing was sent or received yet.
     fn idle(&self) -> InviteClientPhase {
         Idle
     }
 
+    // The transaction is over.
     fn ended(&self) -> InviteClientPhase {
         Ended
     }
@@ -155,6 +167,7 @@ impl Phases for InviteClient {
                     request,
                     set,
                 },
+                // One that comes again leaves completed as it is, and is owed an ACK of its own.
                 Completed { .. } => *phase,
                 _ => return Ok(None),
             };
@@ -279,7 +292,7 @@ impl Phases for InviteClient {
             },
             // The window of timer M.
             Accepted { set } => Some(params.window(set, timeout(params))),
-            // The window of timer D.
+            // The window of timer D: at once over a reliable transport, and else after 32 seconds, without a last moment.
             Completed { reliable, set, .. } if reliable => Some(params.window(set, 0)),
             Completed { set, .. } => Some((params.opens(set, TIMER_D), None)),
             Idle | Ended => None,

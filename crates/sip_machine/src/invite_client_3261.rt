@@ -28,8 +28,10 @@ impl Model for InviteClient3261 {
     // A client means the times by which it was made.
     ghost Value = { Times };
 
+    // What a client means is read off its fields.
     ghost view = { λ m. m.corrected };
 
+    // From these times the fields are had back.
     ghost inverse = { λ p. record { corrected = p } };
 }
 
@@ -53,38 +55,47 @@ impl Phases for InviteClient3261 {
     ghost use Rattle.sip_machine.specs.inner.Coded.{has_phases};
     ghost use Rattle.sip_machine.specs.inner.InviteClient3261.Laws.{invite_client_3261_is_coded};
 
+    // The phases of the code.
     type Phase = InviteClientPhase;
 
-    // The figure is that of the INVITE client by RFC 3261 alone, and the phases stand for those of the figure.
-    // `seen` gives the figure's phase for one of the code, `names` the messages that it names, `in_range` that its moments are within the limits, and
-    // `told` the words by which it is listed.
+    // The figure is that of the INVITE client by RFC 3261 alone; `Seen` is the type of its phases, for which those of the code stand.
     ghost Seen = { Seen };
 
+    // The figure: what may happen, and when.
     ghost figure = { invite_client_3261 };
 
+    // The times by which it runs are all that a machine means.
     ghost times = { λ p. p };
 
+    // The phase of the figure for which one of the code stands beside a book.
     ghost seen = { invite_client_seen };
 
+    // The numbers of the messages that a phase names.
     ghost names = { invite_client_names };
 
+    // The moments of a phase are within the limits.
     ghost in_range = { InviteClientInRange };
 
+    // The words by which a phase is listed.
     ghost told = { invite_client_told };
 
+    // The phase before anything was sent or received.
     ghost idle = { λ p. Idle };
 
+    // The phase after the end.
     ghost ended = { λ p. Ended };
 
-    // The times and rules are those with which the machine was made; a transaction begins in idle, and is over in ended.
+    // The times and rules are those with which the machine was made.
     fn params(&self) -> &Params {
         self.corrected.params()
     }
 
+    // Nothing was sent or received yet.
     fn idle(&self) -> InviteClientPhase {
         InviteClientPhase::Idle
     }
 
+    // The transaction is over.
     fn ended(&self) -> InviteClientPhase {
         InviteClientPhase::Ended
     }
@@ -130,26 +141,32 @@ impl Phases for InviteClient3261 {
         self.corrected.paid(alloc, book, phase, event, dues, row)
     }
 
+    // Whether a sent message may leave a state as it is, the corrected machine tells.
     fn stays(&self, phase: &InviteClientPhase, kind: Kind) -> bool {
         self.corrected.stays(phase, kind)
     }
 
+    // Whether a refused message ends the transaction, the corrected machine tells.
     fn ends_refused(&self, phase: &InviteClientPhase, kind: Kind) -> bool {
         self.corrected.ends_refused(phase, kind)
     }
 
+    // The timers are those of the corrected machine.
     fn timer_window(&self, phase: &InviteClientPhase) -> Option<(u64, Option<u64>)> {
         self.corrected.timer_window(phase)
     }
 
+    // A phase lasts as long as in the corrected machine.
     fn closes(&self, phase: &InviteClientPhase) -> Option<u64> {
         self.corrected.closes(phase)
     }
 
+    // A phase names the message that it names in the corrected machine.
     fn message(&self, phase: &InviteClientPhase) -> Option<u64> {
         self.corrected.message(phase)
     }
 
+    // The words are those of the corrected machine.
     fn told(alloc: Global, phase: &InviteClientPhase) -> Result<Told, AllocError> {
         InviteClient::told(alloc, phase)
     }

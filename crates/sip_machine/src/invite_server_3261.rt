@@ -34,6 +34,7 @@ use std::marker::Model;
 pub enum InviteServer3261Phase {
     /// A 2xx was sent: from then on it is the user that sends it again, and the INVITE may come again.
     Passed,
+    /// A phase of `InviteServer`: before a 2xx, or since the INVITE came again after it.
     In {
         /// The phase, as `InviteServer` has it; it is never accepted.
         phase: InviteServerPhase,
@@ -61,8 +62,10 @@ impl Model for InviteServer3261 {
     // A server means the times by which it was made.
     ghost Value = { Times };
 
+    // What a server means is read off its fields.
     ghost view = { λ m. m.corrected };
 
+    // From these times the fields are had back.
     ghost inverse = { λ p. record { corrected = p } };
 }
 
@@ -87,38 +90,47 @@ impl Phases for InviteServer3261 {
     ghost use Rattle.sip_machine.specs.inner.Coded.{has_phases};
     ghost use Rattle.sip_machine.specs.inner.InviteServer3261.Laws.{invite_server_3261_is_coded};
 
+    // The phases of the code.
     type Phase = InviteServer3261Phase;
 
-    // The figure is that of the INVITE server by RFC 3261 alone, and the phases stand for those of the figure.
-    // `seen` gives the figure's phase for one of the code, `names` the messages that it names, `in_range` that its moments are within the limits, and
-    // `told` the words by which it is listed.
+    // The figure is that of the INVITE server by RFC 3261 alone; `Seen` is the type of its phases, for which those of the code stand.
     ghost Seen = { Seen };
 
+    // The figure: what may happen, and when.
     ghost figure = { invite_server_3261 };
 
+    // The times by which it runs are all that a machine means.
     ghost times = { λ p. p };
 
+    // The phase of the figure for which one of the code stands beside a book.
     ghost seen = { invite_server_3261_seen };
 
+    // The numbers of the messages that a phase names.
     ghost names = { invite_server_3261_names };
 
+    // The moments of a phase are within the limits.
     ghost in_range = { InviteServer3261InRange };
 
+    // The words by which a phase is listed.
     ghost told = { invite_server_3261_told };
 
+    // The phase before anything was sent or received.
     ghost idle = { λ p. In Idle false };
 
+    // The phase after the end, which is idle again.
     ghost ended = { λ p. In Idle false };
 
-    // The times and rules are those with which the machine was made; a transaction begins in idle, and is over in ended.
+    // The times and rules are those with which the machine was made.
     fn params(&self) -> &Params {
         self.corrected.params()
     }
 
+    // Nothing was sent or received yet.
     fn idle(&self) -> InviteServer3261Phase {
         idle()
     }
 
+    // The transaction is over, and may begin again.
     fn ended(&self) -> InviteServer3261Phase {
         idle()
     }
@@ -224,6 +236,7 @@ impl Phases for InviteServer3261 {
         }
     }
 
+    // Passed lasts for ever, and the other phases as long as those of the corrected machine.
     fn closes(&self, phase: &InviteServer3261Phase) -> Option<u64> {
         match *phase {
             InviteServer3261Phase::Passed => None,
@@ -231,6 +244,7 @@ impl Phases for InviteServer3261 {
         }
     }
 
+    // Passed names no message: the user has the 2xx that it sends again.
     fn message(&self, phase: &InviteServer3261Phase) -> Option<u64> {
         match *phase {
             InviteServer3261Phase::Passed => None,
@@ -294,6 +308,7 @@ fn succeeds(phase: &InviteServer3261Phase) -> Option<Turn<InviteServer3261Phase>
         AnswersOne (turn_names invite_server_3261_names) (TurnInRange InviteServer3261InRange) (turn_seen invite_server_3261_seen) texts
         (Sends p (invite_server_3261_seen texts phase.now) (Response code) e) result }
 {
+    // After another 2xx what is owed stays; the first one drops what was owed of provisional responses; in no other phase has a 2xx a row.
     let change = match *phase {
         InviteServer3261Phase::Passed => Change::Keeps,
         InviteServer3261Phase::In {

@@ -27,6 +27,7 @@ pub enum PlainClientPhase {
     Proceeding(Waiting),
     /// A final response came at the moment `set`, which starts timer K.
     Completed { reliable: bool, set: u64 },
+    /// The transaction is over.
     Ended,
 }
 
@@ -49,8 +50,10 @@ impl Model for PlainClient {
     // A client means the times by which it was made.
     ghost Value = { Times };
 
+    // What a client means is read off its fields.
     ghost view = { λ m. m.params };
 
+    // From these times the fields are had back.
     ghost inverse = { λ p. record { params = p } };
 }
 
@@ -71,38 +74,47 @@ impl Phases for PlainClient {
     ghost use Rattle.sip_machine.specs.inner.Coded.{has_phases};
     ghost use Rattle.sip_machine.specs.inner.PlainClient.Laws.{plain_client_is_coded};
 
+    // The phases of the code.
     type Phase = PlainClientPhase;
 
-    // The figure is that of the non-INVITE client, and the phases stand for those of the figure.
-    // `seen` gives the figure's phase for one of the code, `names` the messages that it names, `in_range` that its moments are within the limits, and
-    // `told` the words by which it is listed.
+    // The figure is that of the non-INVITE client; `Seen` is the type of its phases, for which those of the code stand.
     ghost Seen = { Seen };
 
+    // The figure: what may happen, and when.
     ghost figure = { plain_client };
 
+    // The times by which it runs are all that a machine means.
     ghost times = { λ p. p };
 
+    // The phase of the figure for which one of the code stands beside a book.
     ghost seen = { plain_client_seen };
 
+    // The numbers of the messages that a phase names.
     ghost names = { plain_client_names };
 
+    // The moments of a phase are within the limits.
     ghost in_range = { PlainClientInRange };
 
+    // The words by which a phase is listed.
     ghost told = { plain_client_told };
 
+    // The phase before anything was sent or received.
     ghost idle = { λ p. Idle };
 
+    // The phase after the end.
     ghost ended = { λ p. Ended };
 
-    // The times and rules are those with which the machine was made; a transaction begins in idle, and is over in ended.
+    // The times and rules are those with which the machine was made.
     fn params(&self) -> &Params {
         &self.params
     }
 
+    // Nothing was sent or received yet.
     fn idle(&self) -> PlainClientPhase {
         Idle
     }
 
+    // The transaction is over.
     fn ended(&self) -> PlainClientPhase {
         Ended
     }

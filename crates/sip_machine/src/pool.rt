@@ -37,10 +37,13 @@ impl<P: Phase> Model for Pool<P> {
     ghost use Rattle.sip_machine.specs.Owing.{CodeOwing};
     ghost use Rattle.sip_machine.specs.inner.Pools.{beside};
 
+    // A pool means its states.
     ghost Value = { List (CodeOwing P) };
 
+    // Each phase with what its row owes is a state.
     ghost view = { λ p. beside p.phases.items p.dues };
 
+    // There are as many rows as phases.
     ghost invariant = { λ p. length p.dues ≡ length p.phases.items };
 }
 
@@ -368,6 +371,7 @@ impl<P: Phase> Pool<P> {
         ensures err { OnErr result (self.new ≡ self.old) }
     {
         let before = self.len();
+        // Where memory is refused, what was put after the old states goes again.
         let led = self.push_led(params, moment, at, effect.turn);
         if led.is_err() || self.push_rested(moment, at, effect.rest).is_err() {
             self.truncate(before);
@@ -436,6 +440,7 @@ impl<P: Phase> Pool<P> {
         ensures err { OnErr result (self.new ≡ self.old) }
     {
         let alloc = *self.phases.allocator();
+        // Rows are put there first, and then as many phases. Where memory is refused, the rows go again.
         let before = self.dues.len();
         self.dues.push_timely(from, to, moment)?;
         let led = lead_each(alloc, params, moment, turn.change, &mut self.dues, before);
@@ -466,6 +471,7 @@ impl<P: Phase> Pool<P> {
         ensures err { OnErr result (self.new ≡ self.old) }
     {
         let phase = self.phases[from];
+        // Rows are put there first, and then as many phases. Where memory is refused, the rows go again.
         let before = self.dues.len();
         self.dues.push_paid(from, to, message, moment)?;
         if push_phases(&mut self.phases, self.dues.len() - before, phase).is_err() {
@@ -510,6 +516,7 @@ fn run_of(rows: &[usize]) -> Option<usize>
     if rows.is_empty() {
         return None;
     }
+    // The indices rise, so that each is the one after the index before it where the last is near enough to the first.
     let first = rows[0];
     if rows[rows.len() - 1] - first < rows.len() {
         Some(first)
@@ -518,7 +525,7 @@ fn run_of(rows: &[usize]) -> Option<usize>
     }
 }
 
-/// Mixes a hash into the prints from `from` up to `to`.
+/// Mixes a hash into the prints from `from` up to `to`: an exclusive or of each with it.
 fn mix(prints: &mut [u64], from: usize, to: usize, hash: u64)
     requires order { from ≤ to }
     requires within { to ≤ length prints.old }
@@ -529,7 +536,7 @@ fn mix(prints: &mut [u64], from: usize, to: usize, hash: u64)
     }
 }
 
-/// The hash of a phase.
+/// The hash of a phase: that of what the phase feeds to a hasher, which `hash_input` tells.
 #[inline(never)]
 fn hash_of<P: Phase>(phase: &P) -> u64
     ensures { result ≡ hash_by (P.hash_input phase.now) }

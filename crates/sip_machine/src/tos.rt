@@ -26,11 +26,12 @@ pub(crate) struct Tos {
     calls: [u8; SLOTS],
 }
 
-/// How many calls are told apart where Tos are counted.
+/// How many calls are told apart where Tos are counted. The counts take as many bytes.
 const SLOTS: usize = 1024;
 
 /// Where this many Tos of one call come, those of all messages are to stand here: then no message without one lies between these, and the
-/// response of an ACK is found without a look at each debt. Where fewer are left, no hashes are kept.
+/// response of an ACK is found without a look at each debt. Where fewer are left, no hashes are kept. It is the most that a count of a call,
+/// which is a byte, can hold.
 const MANY: u8 = u8::MAX;
 
 impl Model for Tos {
@@ -38,15 +39,18 @@ impl Model for Tos {
     ghost use Rattle.sip_machine.specs.declared.tos.To.{To};
     ghost use Rattle.sip_machine.specs.inner.Tos.{AreUnder};
 
+    // Tos mean their list.
     ghost Value = { List To };
 
+    // The Tos are those of the list.
     ghost view = { λ t. t.list.items };
 
+    // The numbers of the messages rise, and where hashes are kept, each stands under the hash of its To.
     ghost invariant = { λ t. AllPairs (λ a b. a.number < b.number) t.list.items × AreUnder t.hashes t.list.items };
 }
 
 impl Tos {
-    /// No To value at all.
+    /// A list without Tos.
     pub(crate) fn new(alloc: Global) -> Tos
         ensures { result ≡ [] }
     {

@@ -137,14 +137,18 @@ module _ (window : List ℕ) (len bs ds hs : ℕ) (room : 32 ≤ length window) 
 
   -- bit i of the word of beginnings is set exactly if a dot, or the start of the text, stands before place i
   begins-is : (i : ℕ) → i ≤ len → test begin_word i ≡ (prev_is i == dot)
+  -- before place 0 is the start of the text
   begins-is zero within = test-or (shl 1 dot_word) 1 0 ∙ ap₂ (λ a b. a || b) (test-shl_low 1 0 dot_word (omega arith) (omega arith)) test-one_low
+  -- before place j + 1 is byte j
   begins-is (suc j) within =
       test-or (shl 1 dot_word) 1 (suc j) ∙ ap₂ (λ a b. a || b) (test-shl_one j dot_word (omega (arith, within, small))) (test-one_high j)
       ∙ or-false (test dot_word j) ∙ dots-in j (omega (arith, within))
 
   -- the mask of hyphens, one bit higher, tells before which places a hyphen stands
   hyphen-before : (i : ℕ) → i ≤ len → test (shl 1 hyphen_word) i ≡ (prev_is i == hyphen)
+  -- no byte is before place 0, so no hyphen
   hyphen-before zero within = test-shl_low 1 0 hyphen_word (omega arith) (omega arith)
+  -- before place j + 1 is byte j
   hyphen-before (suc j) within = test-shl_one j hyphen_word (omega (arith, within, small)) ∙ hyphens-in j (omega (arith, within))
 
   -- bit i of `bad_word` is set exactly if byte i of the text is bad after the byte before it
@@ -164,6 +168,7 @@ module _ (window : List ℕ) (len bs ds hs : ℕ) (room : 32 ≤ length window) 
   end-is : test bad_word len ≡ bad (prev_is len) dot
   end-is =
       let within : len ≤ len = omega arith in
+      -- after the text no byte is strange and no hyphen stands, and the bit of the dot there is set
       test-or _ _ len ∙ ap₂ (λ a b. a || b)
       (test-or _ _ len ∙ ap₂ (λ a b. a || b) (cut bs len within) (test-and _ _ len ∙ ap₂ (λ a b. a && b) (begins-is len within) (test-or dot_word hyphen_word len ∙ ap (λ b. b || test hyphen_word len) dot-after)))
       (test-and _ _ len ∙ ap₂ (λ a b. a && b) dot-after (hyphen-before len within))
@@ -206,6 +211,7 @@ module _ (window : List ℕ) (len bs ds hs : ℕ) (room : 32 ≤ length window) 
       word_fits =
           let begins = bit_and begin_word (bit_or dot_word hyphen_word) in
           let begins_fit : begins < 2 ^ 64 = omega (arith, and_le_l begin_word (bit_or dot_word hyphen_word), or_lt 64 (shl 1 dot_word) 1 (omega arith) (omega arith)) in
+          -- each of the words that make it fits, since it is no more than one that does
           or_lt 64 (bit_or (bit_and bs all) begins) (bit_and dot_word (shl 1 hyphen_word))
           (or_lt 64 (bit_and bs all) begins (omega (arith, and_le_l bs all, fits)) begins_fit) (omega (arith, and_le_r dot_word (shl 1 hyphen_word)))
 
@@ -213,6 +219,7 @@ module _ (window : List ℕ) (len bs ds hs : ℕ) (room : 32 ≤ length window) 
       -- bit i is not set
       unset : (i : ℕ) → i < 64 → test bad_word i ≡ false
       unset i below = elim (cases_order i len) [
+        -- the bit stands for the dot after the last byte, for a byte of the text, or for none
         | inl last ↦ ap (test bad_word) last ∙ end-is ∙ ap (λ n. bad (prev_is n) dot) (sym long) ∙ good-end dot text is_good
         | inr (inl inside) ↦ bad-is i inside ∙ good-at dot text is_good i (omega (arith, inside, long))
         | inr (inr past) ↦ none-higher i past below
@@ -225,6 +232,7 @@ module _ (window : List ℕ) (len bs ds hs : ℕ) (room : 32 ≤ length window) 
   -- the last label begins within the text
   pub top-within : (top : ℕ) → test (bit_and begin_word all) top ≡ true → top < len
   top-within top set = elim (cases_lt top len) [
+    -- the words were cut to the text, so no bit after it is set
     | inl low ↦ low
     | inr high ↦ absurd (false≢true (sym (cut begin_word top high) ∙ set))
   ]

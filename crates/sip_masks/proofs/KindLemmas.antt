@@ -1,4 +1,5 @@
 -- The kinds of bytes, which both tables give.
+-- A shuffle, `swz_l`, looks up each lane in a table. `zip2 h a b` is h of the lanes at each place, and `replicate n y` is y in each lane.
 use Rattle.std.proofs.Common.{◌≡◌, ℕ, ◌+◌, ◌/◌, ◌%◌, List, map, get_or, replicate, refl, arith, w8}
 use Rattle.std.proofs.lemmas.Nat.{and_le_r}
 use Rattle.std.proofs.lemmas.Simd.{zip2_splat, zip2_of_maps, swz_l}

@@ -1,4 +1,6 @@
 -- Where each lane is made of one byte alone, a mask tells a class of bytes if it does so for each of the 256 bytes.
+-- A lane is one of the numbers on which a step of the code works side by side. `zip2 h a b` is h of the lanes at each place, `replicate n y` is y in
+-- each, `mask_l` has a bit for each lane, and `top 7` is the top bit of one. `Each1 (Fits w8) v`: each number of v is a byte.
 use Rattle.std.proofs.Common.{◌≡◌, ℕ, ◌%◌, ◌^◌, ◌<◌, ◌≤◌, eqb, leb, ltb, Bool, true, false, cond, List, [], ◌∷◌, map, length, get_or, replicate, refl, sym, Fits, w8, ap, ◌∙◌, arith}
 use Rattle.std.proofs.lemmas.Bool.{agree_below, agree_below_at}
 use Rattle.std.proofs.lemmas.List.{get_or-map, length-map}

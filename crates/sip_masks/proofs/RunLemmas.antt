@@ -53,6 +53,7 @@ run-is f text p e from within passes stops =
 pub run-from : (f : ℕ → Bool) (text : List ℕ) (p n : ℕ) → Passes f text p (p + n) → p + n ≤ length text → n ≤ prefix_len f (drop p text)
 run-from f text p n passes within = elim (cases_lt (prefix_len f (drop p text)) n) [
   | inl less ↦
+      -- if the run were shorter, the byte that stops it would be one of those that pass
       let k = prefix_len f (drop p text) in
       let stops = prefix_len_stops f (drop p text) 0 (omega (arith, less, within, length-drop p text)) in
       absurd (false≢true (sym stops ∙ ap f (get_or-drop p text k 0) ∙ passes (p + k) (omega arith) (omega (arith, less))))
@@ -65,6 +66,7 @@ module _ (f q : ℕ → Bool) (opposite : (x : ℕ) → q x ≡ not (f x)) (nul 
   -- the bytes from s up to p were seen to pass, and the word tells of the n bytes from p on
   pub goes-on : (text : List ℕ) (n s p word : ℕ) → word ≡ 0 → Shows n q text p word → Passes f text s p → p ≤ length text → Passes f text s (p + n) × (p + n ≤ length text)
   goes-on text n s p word none shows before within =
+      -- `unset`: each of the n bytes passes, since its bit is not set
       let unset = λ (j : ℕ) (h : j < n). sym (shows j h) ∙ none-set word j none in (
         -- a byte from p on passes, since its bit is not set
         (λ k from below. elim (cases_lt k p) [
@@ -89,8 +91,10 @@ module _ (f q : ℕ → Bool) (opposite : (x : ℕ) → q x ≡ not (f x)) (nul 
   pub stops-at : (text : List ℕ) (most s p word : ℕ) → 0 < word → word < 2 ^ 64 → Shows most q text p word → ((j : ℕ) → most ≤ j → j < 64 → test word j ≡ false) → s ≤ p → Passes f text s p → p ≤ length text
       → prefix_len f (drop s text) ≡ p + trailing_zeros w64 word - s
   stops-at text most s p word some small shows none order before within =
+      -- `found` says that the lowest set bit is bit n of the word, and that the bits below it are not set
       let found = lowest-set word some small in
       let n = trailing_zeros w64 word in
+      -- bit n is one of the `most` that the word tells of, since it has none after them
       let fits : n < most = elim (cases_lt n most) [
         | inl less ↦ less
         | inr more ↦ absurd (false≢true (sym (none n more found.0) ∙ found.1))
@@ -100,6 +104,7 @@ module _ (f q : ℕ → Bool) (opposite : (x : ℕ) → q x ≡ not (f x)) (nul 
       -- all bytes before the found one pass; and the text does not end before it, since its end would be found first
       let low = λ (j : ℕ) (h : j < n). sym (shows j (omega (arith, h, fits))) ∙ found.2 j h in
       let inside : p + n ≤ length text = elim (cases_lt (length text) (p + n)) [
+        -- where the text ended before the found byte, the bit at its end would be set, since 0 fails; but no bit before the found one is set
         | inl short ↦
             let is : p + (length text - p) ≡ length text = omega (arith, within) in
             let set_there : q (get_or text (p + (length text - p)) 0) ≡ true = ap q (get_or_past text (p + (length text - p)) 0 (omega (arith, is))) ∙ nul in

@@ -1,4 +1,6 @@
 -- The two tables, each four times, read at the halves of 64 bytes.
+-- A shuffle, `swz_l`, looks up each lane in a table, and `SwzOk` says that it may. `zip2 h a b` is h of the lanes at each place, `replicate n y` is y in
+-- each lane, and `Each1 P v` says that P holds of each number of v.
 use Rattle.std.proofs.Common.{◌≡◌, ℕ, ◌+◌, ◌*◌, ◌/◌, ◌%◌, ◌^◌, ◌<◌, eqb, Bool, true, List, map, length, get_or, replicate, bit_and, Fits, w8, refl, sym, ap, ◌∙◌, arith}
 use Rattle.std.proofs.lemmas.List.{get_or-map, length-map, ext_get_or}
 use Rattle.std.proofs.lemmas.Nat.{and_le_r}

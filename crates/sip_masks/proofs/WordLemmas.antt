@@ -29,7 +29,9 @@ joined x y r j small rl jl low =
     -- bit j of x, moved down by r, is bit r + j of x; y has been moved up so far that it does not reach bit j
     test-or (x / 2 ^ r) (shl (63 - r) (shl 1 y)) j
     ∙ ap₂ (λ a b. a || b) (test-shr x r j) (elim (cases_lt j (63 - r)) [
+      -- below 63 - r the move up has left zeros
       | inl before ↦ test-shl_low (63 - r) j (shl 1 y) before jl
+      -- bit 63 - r is bit 0 of y moved up by one, which is 0
       | inr at ↦
           let is : 63 - r + 0 ≡ j = omega (arith, at) in
           subst (λ i. test (shl (63 - r) (shl 1 y)) i ≡ false) is (test-shl_high (63 - r) 0 (shl 1 y) (omega arith) ∙ test-shl_low 1 0 y (omega arith) (omega arith))
@@ -72,6 +74,7 @@ from_place words p j small jl =
 pub marks-more : (p : ℕ → Bool) (text words : List ℕ) (k w : ℕ) → k < length words → BitsTell p text words (64 * k) → ((i : ℕ) → i < 64 → test w i ≡ p (get_or text (64 * k + i) 0)) → BitsTell p text (set words k w) (64 * (k + 1))
 marks-more p text words k w within before now i below =
     elim (cases_lt i (64 * k)) [
+      -- a bit below 64 k is one of the words before, which are as they were
       | inl low ↦
           ap (λ x. test x (i % 64)) (get_or-set_other words k (i / 64) w 0 (λ same. omega (arith, same, low))) ∙ before i low
       | inr high ↦

@@ -22,7 +22,7 @@ is_control byte = (is_in_range 0 31 byte && not (byte == tab)) || byte == 127
 abbrev pub BitsTell : (ℕ → Bool) → List ℕ → List ℕ → ℕ → Type 0
 BitsTell p text words n = (i : ℕ) → i < n → test (get_or words (i / 64) 0) (i % 64) ≡ p (get_or text i 0)
 
--- how many words a text of this length has
+-- how many words a text of this length has: one for each 64 bytes, one for the bytes after them, and one in which a search ends
 abbrev pub words_for : ℕ → ℕ
 words_for n = n / 64 + 2
 

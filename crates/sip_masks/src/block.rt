@@ -39,6 +39,7 @@ pub(crate) fn others(v: u8x64) -> u64
 {
     let low = u8x64::from_array(LOW).swizzle_dyn_within::<16>(v & u8x64::splat(15));
     let high = u8x64::from_array(HIGH).swizzle_dyn_within::<16>(v >> u8x64::splat(4));
+    // A byte is plain if its two entries share a kind of plain bytes, and a control if they share one of controls; else they share none.
     let kinds = low & high;
     let raised = kinds + u8x64::splat(RAISE);
     kinds.simd_eq(u8x64::splat(0)).to_bitmask() | raised.simd_ge(u8x64::splat(TOP)).to_bitmask()
@@ -82,6 +83,7 @@ pub(crate) fn beyond(v: u8x32) -> u64
     ensures { (i : ℕ) → i < 32 → test result i ≡ is_beyond (get_or v i 0) }
 {
     let small = v | u8x32::splat(0x20);
+    // From `FIRST` on the bytes are counted from 0, and those below it come out as great numbers.
     (small - u8x32::splat(FIRST))
         .simd_ge(u8x32::splat(COUNT))
         .to_bitmask()

@@ -41,12 +41,15 @@ fn is_ordinary_name(window: &[u8], len: usize) -> bool
         return false;
     }
     let v = u8x32::from_slice(window);
+    // Bit i of each set is of byte i: `all` has the bytes of the name, and `begins` the places at which a label begins, the first among them.
     let all = !0u64 >> (64 - len);
     // After the name a dot is taken to stand, as before it.
     let dots = (equal_to(v, b'.') & all) | (1 << len);
     let hyphens = equal_to(v, b'-') & all;
     let begins = (dots << 1) | 1;
+    // Bad are a byte of no hostname, a dot or a hyphen where a label begins, and a dot right after a hyphen.
     let bad = (beyond(v) & all) | (begins & (dots | hyphens)) | (dots & (hyphens << 1));
+    // The highest place at which a label begins in the name is that of its last label, whose first byte has to be a letter.
     bad == 0 && window[highest(begins & all)].is_ascii_alphabetic()
 }
 

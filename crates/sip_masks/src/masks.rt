@@ -23,10 +23,12 @@ impl<'t, 'm> Model for Masks<'t, 'm> {
     ghost use Rattle.std.specs.Prelude.{ℕ, List};
     ghost use Rattle.sip_masks.specs.Marks.{IsMasks};
 
+    // Contracts see this as the bytes of the text.
     ghost Value = { List ℕ };
 
     ghost view = { λ m. m.text.now };
 
+    // At all times the words are the masks of the text.
     ghost invariant = { λ m. IsMasks m.text.now m.others.now m.controls.now };
 }
 
@@ -80,6 +82,7 @@ fn word_at(words: &[u64], p: usize) -> u64
     ensures { (j : ℕ) → j < 64 → test result j ≡ test (get_or words.now ((p + j) / 64) 0) ((p + j) % 64) }
 {
     let r = p % 64;
+    // The next word is moved up by 64 - r in two steps: r may be 0, and one step of 64 is not allowed.
     (words[p / 64] >> r) | ((words[p / 64 + 1] << 1) << (63 - r))
 }
 
@@ -138,6 +141,7 @@ impl<'t, 'm> Masks<'t, 'm> {
         if word == 0 {
             return None;
         }
+        // The lowest bit that is set is of the first byte that is not plain.
         Some(word.trailing_zeros() as usize)
     }
 
@@ -153,6 +157,7 @@ impl<'t, 'm> Masks<'t, 'm> {
             if word != 0 {
                 return q - p + word.trailing_zeros() as usize;
             }
+            // None of these 64 bytes ends the run.
             q += 64;
         }
     }
@@ -169,6 +174,7 @@ impl<'t, 'm> Masks<'t, 'm> {
             if word != 0 {
                 return q + word.trailing_zeros() as usize;
             }
+            // The search goes on with the next word.
             q += 64 - q % 64;
         }
     }

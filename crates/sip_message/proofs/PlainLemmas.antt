@@ -1,5 +1,7 @@
 -- Plain parts of values, and the texts of the grammar that they are.
 -- In the lemmas `at`, mid, to and end are places of a text in this order, h is a host, and u the text that it is of.
+-- `PlainRun` is one plain byte or more; `SomeUri`, `SomeParams` and `SomeAddress` are the texts that are a URI, parameters and an address, and `Opening` is
+-- what opens a URI in angles: a display name, if there is one, blanks and "<". `PlainParam` is a parameter without blanks, with its ";".
 use Rattle.std.proofs.Common.{◌≡◌, ℕ, suc, ◌+◌, ◌-◌, ◌<◌, ◌≤◌, true, false, ◌&&◌, ◌||◌, List, [], ◌∷◌, ◌++◌, Option, None, Some, length, take, drop, get_or, refl, sym, ap, ap₂, ◌∙◌, subst, inl, inr, arith}
 use Rattle.std.specs.Prelude.{codes}
 use Rattle.std.specs.Char.{is_ascii_alphanumeric}
@@ -31,6 +33,7 @@ use Rattle.sip_message.proofs.lemmas.params.Closed.{blanks-space}
 -- a segment is its part up to a place within it and its part from there on
 pub segment-cut : (text : List ℕ) (at mid to : ℕ) → at ≤ mid → mid ≤ to → segment at to text ≡ segment at mid text ++ segment mid to text
 segment-cut text at mid to first second =
+    -- the bytes from `at` to `to` are those up to `mid` and those from there on; `mid - at` bytes after `at` is `mid`
     let count : to - at ≡ (mid - at) + (to - mid) = omega (arith, first, second) in
     let place : at + (mid - at) ≡ mid = omega (arith, first) in
     ap (λ n. take n (drop at text)) count ∙ take-add (mid - at) (to - mid) (drop at text)
@@ -39,12 +42,14 @@ segment-cut text at mid to first second =
 -- the segment from a place up to the same place is empty
 pub segment-none : (text : List ℕ) (at : ℕ) → segment at at text ≡ []
 segment-none text at =
+    -- no bytes are taken
     let none : at - at ≡ 0 = omega arith in
     ap (λ n. take n (drop at text)) none
 
 -- a segment that begins with a SP is the SP and the segment after it
 pub segment-space : (text : List ℕ) (at end : ℕ) → at < end → end ≤ length text → get_or text at 0 ≡ space → segment at end text ≡ space ∷ segment (at + 1) end text
 segment-space text at end some within is =
+    -- the segment has a byte, and the others begin at the next place
     let count : end - at ≡ suc (end - (at + 1)) = omega (arith, some) in
     let next : suc at ≡ at + 1 = omega arith in
     ap₂ (λ n t. take n t) count (drop-cons text at 0 (omega (arith, some, within)) ∙ ap₂ (λ b k. b ∷ drop k text) is next)
@@ -52,6 +57,7 @@ segment-space text at end some within is =
 -- where a text of P lies between two places, and a text of Q from the second one on, a text of P and then Q lies from the first one on
 pub then-stands : (P Q : List ℕ → Type 0) (text : List ℕ) (at end mid to : ℕ) → LiesWithin P text at end mid → LiesWithin Q text mid end to → LiesWithin (P then Q) text at end to
 then-stands P Q text at end mid to p q =
+    -- the first part ends where the second begins
     (omega (arith, p.0, q.0), q.1, (segment at mid text, segment mid to text, p.2, q.2, segment-cut text at mid to p.0 q.0))
 
 -- where a text of P lies between two places, and each text of P is of Q, a text of Q lies there
@@ -67,6 +73,7 @@ whole-stands P text at end within p = (within, omega arith, p)
 pub run-ends : (text : List ℕ) (at end n : ℕ) → at ≤ end → EndsAt text end → n ≡ prefix_len is_plain (drop at text) → at + n ≤ end
 run-ends text at end n before (within, stop) is =
     elim (cases_lt (end - at) n) [
+      -- past the end, the byte there would be the CR that ends the line, which is not plain
       | inl past ↦
           let place : at + (end - at) ≡ end = omega (arith, before) in
           let byte : get_or (drop at text) (end - at) 0 ≡ carriage_return = get_or-drop at text (end - at) 0 ∙ ap (λ k. get_or text k 0) place ∙ stop in
@@ -79,6 +86,7 @@ run-ends text at end n before (within, stop) is =
 pub byte-before : (text : List ℕ) (at end byte : ℕ) → at ≤ end → EndsAt text end → 32 ≤ byte → get_or text at 0 ≡ byte → at < end
 byte-before text at end byte before (within, stop) mark is =
     elim (cases_lt at end) [
+      -- at the end, or after it, the byte would be the CR, which is a control
       | inl less ↦ less
       | inr most ↦
           let same : at ≡ end = omega (arith, before, most) in
@@ -92,6 +100,7 @@ colon-before text at end n before ends is mark = byte-before text (at + n) end c
 -- where some plain bytes stand from a place on, a run of plain bytes lies there
 pub run-stands : (text : List ℕ) (at end n : ℕ) → at ≤ end → EndsAt text end → n ≡ prefix_len is_plain (drop at text) → 0 < n → LiesWithin PlainRun text at end (at + n)
 run-stands text at end n before ends is some =
+    -- the run has n bytes, all of them plain, and ends before the CR
     let count : at + n - at ≡ n = omega arith in
     let most = run-ends text at end n before ends is in
     let front = take n (drop at text) in
@@ -103,6 +112,7 @@ run-stands text at end n before ends is some =
 user-byte : (b : ℕ) → is_plain b ≡ true → (is_unreserved b || is_user_unreserved b) ≡ true
 user-byte b is =
     elim (or_cases (is_ascii_alphanumeric b) (is_among "-.!*_+'~" b) is) [
+      -- letters and digits may stand in a user; of the other plain bytes each below 256 is tried, by computing
       | inl letter ↦ ap (λ x. (x || is_among "-_.!~*'()" b) || is_user_unreserved b) letter
       | inr mark ↦
           (and_parts (is_unreserved b || is_user_unreserved b) (is_plain b) (agree_below_at (λ x. (is_unreserved x || is_user_unreserved x) && is_plain x) is_plain 256 b refl (low-one (codes "-.!*_+'~") b low mark) ∙ is)).0
@@ -119,6 +129,7 @@ plain-user u run = some-map (One is_plain) (One is_user_unreserved or One is_unr
     -- a plain byte is a piece of a user
     piece : (v : List ℕ) → One is_plain v → (One is_user_unreserved or One is_unreserved or Escaped) v
     piece v one = elim (or_cases (is_unreserved one.0) (is_user_unreserved one.0) (user-byte one.0 one.1)) [
+      -- the byte is unreserved, or one of the few others that a user may have
       | inl is ↦ inr (inl (one.0, is, one.2))
       | inr is ↦ inl (one.0, is, one.2)
     ]
@@ -129,6 +140,7 @@ run-token u run = some-map (One is_plain) _ u (λ v one. (one.0, plain-token one
 
 -- a host is the text that its parts say
 pub host-own : (u : List ℕ) (h : HostParts) → HostText u h → HostText (host_text h) h × (u ≡ host_text h)
+-- a host is a name, an IPv4 address, or an IPv6 address in brackets
 host-own u (name t) is = ((subst Hostname (sym is.1) is.0, refl), sym is.1)
 host-own u (v4 t) is = ((subst Ipv4 (sym is.1) is.0, refl), sym is.1)
 host-own u (v6 t) is = ((subst Bracketed (sym is.1) is.0, refl), sym is.1)
@@ -136,12 +148,14 @@ host-own u (v6 t) is = ((subst Bracketed (sym is.1) is.0, refl), sym is.1)
 -- a host alone is a host with an optional port
 pub hostport-none : (h : HostParts) (u : List ℕ) → HostText u h → HostPort u
 hostport-none h u is =
+    -- `own` says that the text is that of the host's parts
     let own = host-own u h is in
     (h, None, own.0, tt, own.1 ∙ sym (append-nil (host_text h)))
 
 -- a host, a colon and a port are a host with an optional port
 pub hostport-some : (h : HostParts) (u : List ℕ) → ((λ t. HostText t h) then Byte colon then Port) u → HostPort u
 hostport-some h u w =
+    -- `led` says that the colon and the port stand after the host
     let own = host-own w.0 h w.2 in
     let led = w.3.4 ∙ ap (λ t. t ++ w.3.1) w.3.2 in
     (h, Some w.3.1, own.0, w.3.3, w.4 ∙ ap₂ (λ x y. x ++ y) own.1 led)
@@ -149,22 +163,26 @@ hostport-some h u w =
 -- "sip:" and a host with an optional port are a URI
 pub uri-bare : (u : List ℕ) → (Exactly (codes "sip:") then HostPort) u → SomeUri u
 uri-bare u w =
+    -- hp is the host with its port, `at` its text, and p the parts of the URI: it has neither user nor parameters nor headers
     let hp = w.3 in
     let at = hostport_text hp.0 hp.1 in
     let p : SipParts = record { secure = false; user = None; password = None; host = hp.0; port = hp.1; params = []; headers = None } in
     let fits : SipFits p = record { user = tt; password = tt; owner = λ none. refl; host = hp.2; port = hp.3; params = many-nil _; headers = tt } in
+    -- without parameters and headers the text after "sip:" is that of the host and its port
     let text : sip_text p ≡ at = append-nil (at ++ []) ∙ append-nil at in
     (sip p, (codes "sip", refl, fits, w.4 ∙ ap₂ (λ x y. x ++ y) w.2 (hp.4 ∙ sym text)))
 
 -- "sip:", a run of plain bytes, "@" and a host with an optional port are a URI
 pub uri-owned : (u : List ℕ) → (Exactly (codes "sip:") then PlainRun then Byte at_sign then HostPort) u → SomeUri u
 uri-owned u w =
+    -- hp is the host with its port, `at` its text, and p the parts of the URI
     let user = w.3.0 in
     let hp = w.3.3.3 in
     let at = hostport_text hp.0 hp.1 in
     let p : SipParts = record { secure = false; user = Some user; password = None; host = hp.0; port = hp.1; params = []; headers = None } in
     -- the user is plain, there is no password, and the URI has neither parameters nor headers
     let fits : SipFits p = record { user = plain-user user w.3.2; password = tt; owner = λ none. refl; host = hp.2; port = hp.3; params = many-nil _; headers = tt } in
+    -- the text after "sip:" is the user, "@", the host and its port
     let text : sip_text p ≡ user ++ at_sign ∷ at =
     ap₂ (λ x y. (x ++ at_sign ∷ []) ++ y) (append-nil user) (append-nil (at ++ []) ∙ append-nil at) ∙ append_assoc user (at_sign ∷ []) at in
     let behind : w.3.1 ≡ at_sign ∷ at = w.3.3.4 ∙ ap₂ (λ x y. x ++ y) w.3.3.2 hp.4 in
@@ -181,6 +199,7 @@ words-one u run = (u, [], run-token u run, many-nil _, sym (append-nil u))
 -- words, a SP and a run of plain bytes are words
 pub words-more : (u : List ℕ) → (Words then Byte space then PlainRun) u → Words u
 words-more u w =
+    -- the SP and the run of plain bytes are one word more
     let word : (Blanks then Token) w.1 = (w.3.0, w.3.1, subst Blanks (sym w.3.2) blanks-space, run-token w.3.1 w.3.3, w.3.4) in
     (w.2.0, w.2.1 ++ w.1, w.2.2, many-push _ w.2.1 w.1 w.2.3 word, w.4 ∙ ap (λ t. t ++ w.1) w.2.4 ∙ append_assoc w.2.0 w.2.1 w.1)
 
@@ -201,6 +220,7 @@ front-cut text u rest at end before within is =
 -- where a text of P stands first in a segment, a text of P lies from the start of the segment up to its own end
 pub front-stands : (P : List ℕ → Type 0) (text u rest : List ℕ) (at end : ℕ) → at ≤ end → end ≤ length text → P u → segment at end text ≡ u ++ rest → LiesWithin P text at end (at + length u)
 front-stands P text u rest at end before within p is =
+    -- u ends within the segment, and stands from its start up to there
     let cut = front-cut text u rest at end before within is in
     (omega arith, cut.0, subst P (sym cut.1) p)
 
@@ -210,6 +230,7 @@ opening-some u w = (Some w.0, w.2, (w.0, w.1, refl, w.3, w.4))
 
 -- a byte without blanks is a mark
 pub mark-alone : (b : ℕ) → Mark b (b ∷ [])
+-- no blanks stand before the byte, and none after it
 mark-alone b = ([], b ∷ [], inl refl, (b ∷ [], [], refl, inl refl, refl), refl)
 
 -- ";" and a run of plain bytes are a parameter without a value
@@ -227,6 +248,7 @@ param-some text at end start behind first to mark run equal value =
     -- the equals sign and the value stand after the name
     let led : (Mark equals then Exactly v) (segment behind to text) =
     (segment behind first text, v, subst (Mark equals) (sym equal.2) (mark-alone equals), refl, segment-cut text behind first to equal.0 value.0) in
+    -- the name, the equals sign and the value are the parameter
     let whole : (Exactly name then Mark equals then Exactly v) (segment start to text) =
     (name, segment behind to text, refl, led, segment-cut text start behind to run.0 later) in
     (omega (arith, mark.0, run.0, later), value.1, (segment at start text, segment start to text, mark.2, (run-token name run.2, inl (run-token v value.2), whole), segment-cut text at start to mark.0 (omega (arith, run.0, later))))
@@ -239,6 +261,7 @@ params-part p ps text at end to param later =
     let w = param.2 in
     let front : segment at to text ≡ semicolon ∷ w.1 = w.4 ∙ ap (λ t. t ++ w.1) w.2 in
     let whole : segment at end text ≡ semicolon ∷ (w.1 ++ rest) = segment-cut text at to end param.0 param.1 ∙ ap (λ t. t ++ rest) front in
+    -- the ";", the parameter and the later parameters stand in a row, and the first byte is no blank
     let params : ParamsText (segment at end text) (p ∷ ps) = (semicolon ∷ [], w.1 ++ rest, mark-alone semicolon, (w.1, rest, w.3, later.1, refl), whole) in
     (subst OpensSolid (sym whole) refl, params)
 
@@ -248,6 +271,7 @@ params-behind p text at end to param later = (p ∷ later.0, params-part p later
 
 -- a part without blanks before it is a part that may have blanks before it
 pub behind-self : (u : List ℕ) → BehindBlanks u u
+-- nothing, or no blanks, stand before it
 behind-self [] = refl
 behind-self (b ∷ u) = ([], b ∷ u, inl refl, refl, refl)
 

@@ -18,18 +18,22 @@ use Rattle.sip_message.proofs.lemmas.text.Cuts.{All, all_right}
 reason-byte : (b : ℕ) → is_open b ≡ true → is_reason_byte b ≡ true
 reason-byte b clear =
     elim (cases_lt b 256) [
+      -- each byte below 256 is tried, by computing; the bytes from 128 on may all stand in a reason
       | inl low ↦ (and_parts (is_open b) (is_reason_byte b) (agree_below_at (λ x. is_open x && is_reason_byte x) is_open 256 b refl low ∙ clear)).1
       | inr high ↦ over (is_in_range 0x20 0x7E b) (b == tab) (nat_le 128 b) (le-leb 128 b (omega (arith, high)))
     ]
   where
     -- where z, the third of three tests that are joined by "or", passes, they pass together
     over : (x y z : Bool) → z ≡ true → (x || y || z) ≡ true
+    -- z passes, whatever x and y say
     over true y true is = refl
     over false true true is = refl
     over false false true is = refl
+    -- z fails, but x or y passes
     over true true false is = refl
     over true false false is = refl
     over false true false is = refl
+    -- none passes, which was excluded
     over false false false is = is
 
 -- a text without controls has only bytes that a reason may have
@@ -40,6 +44,7 @@ reason-bytes (b ∷ text) clear = and_from _ _ (reason-byte b clear.0) (reason-b
 -- the reason phrase of a status line without controls has only bytes that it may have
 pub reason-open : (line reason : List ℕ) (code : ℕ) → IsOpen line → CodeFront (drop 8 line) (code, reason) → list_all is_reason_byte reason ≡ true
 reason-open line reason code clear front =
+    -- what stands after the version and its SP has no controls, and so has what stands after the code and its SP: the reason
     let behind : All is_open (drop 8 line) = all_right is_open (take 8 line) (drop 8 line) (subst (All is_open) (sym (take-append-drop 8 line)) clear) in
     let later : All is_open front.1 = all_right is_open front.0 front.1 (subst (All is_open) front.4 behind) in
     let last : All is_open front.3.1 = all_right is_open front.3.0 front.3.1 (subst (All is_open) front.3.4 later) in
@@ -49,6 +54,7 @@ reason-open line reason code clear front =
 pub request-plain : (text : List ℕ) (end method uri to : ℕ) → LiesWithin PlainRun text 0 end method → LiesWithin (Byte space) text method end uri → LiesWithin SomeUri text uri end to
     → segment to end text ≡ codes " SIP/2.0" → StartText (segment 0 end text) (request (segment 0 method text) (segment uri to text))
 request-plain text end method uri to run mark is version =
+    -- m is the method, u the URI, and `last` says that the SP and the version stand at the end
     let m = segment 0 method text in
     let u = segment uri to text in
     let last : (Byte space then Version) (segment to end text) = (space ∷ [], codes "SIP/2.0", refl, refl, version) in

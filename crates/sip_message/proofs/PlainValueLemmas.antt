@@ -1,4 +1,5 @@
 -- Plain Call-IDs and CSeqs.
+-- `PlainRun` is one plain byte or more. `agree_below_at f g 256 b` says that two tests agree at b, since they do at each byte below 256.
 use Rattle.std.proofs.Common.{◌≡◌, ℕ, ◌+◌, ◌*◌, ◌-◌, ◌^◌, ◌<◌, ◌≤◌, Bool, true, false, ◌&&◌, ◌||◌, ◌==◌, nat_le, List, [], length, take, get_or, refl, sym, ap, ◌∙◌, subst, inl, inr, arith}
 use Rattle.std.specs.Prelude.{codes}
 use Rattle.std.specs.Char.{is_ascii_alphanumeric, is_ascii_digit}
@@ -34,6 +35,7 @@ use Rattle.sip_message.proofs.lemmas.params.Closed.{blanks-space}
 word-byte : (b : ℕ) → is_plain b ≡ true → is_word_byte b ≡ true
 word-byte b is =
     elim (or_cases (is_ascii_alphanumeric b) (is_among "-.!*_+'~" b) is) [
+      -- letters and digits may stand in a word; of the other plain bytes each below 256 is tried, by computing
       | inl letter ↦ ap (λ x. x || is_among "-.!%*_+`'~()<>:/[]?{}" b || b == backslash || b == dquote) letter
       | inr mark ↦ (and_parts (is_word_byte b) (is_plain b) (agree_below_at (λ x. is_word_byte x && is_plain x) is_plain 256 b refl (low-one (codes "-.!*_+'~") b low mark) ∙ is)).0
     ]
@@ -58,16 +60,19 @@ call_id-two u w = (w.0, w.1, run-word w.0 w.2, inr (w.3.0, w.3.1, w.3.2, run-wor
 quoted-byte : (b : ℕ) → is_token_byte b ≡ true → is_quoted_byte b ≡ true
 quoted-byte b is =
     elim (cases_lt b 256) [
+      -- each byte below 256 is tried, by computing; the bytes from 128 on may all stand in a quoted string
       | inl low ↦ (and_parts (is_token_byte b) (is_quoted_byte b) (agree_below_at (λ x. is_token_byte x && is_quoted_byte x) is_token_byte 256 b refl low ∙ is)).1
       | inr high ↦ over (b == 0x21) (is_in_range 0x23 0x5B b) (is_in_range 0x5D 0x7E b) (nat_le 128 b) (le-leb 128 b (omega (arith, high)))
     ]
   where
     -- where w, the fourth of four tests that are joined by "or", passes, they pass together
     over : (x y z w : Bool) → w ≡ true → (x || y || z || w) ≡ true
+    -- one of x, y and z passes, or else w
     over true y z true is = refl
     over false true z true is = refl
     over false false true true is = refl
     over false false false true is = refl
+    -- w fails, which was excluded
     over x y z false is = absurd (both_ways false refl is)
 
 -- a byte of qdtext, a quoted pair or a blank run: what may stand between quotes
@@ -85,6 +90,7 @@ inner-blanks u blanks = many-map Lws Inner u (λ v lws. inl (inl lws)) (many-som
 -- words may stand between quotes
 inner-words : (u : List ℕ) → Words u → Many Inner u
 inner-words u w =
+    -- each further word is blanks and a token, which may both stand within quotes
     let more = many-flat (Blanks then Token) Inner w.1 (λ v p. subst (Many Inner) (sym p.4) (many-append Inner p.0 p.1 (inner-blanks p.0 p.2) (inner-token p.1 p.3))) w.3 in
     subst (Many Inner) (sym w.4) (many-append Inner w.0 w.1 (inner-token w.0 w.2) more)
 
@@ -95,12 +101,14 @@ quoted-words u w = (w.0, w.1, w.2, (w.3.0, w.3.1, inner-words w.3.0 w.3.2, w.3.3
 -- the bytes before the index are digits, write the number, and are at most nine
 pub record ReadsShort (text : List ℕ) (at number : ℕ) : Type 0 where
   pub all : list_all is_ascii_digit (take at text) ≡ true
+  -- the number is that of the digits, and at most nine digits keep it below 2^31
   pub value : number ≡ digits_value 10 (take at text)
   pub small : number < 2 ^ 31
 
 -- where the digits before the index write a number of at most eight digits, and a digit follows, all of them write ten times that number, plus the digit
 pub short-more : (text : List ℕ) (at number : ℕ) → at < length text → ReadsShort text at number → is_ascii_digit (get_or text at 0) ≡ true → number ≤ 99999999 → ReadsShort text (at + 1) (number * 10 + (get_or text at 0 - 48))
 short-more text at number within reads is short =
+    -- `digit` says how the byte of a digit and its value, which is at most 9, belong together
     let digit = digit-above (get_or text at 0) is in record {
       all = list_all_more is_ascii_digit text at 0 within ∙ and_from (list_all is_ascii_digit (take at text)) (is_ascii_digit (get_or text at 0)) reads.all is;
       value = omega (arith, digits_value_more 10 text at within, reads.value, digit.2, digit.0);
@@ -110,6 +118,7 @@ short-more text at number within reads is short =
 -- where the loop is at the end of a text that is not empty, the text is digits and writes the number, which is below 2^31
 pub short-end : (text : List ℕ) (at number : ℕ) → 0 < length text → length text ≤ at → ReadsShort text at number → Digits text × (number ≡ digits_value 10 text) × (number < 2 ^ 31)
 short-end text at number some end reads =
+    -- all of the text was read
     let whole = take_all at text end in
     let digits = list_all-run is_ascii_digit text (ap (list_all is_ascii_digit) (sym whole) ∙ reads.all) in
     let each = each-many is_ascii_digit _ (each-one is_ascii_digit is_ascii_digit (λ b is. is)) text digits in
@@ -119,6 +128,7 @@ short-end text at number some end reads =
 pub cseq-plain : (text : List ℕ) (at end digits method number : ℕ) → LiesWithin PlainRun text at end digits → LiesWithin (Byte space) text digits end method → LiesWithin PlainRun text method end end
     → Digits (segment at digits text) → number ≡ digits_value 10 (segment at digits text) → number < 2 ^ 31 → CSeqText (segment at end text) number (segment method end text)
 cseq-plain text at end digits method number run mark is are value low =
+    -- d is the digits and m the method
     let d = segment at digits text in
     let m = segment method end text in
     -- the SP and the method stand after the digits

@@ -1,4 +1,7 @@
 -- Lines that end at their first control, and what they are read as.
+-- An open line (`IsOpen`) has no control other than HTAB; `is_open` is the test of a byte. The lines of an ordinary head (`IsOrdinary`) are open.
+-- The number of a text of at most eight bytes (`number_of`) is that of its bytes with the bit of small letters set, filled up with NULs before them
+-- (`filled`). `agree_below_at f g 256 b` says that two tests agree at b, since they do at each byte below 256, which are tried by computing.
 use Rattle.std.proofs.Common.{◌≡◌, ◌⊎◌, ℕ, zero, suc, ◌+◌, ◌-◌, ◌<◌, ◌≤◌, Bool, true, false, not, ◌&&◌, ◌||◌, ◌==◌, nat_le, nat_lt, ltb, cond, List, [], ◌∷◌, ◌++◌, map, length, take, drop, get_or, Fits, w8, w64, refl, sym, ap, ap₂, ◌∙◌, subst, inl, inr, arith}
 use Rattle.std.specs.Prelude.{codes, bytes_eq, replicate}
 use Rattle.std.specs.Char.{is_ascii_alphanumeric, to_ascii_lowercase}
@@ -44,6 +47,7 @@ use Rattle.sip_message.proofs.lemmas.start_line.OneWay.{length-folded}
 -- no control stands in a text before its first control
 open-front : (text : List ℕ) → All is_open (take (prefix_len is_open text) text)
 open-front text =
+    -- the longest run of bytes that are no controls stands at the front
     let front = run-front is_open text in
     let same : take (prefix_len is_open text) text ≡ front.0 = ap₂ take front.4 front.3 ∙ take-append_seam front.0 front.1 in
     subst (All is_open) (sym same) (each-many is_open _ (each-one is_open is_open (λ b is. is)) front.0 front.2)
@@ -52,6 +56,7 @@ open-front text =
 pub open-line : (text : List ℕ) (at end : ℕ) → end ≡ at + prefix_len is_open (drop at text) → end + 2 ≤ length text → get_or text end 0 ≡ 13 → get_or text (end + 1) 0 ≡ 10
     → IsOpen (take (end - at) (drop at text)) × (drop at text ≡ with_end (take (end - at) (drop at text)) ++ drop (end + 2) text)
 open-line text at end is room cr lf =
+    -- n is how many bytes the line has, and `rest` what follows its CRLF
     let n = prefix_len is_open (drop at text) in
     let len : n ≡ end - at = omega (arith, is) in
     let rest = drop (end + 2) text in
@@ -73,6 +78,7 @@ control-within text at end within is = omega (arith, within, is, length-drop at 
 open-byte : (b : ℕ) → is_open b ≡ true → (is_value_byte b || is_wsp b) ≡ true
 open-byte b clear =
     elim (cases_lt b 256) [
+      -- of the bytes below 256 each is tried, by computing; the bytes from 128 on may all stand in a value
       | inl low ↦
           (and_parts (is_open b) (is_value_byte b || is_wsp b) (agree_below_at (λ x. is_open x && (is_value_byte x || is_wsp x)) is_open 256 b refl low ∙ clear)).1
       | inr high ↦ over (nat_le 128 b) _ (is_wsp b) (le-leb 128 b (omega (arith, high)))
@@ -86,6 +92,7 @@ open-byte b clear =
 
 -- a text without controls is a value that the reader doesn't look into
 pub open-other : (text : List ℕ) → IsOpen text → OtherText text
+-- each byte is a piece of the value
 open-other [] clear = many-nil _
 open-other (b ∷ text) clear = many-cons _ (b ∷ []) text (piece (or_cases (is_value_byte b) (is_wsp b) (open-byte b clear.0))) (open-other text clear.1)
   where
@@ -103,6 +110,7 @@ open-inner (b ∷ line) clear = (inner b clear.0, open-inner line clear.1)
     inner : (b : ℕ) → is_open b ≡ true → is_inner_byte b ≡ true
     inner b clear =
         elim (cases_lt b 32) [
+          -- of the bytes below 32 each is tried, by computing; CR and LF are below 32
           | inl low ↦ (and_parts (is_open b) (is_inner_byte b) (agree_below_at (λ x. is_open x && is_inner_byte x) is_open 32 b refl low ∙ clear)).1
           | inr high ↦ ap₂ (λ x y. not x && not y) (ne_eqb b carriage_return (λ same. omega (arith, same, high))) (ne_eqb b line_feed (λ same. omega (arith, same, high)))
         ]
@@ -111,6 +119,7 @@ open-inner (b ∷ line) clear = (inner b clear.0, open-inner line clear.1)
 pub line-cut : (text : List ℕ) (at n end : ℕ) → at + n < end → end ≤ length text → get_or text (at + n) 0 ≡ colon
     → take (end - at) (drop at text) ≡ take n (drop at text) ++ colon ∷ take (end - (at + n + 1)) (drop (at + n + 1) text)
 line-cut text at n end less within is =
+    -- t is the text from the line's begin on, which has n bytes at least
     let t = drop at text in
     let long : n ≤ length t = omega (arith, length-drop at text, less, within) in
     let next : suc (at + n) ≡ at + n + 1 = omega arith in
@@ -123,9 +132,11 @@ line-cut text at n end less within is =
 
 -- a byte that is one of some bytes below 256 is below 256
 pub low-one : (set : List ℕ) (b : ℕ) → AllByRecursion (λ x. x < 256) set → list_any (λ c. c == b) set ≡ true → b < 256
+-- b is none of no bytes
 low-one [] b low is = absurd (both_ways false refl is)
 low-one (x ∷ set) b low is =
     elim (or_cases (x == b) (list_any (λ c. c == b) set) is) [
+      -- it is the first of the bytes, or one of the others
       | inl same ↦ omega (arith, eqb-true x b same, low.0)
       | inr later ↦ low-one set b low.1 later
     ]
@@ -134,6 +145,7 @@ low-one (x ∷ set) b low is =
 pub plain-token : (b : ℕ) → is_plain b ≡ true → is_token_byte b ≡ true
 plain-token b is =
     elim (or_cases (is_ascii_alphanumeric b) (is_among "-.!*_+'~" b) is) [
+      -- letters and digits are bytes of tokens; of the other bytes each below 256 is tried, by computing
       | inl letter ↦ ap (λ x. x || is_among "-.!%*_+`'~" b) letter
       | inr mark ↦
           (and_parts (is_token_byte b) (is_plain b) (agree_below_at (λ x. is_token_byte x && is_plain x) is_plain 256 b refl (low-one (codes "-.!*_+'~") b low mark) ∙ is)).0
@@ -146,6 +158,7 @@ plain-token b is =
 -- a run of plain bytes at the front of a text, if it is not empty, is a token
 pub plain-run : (text : List ℕ) (n : ℕ) → n ≡ prefix_len is_plain text → 0 < n → Token (take n text)
 plain-run text n is some =
+    -- the first n bytes are the longest run of plain bytes, each of which is a byte of a token
     let front = run-front is_plain text in
     let same : take n text ≡ front.0 = ap₂ take (is ∙ front.4) front.3 ∙ take-append_seam front.0 front.1 in
     elim (some-many _ front.0 (many-map (One is_plain) (One is_token_byte) front.0 (λ u one. (one.0, plain-token one.0 one.1, one.2)) front.2)) [
@@ -172,11 +185,13 @@ pub behind-open : (text : List ℕ) (at n end : ℕ) → at + n < end → end �
     → IsOpen (take (end - (at + n + 1)) (drop (at + n + 1) text))
 behind-open text at n end less within mark clear =
     let rest = take (end - (at + n + 1)) (drop (at + n + 1) text) in
+    -- what follows the colon is a part of the line
     (all_right is_open (take n (drop at text)) (colon ∷ rest) (subst IsOpen (line-cut text at n end less within mark) clear)).1
 
 -- the value in a text without controls has no controls
 pub value-open : (rest value : List ℕ) → IsOpen rest → ValueText rest value → IsOpen value
 value-open rest value clear valued =
+    -- the value has blanks before it and after it, and all of them have no controls
     let w = valued.whole in
     let whole : rest ≡ w.0 ++ (value ++ w.3.1) = w.4 ∙ ap (λ t. w.0 ++ t) (w.3.4 ∙ ap (λ t. t ++ w.3.1) w.3.2) in
     all_left is_open value w.3.1 (all_right is_open w.0 (value ++ w.3.1) (subst IsOpen whole clear))
@@ -186,15 +201,18 @@ line-begins : (line : List ℕ) (f : Field) → FieldText line f → (line ≡ [
 line-begins line f is =
     let n = is.named in
     let whole = name_whole line is.rest f.name n in
+    -- the name, blanks, the colon and the rest are not empty; and they begin with the name
     (λ none. absurd (omega (arith, ap length (sym none ∙ whole), length-append n.spelled (n.whole.3.0 ++ colon ∷ is.rest), length-append n.whole.3.0 (colon ∷ is.rest))), λ begins. at n.spelled n.is_token _ (subst OpensBlank whole begins))
   where
     -- a name begins with no blank, whatever follows it
     at : (name : List ℕ) → Token name → (more : List ℕ) → OpensBlank (name ++ more) → ⊥
+    -- a name has a byte at least
     at [] token more begins = absurd (omega (arith, length-append token.0 token.1, ap length token.4, ap length token.2.2))
     at (b ∷ name) token more begins = both_ways (is_token_byte b) (blank-token b (wsp-blank b begins)) (each-token (b ∷ name) token).0
 
 -- where lines are fields and have no controls, no line has a CR or LF in it or begins with a blank
 lines-begin : (lines : List (List ℕ)) (fields : List Field) → FieldsText lines fields → AllByRecursion IsOpen lines → AreInner lines × AllByRecursion (λ line. ¬ (OpensBlank line)) lines
+-- no lines have none of these
 lines-begin [] fields are clear = (tt, tt)
 lines-begin (line ∷ lines) fields (f, fs, is, are, whole) clear =
     let begins = line-begins line f is in
@@ -212,15 +230,18 @@ field-unfolded line f is clear =
 
 -- where lines are fields and have no controls, no value of the fields is folded
 fields-unfolded : (lines : List (List ℕ)) (fields : List Field) → FieldsText lines fields → AllByRecursion IsOpen lines → AreUnfolded fields
+-- no fields have no values; else the first value is not folded, and neither are the others
 fields-unfolded [] fields are clear = subst AreUnfolded (sym are) tt
 fields-unfolded (line ∷ lines) fields (f, fs, is, are, whole) clear =
     subst AreUnfolded (sym whole) (field-unfolded line f is clear.0, fields-unfolded lines fs are clear.1)
 
 -- a start line is not empty
 start-some : (line : List ℕ) (start : StartLine) → StartText line start → line ≡ [] → ⊥
+-- a request line has its method and a SP
 start-some line (request method uri) is none =
     let w = is.2 in
     absurd (omega (arith, ap length (sym none ∙ w.4), length-append w.0 w.1, ap length w.3.4, length-append w.3.0 w.3.1, ap length w.3.2))
+-- a status line has its version and a SP
 start-some line (status code reason) is none =
     let w = is.1 in
     absurd (omega (arith, ap length (sym none ∙ w.4), length-append w.0 w.1, ap length w.3.4, length-append w.3.0 w.3.1, ap length w.3.2))
@@ -238,6 +259,7 @@ pub so_far-more : (text : List ℕ) (from at end : ℕ) (fields : List Field) (f
     → drop at text ≡ with_end (take (end - at) (drop at text)) ++ drop (end + 2) text → FieldText (take (end - at) (drop at text)) f → LinesSoFar text from (end + 2) (fields ++ f ∷ [])
 so_far-more text from at end fields f so room clear is field =
     let line = take (end - at) (drop at text) in
+    -- the lines so far and this one are joined to the text up to the end of the new one
     let one : flat_map with_end (line ∷ []) ≡ with_end line = append-nil (with_end line) in
     record {
       -- the line stands after the lines so far, and its field after theirs
@@ -259,6 +281,7 @@ pub ordinary-head : (bytes text more rest : List ℕ) (start : StartLine) (field
     → IsOpen (take (end - 0) (drop 0 text)) → drop 0 text ≡ with_end (take (end - 0) (drop 0 text)) ++ drop (end + 2) text
     → StartText (take (end - 0) (drop 0 text)) start → AreOrdinary text (end + 2) at fields → rest ≡ drop (at + 2) text ++ more → IsOrdinary bytes start fields rest
 ordinary-head bytes text more rest start fields end at bytes_is clear is is_start are rest_is =
+    -- `first` is the start line, ls the text of the field lines, and `behind` what follows the empty line
     let first = take (end - 0) (drop 0 text) in
     let ls = flat_map with_end are.lines in
     let behind = drop (at + 2) text in
@@ -294,6 +317,7 @@ is_name_byte b = (nat_le 97 b && nat_le b 122) || b == 45
 -- a byte of a token that is a byte of a known name once the bit of small letters is set has that value as its lower case
 token-small : (b : ℕ) → b < 256 → is_token_byte b ≡ true → is_name_byte (small b) ≡ true → to_ascii_lowercase b ≡ small b
 token-small b low token name =
+    -- each byte below 256 is tried, by computing
     eqb-true _ _ (by (is_token_byte b) (is_name_byte (small b)) _ token name (agree_below_at (λ x. not (is_token_byte x && is_name_byte (small x)) || to_ascii_lowercase x == small x) (λ _. true) 256 b refl low))
   where
     -- where x and y hold, and z holds wherever both do, z holds
@@ -305,6 +329,7 @@ token-small b low token name =
 -- a byte whose lower case is a byte of a known name has that lower case once the bit of small letters is set
 lower-small : (b : ℕ) → b < 256 → is_name_byte (to_ascii_lowercase b) ≡ true → small b ≡ to_ascii_lowercase b
 lower-small b low name =
+    -- each byte below 256 is tried, by computing
     eqb-true _ _ (by (is_name_byte (to_ascii_lowercase b)) _ name (agree_below_at (λ x. not (is_name_byte (to_ascii_lowercase x)) || small x == to_ascii_lowercase x) (λ _. true) 256 b refl low))
   where
     -- where x holds, and z holds wherever x does, z holds
@@ -316,6 +341,7 @@ lower-small b low name =
 small-folded : (text : List ℕ) → Bytes text → All is_token_byte text → list_all is_name_byte (map small text) ≡ true → folded text ≡ map small text
 small-folded [] fits token name = refl
 small-folded (b ∷ text) fits token name =
+    -- the first byte and the others are bytes of known names with the bit set
     let parts = and_parts (is_name_byte (small b)) (list_all is_name_byte (map small text)) name in
     ap₂ (λ x t. x ∷ t) (token-small b (fits 0) token.0 parts.0) (small-folded text (λ i. fits (suc i)) token.1 parts.1)
 
@@ -323,6 +349,7 @@ small-folded (b ∷ text) fits token name =
 folded-small : (text : List ℕ) → Bytes text → list_all is_name_byte (folded text) ≡ true → map small text ≡ folded text
 folded-small [] fits name = refl
 folded-small (b ∷ text) fits name =
+    -- the first byte and the others are bytes of known names in lower case
     let parts = and_parts (is_name_byte (to_ascii_lowercase b)) (list_all is_name_byte (folded text)) name in
     ap₂ (λ x t. x ∷ t) (lower-small b (fits 0) parts.0) (folded-small text (λ i. fits (suc i)) parts.1)
 
@@ -339,14 +366,17 @@ without-nul (suc n) text = without-nul n text
 no-nul : (text : List ℕ) → Bytes text → filter is_some_byte (map small text) ≡ map small text
 no-nul [] fits = refl
 no-nul (b ∷ text) fits =
+    -- each byte below 256 is tried, by computing: with the bit set it is not 0
     ap (λ some. cond some (small b ∷ filter is_some_byte (map small text)) (filter is_some_byte (map small text))) (agree_below_at (λ x. is_some_byte (small x)) (λ _. true) 256 b refl (fits 0))
     ∙ ap (λ t. small b ∷ t) (no-nul text (λ i. fits (suc i)))
 
 -- each byte of NULs and a text with the bit of small letters set is below 256
 small-fits : (text : List ℕ) (n : ℕ) → Bytes text → (i : ℕ) → get_or (replicate n 0 ++ map small text) i 0 < 256
+-- a place in the NULs, or in the text after them; past the end a byte is 0
 small-fits text (suc n) fits zero = omega arith
 small-fits text (suc n) fits (suc i) = small-fits text n fits i
 small-fits [] zero fits i = omega arith
+-- with the bit of small letters, 32, a byte stays below 256
 small-fits (b ∷ text) zero fits zero = or_of_8 b 32 (fits 0) (omega arith)
 small-fits (b ∷ text) zero fits (suc i) = small-fits text zero (λ j. fits (suc j)) i
 
@@ -354,6 +384,7 @@ small-fits (b ∷ text) zero fits (suc i) = small-fits text zero (λ j. fits (su
 number-bytes : (text : List ℕ) (n : ℕ) → Bytes text → length text ≤ 8 → n ≡ number_of text → filter is_some_byte (to_le_bytes w64 n) ≡ map small text
 number-bytes text n fits few is =
     let lower = map small text in
+    -- the text is filled up to eight bytes with NULs before it, which the number writes and the filter leaves out
     let long : length (filled lower) ≡ 8 = omega (arith, few, length-map text small, length-append (replicate (8 - length lower) 0) lower, length-replicate {A = ℕ} (8 - length lower) 0) in
     ap (filter is_some_byte) (le_bytes_8 (filled lower) n long (small-fits text (8 - length lower) fits) is) ∙ without-nul (8 - length lower) lower ∙ no-nul text fits
 
@@ -369,6 +400,7 @@ spelled_by ((s, k) ∷ more) lower text = cond (bytes_eq lower s) (known k) (spe
 -- a token that is a spelling of a known name, once the bit of small letters is set, has that name
 known-by : (text s : List ℕ) (k : Known) → Bytes text → Token text → map small text ≡ s → list_all is_name_byte s ≡ true → spelled_by spellings s text ≡ known k → known k ≡ name_of text
 known-by text s k fits token is name found =
+    -- the lower case of the text is the spelling s, by which the list has the name k
     let lower = small-folded text fits (each-token text token) (ap (list_all is_name_byte) is ∙ name) ∙ is in
     sym (ap (λ t. spelled_by spellings t text) lower ∙ found)
 
@@ -377,6 +409,7 @@ known-by text s k fits token is name found =
 pub short-known : (text : List ℕ) (n : ℕ) (k : Known) → ((i : ℕ) → Fits w8 (get_or text i 0)) → Token text → length text ≤ 8 → n ≡ number_of text
     → list_all is_name_byte (spelled n) ≡ true → spelled_by spellings (spelled n) text ≡ known k → known k ≡ name_of text
 short-known text n k fits token few is name found =
+    -- each number of the text is a byte, so that its own number tells its bytes
     let bytes : Bytes text = λ i. (fits i).fits in
     known-by text (spelled n) k bytes token (sym (number-bytes text n bytes few is)) name found
 
@@ -428,6 +461,7 @@ pub short-other : (text : List ℕ) → ((i : ℕ) → Fits w8 (get_or text i 0)
     → AllByRecursion (λ s. number_of text ≡ from_le_bytes w64 (filled s) → ⊥) (codes "via" ∷ codes "from" ∷ codes "to" ∷ codes "call-id" ∷ codes "cseq" ∷ codes "contact" ∷ codes "subject" ∷ codes "route" ∷ [])
     → other text ≡ name_of text
 short-other text fits some few (via, (from, (to, (call_id, (cseq, (contact, (subject, (route, end)))))))) =
+    -- the number differs from those of all names of 2 to 8 bytes; a spelling of one byte is too short, and one of more than 8 too long
     sym (unlisted spellings text (name refl via, (one refl, (name refl from, (one refl, (name refl to, (one refl, (name refl call_id, (one refl, (name refl cseq, (long refl, (one refl, (name refl contact, (one refl, (long refl, (one refl, (long refl, (one refl, (name refl subject, (one refl, (long refl, (one refl, (name refl route, tt)))))))))))))))))))))))
   where
     -- a text that spells a name has the number of that name

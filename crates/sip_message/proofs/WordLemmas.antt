@@ -1,4 +1,5 @@
 -- Words are tokens and blanks in pieces that begin no other, so they are read in one way.
+-- `IsStep P len` says that `len` gives the length of the piece of P at the front of a text, or 0; a text that is cut so is cut in one way (`same_many`).
 use Rattle.std.proofs.Common.{◌≡◌, ℕ, zero, suc, ◌+◌, ◌<◌, ◌≤◌, ◌⊎◌, Bool, true, false, cond, if◌then◌else◌, List, [], ◌∷◌, ◌++◌, length, take, drop, slice_index, refl, sym, ap, ◌∙◌, subst, inl, inr, arith}
 use Rattle.std.proofs.lemmas.List.{append-nil, append_assoc, append_cancel_left, length-append, length-drop, take-append-drop, length-take-le}
 use Rattle.std.proofs.Math.Seq.{take-append_seam, drop-append_seam}
@@ -43,17 +44,20 @@ word-blank u v (front, b, inr fold, one, whole) =
 
 -- where a piece of words stands at the front of a text, `word_len` gives its length
 word-at_front : (u v : List ℕ) → WordItem u → word_len (u ++ v) ≡ length u
+-- the piece is a byte of a token, or a blank
 word-at_front u v (inl one) =
     ap (λ t. word_len (t ++ v)) one.2 ∙ ap (λ q. cond q 1 (blank_len (one.0 ∷ v))) one.1 ∙ sym (ap length one.2)
 word-at_front u v (inr blank) = word-blank u v blank ∙ blank-step.at_piece u v blank
 
 -- a token byte or a blank is not empty
 word-moves : (u : List ℕ) → WordItem u → 0 < length u
+-- a byte is one byte, and a blank has one or more
 word-moves u (inl one) = omega (arith, ap length one.2)
 word-moves u (inr blank) = blank-step.moves u blank
 
 -- `word_len` gives 0, or a piece of words of that length stands at the front of the text
 word-piece : (text : List ℕ) → (word_len text ≡ 0) ⊎ HasFront WordItem text (word_len text)
+-- in an empty text nothing stands
 word-piece [] = inl refl
 word-piece (a ∷ text) = at (is_token_byte a) refl
   where
@@ -66,6 +70,7 @@ word-piece (a ∷ text) = at (is_token_byte a) refl
 
     -- the claim holds whether or not the first byte is one of a token
     at : (token : Bool) → is_token_byte a ≡ token → (cond token 1 (blank_len (a ∷ text)) ≡ 0) ⊎ HasFront WordItem (a ∷ text) (cond token 1 (blank_len (a ∷ text)))
+    -- the first byte is a piece
     at true is = inr (a ∷ [], text, inl (a, is, refl), refl, refl)
     at false is = blank
 
@@ -83,6 +88,7 @@ blank-items b blanks = many-map Blank WordItem b (λ u one. inr one) (units-blan
 
 -- optional blanks are a run of token bytes and blanks
 sws-items : (b : List ℕ) → Sws b → Many WordItem b
+-- none are no pieces; some are pieces
 sws-items b (inl none) = subst (Many WordItem) (sym none) (many-nil WordItem)
 sws-items b (inr blanks) = blank-items b blanks
 
@@ -102,7 +108,9 @@ words-solid w (p, q, token, many, whole) =
 
 -- where neither a blank nor a token byte stands at the front, `word_len` is 0
 no_item : (t : List ℕ) → StopsBlank t → Stops is_token_byte t → word_len t ≡ 0
+-- an empty text has no piece
 no_item [] blank token = refl
+-- the first byte is none of a token, so `word_len` is the length of a blank, which is 0
 no_item (a ∷ t) blank token = ap (λ q. cond q 1 (blank_len (a ∷ t))) token ∙ blank
 
 -- the words at the front of a text are read in one way: (w, r) and (x, s) are two readings, with the words and what is left; k and l are the blanks at
@@ -123,6 +131,7 @@ one-words text (w, r) (x, s) (w_is, (stop, (stop_blank, (k, y, k_is, y_is, r_is)
 
 -- after the longest token at the front of a text stands no byte of a token
 pub longest-stops : (text : List ℕ) (n : ℕ) → IsLongestFront Token text n → Stops is_token_byte (drop n text)
+-- the longest token is empty, or some bytes
 longest-stops text zero longest = no-token-stops text longest
 longest-stops text (suc n) longest = (token-cut text (suc n) longest (λ none. absurd (omega (arith, none)))).1
 
@@ -135,6 +144,7 @@ pub record WordsSoFar (text : List ℕ) (at : ℕ) : Type 0 where
 -- the longest token at the front of a text, if there is one, is the first of its words
 pub words-first : (text : List ℕ) (n : ℕ) → n ≤ length text → IsLongestFront Token text n → (n ≡ 0 → ⊥) → WordsSoFar text n
 words-first text n within longest some = record {
+  -- the token is the first word, and no further one is counted yet
   within = within;
   words = (take n text, [], (token-cut text n longest some).0, many-nil (Blanks then Token), sym (append-nil (take n text)));
   stops = longest-stops text n longest;
@@ -143,6 +153,7 @@ words-first text n within longest some = record {
 -- a text that is a front and a rest is cut into these at the length of the front
 cut-at : (text front rest : List ℕ) (n : ℕ) → text ≡ front ++ rest → n ≡ length front → (take n text ≡ front) × (drop n text ≡ rest)
 cut-at text front rest n whole n_is = (
+  -- the first n bytes are the front, and what follows them the rest
   ap (λ m. take m text) n_is ∙ ap (take (length front)) whole ∙ take-append_seam front rest,
   ap (λ m. drop m text) n_is ∙ ap (drop (length front)) whole ∙ drop-append_seam front rest,
 )
@@ -151,8 +162,11 @@ cut-at text front rest n whole n_is = (
 -- `at` is how far the words so far go, b how many blanks follow, and w how long the token after these is
 pub words-more : (text rest stop : List ℕ) (at b w : ℕ) → rest ≡ drop at text → stop ≡ drop b rest → WordsSoFar text at → b ≤ length rest → w ≤ length stop → IsLongestFront Blanks rest b → (b ≡ 0 → ⊥) → IsLongestFront Token stop w → (w ≡ 0 → ⊥) → WordsSoFar text (at + (b + w))
 words-more text rest stop at b w rest_is stop_is so b_in w_in blanks some_b token some_w = record {
+  -- the words so far, the blanks and the token lie within the text
   within = omega (arith, ap length whole, length-append (take at text ++ (u ++ take w stop)) (drop w stop), size);
+  -- the words are the former ones and one word more, the blanks with the token
   words = subst Words (sym cut.0) (so.words.0, so.words.1 ++ (u ++ take w stop), so.words.2, many-push (Blanks then Token) so.words.1 (u ++ take w stop) so.words.3 (u, take w stop, front.1.2, word.0, refl), ap (λ t. t ++ (u ++ take w stop)) so.words.4 ∙ append_assoc so.words.0 so.words.1 (u ++ take w stop));
+  -- after the token no byte of a token stands
   stops = subst (Stops is_token_byte) (sym cut.1) word.1;
 }
   where
@@ -175,6 +189,7 @@ words-more text rest stop at b w rest_is stop_is so b_in w_in blanks some_b toke
     -- the text is the words so far, the blanks, the token and what is left
     whole : text ≡ (take at text ++ (u ++ take w stop)) ++ drop w stop
     whole =
+        -- the text is the words so far and the rest, and the rest is the blanks, the token and what is left
         sym (take-append-drop at text) ∙ ap (λ t. take at text ++ t) (sym rest_is ∙ rest_whole ∙ ap (λ t. u ++ t) (sym (take-append-drop w stop)) ∙ sym (append_assoc u (take w stop) (drop w stop)))
         ∙ sym (append_assoc (take at text) (u ++ take w stop) (drop w stop))
 
@@ -189,6 +204,7 @@ words-more text rest stop at b w rest_is stop_is so b_in w_in blanks some_b toke
 -- where no blank or no token follows the words so far, they are the words at the front of the text, and the only ones
 pub words-all : (text rest stop : List ℕ) (at b w : ℕ) → rest ≡ drop at text → stop ≡ drop b rest → WordsSoFar text at → IsLongestFront Blanks rest b → IsLongestFront Token stop w → (b ≡ 0) ⊎ (w ≡ 0) → ReadAs (WordsFront text) (take at text, rest)
 words-all text rest stop at b w rest_is stop_is so blanks token none =
+    -- the words are read so, since they are words, no word follows them, and they are read in one way
     read-one (WordsFront text) (take at text, rest) (one-words text)
     (so.words, (drop b rest, (longest-behind rest b blanks).0, stops none), sym (take-append-drop at text) ∙ ap (λ t. take at text ++ t) (sym rest_is))
   where
@@ -201,12 +217,14 @@ words-all text rest stop at b w rest_is stop_is so blanks token none =
 pub no-words : (text : List ℕ) (n : ℕ) → IsLongestFront Token text n → n ≡ 0 → NotRead (WordsFront text)
 -- w would be the words and r what is left, t the first token of w
 no-words text n longest none (w, r) ((t, more, token, many, w_is), no_word, whole) =
+    -- the first token of the words would be no longer than the longest one, which is empty
     let low = longest.longest (length t) (t, more ++ r, token, whole ∙ ap (λ x. x ++ r) w_is ∙ append_assoc t more r, refl) in
     some-run is_token_byte t token (length-none t (omega (arith, low, none)))
 
 -- where one SP stands at the front of a text, and no blank after it, the text after the SP is the one rest after the blanks
 pub one-blank : (text rest : List ℕ) → text ≡ space ∷ rest → StopsBlank rest → IsOnlyBehind text rest
 one-blank text rest is stops =
+    -- the SP is one blank, and all that stand there
     let blank : Blank (space ∷ []) = ([], space ∷ [], inl refl, (space, refl, refl), refl) in
     let blanks = blanks-units (space ∷ []) (many-cons Blank (space ∷ []) [] blank (many-nil Blank)) in
     let behind : Behind text rest = (stops, (space ∷ [], rest, blanks, refl, is)) in

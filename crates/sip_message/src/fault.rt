@@ -18,6 +18,7 @@ impl From<AllocError> for ReadError {
     ghost use Rattle.std.specs.Prelude.{◌≡◌};
     ghost use Rattle.sip_message.specs.declared.fault.ReadError.TheVariants.{Memory};
 
+    // Whatever was refused, the error is `Memory`.
     ghost from_gives = { λ _ e. e ≡ Memory };
 
     fn from(_error: AllocError) -> Self {
@@ -29,6 +30,7 @@ impl From<Fault> for ReadError {
     ghost use Rattle.std.specs.Prelude.{◌≡◌};
     ghost use Rattle.sip_message.specs.declared.fault.ReadError.TheVariants.{Fault};
 
+    // The error has the fault that was found.
     ghost from_gives = { λ fault e. e ≡ Fault fault };
 
     fn from(fault: Fault) -> Self {

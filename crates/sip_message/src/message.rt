@@ -45,10 +45,12 @@ pub struct Message<'a> {
 }
 
 impl<'a> Model for Message<'a> {
+    // Contracts see a message as a `Reading`: its start line, its fields and its body, and the parts of its named fields.
     ghost Value = { Reading };
 
     ghost view = { λ m. record { message = record { start = start_parts m.start; fields = fields_parts m.fields; body = m.body.now }; parts = the m.parts } };
 
+    // At all times some bytes are the text of the message, and what is kept of its named fields is what these fields say.
     ghost invariant = { λ m. KeepsRead (record { start = start_parts m.start; fields = fields_parts m.fields; body = m.body.now }) (the m.parts) (element m.via) m.from.now m.to.now m.call_id.now (cseq_parts m.cseq) × (m.may_fold ≡ false → AreUnfolded (fields_parts m.fields)) };
 }
 
@@ -157,6 +159,7 @@ impl<'a> Message<'a> {
         // The fields that are asked for are kept as they are read.
         let (fields, kept) = read_fields(alloc, lines)?;
         let named = find_named(&fields)?;
+        // A Via and a CSeq were found, since `find_named` answers a fault where one is missing.
         let via = kept.via.unwrap();
         let cseq = kept.cseq.unwrap();
         let body = read_body(start, named, &via, cseq, &fields, rest)?;
@@ -269,6 +272,7 @@ impl<'a> Message<'a> {
     pub fn known(&self)
         ensures { (bytes : List ℕ) × Reads bytes self.now }
     {
+        // The message is looked at, and nothing is done with it.
         let _ = &self.fields;
     }
 }

@@ -22,6 +22,7 @@ pub(crate) fn is_other(text: &[u8]) -> bool
         if !begins_with_fold(&text[at..]) {
             return at == text.len();
         }
+        // A fold is CR, LF and one blank: three bytes.
         at += 3;
     }
 }
@@ -79,6 +80,7 @@ fn is_plain_half(text: &[u8], at: usize) -> bool
     ensures { IsTrue result → ArePlain text.now at (at + HALF) }
 {
     let half = u8x8::from_slice(&text[at..]);
+    // The bytes that may not stand there are the controls other than HTAB, and DEL, which is 0x7f.
     let is_control = half.simd_lt(u8x8::splat(b' ')) & half.simd_ne(u8x8::splat(b'\t'));
     (is_control | half.simd_eq(u8x8::splat(0x7f))).to_bitmask() == 0
 }
@@ -90,6 +92,7 @@ fn is_plain_block(text: &[u8], at: usize) -> bool
     ensures { IsTrue result → ArePlain text.now at (at + BLOCK) }
 {
     let block = u8x16::from_slice(&text[at..]);
+    // The bytes that may not stand there are the controls other than HTAB, and DEL, which is 0x7f.
     let is_control = block.simd_lt(u8x16::splat(b' ')) & block.simd_ne(u8x16::splat(b'\t'));
     (is_control | block.simd_eq(u8x16::splat(0x7f))).to_bitmask() == 0
 }

@@ -31,6 +31,7 @@ fn open_status(line: &[u8]) -> Option<StartLine<'_>>
     requires { IsOpen line.now }
     ensures { IfSome result (λ start. StartText line.now (start_parts start)) }
 {
+    // The version and a SP at the front have eight bytes.
     if line.len() < 8 {
         return None;
     }

@@ -27,10 +27,10 @@ use crate::via::{Via, first_via};
 use sip_masks::Masks;
 use std::alloc::AllocError;
 
-// How many bytes of a message are looked at, at most.
+// How many bytes of a message are looked at, at most: as many as `WORDS` words are enough for.
 const LONGEST: usize = 2047;
 
-// How many words each mask of a message takes.
+// How many words each mask of a message takes: 32 for so many bytes, and one more, in which a search ends.
 const WORDS: usize = 33;
 
 /// The start line and what follows the head, where the head is an ordinary one. Its fields are put into
@@ -75,7 +75,7 @@ fn front(bytes: &[u8]) -> &[u8]
     }
 }
 
-// The place of the empty line after the field lines from `at` on, where these are ordinary ones. Their
+// The place of the empty line after the field lines from `from` on, where these are ordinary ones. Their
 // fields are put into the vector, and what is asked for is kept in `asked`.
 #[inline(never)]
 fn ordinary_fields<'a>(

@@ -168,6 +168,7 @@ pub(crate) fn read_body<'a>(
     requires cseq { CSeqValue named.cseq.now (cseq_parts cseq) }
     ensures { BodyOf (start_parts start.entry) ((names_parts named.entry).1) ((names_parts named.entry).0.1) (content_length (slice_fields fields.entry)) rest.entry.now (outcome_of text_parts result) }
 {
+    // The value is handed on without the number of its line.
     match cut_value(fields, 0, Known::ContentLength) {
         Some((digits, _)) => body_by_length(start, named, via, cseq, Some(digits), rest),
         None => body_by_length(start, named, via, cseq, None, rest),

@@ -46,6 +46,7 @@ fn read_request(line: &[u8]) -> Option<(&[u8], &[u8])>
 {
     let (method, rest) = cut_token(line)?;
     let rest = past(rest, b' ')?;
+    // A SP and the version at the end have eight bytes.
     let at = rest.len().checked_sub(8)?;
     let (uri, version) = rest.split_at(at);
     if !same_text(version, b" SIP/2.0") {
@@ -59,6 +60,7 @@ fn read_request(line: &[u8]) -> Option<(&[u8], &[u8])>
 fn read_status(line: &[u8]) -> Option<(u16, &[u8])>
     ensures { IsOnlyValue StatusLine status_parts line.now result }
 {
+    // The version and a SP at the front have eight bytes.
     if line.len() < 8 {
         return None;
     }
@@ -85,6 +87,7 @@ pub(crate) fn cut_code(text: &[u8]) -> Option<(u16, &[u8])>
     if !is_length(digits) {
         return None;
     }
+    // A code is 100 to 699.
     let code = number_at_most(digits, 699)?;
     if code < 100 {
         return None;

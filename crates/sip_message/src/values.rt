@@ -39,7 +39,7 @@ pub(crate) fn read_cseq(text: &[u8]) -> Option<CSeq<'_>>
     })
 }
 
-// The highest number that a CSeq may have.
+// The highest number that a CSeq may have: 2^31 - 1.
 const LAST_NUMBER: usize = 0x7fff_ffff;
 
 /// The number that digits write, if it is at most `most`. There may be any number of digits. It is None for a
@@ -54,6 +54,7 @@ pub(crate) fn number_at_most(text: &[u8], most: usize) -> Option<usize>
             return None;
         }
         let digit = usize::from(*byte - b'0');
+        // With this digit the number would be above `most`.
         if digit > most || number > (most - digit) / 10 {
             return None;
         }

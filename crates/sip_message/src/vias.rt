@@ -29,10 +29,14 @@ pub struct Vias<'s, 'a> {
 }
 
 impl<'s, 'a> Model for Vias<'s, 'a> {
+    // Contracts see this as the list of the elements that are left.
     ghost Value = { List Element };
 
+    // Elements are written as lists and numbers, as `coded` asks: of such values two proofs of one equality are the same, and so there is one proof at most
+    // that exactly one list is left.
     ghost coded = { elements_code };
 
+    // The elements that are left are the one list for which `left` stands.
     ghost view = { λ it. the it.left };
 }
 
@@ -56,8 +60,10 @@ impl<'s, 'a> Iterator for Vias<'s, 'a> {
 
     type Item = Via<'a>;
 
+    // A call gives the first element of those that are left, as `element` sees it, and leaves the others.
     ghost next_gives = { YieldsFirstBy element (λ it. it) };
 
+    // No more elements come than are left.
     ghost remaining = { item_count (λ it. it) };
 
     fn next(&mut self) -> Option<Via<'a>> {
@@ -92,8 +98,10 @@ pub struct Routes<'s, 'a> {
 }
 
 impl<'s, 'a> Model for Routes<'s, 'a> {
+    // Contracts see this as the list of the Route values that are left.
     ghost Value = { List (List ℕ) };
 
+    // Left are the values of the fields from the place `at` on.
     ghost view = { λ it. values known_name.Route (drop it.at (slice_fields it.fields)) };
 }
 
@@ -111,8 +119,10 @@ impl<'s, 'a> Iterator for Routes<'s, 'a> {
 
     type Item = &'a [u8];
 
+    // A call gives the first of the values that are left, and leaves the others.
     ghost next_gives = { YieldsFirstRef (λ it. it) };
 
+    // No more values come than are left.
     ghost remaining = { item_count (λ it. it) };
 
     fn next(&mut self) -> Option<&'a [u8]> {

@@ -1,5 +1,7 @@
 -- Where a plain branch is found in a message that is read, it is the branch of the top Via: from one field to the bytes of the message.
 -- In the lemmas b is the branch that is found, n the number of a line, f a field, and s what a message says; as Bools s and o are what two tests say.
+-- Of a reading in steps `passes` is a step that gave a value, with the next one, and `stopped` one that stops at a fault, so that nothing is read.
+-- Of bytes 58 is the colon, 13 CR and 10 LF.
 use Rattle.std.proofs.Common.{◌≡◌, ◌∙◌, ◌⊎◌, inl, inr, ℕ, ◌+◌, List, [], ◌∷◌, ◌++◌, Bool, Some, None, drop, filter, flat_map, map, cond, ◌&&◌, if◌then◌else◌, nat_eq, true, false, refl, sym, ap, subst, append_assoc, arith}
 use Rattle.std.proofs.lemmas.Bool.{eqb-true, false_from_ne_true}
 use Rattle.std.specs.Prelude.{codes, bytes_eq, nat_lt}
@@ -66,6 +68,7 @@ via_spelled field b found = by (starts_with nat_eq field (codes "Via:")) (starts
         → (if s then branch_in (from_stop (drop 4 field)) else if o then branch_in (from_stop (drop 2 field)) else None) ≡ Some b → Spelled (codes "Via") field b ⊎ Spelled (codes "v") field b
     by true o is other f = inl (record { rest = drop 4 field; is = starts_is field (codes "Via:") is; found = f })
     by false true is other f = inr (record { rest = drop 2 field; is = starts_is field (codes "v:") other; found = f })
+    -- with neither of the two at its front, the field has no plain branch
     by false false is other f = absurd (cc)
 
 -- the field is a Via, and the first element of its value has the branch b
@@ -104,11 +107,11 @@ token_of x u is many = (x ∷ [], u, (x, is, refl), many, refl)
 field_found : (n : ℕ) (line rest b : List ℕ) (f : SaidField) → FieldSays n line (gives f) → via_branch (line ++ (13 ∷ rest)) ≡ Some b → Found b f
 field_found n line rest b f says found = by (via_spelled (line ++ (13 ∷ rest)) b found)
   where
-    -- "Via" is a token
+    -- "Via" is a token: 86 is V, 105 i and 97 a
     full_word : Token (codes "Via")
     full_word = token_of 86 (codes "ia") refl ((105 ∷ []) ∷ (97 ∷ []) ∷ [], ((105, refl, refl), ((97, refl, refl), tt)), refl)
 
-    -- "v" is a token
+    -- "v", which is 118, is a token
     short_word : Token (codes "v")
     short_word = token_of 118 [] refl ([], tt, refl)
 
@@ -144,6 +147,7 @@ other_name name compact full = by (bytes_eq name (codes "v")) (bytes_eq name (co
     by false false false false false is = full
 
 -- a byte that is no v in either case has no v as its lower case
+-- 118 is v and 86 V; the capital letters are those from 65 up to 91, and each has its small one 32 above it
 lower_v : (x : ℕ) → is_among "vV" x ≡ false → nat_eq (to_ascii_lowercase x) 118 ≡ false
 lower_v x other = false_from_ne_true (nat_eq (to_ascii_lowercase x) 118) (λ is. by (nat_lt x 65) (nat_lt x 91) (eqb-true (to_ascii_lowercase x) 118 is))
   where
@@ -169,12 +173,14 @@ other_field number line rest f (passes named (n, r, (is_token, n_is), more, line
     ap (λ g. bytes_eq g.name (codes "via")) field
     ∙ ap (λ t. bytes_eq (full_name (folded t)) (codes "via")) n_is
     ∙ named_other n (r ++ rest) is_token (sym (ap opens_via (ap (λ t. t ++ rest) line_is ∙ append_assoc n r rest)) ∙ opens)
+-- a line whose value or name has a fault says no field
 other_field number line rest f (passes named is (stopped fault stops_at e)) opens = absurd (cc)
 other_field number line rest f (stopped fault stops_at e) opens = absurd (cc)
 
 -- where the first value of Via has the branch b in its first element, the top Via has it
 top_found : (b value : List ℕ) (values : List (List ℕ)) (via : SaidVia) (others : List SaidVia) → ((v : SaidVia) (vias : List SaidVia) → ViasSay (v ∷ vias) value → v.branch ≡ Some b)
     → ViasTell (value ∷ values) (via ∷ others) → via.branch ≡ Some b
+-- no value of Via is without an element; the first element of the first value is the top Via
 top_found b value values via others first ([], more, says, later, same) = absurd says
 top_found b value values via others first (v ∷ vias, more, says, later, same) = let e : via ≡ v = cc in ap (λ x. x.branch) e ∙ first v vias says
 
@@ -211,15 +217,18 @@ line_found n line rest b more f fs via vias says passed found tells on = by (ope
 
     -- the claim holds whether or not the text opens with the name of a Via
     by : (opens : Bool) → opens_via text ≡ opens → branch_at (if opens then Some text else via_line text) ≡ Some b → via.branch ≡ Some b
+    -- the branch is found in this line, whose field is a Via, and its value is the first
     by true is at =
         let here = field_found n line (10 ∷ tail) b f says at in
         top_found b f.value (said_values "via" fs) via vias here.first (subst (λ vs. ViasTell vs (via ∷ vias)) (first_value f fs here.named) tells)
+    -- the search passes over this line, whose field is no Via, so that the values of Via are those of the fields after it
     by false is at =
         on (sym (ap branch_at (passed.over tail)) ∙ at) (subst (λ vs. ViasTell vs (via ∷ vias)) (later_value f fs (other_field n line (13 ∷ (10 ∷ tail)) f says is)) tells)
 
 -- where a branch is found from the first of these lines on, it is the branch of the first Via of their fields
 lines_found : (n : ℕ) (others : List (List ℕ)) (rest b : List ℕ) (fields : List SaidField) (via : SaidVia) (vias : List SaidVia) → Many Unit (Ended others) → AllByRecursion Folded others → FieldsSay n others (gives fields)
     → branch_at (line_from (Ended others ++ (13 ∷ rest))) ≡ Some b → ViasTell (said_values "via" fields) (via ∷ vias) → via.branch ≡ Some b
+-- without lines there is no field, and so no top Via
 lines_found n [] rest b fields via vias clean folds says found tells =
     let list : fields ≡ [] = cc in
     let none : via ∷ vias ≡ [] = subst (λ fs. ViasTell (said_values "via" fs) (via ∷ vias)) list tells in absurd (cc)
@@ -230,6 +239,7 @@ lines_found n (line ∷ more) rest b fields via vias clean (fold, folds) (passes
     let on = passed line more clean fold in
     line_found n line rest b more f fs via vias f_is on (subst (λ t. branch_at (line_from t) ≡ Some b) (ended_on line more (13 ∷ rest)) found)
     (subst (λ gs. ViasTell (said_values "via" gs) (via ∷ vias)) list tells) (lines_found (n + 1) more rest b fs via vias on.clean folds fs_is)
+-- lines of which one has a fault say no fields
 lines_found n (line ∷ more) rest b fields via vias clean folds (passes f f_is (stopped fault stops_at e)) found tells = absurd (cc)
 lines_found n (line ∷ more) rest b fields via vias clean folds (stopped fault stops_at e) found tells = absurd (cc)
 
@@ -258,10 +268,12 @@ bytes_found bytes b told s (passes cut cut_is (passes clean is_clean (first, oth
     let flat : bytes ≡ Ended (first ∷ others) ++ (13 ∷ rest) =
     cut_is.whole ∙ sym (append_assoc cut_is.front (codes "\r\n") (13 ∷ rest)) ∙ ap (λ t. t ++ (13 ∷ rest)) (sym cut_is.head_is ∙ lines.whole) in
     told_found bytes rest first others b told s (subst (Many Unit) lines.whole is_clean) lines.folded flat (cut.1) tells found tell
+-- bytes without the end of a head, or with a CR or LF alone in it, tell no message
 bytes_found bytes b told s (passes cut cut_is (stopped fault stops_at e)) found tell = absurd (cc)
 bytes_found bytes b told s (stopped fault stops_at e) found tell = absurd (cc)
 
 -- the plain branch of a message that is read is that of its top Via
 pub led_found : (bytes b : List ℕ) (s : Said) → Says bytes (gives s) → led_branch bytes ≡ Some b → s.via.branch ≡ Some b
 led_found bytes b s (passes told tells (said, fields, e)) found = let same : s ≡ said = cc in ap (λ x. x.via.branch) same ∙ bytes_found bytes b told said tells found fields
+-- bytes that stop at a fault say no message
 led_found bytes b s (stopped fault stops_at e) found = absurd (cc)

@@ -1,4 +1,5 @@
 -- The search for the first line that begins as a Via does goes on from one line to the next.
+-- Of bytes 13 is CR, 10 LF, 32 SP and 9 HTAB.
 use Rattle.std.proofs.Common.{◌≡◌, ◌∙◌, ℕ, ◌+◌, ◌<◌, length, drop, List, [], ◌∷◌, ◌++◌, Bool, true, false, Option, Some, None, ◌&&◌, ◌||◌, not, nat_eq, if◌then◌else◌, refl, sym, ap, inl, inr, append_assoc, arith}
 use Rattle.std.proofs.lemmas.Bool.{eqb-true}
 use Rattle.std.specs.Prelude.{codes, ◌==◌}
@@ -49,6 +50,7 @@ Folded line = (u v : List ℕ) → line ≡ u ++ (codes "\r\n" ++ v) → OpensBl
 
 -- a text that opens with a blank does not begin as a Via does
 blank_no_via : (text rest : List ℕ) → OpensBlank text → opens_via (text ++ rest) ≡ false
+-- the text is not empty, since it opens with a blank
 blank_no_via [] rest blank = absurd blank
 blank_no_via (b ∷ text) rest blank = by (nat_eq b 32) (nat_eq b 9) refl refl blank
   where
@@ -56,6 +58,7 @@ blank_no_via (b ∷ text) rest blank = by (nat_eq b 32) (nat_eq b 9) refl refl b
     by : (x y : Bool) → nat_eq b 32 ≡ x → nat_eq b 9 ≡ y → (x || y) ≡ true → is_among "vV" b ≡ false
     by true y one two is = ap (is_among "vV") (eqb-true b 32 one)
     by false true one two is = ap (is_among "vV") (eqb-true b 9 two)
+    -- the byte is one of the two, since it is a blank
     by false false one two is = absurd (cc)
 
 -- the rest of a folded line is a folded line
@@ -73,6 +76,7 @@ OnFrom us more = (line : List ℕ) → concat us ≡ line ++ (13 ∷ (10 ∷ mor
 
 -- a line that begins with a CRLF is passed over where what comes after it is
 pass_end : (us : List (List ℕ)) (line more : List ℕ) → AllByRecursion Unit us → 13 ∷ (10 ∷ concat us) ≡ line ++ (13 ∷ (10 ∷ more)) → Folded line → OnFrom us more → Passed line more
+-- the line ends at this CRLF, or it has more bytes: one alone cannot be, since the LF of the unit would be a CR
 pass_end us [] more all same folded on = let rest : concat us ≡ more = cc in record { over = λ tail. refl; clean = (us, all, sym rest) }
 pass_end us (x ∷ []) more all same folded on = let odd : ◌≡◌ {A = ℕ} 10 13 = cc in absurd (omega (arith, odd))
 -- the line goes on after the CRLF with what follows it
@@ -81,6 +85,7 @@ pass_end us (x ∷ y ∷ line) more all same folded on =
     let whole : x ∷ y ∷ line ≡ 13 ∷ (10 ∷ line) = cc in
     let later = on line rest (folded_rest (x ∷ y ∷ []) line folded) in
     record {
+      -- the search goes on after the CRLF, since a blank follows it and no Via begins there, and passes over the rest of the line
       over = λ tail.
           ap (λ t. via_line (t ++ (13 ∷ (10 ∷ tail)))) whole
           ∙ ap (λ opens. if opens then Some (line ++ (13 ∷ (10 ∷ tail))) else via_line (line ++ (13 ∷ (10 ∷ tail)))) (blank_no_via line (13 ∷ (10 ∷ tail)) (folded [] line whole)) ∙ later.over tail;
@@ -93,12 +98,14 @@ no_end b plain = by (nat_eq b 13) (nat_eq b 10) plain
   where
     -- where neither x nor y holds, y does not
     by : (x y : Bool) → (not x && not y) ≡ true → y ≡ false
+    -- the test says that neither of the two holds
     by true y is = absurd (cc)
     by false true is = absurd (cc)
     by false false is = refl
 
 -- a line that begins with a byte that is neither CR nor LF is passed over where what comes after it is
 pass_byte : (b : ℕ) (us : List (List ℕ)) (line more : List ℕ) → (not (nat_eq b 13) && not (nat_eq b 10)) ≡ true → b ∷ concat us ≡ line ++ (13 ∷ (10 ∷ more)) → Folded line → OnFrom us more → Passed line more
+-- the line is not empty: the byte would else be the CR of the line's CRLF
 pass_byte b us [] more plain same folded on =
     let odd : b ≡ 13 = cc in let e : false ≡ true = ap (λ x. not (nat_eq x 13) && not (nat_eq x 10)) (sym odd) ∙ plain in absurd (cc)
 -- the line goes on after the byte with what follows it
@@ -107,12 +114,14 @@ pass_byte b us (x ∷ line) more plain same folded on =
     let rest : concat us ≡ line ++ (13 ∷ (10 ∷ more)) = cc in
     let later = on line rest (folded_rest (x ∷ []) line folded) in
     record {
+      -- the search goes on after the byte, which is no LF, and passes over the rest of the line
       over = λ tail. ap (λ ends. if ends then line_from (line ++ (13 ∷ (10 ∷ tail))) else via_line (line ++ (13 ∷ (10 ∷ tail)))) (ap (λ y. nat_eq y 10) first ∙ no_end b plain) ∙ later.over tail;
       clean = later.clean;
     }
 
 -- the search passes over each folded line of a clean head
 pub pass_line : (us : List (List ℕ)) (line more : List ℕ) → AllByRecursion Unit us → concat us ≡ line ++ (13 ∷ (10 ∷ more)) → Folded line → Passed line more
+-- without units there is no CRLF, with which the line ends; the first unit is a CRLF or a byte
 pass_line [] [] more all is folded = absurd (cc)
 pass_line [] (x ∷ line) more all is folded = absurd (cc)
 pass_line (unit ∷ us) line more (inl crlf, all) is folded = pass_end us line more all (ap (λ t. t ++ concat us) (sym crlf) ∙ is) folded (λ later. pass_line us later more all)

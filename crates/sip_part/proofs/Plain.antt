@@ -1,5 +1,6 @@
 -- A branch that stands plainly in the first Via of a message is that of its top Via.
 -- In the lemmas b is the branch that is found, and u, v, x and y are texts; a Bool is what a test says, as `comma` and `cr`.
+-- Of bytes 32 is SP, 9 HTAB, 13 CR, 10 LF, 44 the comma, 58 the colon, 59 the semicolon, 61 "=", 91 and 93 the brackets, 98 b and 66 B.
 use Rattle.std.proofs.Common.{◌≡◌, ◌∙◌, ◌⊎◌, inl, inr, ◌+◌, ◌||◌, ℕ, List, [], ◌∷◌, ◌++◌, Bool, Option, Some, None, take, drop, length, if◌then◌else◌, cond, nat_eq, true, false, refl, sym, ap, subst, append_assoc, arith}
 use Rattle.std.proofs.lemmas.Bool.{eqb-true}
 use Rattle.std.specs.Prelude.{codes, nat_lt}
@@ -44,6 +45,7 @@ wsp_opens b is = by (nat_eq b 32) (nat_eq b 9) refl refl is
     by : (x y : Bool) → nat_eq b 32 ≡ x → nat_eq b 9 ≡ y → (x || y) ≡ true → Opens b
     by true y one two is = inl (eqb-true b 32 one)
     by false true one two is = inr (inl (eqb-true b 9 two))
+    -- the byte is one of the two, since it is a blank
     by false false one two is = absurd (cc)
 
 -- blanks of one or more begin with a byte that may begin blanks
@@ -90,7 +92,7 @@ sws_no_token u rest sws ends = by (sws_open u sws)
 lack-wsp : AllLack semicolon Wsp
 lack-wsp = lack-one semicolon _ refl
 
--- no LWS has a semicolon
+-- no LWS has a semicolon: it is blanks with a CRLF, or neither, and then blanks
 lack-lws : AllLack semicolon Lws
 lack-lws = lack-then semicolon _ _ (lack-optional semicolon _ (lack-then semicolon _ _ (lack-many semicolon _ lack-wsp) (lack-exactly semicolon _ (refl, (refl, tt))))) (lack-some semicolon _ lack-wsp)
 
@@ -106,15 +108,15 @@ lack-sws = lack-optional semicolon _ lack-blanks
 lack-token : AllLack semicolon Token
 lack-token = lack-some semicolon _ (lack-one semicolon _ refl)
 
--- no slash with its blanks has a semicolon
+-- no slash with its blanks has a semicolon, since none of its three parts has
 lack-slash : AllLack semicolon (Mark "/")
 lack-slash = lack-then semicolon _ _ lack-sws (lack-then semicolon _ _ (lack-exactly semicolon _ (refl, tt)) lack-sws)
 
--- no colon with its blanks has a semicolon
+-- no colon with its blanks has a semicolon, since none of its three parts has
 lack-colon : AllLack semicolon (Mark ":")
 lack-colon = lack-then semicolon _ _ lack-sws (lack-then semicolon _ _ (lack-exactly semicolon _ (refl, tt)) lack-sws)
 
--- no "=" with its blanks has a semicolon
+-- no "=" with its blanks has a semicolon, since none of its three parts has
 lack-equal : AllLack semicolon (Mark "=")
 lack-equal = lack-then semicolon _ _ lack-sws (lack-then semicolon _ _ (lack-exactly semicolon _ (refl, tt)) lack-sws)
 
@@ -133,9 +135,9 @@ lack-a-host u host = let parts = host-parts u host in subst (Lacks semicolon) (s
 
 -- What follows shows that the search passes over a text without a semicolon, or ends in it.
 
--- where a byte is no semicolon and the search finds a branch, the search found it after the byte
 -- where a byte is no semicolon, and the search finds a branch from it on, the search finds that branch from the byte after it on
 on_without : (ends semi : Bool) (here on : Option (List ℕ)) (b : List ℕ) → semi ≡ false → (if ends then None else if semi then here else on) ≡ Some b → on ≡ Some b
+-- a search that ends at the byte finds nothing, and the byte is no semicolon; so the search goes on after it
 on_without true semi here on b is found = absurd (cc)
 on_without false true here on b is found = absurd (cc)
 on_without false false here on b is found = found
@@ -245,6 +247,7 @@ param_seen t b found = by (starts_with nat_eq t (codes "branch=")) (opens_other 
     -- the claim holds whether "branch=" follows the semicolon, or what a branch that is spelled otherwise may begin with, or neither
     by : (s o : Bool) → starts_with nat_eq t (codes "branch=") ≡ s → opens_other t ≡ o → (if s then token_at (drop 7 t) else if o then None else branch_in t) ≡ Some b → Seen b t
     by true o is other f = inl (starts_is t (codes "branch=") is, f)
+    -- the search ends, and finds nothing, where the parameter opens as a branch that is spelled otherwise may
     by false true is other f = absurd (cc)
     by false false is other f = inr (other, f)
 
@@ -253,6 +256,7 @@ lower_b : (x : ℕ) → to_ascii_lowercase x ≡ 98 → is_among " \tbB" x ≡ t
 lower_b x is = by (nat_lt x 65) (nat_lt x 91) is
   where
     -- the claim holds whether the byte is below the capital letters, is one, or is above them
+    -- the capital letters are those from 65 up to 91, and each has its small one 32 above it
     by : (low high : Bool) → cond low x (cond high (x + 32) x) ≡ 98 → is_among " \tbB" x ≡ true
     by true high e = ap (is_among " \tbB") e
     by false true e = let up : x ≡ 66 = omega (arith, e) in ap (is_among " \tbB") up
@@ -260,6 +264,7 @@ lower_b x is = by (nat_lt x 65) (nat_lt x 91) is
 
 -- a parameter with the name branch, in any case, opens as a branch may
 named_opens : (name rest : List ℕ) → AnyCase "branch" name → opens_other (name ++ rest) ≡ true
+-- the name is not empty, and its first byte in lower case is b
 named_opens [] rest any = absurd (cc)
 named_opens (x ∷ name) rest any = let e : to_ascii_lowercase x ∷ folded name ≡ codes "branch" = any in let first : to_ascii_lowercase x ≡ 98 = cc in lower_b x first
 
@@ -280,6 +285,7 @@ branch_seen name m value rest b token any mark is_token ends (inl (is, found)) =
     let t = name ++ (m ++ (value ++ rest)) in
     let l = mark_led "=" 61 m refl mark in
     let same = same_run name (codes "branch") (m ++ (value ++ rest)) (61 ∷ drop 7 t) (token_run name token) refl (led_no_token 61 m (value ++ rest) refl l) refl is in
+    -- what follows "=" in the text is what the search looks at, so that b is the value
     let after : l.after ++ (value ++ rest) ≡ drop 7 t = at_front 61 l.before (l.after ++ (value ++ rest)) (drop 7 t) l.blanks not_equal (sym (led_rest 61 m (value ++ rest) l) ∙ same.1) in
     token_after l.after value rest b l.more is_token ends (ap token_at after ∙ found)
 -- the parameter has another name, which is not so
@@ -299,6 +305,7 @@ lack-ipv6 u is =
 
 -- a branch that is found from a parameter's value on is found after the value
 value_passed : (v rest b : List ℕ) → GenValue v → branch_in (v ++ rest) ≡ Some b → branch_in rest ≡ Some b
+-- the value is a token, a quoted string, an IPv6 address, or one in brackets
 value_passed v rest b (inl is) found = passed v rest b (lack-token v is) found
 value_passed v rest b (inr (inl is)) found = absurd (quote_ends v rest b is found)
 value_passed v rest b (inr (inr (inl is))) found = passed v rest b (lack-ipv6 v is) found
@@ -321,9 +328,11 @@ valued_passed tail rest b (inr (m, v, mark, is, whole)) found = value_passed v r
 
 -- a branch that is found from a parameter of another name on is found after the parameter
 other_seen : (name tail rest b : List ℕ) → Token name → ¬ (AnyCase "branch" name) → Valued tail → NoToken rest → Seen b (name ++ (tail ++ rest)) → branch_in rest ≡ Some b
+-- the text begins with "branch=", and so the name would be `branch`
 other_seen name tail rest b token other valued ends (inl (is, found)) =
     let same = same_run name (codes "branch") (tail ++ rest) (61 ∷ drop 7 (name ++ (tail ++ rest))) (token_run name token) refl (valued_no_token tail rest valued ends) refl is in
     absurd (other (ap folded same.0))
+-- the search goes on in the parameter, and passes over its name and its value
 other_seen name tail rest b token other valued ends (inr (opens, found)) = valued_passed tail rest b valued (passed name (tail ++ rest) b (lack-token name token) found)
 
 -- where b is found from a parameter on, the parameter has the branch b, or it has none and b is found after it
@@ -349,17 +358,17 @@ seen_open after x b o seen = by o.opens
     here : (c : ℕ) → o.first ≡ c → Seen b (c ∷ (o.rest ++ x))
     here c is = subst (λ f. Seen b (f ∷ (o.rest ++ x))) is at
 
-    -- nothing is found from a SP on
+    -- nothing is found from a SP on: it is not the b of "branch=", and it opens a branch that is spelled otherwise
     blank : Seen b (32 ∷ (o.rest ++ x)) → ⊥
     blank (inl (is, found)) = let e : ◌≡◌ {A = ℕ} 32 98 = cc in omega (arith, e)
     blank (inr (other, found)) = absurd (cc)
 
-    -- nothing is found from a HTAB on
+    -- nothing is found from a HTAB on: it is not the b of "branch=", and it opens a branch that is spelled otherwise
     tab : Seen b (9 ∷ (o.rest ++ x)) → ⊥
     tab (inl (is, found)) = let e : ◌≡◌ {A = ℕ} 9 98 = cc in omega (arith, e)
     tab (inr (other, found)) = absurd (cc)
 
-    -- nothing is found from a CR on
+    -- nothing is found from a CR on: it is not the b of "branch=", and the search ends at it
     line : Seen b (13 ∷ (o.rest ++ x)) → ⊥
     line (inl (is, found)) = let e : ◌≡◌ {A = ℕ} 13 98 = cc in omega (arith, e)
     line (inr (other, found)) = absurd (cc)
@@ -401,6 +410,7 @@ first_more p ps b X (inr (is, x)) on = ap (λ q. first_some (q ∷ ps)) is ∙ o
 -- where a search finds b from parameters on, and nothing after them, b is the first branch among the parameters
 params_found : (find : List ℕ → Option (List ℕ)) (params : List (Option (List ℕ))) (text tail b : List ℕ) → Search find b → NoToken tail → (find tail ≡ Some b → ⊥) → (branch_in tail ≡ Some b → ⊥) → Params params text
     → find (text ++ tail) ≡ Some b → first_some params ≡ Some b
+-- without a parameter the branch would be found after them, where nothing is
 params_found find [] text tail b search ends none never is found = absurd (none (subst (λ t. find (t ++ tail) ≡ Some b) is found))
 -- u is the first ";" (m, with its blanks) and its parameter, and v the others
 params_found find (p ∷ ps) text tail b search ends none never (u, v, (m, param, mark, says, u_is), more, whole) found =

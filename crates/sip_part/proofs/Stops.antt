@@ -1,4 +1,5 @@
 -- Where the search stops as it passes over the value of a Via.
+-- Of bytes 44 is the comma, 59 the semicolon and 13 CR.
 use Rattle.std.proofs.Common.{◌≡◌, ◌∙◌, ℕ, zero, suc, ◌<◌, Bool, true, false, ◌||◌, List, [], ◌∷◌, length, drop, nat_eq, if◌then◌else◌, refl, sym, ap, arith}
 use Rattle.std.proofs.lemmas.Bool.{false_from_ne_true, eqb-true, eq-eqb}
 use Rattle.memchr.specs.Find.{Nowhere, Passes, is_byte3}
@@ -35,6 +36,7 @@ no_stop b one two three = same_stops b ∙ ap (λ x. (x || nat_eq b 59) || nat_e
 
 -- where the first of the three bytes stands at the place k, the text from its first stop on is the text from k on
 pub stop_first : (k : ℕ) (text : List ℕ) → k < length text → Nowhere (Passes (is_byte3 44 59 13) text) 0 k → Passes (is_byte3 44 59 13) text k → from_stop text ≡ drop k text
+-- an empty text has no place; a stop at the front is the first one, and else the first one stands in the rest, one place earlier
 stop_first k [] within none is = absurd (omega (arith, within))
 stop_first zero (b ∷ text) within none is = ap (λ here. if here then b ∷ text else from_stop text) (same_stops b ∙ is)
 stop_first (suc k) (b ∷ text) within none is =

@@ -19,6 +19,7 @@ token_some text n is some = by (nat_eq (prefix_len is_token_byte text) 0) refl
   where
     -- the token is the first n bytes, since n is not 0 and so the text begins with a byte of a token
     by : (b : Bool) → nat_eq (prefix_len is_token_byte text) 0 ≡ b → token_at text ≡ Some (take n text)
+    -- n is the length of the front, which is 0 in this case and not 0 by what is given
     by true zero = absurd (some (sym is ∙ eqb-true (prefix_len is_token_byte text) 0 zero))
     by false more = rw more (ap (λ k. Some (take k text)) is)
 
@@ -30,6 +31,7 @@ no_front x text is none = let some : cond true (1 + prefix_len is_token_byte tex
 pub same_run : (u v rest more : List ℕ) → list_all is_token_byte u ≡ true → list_all is_token_byte v ≡ true → prefix_len is_token_byte rest ≡ 0 → prefix_len is_token_byte more ≡ 0
     → u ++ rest ≡ v ++ more → (u ≡ v) × (rest ≡ more)
 same_run [] [] rest more left right ends stops same = (refl, same)
+-- the one run cannot end where the other goes on, since a byte of a token would come after it
 same_run [] (y ∷ v) rest more left right ends stops same = absurd (no_front y (v ++ more) (and_parts (is_token_byte y) (list_all is_token_byte v) right).0 (ap (prefix_len is_token_byte) (sym same) ∙ ends))
 same_run (x ∷ u) [] rest more left right ends stops same = absurd (no_front x (u ++ rest) (and_parts (is_token_byte x) (list_all is_token_byte u) left).0 (ap (prefix_len is_token_byte) same ∙ stops))
 -- both begin with the same byte, and what follows it is the same

@@ -46,6 +46,7 @@ one_told text a b one other = by (bytes_eq a b) (bytes_eq-Decides a b)
     -- the test finds the two branches the same, since else they would fall by different ones
     by : (same : Bool) → Decides same (a ≡ b) → a ≡ b
     by true decides = decides.0 refl
+    -- the bytes are read as a message or have a fault; either way both branches are the one that this tells
     by false decides =
         absurd (reading-or-fault text (λ r reads. differ decides (one.0 (said_of r) reads.says ∙ sym (other.0 (said_of r) reads.says)))
         (λ fault has. differ decides (one.1 fault has ∙ sym (other.1 fault has))))

@@ -12,6 +12,7 @@ pub fn led_branch(text: &[u8]) -> Option<&[u8]>
     ensures { option_copied result ≡ led_branch text.now }
 {
     let line = via_line(text)?;
+    // How many bytes the name of the field and its colon have.
     let past = if line.starts_with(b"Via:") {
         4
     } else if line.starts_with(b"v:") {

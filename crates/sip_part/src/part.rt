@@ -19,6 +19,7 @@ pub struct Part {
     count: u32,
 }
 
+// What a contract sees of a part, its `view`, is a value of the definitions, and the `invariant` holds of a part at all times.
 impl Model for Part {
     ghost use Rattle.std.specs.Prelude.{◌<◌, ◌≤◌};
     ghost use Rattle.sip_part.specs.Part.{PartOf};
@@ -91,9 +92,11 @@ const COOKIE_SUM: u32 = 838_142_484;
 fn fnv1a(text: &[u8]) -> u32
     ensures { result ≡ fnv1a (folded text.now) }
 {
+    // The sum up to the cookie is known, and the cookie has 7 bytes.
     if text.starts_with(b"z9hG4bK") {
         return joined(COOKIE_SUM, &text[7..]);
     }
+    // Else the sum begins with the number with which FNV-1a of 32 bits begins.
     joined(2_166_136_261, text)
 }
 
@@ -104,6 +107,7 @@ fn joined(start: u32, text: &[u8]) -> u32
 {
     let mut sum = start;
     for byte in text {
+        // The number by which FNV-1a of 32 bits multiplies; what goes beyond 32 bits is dropped.
         sum = (sum ^ u32::from(lower(*byte))).wrapping_mul(16_777_619);
     }
     sum

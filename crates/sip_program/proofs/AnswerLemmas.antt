@@ -13,6 +13,8 @@ Appends-kept (Some x) None c bytes appended kept = absurd appended
 Appends-kept (Some x) (Some y) None bytes appended kept = absurd kept
 Appends-kept (Some x) (Some y) (Some z) bytes appended kept = kept ∙ appended
 
+-- In the lemmas on answers `it` is the answer: a is what was written before it, b after it, and c later.
+
 -- where the writer keeps its bytes, a verdict that was written is written still
 IsJudged-kept : (input a b c : Option (List ℕ)) (status : ℕ) → IsJudged input a b status → Keeps b c → IsJudged input a c status
 IsJudged-kept input a b c status it kept = record { verdict = it.verdict; is = it.is; written = Appends-kept a b c _ it.written kept; ends = it.ends }

@@ -56,6 +56,7 @@ impl<P: Platform + Drop, I: Read + Drop> Source for Host<P, I> {
     // What is left to read is that of the log that was opened, or of the standard input.
     ghost left = { λ host. left_of ⟦<FromRead<I> as Source>⟧.left ⟦<FromRead<P::File> as Source>⟧.left host.log };
 
+    // Whether anything has failed is what the flag says.
     ghost has_failed = { λ host. host.failed };
 
     // Bytes come from the log that is open; where a read fails, it is kept that one has.
@@ -88,12 +89,14 @@ impl<P: Platform + Drop, I: Read + Drop> System for Host<P, I> {
         Ok(behind_name(words?))
     }
 
+    // A seed is the platform's.
     fn seed(&mut self) -> io::Result<P::Seed> {
         let seed = self.platform.seed();
         self.failed |= seed.is_err();
         seed
     }
 
+    // The file of the platform at this path is read from then on, in place of what was read before.
     fn open(&mut self, path: &str) -> io::Result<()> {
         let file = self.platform.open(path);
         self.failed |= file.is_err();

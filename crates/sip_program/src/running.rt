@@ -65,10 +65,12 @@ pub fn run<S: System, W: Write + Drop>(
     ensures write { IsErrOf result Write → ⟦<Output<W> as Sink>⟧.has_failed output.new ≡ true }
 {
     let words = system.words().map_err(read_failure)?;
+    // The words come first: where they ask for nothing, neither a seed nor a file is asked for.
     let Some(asked) = asked(words.as_slice()) else {
         return Err(Failure::Usage);
     };
     let status = answer(alloc, system, asked, output)?;
+    // What was put may still stand in the output's buffer, and now goes to the writer.
     output.flush()?;
     Ok(status)
 }

@@ -9,6 +9,7 @@ use std::io::Write;
 pub struct SiptraceProgram;
 
 impl Program for SiptraceProgram {
+    // Its contract is that of the trait.
     fn run<S: System, W: Write + Drop>(
         alloc: Global,
         system: &mut S,

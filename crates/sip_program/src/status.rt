@@ -8,6 +8,7 @@ use sip_verdict::{Listing, Shown, Verdict};
 pub fn status_of(verdict: &Verdict) -> u8
     ensures { result ≡ status_of verdict.now }
 {
+    // 0 is that nothing is wrong, 1 that something in the log is, 2 that the log cannot be read, and 3 that the judge has given up a transaction.
     match verdict {
         Verdict::Legal { .. } => 0,
         Verdict::Malformed { .. } | Verdict::Breach { .. } => 1,
@@ -20,6 +21,7 @@ pub fn status_of(verdict: &Verdict) -> u8
 pub fn status_of_shown(shown: &Shown) -> u8
     ensures { result ≡ status_of_shown shown.now }
 {
+    // 0 is that the log was shown whole, 1 that a message stopped it, and 2 that the log cannot be read on.
     match shown {
         Shown::End { .. } => 0,
         Shown::Malformed { .. } => 1,
@@ -31,6 +33,7 @@ pub fn status_of_shown(shown: &Shown) -> u8
 pub fn status_of_listing(listing: &Listing) -> u8
     ensures { result ≡ status_of_listing listing.now }
 {
+    // 0 is that the states are listed. Where the log stops before the entry the status is that of its verdict, and where it has no such entry 2.
     match listing {
         Listing::Text(_) => 0,
         Listing::Stopped(verdict) => status_of(verdict),

@@ -1,4 +1,5 @@
 -- The method of a message and its body (RFC 3261, sections 8.1.1.5, 18.3 and 20.14).
+-- The numbers before colons, as 8 to 11, are those of the faults (reason_number in Reason.antt).
 use Rattle.std.specs.Prelude.{◌≡◌, ℕ, ◌≤◌, true, List, [], ◌∷◌, length, take, Option, None, Some, IfSome, is_some, ⊤}
 use Rattle.std.specs.Str.Parse.{digits_value}
 use Rattle.sip_standard.specs.Text.{◌or◌}

@@ -22,7 +22,7 @@ is_among chars byte = list_any (λ b. b == byte) (codes chars)
 abbrev pub is_alphanum_or : String → ℕ → Bool
 is_alphanum_or chars byte = is_ascii_alphanumeric byte || is_among chars byte
 
--- P is part: a text of P that is this part
+-- P is part: a text of P that is this part; `is` binds closer than `then` (`infixr`)
 infixr 50 ◌is◌
 abbrev pub ◌is◌ : (List ℕ → Type 0) → List ℕ → List ℕ → Type 0
 (P is part) text = P text × (part ≡ text)

@@ -1,5 +1,6 @@
 -- The fields of a message (RFC 3261, sections 7.3 and 20): each by itself, and which must stand, and which once.
 -- "Lenient" marks where this profile takes more than the standard.
+-- The numbers before colons, as 4 and 5, are those of the faults (reason_number in Reason.antt).
 use Rattle.std.specs.Prelude.{◌≡◌, ℕ, ◌+◌, ◌≤◌, ◌||◌, ◌==◌, cond, Bool, List, [], ◌∷◌, length, map, filter, nat_le, codes, bytes_eq, if◌then◌else◌, ⊤}
 use Rattle.std.specs.Int.{is_in_range}
 use Rattle.std.specs.Char.{is_ascii_digit}

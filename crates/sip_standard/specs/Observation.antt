@@ -32,12 +32,12 @@ direction_of Failed = Some way.Sent
 direction_of Mark = None
 direction_of Restart = None
 
--- what is observed of an entry without a message: a mark concerns no key, and a restart of the element each of those before it
+-- what is observed of an entry without a message: a mark concerns no key, a restart each of those before it; its kind and transport stand for nothing
 abbrev pub silent_observation : Action → ℕ → List KeyParts → Observation KeyParts
 silent_observation Restart moment keys = record { fault = None; event = record { moment = moment; action = Restart; text = []; kind = Request Other; reliable = false }; keys = keys }
 silent_observation action moment keys = record { fault = None; event = record { moment = moment; action = Mark; text = []; kind = Request Other; reliable = false }; keys = [] }
 
--- nothing but its moment is seen of an entry whose message has a fault
+-- an entry whose message has a fault concerns no key; the kind and the transport of its event stand for nothing
 abbrev pub fault_observation : Item → Fault → Observation KeyParts
 fault_observation item fault =
     record { fault = Some fault; event = record { moment = item.moment; action = item.action; text = item.text; kind = Request Other; reliable = false }; keys = [] }

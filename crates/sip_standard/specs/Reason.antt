@@ -35,7 +35,7 @@ reason_name reason.ShortBody = codes "ShortBody"
 reason_name reason.LongBody = codes "LongBody"
 reason_name reason.NoCookie = codes "NoCookie"
 
--- the number of a log's fault
+-- the number of a log's fault, from 20 on, apart from those of messages
 abbrev pub log_reason_number : LogReason → ℕ
 log_reason_number Header = 20
 log_reason_number EntryLine = 21

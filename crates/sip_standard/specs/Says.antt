@@ -1,4 +1,5 @@
 -- What bytes say, or their first fault (RFC 3261, section 7).
+-- The numbers before colons, as 3 to 11, are those of the faults (reason_number in Reason.antt).
 use Rattle.std.specs.Prelude.{◌≡◌, ℕ, ◌&&◌, ◌==◌, not, List, [], ◌∷◌, ◌++◌}
 use Rattle.std.specs.List.{join_with_byte}
 use Rattle.sip_standard.specs.Text.{One, ◌or◌, Many}
@@ -47,7 +48,7 @@ ViasTell (value ∷ values) vias =
 abbrev pub IsFirstOf : List (List ℕ) → List ℕ → Type 0
 IsFirstOf values text = (more : List (List ℕ)) × (values ≡ text ∷ more)
 
--- what a start line and fields say together
+-- what a start line and fields say together; the byte 44 is the comma
 pub record FieldsTell (start : StartLine) (fields : List SaidField) (said : Said) : Type 0 where
   pub start_is : said.start ≡ start
   pub vias : ViasTell (said_values "via" fields) (said.via ∷ said.others)

@@ -3,7 +3,7 @@ use Rattle.std.specs.Prelude.{ℕ, List, ◌++◌, Option, None, Some, codes, de
 use Rattle.std.specs.Str.Parse.{digits_value}
 use Rattle.sip_standard.specs.Case.{folded}
 
--- the port as a number, 5060 where there is none
+-- the port as a number, 5060 where there is none, whatever the transport
 abbrev pub port_number : Option (List ℕ) → ℕ
 port_number None = 5060
 port_number (Some port) = digits_value 10 port

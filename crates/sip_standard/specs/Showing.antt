@@ -49,7 +49,7 @@ EndsAs count (e ∷ rest) end shown = (fault : Fault) × (has_message e.action �
 EndsAs count [] Clean shown = shown ≡ End count
 EndsAs count [] (Stops fault) shown = shown ≡ LogFault (count + 1) fault
 
--- what is shown of an input with a header
+-- what is shown of an input with a header: the input is a log of `items` and then `rest`; `front` is what is shown of `items`, and the last line follows
 pub record ShowsEntries (input text : List ℕ) (shown : Shown) : Type 0 where
   pub times : Times
   pub items : List Item

@@ -6,7 +6,7 @@ use Rattle.sip_standard.specs.declared.listing.Listing.TheVariants.{Text, Stoppe
 use Rattle.sip_standard.specs.declared.shown.Shown.{Shown}
 use Rattle.sip_standard.specs.declared.shown.Shown.TheVariants.{End, Malformed, LogFault}
 
--- the status of the program by its verdict
+-- the status of the program by its verdict: 0, all is well; 1, a message or a transaction is at fault; 2, the log cannot be read; 3, it is not decided
 abbrev pub status_of : Verdict → ℕ
 status_of (verdicts.Legal entries transactions) = 0
 status_of (verdicts.Malformed entry fault) = 1

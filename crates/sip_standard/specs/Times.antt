@@ -12,7 +12,7 @@ pub record Times : Type 0 where
   pub late : ℕ
   pub rules : Rules
 
--- the times are within the limits
+-- the times are within the limits of a log's header (own): 1 to 10,000 ms for T1, to 60,000 for T2 and T4, 0 to 10,000 for how early and how late
 pub record AreTimes (p : Times) : Type 0 where
   pub t1_low : 1 ≤ p.t1
   pub t1_high : p.t1 ≤ 10000
@@ -23,6 +23,6 @@ pub record AreTimes (p : Times) : Type 0 where
   pub early_high : p.early ≤ 10000
   pub late_high : p.late ≤ 10000
 
--- the last moment that a log can name, in milliseconds
+-- the last moment that a log can name, in milliseconds: the greatest number of 13 digits
 abbrev pub last_moment : ℕ
 last_moment = 9999999999999

@@ -19,5 +19,6 @@ field_by f (Flag name is) = Flag name is
 field_by f (Number name value) = Number name value
 field_by f (Message name message) = Message name (option_map f message)
 
+-- a phase in words with each message M replaced by what f makes of it
 abbrev pub told_by : {M N : Type 0} → (M → N) → Told M → Told N
 told_by f told = record { name = told.name; fields = map (field_by f) told.fields }

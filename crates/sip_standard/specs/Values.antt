@@ -18,7 +18,8 @@ Address =
     ((Lit "<" or (Display then Sws then Lit "<")) then Uri then Lit ">" then Params)
     or ((λ text. Uri text × Many (One (λ byte. not (is_among ",?;" byte))) text) then Params)
 
--- callid = word [ "@" word ]
+-- callid = word [ "@" word ], word = 1*( alphanum / "-" / "." / "!" / "%" / "*" / "_" / "+" / "`" / "'" / "~" / "(" / ")" / "<" / ">" / ":" / "\" / DQUOTE
+-- / "/" / "[" / "]" / "?" / "{" / "}" ): 0x5C is "\", and 0x22 is DQUOTE
 abbrev pub CallId : List ℕ → Type 0
 CallId =
     let Word = OneOrMore (One (λ byte. is_ascii_alphanumeric byte || is_among "-.!%*_+`'~()<>:/[]?{}" byte || byte == 0x5C || byte == 0x22)) in

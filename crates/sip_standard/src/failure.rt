@@ -43,6 +43,7 @@ impl Failure {
 }
 
 impl From<AllocError> for Failure {
+    // A refused growth is told as `Memory`.
     ghost from_gives = { λ _ failure. failure ≡ Memory };
 
     fn from(_: AllocError) -> Failure {
@@ -51,6 +52,7 @@ impl From<AllocError> for Failure {
 }
 
 impl From<Broken> for Failure {
+    // What is broken is the output: the answer cannot be written.
     ghost from_gives = { λ _ failure. failure ≡ Write };
 
     fn from(_: Broken) -> Failure {
@@ -59,6 +61,7 @@ impl From<Broken> for Failure {
 }
 
 impl From<JudgeError> for Failure {
+    // A log that could not be judged is told as `failure_of` says.
     ghost from_gives = { λ error failure. failure ≡ failure_of error };
 
     fn from(error: JudgeError) -> Failure {
@@ -70,6 +73,7 @@ impl From<JudgeError> for Failure {
 }
 
 impl From<ShowError> for Failure {
+    // A log that could not be shown is told as `failure_to_show` says.
     ghost from_gives = { λ error failure. failure ≡ failure_to_show error };
 
     fn from(error: ShowError) -> Failure {

@@ -16,6 +16,7 @@ pub enum Unit {
     Body,
 }
 
+// The words in which a `Fault` is printed begin with where it is.
 impl fmt::Display for Unit {
     fn fmt<W: fmt::Write>(&self, f: &mut fmt::Formatter<W>) -> fmt::Result {
         match self {
@@ -97,6 +98,7 @@ impl Reason {
     }
 }
 
+// The words in which a `Fault` is printed go on with what is wrong.
 impl fmt::Display for Reason {
     fn fmt<W: fmt::Write>(&self, f: &mut fmt::Formatter<W>) -> fmt::Result {
         f.write_str(match self {

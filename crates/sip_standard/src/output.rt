@@ -1,4 +1,4 @@
-//! Where the answer goes.
+//! Where the answer goes. In contracts `⟦<Output<W> as Sink>⟧` is what an output has as a sink.
 ghost use Rattle.std.specs.Prelude.{◌≡◌, true, false, IfOk, IfErr, OnOk, OnErr};
 ghost use Rattle.std.specs.IoError.{error_kind};
 ghost use Rattle.std.specs.Io.Buffered.{writer_contents};
@@ -50,8 +50,10 @@ impl<W: Write + Drop> Output<W> {
 }
 
 impl<W: Write + Drop> Sink for Output<W> {
+    // The bytes that were put: those that the writer has, and those that are kept for it.
     ghost written = { λ output. writer_contents W.contents output.writer };
 
+    // It has failed where some `put` or `flush` has.
     ghost has_failed = { λ output. output.failed };
 
     fn put(&mut self, bytes: &[u8]) -> Result<(), Broken> {

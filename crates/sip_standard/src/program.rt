@@ -1,4 +1,5 @@
-//! What is proved of the program's `run`: its contract, word for word, over this crate alone.
+//! What is proved of the program's `run`: its contract, word for word, over this crate alone. In it `⟦<Output<W> as Sink>⟧` is what an output has as a
+//! sink: what it has written, and whether it has failed.
 ghost use Rattle.std.specs.Prelude.{◌≡◌, None, false, true, IfSome, OnOk, IfOk, IsErrOf};
 ghost use Rattle.sip_standard.specs.Answers.{IsAnswerTo};
 ghost use Rattle.sip_standard.specs.Asked.{IsAskedBy};

@@ -23,6 +23,7 @@ pub enum ShowError {
 }
 
 impl From<JudgeError> for ShowError {
+    // What kept a log from being judged keeps it from being shown: `unshown` says which error it is.
     ghost from_gives = { λ error e. e ≡ unshown error };
 
     fn from(error: JudgeError) -> ShowError {
@@ -34,6 +35,7 @@ impl From<JudgeError> for ShowError {
 }
 
 impl From<Broken> for ShowError {
+    // What is broken here is the sink.
     ghost from_gives = { λ _ e. e ≡ Write };
 
     fn from(_: Broken) -> ShowError {
@@ -42,6 +44,7 @@ impl From<Broken> for ShowError {
 }
 
 impl From<AllocError> for ShowError {
+    // A refused growth is told as `Memory`.
     ghost from_gives = { λ _ e. e ≡ Memory };
 
     fn from(_: AllocError) -> ShowError {

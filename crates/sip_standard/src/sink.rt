@@ -25,6 +25,7 @@ pub trait Sink {
 
 /// A sink through a reference to it.
 impl<S: Sink> Sink for &mut S {
+    // Through the reference it has taken and failed as the sink itself.
     ghost written = { λ s. S.written s.now };
 
     ghost has_failed = { λ s. S.has_failed s.now };

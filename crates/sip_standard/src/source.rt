@@ -25,6 +25,7 @@ pub trait Source {
 
 /// A source through a reference to it.
 impl<S: Source> Source for &mut S {
+    // Through the reference it hands out and fails as the source itself.
     ghost left = { λ s. S.left s.now };
 
     ghost has_failed = { λ s. S.has_failed s.now };
@@ -40,6 +41,7 @@ impl<S: Source> Source for &mut S {
 
 /// A source of the bytes of a slice, of which no call fails.
 impl<'a> Source for &'a [u8] {
+    // It hands out the bytes of the slice that are left, which are known, and it never fails.
     ghost left = { λ s. Some s.now };
 
     ghost has_failed = { λ _. false };

@@ -54,7 +54,7 @@ pub record RunGives {X : Type 0} (r : MachineRules X) (S : X → Type 0) (e : Ma
 abbrev pub IsAgenda : {X : Type 0} → MachineRules X → (X → Type 0) → ℕ → Option ℕ → Type 0
 IsAgenda {X} r S h limit = (m : ℕ) → h ≤ m → ((y : X) × Wait r S h m y) ↔ IsWithin m limit
 
--- how many last states of a run are followed
+-- how many last states of a run are followed (own: where there are more, the log is undecided)
 abbrev pub widest : ℕ
 widest = 1024
 

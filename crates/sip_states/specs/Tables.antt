@@ -14,7 +14,7 @@ pub record Tabled : Type 0 where
   pub sets : List AnySet
   pub records : Records
 
--- how many keys there may be
+-- how many keys there may be: an entry begins at most two transactions, and a log has at most 1,000,000 entries
 abbrev pub most_keys : ℕ
 most_keys = 2000000
 

@@ -39,7 +39,7 @@ fn is_overdue(kept: Option<Option<u64>>, moment: u64) -> bool
     }
 }
 
-/// Puts the last moment of the index into the order.
+/// Puts the last moment of the index into the order, if it has one.
 fn enter(
     order: &mut BTreeSet<(u64, usize)>,
     index: usize,
@@ -135,6 +135,7 @@ impl Agenda {
         if older == Some(limit) {
             return Ok(());
         }
+        // What can be refused is done first: so an error leaves all as it was.
         let record = Recorded::settled(limit)?;
         enter(&mut self.order, index, limit)?;
         leave(&mut self.order, index, older.flatten());

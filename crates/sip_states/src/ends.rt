@@ -8,7 +8,7 @@ ghost use Rattle.sip_states.specs.inner.Ways.{is_within, IsFirstEnd, CanEnd, Som
 use sip_machine::{Machine, Phase, Pool};
 use std::alloc::AllocError;
 
-/// Whether the moment is within the limit, which none is past where there is no limit.
+/// Whether the moment is not past the limit; where there is no limit, no moment is.
 pub(crate) fn is_within(moment: u64, limit: Option<u64>) -> bool
     ensures { result ≡ is_within moment limit }
 {
@@ -71,6 +71,7 @@ fn keep_waiting<M: Machine>(machine: &M, pool: &mut Pool<M::Phase>, moment: u64)
     requires { All M.in_range pool.old }
     ensures { pool.new ≡ filter (λ x. is_within moment (M.until machine.now x)) pool.old }
 {
+    // The states that can wait are moved to the front, in their order, and the rest is cut off.
     let mut kept = 0;
     for at in 0..pool.len() {
         if is_within(moment, machine.until(pool, at)) {

@@ -10,6 +10,7 @@ use std::hash::{BuildHasher, Hash};
 pub fn keep_each<T: Drop>(items: &mut Vec<T>, flags: &[bool])
     ensures { items.new.items ≡ kept_of flags.now items.old.items }
 {
+    // `count` elements are kept so far: they stand at the front, in their order.
     let mut count = 0;
     for at in 0..flags.len().min(items.len()) {
         if flags[at] {
@@ -28,6 +29,7 @@ pub(crate) fn keep_entries<K: Eq + Hash + Drop, V: Drop, H: BuildHasher>(
     requires { length flags.now ≡ index_map_len map.old }
     ensures { map.new.entries ≡ kept_of flags.now map.old.entries }
 {
+    // `count` entries are kept so far: they stand at the front, in their order.
     let mut count = 0;
     for at in 0..flags.len() {
         if flags[at] {

@@ -67,6 +67,7 @@ impl Marks {
         let index = self.order.len() as u32;
         self.order.push(index)?;
         if self.places.push(index).is_err() {
+            // Without room for its place the new index leaves the order again.
             self.order.pop();
             return Err(AllocError);
         }

@@ -18,6 +18,7 @@ impl Model for Moment {
     // A moment means the number whose digits to the base 2^16 it has.
     ghost Value = { ℕ };
 
+    // 65536 is 2^16, and 4294967296 is 2^32.
     ghost view = { λ m. m.low + m.middle * 65536 + m.high * 4294967296 };
 }
 

@@ -57,10 +57,12 @@ pub(crate) fn find_given<M: Machine>(
     ensures before { take (length pool.old) pool.new ≡ pool.old }
 {
     let count = pool.len();
+    // Where no state can end before the event, the event leads on from the old states alone.
     if !some_can_end(machine, pool, from, event.moment()) {
         step_each(machine, book, pool, count, event)?;
         return Ok(count);
     }
+    // Else one can stand in the ended state too: it is put after the old ones, and the event leads on from them and from it.
     pool.push(machine.ended())?;
     let first = pool.len();
     step_each(machine, book, pool, count, event)?;
@@ -68,7 +70,7 @@ pub(crate) fn find_given<M: Machine>(
     Ok(first)
 }
 
-/// Puts the states to which the event leads from the first `count` states after the others. A state that cannot wait until the
+/// Puts the states to which the event leads from the first `count` states after the others (`found` in the contract). A state that cannot wait until the
 /// moment of the event leads to none. On an error some may have been put after the others.
 fn step_each<M: Machine>(
     machine: &M,

@@ -73,6 +73,7 @@ fn find_or_start<H: BuildHasher>(
                     entry.insert(set);
                     Ok(index)
                 }
+                // There is no memory for the set: the key is taken out of the entry, and dropped.
                 Err(refused) => {
                     entry.into_key();
                     Err(refused)
@@ -149,6 +150,7 @@ fn unmark_silent<H: BuildHasher>(
     ensures same { sets.new ≡ sets.old }
 {
     let mut numbers = Vec::new(*sets.allocator());
+    // From the last place on: an index that loses its mark changes places with the last marked one, which was looked at before.
     for place in (0..marks.named().len()).rev() {
         if let Some(index) = marks.named().get(place).copied() {
             let index = index as usize;
@@ -173,6 +175,7 @@ fn unmark_quiet<H: BuildHasher>(marks: &mut Marks, sets: &mut IndexMap<Key, AnyS
     ensures moved { AreMoved marks.new.moved marks.new.named (values sets.old) }
     ensures same { sets.new ≡ sets.old }
 {
+    // From the last place on: an index that loses its mark changes places with the last marked one, which was looked at before.
     for place in (0..marks.moved().len()).rev() {
         if let Some(index) = marks.moved().get(place).copied() {
             let index = index as usize;
@@ -207,12 +210,14 @@ impl<H: BuildHasher> Tables<H> {
         ensures given { IfOk result (IsGiven self.new) }
         ensures err { OnErr result (self.new ≡ self.old) }
     {
+        // A key that was there has an index below `count`, the number of keys before.
         let count = self.sets.len();
         let index = find_or_start(&mut self.sets, self.params, key)?;
         if index < count {
             return Ok(index as u64 + 1);
         }
         if let Err(refused) = push_index(&mut self.agenda, &mut self.marks) {
+            // Without room for its index the new key is dropped again, with its set.
             self.sets.truncate(count);
             return Err(refused);
         }
@@ -227,7 +232,8 @@ impl<H: BuildHasher> Tables<H> {
         &self.sets[number as usize - 1]
     }
 
-    /// The set of the key with this number, which the caller may change.
+    /// The set of the key with this number, which the caller may change. Once the borrow ends, the tables have what was left in it, and all
+    /// else is as before (`LendsSet`).
     pub fn set_mut(&mut self, number: u64) -> &mut AnySet
         requires { IsGiven self.old number }
         ensures* writes_back { sem 𝓛 (LendsSet H.row H.Hasher.row H.BuildHasher H.Hasher.Hasher self.entry number result) }
@@ -298,6 +304,7 @@ impl<H: BuildHasher> Tables<H> {
         ensures err { OnErr result (AdvancesSome moment self.old self.new) }
     {
         let alloc = *self.sets.allocator();
+        // All sets are marked, so the moved ones are all.
         let marks = Marks::all(alloc, self.sets.len())?;
         self.marks = marks;
         advance_each(&mut self.sets, self.marks.moved(), moment)?;
@@ -309,6 +316,7 @@ impl<H: BuildHasher> Tables<H> {
         ensures ok { OnOk result (AppendsNamed self.now out.old.items out.new.items) }
         ensures err { OnErr result (out.new.items ≡ out.old.items) }
     {
+        // The sets that are not marked as named name nothing.
         let mut found = Vec::new(*out.allocator());
         for index in self.marks.named() {
             self.sets[*index as usize].names(&mut found)?;
@@ -344,6 +352,7 @@ impl<H: BuildHasher> Tables<H> {
     {
         let alloc = *self.sets.allocator();
         let agenda = self.agenda.kept(alloc, flags)?;
+        // The sets that are kept have new indices: all are marked, since what was marked is not known of these.
         let marks = Marks::all(alloc, agenda.len())?;
         keep_entries(&mut self.sets, flags);
         self.agenda = agenda;
@@ -373,6 +382,7 @@ impl<H: BuildHasher> Tables<H> {
         ensures sets { length self.now.sets ≡ length self.now.keys }
         ensures records { length self.now.records ≡ length self.now.keys }
     {
+        // It does nothing: what the contract says holds of all tables at all times.
         let _ = self.sets.len();
     }
 

@@ -28,7 +28,7 @@ pub answered_to : {E : Type 0} (known : Option (List (List ℕ))) (words : List 
     → IfOk r (IsSurveyed asked.forget asked.part (log_for asked.log now after_words) before after) → IfOk r (λ status. IfSome known (λ told. IsAnswerTo told input file before after status))
 answered_to known words asked (Err e) now input after_words file before after told asks same files written = tt
 answered_to None words asked (Ok status) now input after_words file before after told asks same files written = tt
--- the words are those that are known, and so are the input and the file
+-- `told` says that the words are those that are known, `same` that the input is the one of the system, and `files` that its files are
 answered_to (Some known) words asked (Ok status) now input after_words file before after told asks same files written = record {
   asked = asked;
   is_asked = subst (λ w. IsAskedBy w (Some asked)) told asks;

@@ -24,6 +24,7 @@ abbrev Forgetting : Asked → Option ℕ → List (List ℕ)
 Forgetting asked forget = forget_words forget ++ part_words asked.part ++ log_words asked.log
 
 -- words that do not begin with `--forget` ask for what their rest asks for, by a survey that forgets nothing
+-- `is`, `part` and `none` say of what the rest asks for: its words, that its part can be named, and that it forgets nothing
 pub without_forget : (words : List (List ℕ)) (r : Option Asked) → begin_with (codes "--forget") words ≡ false → IsRestFor None words r → IsAskedBy words r
 without_forget words (Some asked) other (is, part, none) =
     (is ∙ ap (Forgetting asked) (sym none), (part, subst (λ o. IfSome o (λ age. age < 2 ^ 32)) (sym none) tt))
@@ -65,6 +66,7 @@ forgets asked second more same =
         (age, is, next, rest)
 
 -- words of which the first is `--forget` and the second is the number `age` ask for what the others ask for, by a survey that forgets
+-- `whole` says what the words are, `low` that the age can be named, and `next` that the second word is the age
 pub with_forget : (words : List (List ℕ)) (second : List ℕ) (more : List (List ℕ)) (age : ℕ) (r : Option Asked) → words ≡ codes "--forget" ∷ second ∷ more → age < 2 ^ 32 → second ≡ decimal age → IsRestFor (Some age) more r → IsAskedBy words r
 with_forget words second more age (Some asked) whole low next (is, part, forget) = (
   whole ∙ ap (λ w. codes "--forget" ∷ w ∷ more) next ∙ ap (λ ws. codes "--forget" ∷ decimal age ∷ ws) is ∙ ap (Forgetting asked) (sym forget),

@@ -23,17 +23,19 @@ digit_lacks d = by (nat_eq (48 + d) 47) refl
     by false e = e
 
 -- a number in digits has no slash
+-- by steps: a number below 10 is one digit, and a greater one is its front and its last digit
 decimal_lacks : (n : ℕ) → n < 2 ^ 64 → Lacks 47 (decimal n)
 decimal_lacks n low = decimal_by_steps (λ m ds. Lacks 47 ds) (λ m few. (digit_lacks m, tt)) (λ m ds many lacks. lacks-append 47 ds ((48 + m % 10) ∷ []) lacks (digit_lacks (m % 10), tt)) n low
 
 -- where a text without a slash stands before a slash, the first slash stands at the text's length
+-- `xs` is the text before the slash and `ys` the text after it
 slash_at : (xs ys : List ℕ) → Lacks 47 xs → position_or_len is_slash (xs ++ 47 ∷ ys) ≡ length xs
 slash_at [] ys lacks = refl
 slash_at (x ∷ xs) ys (other, lacks) =
     let on = slash_at xs ys lacks in
     ap (λ b. cond (not b) (1 + position_or_len is_slash (xs ++ 47 ∷ ys)) 0) other ∙ omega (arith, on)
 
--- What follows is of a word of two numbers, k and n, with a slash between them.
+-- What follows is of a word of two numbers, k and n, with a slash between them (the byte 47).
 module _ (k n : ℕ) (low : k < 2 ^ 64) where
   -- the first slash of K/N comes right after K
   at : position_or_len is_slash (decimal k ++ 47 ∷ decimal n) ≡ length (decimal k)
@@ -61,7 +63,7 @@ split_slash word within =
     by : (b : ℕ) → not (is_slash b) ≡ false → b ≡ 47
     by b is = or_not (is_slash b) refl is
       where
-        -- a byte that the test calls a slash is one
+        -- a byte that the test calls a slash is one, and any other one does not stop the part
         or_not : (t : Bool) → is_slash b ≡ t → not t ≡ false → b ≡ 47
         or_not true e fails = eqb-true b 47 e
         or_not false e fails = absurd (cc)

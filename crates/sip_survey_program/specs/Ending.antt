@@ -1,4 +1,5 @@
--- How the program ends: its status, and what it tells on the standard error.
+-- How the program ends: its status, and what it tells on the standard error. In the definitions `before` and `after` are what was written to the output
+-- before the run and after it, and the words, the input and the files are those of the system; each is None where it is not known.
 use Rattle.std.specs.Prelude.{◌≡◌, ℕ, Bool, true, false, List, [], Option, None, IfSome, Result, Ok, Err, ⊤}
 use Rattle.std.specs.Io.KnownBytes.{Appends}
 use Rattle.sip_survey_program.specs.declared.failure.Failure.{Failure}

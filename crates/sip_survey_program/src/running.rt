@@ -38,6 +38,7 @@ fn write_survey<S: System, W: Sink, H: BuildHasher + Drop>(
 {
     if let Some(age) = asked.forget {
         let age = u64::from(age);
+        // A survey that forgets is given the part too, if there is one.
         return survey_forgetting(alloc, system, writer, seed, asked.part.as_ref(), age);
     }
     match &asked.part {
@@ -58,6 +59,7 @@ fn answer<S: System, W: Sink>(
     ensures fine { OnOk result ((S.has_failed system.new ≡ false) × (W.has_failed writer.new ≡ W.has_failed writer.old)) }
     ensures err { IfErr result (Blames (S.has_failed system.new) (W.has_failed writer.new)) }
 {
+    // The log is the standard input, unless the words name a file, which is opened in its place.
     let seed = system.seed().map_err(read_failure)?;
     if let Log::File(path) = asked.log {
         system.open(path).map_err(read_failure)?;

@@ -19,6 +19,7 @@ pub fn read_quoted(text: &[u8]) -> Option<usize>
     let inner = past(&text[open..], b'"')?;
     let close = contents_len(inner);
     past(&inner[close..], b'"')?;
+    // The two quotes have a byte each.
     Some(open + close + 2)
 }
 

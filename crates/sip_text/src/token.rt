@@ -28,6 +28,7 @@ pub fn token_len(text: &[u8]) -> usize
         }
         at += BLOCK;
     }
+    // The last 16 bytes are looked at as a block of their own, of which some may have been looked at before.
     last + block_len(text, last)
 }
 
@@ -61,6 +62,7 @@ fn block_len(text: &[u8], at: usize) -> usize
     ensures within { result ≤ BLOCK }
 {
     let block = u8x16::from_slice(&text[at..]);
+    // A byte whose two entries share no bit is none of a token; the lowest bit that is set is that of the first such byte.
     let others = (by_low(block) & by_high(block))
         .simd_eq(u8x16::splat(0))
         .to_bitmask();

@@ -24,12 +24,15 @@ impl Model for Params {
     ghost use Rattle.sip_standard.specs.Times.{Times, AreTimes};
     ghost use Rattle.sip_times.specs.Times.{lateness_of, times_of};
 
+    // Contracts see params as `Times`, each number by its name.
     ghost Value = { Times };
 
     ghost view = { λ p. times_of p.t1 p.t2 p.t4 p.early p.lateness };
 
+    // At all times the numbers are within their limits.
     ghost invariant = { λ p. AreTimes (times_of p.t1 p.t2 p.t4 p.early p.lateness) };
 
+    // The params that stand for these times.
     ghost inverse = { λ p. record { t1 = p.t1; t2 = p.t2; t4 = p.t4; early = p.early; lateness = lateness_of p.late p.rules } };
 }
 
@@ -51,6 +54,7 @@ impl Params {
             (¬ (AreTimes (record { t1 = t1; t2 = t2; t4 = t4; early = early; late = late; rules = R6026 })))
             (λ p. AreTimes p × (p ≡ record { t1 = t1; t2 = t2; t4 = t4; early = early; late = late; rules = R6026 })) }
     {
+        // The limits of T1, T2 and T4 are 10, 60 and 60 seconds, and those of the tolerances 10 seconds.
         let within = (1..=10_000).contains(&t1)
             && (1..=60_000).contains(&t2)
             && (1..=60_000).contains(&t4)
@@ -75,6 +79,7 @@ impl Params {
         ensures within { AreTimes result }
     {
         let late = self.late() as u16;
+        // 0x8000, which is 32,768, is above each lateness, and added to it for the rules of RFC 3261.
         let lateness = match rules {
             Rules::R6026 => late,
             Rules::R3261 => late + 0x8000,

@@ -12,7 +12,7 @@ use Rattle.sip_standard.specs.Observation.{Observation, direction_of}
 use Rattle.sip_standard.specs.Seen.{AreSeen}
 use Rattle.sip_standard.specs.VerdictOf.{keys_in, RunsOver, IsWideAt}
 
--- the entry after these is in no trouble: its message has no fault, each key that it concerns has a run, and no transaction is too wide
+-- the entry after these is in no trouble: its message has no fault, each transaction so far has a run over it, and none is too wide at it
 pub record IsFine (p : Times) (front : List (Observation KeyParts)) (e : Observation KeyParts) : Type 0 where
   pub formed : e.fault ≡ None
   pub runs : All (RunsOver p (front ++ e ∷ [])) (keys_in (front ++ e ∷ []))

@@ -33,6 +33,7 @@ fn is_past<H: BuildHasher>(
     ensures { (set : AnySetValue) (h : HistoryValue) → slice_get tables.now.sets (number - 1) ≡ Some set → slice_get histories.now.each.items (number - 1) ≡ Some h
         → IsTrue result ↔ IsPast until histories.now.restart set h }
 {
+    // A restart may be the last entry that concerns the transaction. A transaction without a history is kept.
     match histories.each.get(number as usize - 1) {
         Some(history) => {
             tables.set(number).is_quiet() && history.last.max(histories.restart) <= until

@@ -29,6 +29,7 @@ pub fn survey_bytes<H: BuildHasher + Drop>(
             let mut survey = Survey::new(alloc, params, hasher);
             gather_entries(alloc, &mut survey, &mut progress, &mut left)
         }
+        // Without a header nothing is found, and the fault is one of entry 0.
         Err(_) => {
             let reason = LogReason::Header;
             Ok((Vec::new(alloc), SurveyEnd::LogFault { entry: 0, reason }))
@@ -62,7 +63,9 @@ fn gather_entries<R: Source, H: BuildHasher + Drop>(
                 survey.entry(&entry, &mut found)?;
                 buffer = entry.bytes;
             }
+            // The survey has not failed, so that it has an end.
             Next::End => return Ok((found, survey.end().unwrap())),
+            // The fault comes at the entry after the last one that was read.
             Next::Fault(reason) => {
                 let entry = count + 1;
                 return Ok((found, SurveyEnd::LogFault { entry, reason }));

@@ -63,6 +63,7 @@ impl Histories {
         ensures noted { OnOk result (Notes entry.now.number entry.now.bytes.items number self.old.each.items self.new.each.items) }
         ensures restart { self.new.restart ≡ self.old.restart }
     {
+        // A transaction with a history gets its last entry; a new one gets a history, of which this is the first entry too.
         let index = number as usize - 1;
         if index < self.each.len() {
             self.each[index].last = entry.number;
@@ -88,6 +89,7 @@ impl Histories {
         ensures noted { OnOk result (NotesEach entry.now.number entry.now.bytes.items (each numbers) self.old.each.items self.new.each.items) }
         ensures restart { self.new.restart ≡ self.old.restart }
     {
+        // A restart, which concerns all, is not written into each history: `restart` has its number.
         match numbers {
             Concerned::None | Concerned::All => Ok(()),
             Concerned::Own(own) => self.note(alloc, own, entry),

@@ -44,6 +44,7 @@ impl Horizon {
         ensures horizon { (es : List (Observation KeyParts)) → IsHorizonOf self.old es → number ≡ length es → moment ≡ newest_moment es → IsHorizonOf self.new es }
         ensures age { self.new.age ≡ self.old.age }
     {
+        // Once the later entry is `age` old, it takes the place of `until`, and the newest entry becomes the later one.
         if moment >= self.moment && moment - self.moment >= self.age {
             self.until = self.number;
             self.number = number;
@@ -56,6 +57,7 @@ impl Horizon {
     pub(crate) fn are_due(&self, transactions: u64) -> bool
         ensures { IsTrue result ↔ ((self.now.until ≢ 0) × (64 ≤ transactions) × (self.now.left + self.now.left ≤ transactions)) }
     {
+        // Nothing may be forgotten where `until` is 0.
         self.until != 0 && transactions >= LEAST && transactions / 2 >= self.left
     }
 }

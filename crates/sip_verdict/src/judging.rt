@@ -26,6 +26,7 @@ pub fn judge<R: Source, H: BuildHasher + Drop>(
 {
     match walk(alloc, reader, hasher, Aim::End)? {
         Err(verdict) => Ok(verdict),
+        // Only a walk to an entry answers a listing.
         Ok(_) => unreachable!(),
     }
 }

@@ -14,6 +14,7 @@ pub(crate) fn listing_after(verdict: Verdict) -> Listing
     ensures { result ≡ listed_after verdict }
 {
     match verdict {
+        // A legal log ended before it had an entry with the number that was asked.
         Verdict::Legal { .. } => Listing::NoEntry,
         _ => Listing::Stopped(verdict),
     }

@@ -45,6 +45,7 @@ impl Outcome {
         ensures { result ≡ first_of self other }
     {
         match (self, other) {
+            // Where one group is fine, the outcome is the other's. To have no run comes before too many states; of two alike the smaller number comes first.
             (Outcome::Fine, one) | (one, Outcome::Fine) => one,
             (Outcome::NoRun(one), Outcome::NoRun(two)) => Outcome::NoRun(one.min(two)),
             (Outcome::NoRun(one), _) | (_, Outcome::NoRun(one)) => Outcome::NoRun(one),
@@ -71,6 +72,7 @@ pub(crate) fn hear(
         → IsStepped (key_rules p machine) events (event_in book.now event.now) (λ es. LeadsOf book.now p machine es event.now.moment set.new) (λ e. StandsOf book.now p machine events e set.new) outcome) }
 {
     match set.take(book, event) {
+        // No state of the set takes the event, so that no run is left.
         Ok(()) if set.is_empty() => Ok(Outcome::NoRun(number)),
         Ok(()) => Ok(Outcome::Fine),
         Err(TakeError::TooMany) => Ok(Outcome::TooWide(number)),
@@ -137,6 +139,7 @@ fn restart<H: BuildHasher>(
     ensures heard { IfOk result (λ outcome. MayPass book.now tables.new event.now.moment
         × ((numbers : List ℕ) × AreHearers tables.old Concerned.All numbers × HearsEach book.now event.now numbers tables.old others tables.new outcome)) }
 {
+    // The transactions that a restart may change hear it; those that it leaves quiet need not hear the next one.
     let numbers = tables.to_restart()?;
     let outcome = hear_all(tables, book, numbers.as_slice(), event, others)?;
     tables.restarted();
@@ -199,6 +202,7 @@ pub(crate) fn pass_all<H: BuildHasher>(
         → IsOutcome p (key_keeping book.now p) es e (transactions_of tables.new) outcome) }
     ensures others { IfOk result (λ outcome. LeavesOthers (option_copied hearing.entry) tables.old tables.new) }
 {
+    // A transaction that has waited longer than it can has no run, whatever the others hear.
     let overdue = overdue(tables, moment);
     let Some(hearing) = hearing else {
         return Ok(overdue);

@@ -106,6 +106,7 @@ fn restart<H: BuildHasher>(
     ensures heard { OnOk result ((numbers : List ℕ) × AreHearers tables.old Concerned.All numbers
         × HearsNumbers book.now event.now numbers tables.old troubled.old tables.new troubled.new) }
 {
+    // The transactions that a restart may change hear it; those that it leaves quiet need not hear the next one.
     let numbers = tables.to_restart()?;
     hear_numbers(tables, troubled, book, numbers.as_slice(), event)?;
     tables.restarted();

@@ -53,6 +53,7 @@ pub fn survey_forgetting<R: Source, W: Sink, H: BuildHasher + Drop>(
             let mut survey = Survey::new(alloc, params, hasher);
             write_on(alloc, &mut survey, &mut progress, reader, writer, part, age)
         }
+        // Without a header nothing is found, and the fault is one of entry 0.
         Err(_) => {
             let reason = LogReason::Header;
             let end = SurveyEnd::LogFault { entry: 0, reason };
@@ -108,7 +109,9 @@ fn write_on<R: Source, W: Sink, H: BuildHasher + Drop>(
                 horizon.note(entry.number, entry.moment);
                 buffer = entry.bytes;
             }
+            // The survey has not failed, so that it has an end.
             Next::End => return finish(alloc, writer, survey.end().unwrap(), counts),
+            // The fault comes at the entry after the last one that was read.
             Next::Fault(reason) => {
                 let entry = count + 1;
                 let end = SurveyEnd::LogFault { entry, reason };
@@ -137,6 +140,7 @@ fn forget_due<H: BuildHasher + Drop>(
     if !horizon.are_due(survey.transactions()) {
         return Ok(());
     }
+    // The horizon keeps how many transactions are left, by which it says when it is time again.
     survey.forget(horizon.until)?;
     horizon.left = survey.transactions();
     Ok(())

@@ -1,4 +1,4 @@
-//! The text of a verdict.
+//! The text of a verdict, of a finding, and of the last line of a survey or of a log that is shown.
 ghost use Rattle.std.specs.Prelude.{◌≡◌, ◌++◌, IfOk, OnOk, codes, decimal, string_bytes};
 ghost use Rattle.sip_standard.specs.Rendering.{rendered, rendered_unit};
 ghost use Rattle.sip_standard.specs.Showing.{last_text};

@@ -35,17 +35,20 @@ pub fn show<R: Source, W: Sink>(
 {
     let mut progress = match Progress::open(alloc, reader) {
         Ok((_, progress)) => progress,
+        // A header that cannot be read is the fault of entry 0.
         Err(error) => {
             let reason = reason_of(error)?;
             return finish(alloc, writer, Shown::LogFault { entry: 0, reason });
         }
     };
+    // `count` is the number of the last entry that was shown, and `form` has the canonical form of the message in hand.
     let mut count = 0;
     let mut buffer = Vec::new(alloc);
     let mut form = Vec::new(alloc);
     loop {
         let entry = match progress.next_into(buffer, reader) {
             Ok(Some(entry)) => entry,
+            // The log ends, or what comes after the last entry that was shown cannot be read.
             Ok(None) => return finish(alloc, writer, Shown::End { entries: count }),
             Err(error) => {
                 let reason = reason_of(error)?;
@@ -74,6 +77,7 @@ fn show_entry<W: Sink>(
     ensures { ShowsEntry entry.now.number (item entry.now) (W.written writer.old) (W.written writer.new) (W.has_failed writer.old) (W.has_failed writer.new) result }
 {
     form.clear();
+    // A message with a fault has no form, and nothing is written.
     match append_form(alloc, entry.action, entry.bytes.as_slice(), form) {
         Ok(()) => (),
         Err(ReadError::Fault(fault)) => return Ok(Some(fault)),
@@ -96,6 +100,7 @@ fn append_form(
     ensures form { OnOk result (IsCanonOf action bytes.now form.new.items) }
     ensures fault { IfErr result (HasNoForm action bytes.now) }
 {
+    // An entry with one of the first three actions has a message, and the others have none.
     match action {
         Action::Sent | Action::Received | Action::Failed => append_canonical(alloc, bytes, form),
         Action::Mark | Action::Restart => Ok(()),

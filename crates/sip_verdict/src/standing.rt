@@ -295,6 +295,7 @@ impl<H: BuildHasher> Standing<H> {
         let told = observe(alloc, &mut self.book, entry)?;
         self.book.known();
         match told {
+            // No transaction hears the entry, and for each of them time goes by.
             Observed::Unheard => {
                 let verdict = self.pass(entry.number, entry.moment, None)?;
                 Ok(Taken {
@@ -302,6 +303,7 @@ impl<H: BuildHasher> Standing<H> {
                     concerned: Concerned::None,
                 })
             }
+            // A message with a fault is a verdict by itself.
             Observed::Fault(fault) => Ok(Taken {
                 verdict: Some(Verdict::Malformed {
                     entry: entry.number,
@@ -309,6 +311,7 @@ impl<H: BuildHasher> Standing<H> {
                 }),
                 concerned: Concerned::None,
             }),
+            // All transactions hear a restart.
             Observed::Restart => {
                 self.tables.known();
                 let event = Event::restart(entry.moment);

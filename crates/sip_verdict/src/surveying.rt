@@ -91,6 +91,7 @@ fn survey_in<R: Source, W: Sink, H: BuildHasher + Drop>(
             let mut survey = Survey::new(alloc, params, hasher);
             write_entries(alloc, &mut survey, &mut progress, reader, writer, part)
         }
+        // Without a header nothing is found, and the fault is one of entry 0.
         Err(_) => {
             let reason = LogReason::Header;
             let end = SurveyEnd::LogFault { entry: 0, reason };
@@ -110,12 +111,14 @@ pub(crate) fn cut_to(
     ensures number { OnOk result (entry.new.number ≡ entry.old.number) }
     ensures moment { OnOk result (entry.new.moment ≡ entry.old.moment) }
 {
+    // The whole log is taken as it is, and of a part what has no message.
     let Some(part) = part else {
         return Ok(());
     };
     if direction_of(entry.action).is_none() {
         return Ok(());
     }
+    // A message that does not fall into the part makes place for a mark.
     if !part.has_message(alloc, entry.bytes.as_slice())? {
         entry.action = Action::Mark;
         entry.bytes.clear();
@@ -145,6 +148,7 @@ fn write_entries<R: Source, W: Sink, H: BuildHasher + Drop>(
     let mut buffer = Vec::new(alloc);
     let mut found = Vec::new(alloc);
     let mut counts = Counts::none();
+    // `count` is the number of the last entry that was read.
     let mut count = 0;
     loop {
         match read_taken(alloc, part, progress, buffer, reader)? {
@@ -161,7 +165,9 @@ fn write_entries<R: Source, W: Sink, H: BuildHasher + Drop>(
                 counts = put_findings(alloc, writer, survey, found.as_slice(), counts)?;
                 buffer = entry.bytes;
             }
+            // The survey has not failed, so that it has an end.
             Next::End => return finish(alloc, writer, survey.end().unwrap(), counts),
+            // The fault comes at the entry after the last one that was read.
             Next::Fault(reason) => {
                 let entry = count + 1;
                 let end = SurveyEnd::LogFault { entry, reason };

@@ -36,6 +36,7 @@ pub(crate) fn read_taken<R: Source>(
     ensures ok { OnOk result (R.has_failed reader.new ≡ R.has_failed reader.old) }
     ensures io { IsErrOf result JudgeError.Io → R.has_failed reader.new ≡ true }
 {
+    // Of a part, an entry with a message that stands whole among the bytes that were read is taken there; any other one is read, and then cut.
     if let Some(part) = part {
         if let Some(ahead) = progress.ahead() {
             let entry = take_ahead(alloc, part, &ahead, buffer)?;
@@ -66,6 +67,7 @@ fn read_cut<R: Source>(
 {
     match read_next(progress, buffer, reader)? {
         Next::Entry(entry) => {
+            // The entry is made anew of its parts, as in `walk`.
             let mut entry = Entry {
                 number: entry.number,
                 moment: entry.moment,
@@ -92,12 +94,14 @@ fn take_ahead(
     ensures moment { IfOk result (λ e. e.moment ≡ ahead.now.moment) }
     ensures taken { IfOk result (λ e. IsPartItem part.now (item_ahead ahead.now.action ahead.now.moment ahead.now.message.now) (item e)) }
 {
+    // An entry without a message stays as it is, and so does one whose message falls into the part.
     if direction_of(ahead.action).is_none() {
         return copy_ahead(ahead, buffer);
     }
     if part.has_message(alloc, ahead.message)? {
         return copy_ahead(ahead, buffer);
     }
+    // A message of another part is not copied.
     buffer.clear();
     Ok(Entry {
         number: ahead.number,

@@ -14,6 +14,7 @@ use sip_program::Host;
 use sip_survey_program::program;
 use std::process::ExitCode;
 
+// Joins the program to what std gives: its words, files and seeds, the standard input, and the standard output and error without a buffer.
 fn main(rt: HostRuntime) -> ExitCode {
     let mut errors = ToWrite::new(rt.stderr());
     let mut output = ToWrite::new(rt.stdout());

@@ -11,6 +11,7 @@ use sip_platform::StdPlatform;
 use sip_program::{Host, Output, end, program, read_failure};
 use std::process::ExitCode;
 
+// Joins the program to what std gives: its words, files and seeds, the standard input, the standard output through a buffer, and the standard error.
 fn main(rt: HostRuntime) -> ExitCode {
     let mut errors = ToWrite::new(rt.stderr());
     let status = match Output::new(rt.alloc(), rt.stdout()) {
@@ -18,6 +19,7 @@ fn main(rt: HostRuntime) -> ExitCode {
             let mut system = Host::new(StdPlatform::new(rt), rt.stdin());
             program(rt.alloc(), &mut system, &mut output, &mut errors)
         }
+        // Without memory for the output's buffer the program does not run, and ends as one that has no answer.
         Err(error) => end(Err(read_failure(error)), &mut errors),
     };
     ExitCode::from(status)

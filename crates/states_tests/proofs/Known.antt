@@ -27,18 +27,21 @@ moment-after moment old new (Ok x) at stays early = (let is = at.1 in omega arit
 moment-after moment old new (Err e) at stays early = subst (λ h. h.moment ≤ moment) (sym stays) early
 
 -- a set that has waited until a moment has that moment
+-- `a` is the set before and `b` after, and `s` and `t` are what they hold: `some_machine` gives the machine of `a`, and `of_sets` says that `b` is of the
+-- same one and what has become of `s` there (`HasWaited`)
 waits_moment : (moment : ℕ) (a b : AnySet) → SetWaits moment a b → moment_of b ≡ moment
 waits_moment moment a b waits =
     let (machine, s, is) = some_machine a in
     let (t, new, waited) = of_sets (λ X M S m x y. HasWaited m moment x y) machine s b (subst (λ set. SetWaits moment set b) is waits) in
     ap moment_of new ∙ moment_is machine t ∙ waited.at
 
--- where some sets have waited until the moment none is past it
+-- where some sets have waited until the moment, and the others are as they were, none is past it
 pub some_early : (moment : ℕ) (old new : Tabled) → AdvancesSome moment old new → All (λ set. moment_of set ≤ moment) old.sets → All (λ set. moment_of set ≤ moment) new.sets
 some_early moment old new some early n d low =
     let long = some.long in
     let before = get_or old.sets n d in
     let after = get_or new.sets n d in
+    -- `before` and `after` are what stands in the place n of the tables before the call and after it
     -- the set has waited until the moment, or is as it was
     elim (some.each n before after (slice_get-get_or old.sets n d (omega arith)) (slice_get-get_or new.sets n d low)) [
       | inl advanced ↦ elim advanced [

@@ -133,6 +133,7 @@ static ROWS: &[Row] = &[
         &[
             (0, Action::Received, INVITE),
             (0, Action::Sent, BUSY),
+            // Of the two states of this set, which last until 550 and until 1,540, the later last moment counts.
             (480, Action::Received, INVITE),
             (490, Action::Sent, BUSY),
         ],
@@ -140,11 +141,13 @@ static ROWS: &[Row] = &[
     ),
     (
         3,
+        // After its 200 no key has a last moment: the key 1 has a 180, and the key 2 a 200 as well.
         &[(0, Action::Received, INVITE), (0, Action::Sent, OK)],
         &[(u64::MAX, None)],
     ),
     (
         1,
+        // A key without a last moment may have one again, also a moment that is later than 32 bits can count.
         &[(1_000, Action::Received, INVITE)],
         &[(1_250, None), (1_251, Some(1))],
     ),

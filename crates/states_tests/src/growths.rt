@@ -234,6 +234,7 @@ static SENDS: &[Entry] = &[
     (9, Action::Sent, RINGING),
 ];
 
+/// A set that takes `SENDS`, each again where memory was refused.
 #[test]
 fn a_set_goes_on_after_a_refused_growth(rt: HostRuntime) -> Result<(), Fail> {
     play_again(&rt, &book(rt.alloc())?, SENDS, &[])
@@ -247,7 +248,8 @@ static REPEAT: &[Entry] = &[
     (490, Action::Sent, BUSY),
 ];
 
-/// A 486 answers a repeat of the INVITE, or is sent again by timer G, which fires by 540 or by 1490: the set has a state for each.
+/// The 486 at 490 answers the repeat of the INVITE, and then timer G still fires by 550; or it is that of timer G, which then fires by 1,540: the set has a
+/// state for each.
 #[test]
 fn a_repeat_goes_on_after_a_refused_growth(rt: HostRuntime) -> Result<(), Fail> {
     play_again(
@@ -283,6 +285,7 @@ fn touch_again(
     let touched = touch(rt.alloc(), tables, number)?;
     if touched.is_err() {
         is(rt, tables.len(), before, "the keys are as they were");
+        // At the last of all moments the least number with a last moment on record is due.
         is(rt, tables.due(u64::MAX), due, "no other key is due");
         is(
             rt,
@@ -303,6 +306,7 @@ fn touch_five_again(rt: &(impl Abort + AllocGlobal), tables: &mut Folded) -> Res
     Ok(())
 }
 
+/// Five new keys, each touched again where memory was refused.
 #[test]
 fn tables_go_on_after_a_refused_growth(rt: HostRuntime) -> Result<(), Fail> {
     let mut tables = empty(rt.alloc())?;
@@ -352,6 +356,7 @@ fn settle_invite_again(
     settle_again(rt, tables, number, moment.saturating_add(251))
 }
 
+/// Keys are settled one after another, the first one twice, each again where memory was refused.
 #[test]
 fn an_agenda_goes_on_after_a_refused_growth(rt: HostRuntime) -> Result<(), Fail> {
     let mut tables = empty(rt.alloc())?;

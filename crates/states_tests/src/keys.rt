@@ -50,6 +50,7 @@ pub(crate) fn touch<H: BuildHasher + Drop>(
     ensures { IfOk result (λ touched. IfOk touched (IsGiven tables.new)) }
 {
     let key = key(alloc, number)?;
+    // A log has at most 1,000,000 entries, each of which brings at most two transactions.
     if tables.len() >= 2_000_000 {
         return Err("full".into());
     }

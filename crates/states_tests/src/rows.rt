@@ -112,6 +112,7 @@ fn waits_so(
     waits_from(rt, &mut set, last, number, row)
 }
 
+/// Each row is taken by a new set.
 #[test]
 fn waits_as_timers_fire(rt: HostRuntime) -> Result<(), Fail> {
     let book = book(rt.alloc())?;

@@ -53,7 +53,7 @@ fn serve_all(alloc: Global, tables: &mut Folded) -> Result<(), Fail> {
     Ok(())
 }
 
-/// Appends the numbers that the tables name to a 9, again where memory was refused. It asserts that a refused call appends none, and
+/// Appends the numbers that the tables name to a list that has a 9, again where memory was refused. It asserts that a refused call appends none, and
 /// returns its answer.
 fn append_again(
     rt: &impl Abort,

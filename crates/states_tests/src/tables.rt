@@ -19,6 +19,7 @@ impl Hasher for Zero {
     // This hasher keeps nothing of what it is given.
     ghost write = { λ s _. s };
 
+    // Whatever was written, the hash is 0.
     ghost finish = { λ _. 0 };
 
     fn finish(&self) -> u64 {
@@ -35,6 +36,7 @@ struct AllZero;
 impl BuildHasher for AllZero {
     type Hasher = Zero;
 
+    // Contracts see such a hasher as a value without a field, as `Zero` is.
     ghost build_hasher = { λ _. record {} };
 
     fn build_hasher(&self) -> Zero {
@@ -105,6 +107,7 @@ fn tables_with<H: BuildHasher + Drop>(
     Ok(Tables::new(alloc, params.with_rules(rules), hasher))
 }
 
+/// With the hasher of std 200 keys are told apart.
 #[test]
 fn numbers_keys_by_a_hash(rt: HostRuntime) -> Result<(), Fail> {
     let hasher = BuildHasherDefault::<FoldHasher>::new();
@@ -112,12 +115,14 @@ fn numbers_keys_by_a_hash(rt: HostRuntime) -> Result<(), Fail> {
     numbers_200_keys(&rt, &mut tables_with(rt.alloc(), rules, hasher)?, rules)
 }
 
+/// Where all keys have one hash, they are told apart by their parts.
 #[test]
 fn numbers_keys_that_hash_alike(rt: HostRuntime) -> Result<(), Fail> {
     let rules = Rules::R6026;
     numbers_200_keys(&rt, &mut tables_with(rt.alloc(), rules, AllZero)?, rules)
 }
 
+/// By RFC 3261 alone the sets of INVITE transactions are of other machines.
 #[test]
 fn keys_have_the_machines_of_their_rules(rt: HostRuntime) -> Result<(), Fail> {
     let hasher = BuildHasherDefault::<FoldHasher>::new();

@@ -12,6 +12,7 @@ fn says(rt: &(impl Abort + AllocGlobal), error: TakeError, told: &str) -> Result
     Ok(())
 }
 
+/// A set can refuse an entry for two reasons.
 #[test]
 fn errors_say_what_is_wrong(rt: HostRuntime) -> Result<(), Fail> {
     says(&rt, TakeError::Memory, "out of memory")?;

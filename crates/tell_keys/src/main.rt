@@ -15,6 +15,7 @@ fn put_key<W: Write>(out: &mut W, key: &Key) -> io::Result<()> {
         Role::Server => b" server",
     })?;
     for text in [key.branch(), key.sent_by(), key.method()] {
+        // The key of a client has no sent-by.
         if !text.is_empty() {
             out.write_all(b" ")?;
             out.write_all(text)?;
@@ -23,9 +24,11 @@ fn put_key<W: Write>(out: &mut W, key: &Key) -> io::Result<()> {
     Ok(())
 }
 
+// Writes a line for each direction: the key of the message, or that it has none, and the key of the transaction that it cancels, if it cancels one.
 fn main(rt: HostRuntime) -> Result<()> {
     let mut bytes = Vec::new(rt.alloc());
     rt.stdin().read_to_end(&mut bytes)?;
+    // Bytes that are no message end the program with the fault, as each `?` here does with an error.
     let message = Message::read(rt.alloc(), bytes.as_slice())?;
     let mut out = rt.stdout();
     for (word, direction) in [("sent", Direction::Sent), ("received", Direction::Received)] {

@@ -13,15 +13,18 @@ static URIS: &[(&[u8], [&[u8]; 7])] = &[
     // A user may have marks that end a host, and a password may be empty.
     (b"sip:a;b@c", [b"sip", b"a;b", b"-", b"c", b"-", b"", b"-"]),
     (
+        // A scheme counts without case. A host may be an IPv6 reference, and stand without a user.
         b"SIPS:[::1]:5061",
         [b"sips", b"-", b"-", b"[::1]", b"5061", b"", b"-"],
     ),
     (b"sip:a:@b", [b"sip", b"a", b"", b"b", b"-", b"", b"-"]),
     (
+        // A user may have an escape and such marks, and a port a zero in front.
         b"sIp:%41?=/@1.2.3.4:05060",
         [b"sip", b"%41?=/", b"-", b"1.2.3.4", b"05060", b"", b"-"],
     ),
     (
+        // Parameters and headers may have escapes and brackets, and a header's value may be empty.
         b"sip:b;x=%7e;[y]:z?a=&[b]=:",
         [b"sip", b"-", b"-", b"b", b"-", b";x=%7e;[y]:z", b"a=&[b]=:"],
     ),

@@ -1,4 +1,5 @@
-//! A judge that takes the entries of a log one by one has the log's verdict: logs of each kind from `tests/worked/verdicts`.
+//! A judge that takes the entries of a log one by one has the log's verdict: logs of each kind from `tests/worked/verdicts`. They are spelled in the
+//! words of `notation.rt`: `S` sent, `R` received, `M` a mark and `Z` a restart, each with its moments; then a method, a branch and a code.
 use crate::notation::log_of;
 use crate::streams::verdict_by_entries;
 use crate::verdicts::Row;

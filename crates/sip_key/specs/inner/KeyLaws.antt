@@ -1,4 +1,5 @@
 -- Equal keys are the same.
+-- `λ i. f (e i)`: by the equation e, f of its left side is equal to f of its right side.
 use Rattle.std.specs.Prelude.{◌≡◌, ℕ, true, List, refl}
 use Rattle.std.specs.Bool.{Decides}
 use Rattle.std.specs.Cmp.{first_so, second_so}

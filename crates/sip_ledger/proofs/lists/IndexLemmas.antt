@@ -1,4 +1,5 @@
 -- Indexes as pairs of a key and a number, the order of the pairs, and how many numbers stand under a key.
+-- `unfolding` names the definitions that the proof of a lemma looks into.
 use Rattle.sip_ledger.proofs.Words.{◌≡◌, ◌==◌, ◌&&◌, ◌<◌, ◌≤◌, ℕ, Bool, true, false, List, [], ◌∷◌, cond, refl, sym, ap, ◌∙◌, arith, true≢false, ◌||◌, nat_le, count_by, is_at, nat_tests, sum_by-cons, count_under, holds, pair_cmp, length, is_eq, is_gt, BTreeSet, IsKeyRangeOf, IsLowerBound, IsUpperBound, Included, Unbounded, IsFrom, IsFirstFrom, NoneFrom}
 
 -- two pairs compare as equal exactly if both their numbers are equal
@@ -53,6 +54,7 @@ pub count_all : (pairs : List (ℕ × ℕ)) (key : ℕ) → count_from pairs key
 unfolding count_from
 count_all [] key = refl
 count_all (pair ∷ pairs) key =
+    -- the first pair counts alike on both sides, and so do the others
     let same : is_from key 0 pair ≡ (pair.0 == key) = grind (arith, nat_tests) in
     let one = ap counted same in
     let rest = count_all pairs key in
@@ -60,7 +62,9 @@ count_all (pair ∷ pairs) key =
     let right = sum_by-cons (λ p. cond (p.0 == key) 1 0) pair pairs in
     omega (arith, one, rest, left, right)
 
+-- What follows is of numbers under one key, counted from `from` on and from `to` on, which is not before it.
 module _ (key from to : ℕ) where
+  -- a pair that counts from `to` on counts from `from` on too
   counts-less : (pair : ℕ × ℕ) → from ≤ to → cond (is_from key to pair) 1 0 ≤ cond (is_from key from pair) 1 0
   counts-less pair low = grind (arith, nat_tests)
 
@@ -69,16 +73,21 @@ module _ (key from to : ℕ) where
   unfolding count_from
   count_less [] low = omega arith
   count_less (pair ∷ pairs) low =
+      -- the first pair counts no more from `to` on, and neither do the others
       let one = counts-less pair low in
       let rest = count_less pairs low in
       let left = sum_by-cons (λ p. cond (is_from key to p) 1 0) pair pairs in
       let right = sum_by-cons (λ p. cond (is_from key from p) 1 0) pair pairs in
       omega (arith, one, rest, left, right)
 
+  -- What follows is of a number from `from` on that is below `to`: it is passed where one goes on from `from` to `to`.
   module _ (number : ℕ) (after : from ≤ number) (before : number < to) where
+    -- the pair of the key and the passed number counts from `from` on, and not from `to` on
     counts-one : (pair : ℕ × ℕ) → (pair.0 == key && pair.1 == number) ≡ true → cond (is_from key to pair) 1 0 < cond (is_from key from pair) 1 0
     counts-one pair is = grind (arith, nat_tests)
 
+    -- one step of the next lemma: with one pair before the others, fewer are counted from `to` on, whether the pair is the passed one or that is among the
+    -- others
     passed-one : (pair : ℕ × ℕ) (pairs : List (ℕ × ℕ)) (b : Bool) → is_at (pair_cmp (key, number)) pair ≡ b →
         (holds pairs key number ≡ true → count_from pairs key to < count_from pairs key from) → (b || holds pairs key number) ≡ true →
         count_from (pair ∷ pairs) key to < count_from (pair ∷ pairs) key from

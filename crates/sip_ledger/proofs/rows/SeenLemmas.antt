@@ -1,4 +1,5 @@
 -- Accounts as contracts see them: a list of what each row owes, and the messages that rows owe.
+-- `unfolding` names the definitions that the proof of a lemma looks into.
 use Rattle.sip_ledger.proofs.Words.{◌≡◌, ℕ, ◌+◌, ◌<◌, ◌≤◌, ◌==◌, true, false, List, [], ◌∷◌, ◌++◌, length, get_or, map, refl, sym, ap, ◌∙◌, subst, inl, inr, arith, nat_tests, All, Contains, list_any, and-true, cases_eq, cases_lt, eqb-true, false_from_ne_true, le-leb, true≢false, append_assoc, get_or_append_left, get_or_default, get_or_push, length_push, All-map, Contains-append_left, Contains-push, Contains-push_cases, list_any_at, list_any_none, Debt, Account, Gains, Strike, AppendsOwed, owes_message, some_owes, is_payable, Rise, account_debts, accounts_debts, entries_of, entry_at, must_at, owes_at, holds, common_steps, ◌≢◌, take, set, IsTrue, Option, Some, None, IfSome, IfNone, Result, Ok, Err, IsErr, OnErr, ◌↔◌, is_err, is_some, eq-eqb, drop_min, All-weaker, sum_by-cons, debts_print, owed_in, softened_debt, AreAccounts, AreGains, IsAccount, IsFirstPayable, KeepsAccounts, pays_at, map-append, All-push, ◌^◌}
 use Rattle.sip_ledger.proofs.debts.ListedLemmas.{listed-each, listed-few, listed-same, listed-softened}
 use Rattle.sip_ledger.proofs.account.AccountLemmas.{debts_length, row-debts, changed, empty-debts, kept-all, must-below, over, owed-within, row-account, truncated, without-first_rows}
@@ -34,6 +35,7 @@ module _ {gains : Gains} {strikes : List Strike} {rows : List Account} {seen : L
   pub row-few : (row : ℕ) → AreAccounts gains strikes rows → accounts_debts gains strikes rows ≡ seen → row < length seen → length (owed_in seen row) < 2 ^ 64
   unfolding account_debts
   row-few row are view inside =
+      -- `none` stands for no account
       let none : Account = record { start = 0; end = 0; soft = 0; first = 0; last = 0; print = 0 } in
       let at = account-at row (get_or rows row none) are view inside (get_or_default rows row none (get_or rows row none) (row-inside row are view inside)) in
       grind (arith, at, listed-few, entries_long)
@@ -112,7 +114,7 @@ unfolding account_debts
 can-pay gains strikes a message t (Some place) is some none = grind (arith, nat_tests, listed-any, owed-within)
 can-pay gains strikes a message t None is some none = grind (arith, nat_tests, list_any_none, All-weaker, false_from_ne_true, unpaid-account)
 
--- what contracts see of rows, by their accounts
+-- lemmas for the prover under one name: what contracts see of rows, by their accounts
 pub ruleset of_rows = (debts_length, account-at, can-pay, truncated, on-err, on-error, over-to, unchanged, without-first_rows, drop_min)
 
 -- a send at moment 0 can pay each debt of its message
@@ -133,7 +135,7 @@ unfolding accounts_debts
 named-nowhere gains strikes rows message none =
     list_any_none (owes_message message) (map (account_debts gains strikes) rows) (All-map (λ owes. owes_message message owes ≡ false) (account_debts gains strikes) rows none)
 
--- nobody owes a message of which nothing is left
+-- an account owes nothing of a message of which nothing is left
 unleft-account : (gains : Gains) (strikes : List Strike) (a : Account) (message : ℕ) → ((k : ℕ) → holds gains.messages message k ≡ false) →
     owes_message message (account_debts gains strikes a) ≡ false
 unfolding account_debts
@@ -209,5 +211,5 @@ spanned gains strikes rows low high within =
     All-map (All (λ (debt : Debt). (low ≤ debt.message) × (debt.message ≤ high))) (account_debts gains strikes) rows
     (λ k d below. spanned-account gains strikes (get_or rows k d) low high within)
 
--- what is named, message by message
+-- lemmas for the prover under one name: what is named, message by message
 pub ruleset named_by_message = (named-all, named-more, named-past, unleft-unnamed, payable-owes, can-pay, named-here)

@@ -1,4 +1,5 @@
 -- Which gains the strikes of an account strike, once strikes are longer, written anew or looked for, and gains are let go: m is a message, and k a place.
+-- `unfolding` names the definitions that the proof of a lemma looks into. sm is the message of a strike, and mp that of the gain at a place.
 use Rattle.sip_ledger.proofs.Words.{◌≡◌, ◌≢◌, ℕ, zero, suc, ◌+◌, ◌-◌, ◌<◌, ◌≤◌, ◌==◌, ◌&&◌, ◌||◌, Bool, true, false, List, [], ◌∷◌, ◌++◌, length, take, drop, get_or, set, filter, refl, sym, ap, ap₂, ◌∙◌, subst, arith, nat_le, nat_lt, list_any, or-false, or_assoc, true≢false, nat_tests, list_any-append, list_any_at, take-append_seam, drop-append_seam, drop-append-le, drop-set-add, get_or_default, get_or-drop, length-drop, take-append-le, take-set-le, take_more, Account, Strike, Gains, IsWritten, Lengthens, Reaches, StrikeToo, entries_of, entry_at, is_left, is_struck, strikes_of, is_out, All, cases_eq, cases_lt, All-push, All-weaker, AreGains, AreKept, IsClearedTo, IsDropped, IsLetGo, StartFrom, owes_at, common_steps, map, max, false_from_ne_true, or_parts, append_assoc, map-append, All-get_or, All-nil, AreAppended, AreMoved, IsAccount, IsMoved, StrikesNoneFrom, account_debts, accounts_debts, holds}
 use Rattle.sip_ledger.proofs.gains.LeftLemmas.{held_left, gone-same}
 use Rattle.sip_ledger.proofs.account.AccountLemmas.{OwesAlike, dropped-alike, let_go-alike, over-all, past-end, kept-all, soft-must}
@@ -86,6 +87,7 @@ added-bound m mp place k old past none = grind (arith, nat_tests, struck-push, s
 -- where one of the strikes from `first` on is made longer, they strike the gain at the place too
 pub longer-too : (gains : Gains) (place first : ℕ) (old new : List Strike) → Lengthens gains place first old new → StrikeToo gains place first old new
 longer-too gains place first old new l =
+    -- s stands for no strike, `own` are the strikes from `first` on, and i is the place of the longer one among them
     let s : Strike = record { message = 0; from = 0; to = 0 } in
     let own = drop first old in
     let i = l.at - first in
@@ -143,7 +145,7 @@ pub out-struck : (xs : List Strike) (i m k : ℕ) (s : Strike) → i < length xs
 unfolding is_struck
 out-struck xs i m k s within out = grind (arith, nat_tests, list_any_at, out-parts m (get_or xs i s).message (get_or xs i s).from (get_or xs i s).to k out)
 
--- what some of the strikes strike
+-- lemmas for the prover under one name: what some of the strikes strike
 pub ruleset struck_by_some = (none-struck, out-struck, struck-more)
 
 -- AreAppended goes on with a strike that is written

@@ -52,6 +52,7 @@ pub(crate) fn owes(gains: &Gains, strikes: &[Strike], account: Account, place: u
     requires account { IsAccount gains.now strikes.now account }
     ensures { result ≡ owes_at gains.now strikes.now account place }
 {
+    // An account owes nothing before its start, and nothing from its end on.
     if place < account.start {
         return false;
     }
@@ -83,7 +84,8 @@ fn next(gains: &Gains, strikes: &[Strike], account: Account, from: usize) -> usi
     place
 }
 
-/// A number for a message and a deadline, which tells most apart at once.
+/// A number for a message and a deadline, which tells most apart at once. Its upper half is mixed in at the end, since the multiplications carry upwards
+/// alone.
 #[tactic(auto, unfolding(crate::specs::Accounts::worth_of))]
 fn worth(message: u64, deadline: u64) -> u64
     ensures { result ≡ worth_of message deadline }
@@ -92,7 +94,7 @@ fn worth(message: u64, deadline: u64) -> u64
     mixed(number, number >> 32)
 }
 
-/// A number with another one mixed in.
+/// A number with another one mixed in. The factor is odd and near 2^64 divided by the golden ratio, so that it spreads the bits of near numbers.
 fn mixed(number: u64, word: u64) -> u64
     ensures { result ≡ bit_xor number word * 11400714819323198485 % 2 ^ 64 }
 {
@@ -111,6 +113,7 @@ pub(crate) fn without(gains: &Gains, strikes: &mut Strikes, account: Account, pl
     ensures owed { IfOk result (λ new. IsWithout place (owes_at gains.now strikes.old.items account) (owes_at gains.now strikes.new.items new)) }
     ensures soft { IfOk result (λ new. new.soft ≡ account.soft) }
 {
+    // The first gain that is owed, and the last, are left out by where the account begins and ends; any other needs a strike.
     let rest = account.end - place;
     let after = place + 1;
     let entry = gains.entry(place);
@@ -153,6 +156,7 @@ pub(crate) fn find(
     ensures found { IfSome result (IsFirstPayable (entries_of gains.now) (owes_at gains.now strikes.now account) message moment) }
     ensures none { IfNone result ((k : ℕ) → owes_at gains.now strikes.now account k ≡ true → pays_at (entries_of gains.now) message moment k ≡ false) }
 {
+    // From place to place at which the message is left: where it is struck, on to the end of the strike; where its deadline is past, on by one.
     let own = own(strikes, account);
     let mut from = account.start;
     while let Some(place) = seek.next(gains, message, from) {
@@ -193,6 +197,7 @@ pub(crate) fn find_under(
     let mut first = None;
     let mut from = 0;
     for _step in 0..most {
+        // The next message under the key, and the next one from it on of which a gain is left.
         let Some(message) = index.next(key, from) else {
             return Some(first);
         };
@@ -200,13 +205,16 @@ pub(crate) fn find_under(
             return Some(first);
         };
         from = left;
+        // Only where they are the same a gain of a message under the key is left.
         if left == message {
             let mut seek = Seek::new(gains, message, account.start);
             let place = find(gains, strikes, account, &mut seek, message, moment);
             first = sooner(first, place);
+            // Up to this place no greater message was gained, so none is found sooner.
             if gains.is_newest(place) {
                 return Some(first);
             }
+            // No greater message was gained at all.
             if gains.highest <= message {
                 return Some(first);
             }
@@ -240,7 +248,8 @@ fn must(gains: &Gains, account: Account, place: usize) -> bool
     gains.flags(place).must
 }
 
-/// The account without what was gained at the place, if it owes and may send that and its deadline is below the moment.
+/// The account without what was gained at the place, if it owes and may send that and its deadline is below the moment. `gone` is a step of a walk:
+/// what was right of the places before this one (`IsExpiredTo`) is right of this one too.
 #[tactic(auto, using(crate::proofs::rows::PaidLemmas::expired_by_place))]
 fn expire(gains: &Gains, strikes: &mut Strikes, account: Account, place: usize, moment: u64) -> Made
     requires gained { AreGains gains.now }
@@ -266,8 +275,8 @@ fn expire(gains: &Gains, strikes: &mut Strikes, account: Account, place: usize, 
     Ok(left)
 }
 
-/// The account without what it may send and whose deadline is below the moment. On an error what is left of the others' strikes is
-/// as before.
+/// The account without what it may send and whose deadline is below the moment. The strikes that were there stay, also on an
+/// error.
 #[tactic(auto, using(crate::proofs::rows::PaidLemmas::expired_by_place))]
 #[inline(always)]
 pub(crate) fn expired(gains: &Gains, strikes: &mut Strikes, account: Account, moment: u64) -> Made
@@ -286,6 +295,7 @@ pub(crate) fn expired(gains: &Gains, strikes: &mut Strikes, account: Account, mo
     let mut left = account;
     let mut place = account.start;
     while place < left.end {
+        // Where deadlines rise, no later one is past either.
         if gains.rises && moment <= gains.entry(place).deadline {
             return Ok(left);
         }
@@ -313,6 +323,7 @@ pub(crate) fn paid_and_expired(
 {
     let mut seek = Seek::new(gains, message, account.start);
     match find(gains, strikes, account, &mut seek, message, moment) {
+        // The debt at the place is paid, and then what is past goes.
         Some(place) => {
             let rest = without(gains, strikes, account, place)?;
             let left = expired(gains, strikes, rest, moment)?;
@@ -363,6 +374,7 @@ fn fits(strikes: &[Strike], account: Account, message: u64, place: usize) -> boo
     ensures soft { OnTrue result (account.soft ≤ place) }
     ensures free { OnTrue result (is_struck (strikes_of strikes.now account) message place ≡ false) }
 {
+    // The debts stand in the order of places, and what is gained below `soft` would not have to be sent.
     let low = account.end.max(account.soft);
     if place < low {
         return false;
@@ -444,6 +456,7 @@ pub(crate) fn gained(
         .wrapping_add(worth(debt.message, debt.deadline));
     if account.start == account.end {
         return Ok(Account {
+            // An account that owed nothing begins here, and needs no strikes.
             start: place,
             end: place + 1,
             soft: account.soft,
@@ -523,6 +536,7 @@ fn least_must(gains: &Gains, strikes: &[Strike], account: Account) -> Option<u64
     ensures { result ≡ earliest (debt_deadlines (account_debts gains.now strikes.now account)) }
 {
     let mut least: Option<u64> = None;
+    // What was gained below `soft` need not be sent any more.
     let mut from = account.start.max(account.soft);
     while let Some(place) = gains.next_must(from) {
         if account.end <= place {
@@ -596,7 +610,7 @@ fn is_alike(strikes: &[Strike], one: Account, other: Account) -> bool
     are_same(own(strikes, one), own(strikes, other))
 }
 
-/// Whether the accounts are known to owe the same from the place on.
+/// Whether the accounts are known to owe the same from the place on: they end alike, and no strike of theirs goes past it.
 fn shares_rest(strikes: &[Strike], one: Account, other: Account, place: usize) -> bool
     requires first { one.first ≤ one.last }
     requires last { one.last ≤ length strikes.now }
@@ -625,6 +639,7 @@ pub(crate) fn same(gains: &Gains, strikes: &[Strike], one: Account, other: Accou
     if is_alike(strikes, one, other) {
         return true;
     }
+    // Both are walked side by side, from debt to debt.
     let mut at = one.start;
     let mut beside = other.start;
     while at < one.end && beside < other.end {

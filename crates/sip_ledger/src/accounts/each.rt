@@ -128,6 +128,7 @@ fn gain_some(
         let place = place_for(gains, strikes, account, debt, near)?;
         let grown = gained(gains, strikes, account, debt, place)?;
         rows[row] = grown;
+        // The next account looks here first, so that equal gains of the rows share a place.
         near = Some(place);
     }
     Ok(())

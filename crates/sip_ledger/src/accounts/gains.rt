@@ -108,6 +108,7 @@ impl Gains {
         if self.entries.is_empty() {
             return true;
         }
+        // Where deadlines rise, the first of those that are kept is the least.
         if self.entry(self.first()).deadline < moment {
             return false;
         }
@@ -124,6 +125,7 @@ impl Gains {
         if self.end == usize::MAX {
             return Err(AllocError);
         }
+        // What can be refused comes first: room for both lists, and the place in the indexes.
         let entry = Entry {
             message: debt.message,
             deadline: debt.deadline,
@@ -165,6 +167,7 @@ impl Gains {
         ensures none { IfNone result ((m k : ℕ) → first_after last ≤ m → holds self.now.messages m k ≡ false) }
     {
         match last {
+            // No place is `u64::MAX`, so from there on the next message is a greater one.
             Some(message) => self.message_from(message, u64::MAX),
             None => self.message_from(0, 0),
         }
@@ -223,6 +226,7 @@ impl Gains {
         let message = self.entry(place).message;
         self.messages.take(message, place as u64);
         self.musts.take(0, place as u64);
+        // The gain stays in the list, so that the places stay; its flags say that it is not left.
         let at = place - (self.end - self.entries.len());
         self.flags[at] = Flags {
             must: false,

@@ -39,6 +39,7 @@ fn is_named(gains: &Gains, strikes: &[Strike], rows: &[Account], message: u64) -
 {
     let mut seek = Seek::new(gains, message, 0);
     for at in 0..rows.len() {
+        // No deadline is below the moment 0, so at that moment a send pays whatever is owed of the message.
         if find(gains, strikes, rows[at], &mut seek, message, 0).is_some() {
             return true;
         }

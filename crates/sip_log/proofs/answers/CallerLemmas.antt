@@ -1,5 +1,6 @@
 -- What the caller of `next` knows of the whole input, call after call.
 -- In the lemmas s is the whole input, t the times that were read of it, r the result of a call, and xs and ys are bytes that are left.
+-- In a clause with `None`: that no times are known contradicts that something was read, and of an input that is not known nothing is to be shown.
 use Rattle.std.proofs.Common.{◌≡◌, ◌⊎◌, inl, inr, ◌<◌, ◌≤◌, ◌+◌, ℕ, Bool, List, [], ◌∷◌, ◌++◌, length, Option, Some, None, IfSome, IsSome, Result, Ok, Err, refl, subst, sym, ap, ◌∙◌, arith, append_assoc}
 use Rattle.std.specs.Prelude.{flat_map, ⊤}
 use Rattle.std.specs.Io.KnownBytes.{prepend_known}
@@ -96,6 +97,7 @@ last_of-append last (x ∷ xs) ys = last_of-append x.moment xs ys
 -- the entries with which an input begins are the first entries of a log of it
 Begins-log : (input : List ℕ) (format : Format) (p : Times) (items : List Item) (rest : List ℕ) → Begins input format p items rest → (more : List Item) × (end : LogEnd) × LogSays input p (items ++ more) end
 Begins-log input format p items rest is =
+    -- others follow in the rest, up to an end, and what follows is spelled there
     let (more, end, follow) = Follow-some format (length items) (last_of 0 items) rest in
     let spelled = follow-spelled format (length items) (last_of 0 items) rest more end is.few follow in
     let long : length items + length more ≡ length (items ++ more) = sym (length-append items more) in
@@ -159,6 +161,7 @@ module _ (start left : Option (List ℕ)) (before after : Bool) where
     where
       -- where the header comes first in what was left, it was read
       has : (s : Option (List ℕ)) → IfSome s (λ xs. (ys : List ℕ) × (prepend_known place.held left ≡ Some ys) × Heads place.format xs (gives p ys)) → HasRead s place.format (Some p) [] (prepend_known place.held left)
+      -- of an input that is not known nothing is to be shown
       has None says = tt
       has (Some xs) (ys, left_is, header) = (ys, left_is, Begins-header xs place.format p ys header)
 
@@ -197,6 +200,7 @@ module _ (start : Option (List ℕ)) (items : List Item) (old new : ReaderState)
     -- where the reader moved on over the entry, it stands after the items with that one
     closed : Moves old.count old.last new (Ok (Some e)) → HasRead start new.format new.times (items ++ item e ∷ []) new.left → old.count ≡ length items → Stands start (items ++ item e ∷ []) new
     closed moves has counts =
+        -- the reader reads entries, has counted as many as there are items with this one, and has its moment as the last
         subst (λ s. StandsAt s start (items ++ item e ∷ []) new) (sym moves.0)
         (has, moves.2 ∙ moves.1.number_is ∙ ap (λ n. n + 1) counts ∙ sym (length_push items (item e)), moves.3 ∙ sym (last_of-push 0 items (item e)))
 
@@ -212,11 +216,13 @@ module _ (start : Option (List ℕ)) (items : List Item) (old new : ReaderState)
     gave-at : (s : Stage) → old.stage ≡ s → StandsAt s start items old → NextsAt s old new (Ok (Some e)) → Stands start (items ++ item e ∷ []) new
     -- the first answer: the format and the times are read with it
     gave-at fresh at h steps =
+        -- what comes first in what was left is the header, and after it the entry
         let says = subst (λ s. IfSome old.left (λ xs. (ys : List ℕ) × (new.left ≡ Some ys) × Comes s old new xs (gives (item e) ys))) at steps.says.1 in
         closed steps.moves (gave-first new.times start h.0 steps.times (subst (λ o. IfSome o (λ xs. (ys : List ℕ) × (new.left ≡ Some ys) × ComesFirst new.format new.times xs (gives (item e) ys))) h.1 says))
         (h.3 ∙ sym (ap length h.0))
     -- a later answer: the format and the times are those of the old state
     gave-at entries at h steps =
+        -- what comes first in what was left is the entry
         let says = subst (λ s. IfSome old.left (λ xs. (ys : List ℕ) × (new.left ≡ Some ys) × Comes s old new xs (gives (item e) ys))) at steps.says.1 in
         let same = same-times old.times h.0 steps.kept in
         let format = same-format old.times h.0 steps.kept in
@@ -296,6 +302,7 @@ module _ (start : Option (List ℕ)) (items : List Item) (old new : ReaderState)
   -- an answer with an error tells the fault at which the log stops, at whatever stage
   stops-at : (s : Stage) (e : LogError) → old.stage ≡ s → GoesOn old → StandsAt s start items old → NextsAt s old new (Err e)
       → FailsAs old.has_failed new.has_failed (λ fault. IfSome start (λ input. StopsAt input new.times fault)) e
+  -- where nothing was read, the fault is that of the header or of the first entry
   stops-at fresh e at on h steps =
       FailsAs-map old.has_failed new.has_failed _ _ e
       (λ fault says. stops-first new.times start fault h.0 (subst (λ o. IfSome o (λ xs. ComesFirst new.format new.times xs (stops fault))) h.1 (subst (λ s. IfSome old.left (λ xs. Comes s old new xs (stops fault))) at says))) steps.says
@@ -326,6 +333,7 @@ module _ (start : Option (List ℕ)) (items : List Item) (old new : ReaderState)
   fine-at : (s : Stage) (r : Option Entry) → NextsAt s old new (Ok r) → new.has_failed ≡ old.has_failed
   fine-at fresh r steps = steps.says.0
   fine-at entries r steps = steps.says.0
+  -- after the end all stays as it is, and after an error no call answers anything else
   fine-at ended r again = ap (λ (x : ReaderState). x.has_failed) again.1
   fine-at failed r again = cc
 
@@ -349,6 +357,7 @@ module _ (start : Option (List ℕ)) (items : List Item) (old new : ReaderState)
   counted-at : (s : Stage) (e : Entry) → NextsAt s old new (Ok (Some e)) → Counted e
   counted-at fresh e steps = counted e steps.moves
   counted-at entries e steps = counted e steps.moves
+  -- after the end and after an error no entry is answered
   counted-at ended e again = cc
   counted-at failed e again = cc
 

@@ -61,13 +61,16 @@ not_above a b other = elim (cases_lt b a) as (λ _. b < a) [ inl lt ↦ lt | inr
 
 -- What follows leads from what the code reads to the spelling.
 
--- where a message comes, it cannot be read for case 6 or 7, or it stands there with its LF
+-- where a message comes, it cannot be read, since it is not whole with its LF (case 6) or the byte after it is no LF (case 7), or it stands there with its LF
 message-told : (action : Action) (moment len : ℕ) (behind : List ℕ) (next : Next Item) → HasMessage action → read.MessageComes action moment len behind next
     → Told (AtBody action len behind) (λ e after. (text : List ℕ) × (e ≡ record { action = action; moment = moment; text = text }) × (length text ≡ len) × (behind ≡ text ++ line_feed ∷ after)) next
+-- too few bytes follow for the message and its LF
 message-told action moment len behind next other (inl (short, same)) = inl (faults.Truncated, same, (other, inl (not_below len (length behind) short, refl)))
+-- the bytes of the message are there, and the byte b after them is no LF
 message-told action moment len behind next other (inr (long, (text, b, after, whole, size, inl (unclosed, same)))) =
     let byte : get_or behind len 0 ≡ b = ap (λ (t : List ℕ). get_or t len 0) whole ∙ ap (λ n. get_or (text ++ b ∷ after) n 0) (sym size) ∙ get_or-append_seam text b after 0 in
     inl (faults.EntryLine, same, (other, inr ((λ le. omega arith), ((λ is. unclosed (sym byte ∙ is)), refl))))
+-- the bytes of the message are there, and an LF after them
 message-told action moment len behind next other (inr (long, (text, b, after, whole, size, inr (closed, same)))) =
     inr (record { action = action; moment = moment; text = text }, after, same, (text, refl, size, whole ∙ ap (λ (c : ℕ). text ++ c ∷ after) closed))
 
@@ -88,6 +91,7 @@ message-whole : (line : List ℕ) (action : Action) (moment len : ℕ) (text beh
     → line ++ line_feed ∷ behind ≡ entry_says (record { action = action; moment = moment; text = text }) ++ after
 message-whole line action moment len text behind after other is size whole =
     let body : body_says action text ++ after ≡ behind = ap (λ (t : List ℕ). t ++ after) (body-message action text other) ∙ append_assoc text (line_feed ∷ []) after ∙ sym whole in
+    -- the line, its length, and then what follows it are put in the places of what they are equal to
     ap (λ (t : List ℕ). t ++ line_feed ∷ behind) is
     ∙ ap (λ n. line_says action moment n ++ line_feed ∷ behind) (sym size)
     ∙ ap (λ (t : List ℕ). line_says action moment (length text) ++ line_feed ∷ t) (sym body)
@@ -96,8 +100,10 @@ message-whole line action moment len text behind after other is size whole =
 -- where a line of a message stands with what comes after it, the spelling says the same
 message-line-told : (format : Format) (last : ℕ) (line : List ℕ) (action : Action) (moment len : ℕ) (behind : List ℕ) (next : Next Item) → HasMessage action → line ≡ line_says action moment len
     → read.HeadComes last (message action moment len) behind next → Told (LineFault format last line behind) (Entered format last line behind) next
+-- the moment or the length is outside its limits
 message-line-told format last line action moment len behind next other is (inl (outside, same)) =
     inl (faults.Limit, same, inr (action, moment, len, message-of format action other, is, inl ((λ w. outside (within-message action moment len other w)), refl)))
+-- both are within them, and the moment is before that of the entry before
 message-line-told format last line action moment len behind next other is (inr (inside, inl (early, same))) =
     let w = message-within action moment len inside in
     inl (faults.Order, same, inr (action, moment, len, message-of format action other, is, inr ((λ none. none w), inl (not_above last moment early, refl))))
@@ -112,7 +118,9 @@ message-line-told format last line action moment len behind next other is (inr (
     -- whether the body is at fault or is read, the line says the same
     go : Told (AtBody action len behind) (λ e after. (text : List ℕ) × (e ≡ record { action = action; moment = moment; text = text }) × (length text ≡ len) × (behind ≡ text ++ line_feed ∷ after)) next
         → Told (LineFault format last line behind) (Entered format last line behind) next
+    -- a fault of the message is a fault of its line
     go (inl (fault, same, body)) = inl (fault, same, inr (action, moment, len, message-of format action other, is, inr ((λ none. none w), inr ((λ lt. omega arith), body))))
+    -- a message that is there makes the entry of the line, which is spelled by the line, the message and its LF
     go (inr (e, after, same, (text, e_is, size, whole))) =
         inr (
           record { action = action; moment = moment; text = text },
@@ -132,8 +140,10 @@ plain-whole line action moment behind none is =
 -- where a line of an entry without a message stands with what comes after it, the spelling says the same
 plain-line-told : (format : Format) (last : ℕ) (line : List ℕ) (action : Action) (moment : ℕ) (behind : List ℕ) (next : Next Item) → ¬ (HasMessage action) → IsOf format action → line ≡ line_says action moment 0
     → read.HeadComes last (plain action moment) behind next → Told (LineFault format last line behind) (Entered format last line behind) next
+-- the moment is outside its limits
 plain-line-told format last line action moment behind next none of is (inl (outside, same)) =
     inl (faults.Limit, same, inr (action, moment, 0, of, is, inl ((λ w. outside w.0), refl)))
+-- the moment is within them, and before that of the entry before
 plain-line-told format last line action moment behind next none of is (inr (inside, inl (early, same))) =
     inl (faults.Order, same, inr (action, moment, 0, of, is, inr ((λ out. out (inside, (λ has. absurd (none has)))), inl (not_above last moment early, refl))))
 -- within the limits and in order, the entry is the line alone
@@ -156,6 +166,7 @@ line-told format last line (plain action moment) behind next short is at =
 -- a line that spells an entry of the format, of fewer than 32 bytes, can be read
 line-read : (format : Format) (line : List ℕ) (action : Action) (moment len : ℕ) → length line < 32 → IsOf format action → line ≡ line_says action moment len → (head : Head) × HeadLine format line head
 line-read format line action moment len short of is = elim (message-or-not action) [
+  -- the action has no message, and its line only a moment; or it has one, and its line also the length
   | inr none ↦ (plain action moment, plain-read format line action moment len short none of is)
   | inl has ↦ (message action moment len, message-read format line action moment len short has is)
 ]
@@ -163,10 +174,13 @@ line-read format line action moment len short of is = elim (message-or-not actio
 -- where the front of the rest is read as a line or a fault, the spelling says the same
 front-told : (format : Format) (last : ℕ) (rest : List ℕ) (next : Next Item) → read.LineComes format last rest next
     → Told (AtFront format last rest) (λ e after. (rest ≡ entry_says e ++ after) × (last ≤ e.moment) × IsEntry format e) next
+-- there is no front line, with fewer than 32 bytes or with more
 front-told format last rest next (inl (none, inl (few, same))) = inl (faults.Truncated, same, inl (none, inl (not_above 32 (length rest) few, refl)))
 front-told format last rest next (inl (none, inr (many, same))) = inl (faults.EntryLine, same, inl (none, inr ((λ few. omega arith), refl)))
+-- the front line is read as no head, so it is no line of an entry
 front-told format last rest next (inr (line, behind, front, inl (none, same))) =
     inl (faults.EntryLine, same, inr (line, behind, front, inl ((λ action moment len of is. let h = line-read format line action moment len front.short of is in none h.0 h.1), refl)))
+-- the front line is read as a head, so what comes by it is told
 front-told format last rest next (inr (line, behind, front, inr (head, is, at))) = go (line-told format last line head behind next front.short is at)
   where
     -- what is told of the front line is told of the front of the rest
@@ -176,8 +190,11 @@ front-told format last rest next (inr (line, behind, front, inr (head, is, at)))
 
 -- what the code reads next is what comes next by the spelling
 pub next-told : (format : Format) (count last : ℕ) (rest : List ℕ) (next : Next Item) → read.EntryComes format count last rest next → ComesNext format count last rest next
+-- nothing is left, so the end comes
 next-told format count last rest next (inl (none, same)) = subst (ComesNext format count last rest) (sym same) none
+-- bytes are left, but the most entries were read
 next-told format count last rest next (inr (some, inl (many, same))) = subst (ComesNext format count last rest) (sym same) (some, inl (not_below count most_entries many, refl))
+-- bytes are left, and fewer entries were read
 next-told format count last rest next (inr (some, inr (few, at))) = go (front-told format last rest next at)
   where
     -- whether the front of the rest is at fault or gives an entry, this comes next

@@ -20,6 +20,7 @@ pub Without-lacks : (format : Format) (count last : ℕ) (held : List ℕ) → C
 Without-lacks format count last held (next, at, lacks) e after some comes =
     some (subst LacksMessage (ComesNext-one format count last held next (gives e after) at (next-read format count last held (gives e after) comes)) lacks)
 
+-- What follows is of an entry that was answered by `ahead`, where the log was read as far as p says.
 module _ (p : ProgressState) (a : Ahead) (is : IsAhead p a) where
   -- the entry
   abbrev pub entry_of : Item
@@ -28,6 +29,7 @@ module _ (p : ProgressState) (a : Ahead) (is : IsAhead p a) where
   -- it comes next in what is left to read, where that is known
   comes-next : (left : Option (List ℕ))
       → IfSome (prepend_known p.held left) (λ xs. (ys : List ℕ) × (prepend_known (drop a.size p.held) left ≡ Some ys) × ComesNext p.format p.count p.last xs (gives entry_of ys))
+  -- where it is not known what the source has left, nothing is to be shown
   comes-next None = tt
   comes-next (Some zs) = (drop a.size p.held ++ zs, refl, is.comes zs)
 

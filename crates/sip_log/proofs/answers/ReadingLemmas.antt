@@ -68,6 +68,7 @@ fault-first input fault is = (no-header input fault is, header-is is)
   where
     -- a fault of the header is `Header`
     header-is : read.HeaderComes input (stops fault) → fault ≡ faults.Header
+    -- where lines 1 and 2 are both read, no fault comes; where one of them is not, `Header` does
     header-is (inl (format, rest, title, inl (p, behind, front, (rules, more, line, same)))) = cc
     header-is (inl (format, rest, title, inr (none, same))) = ap fault_of same
     header-is (inr (none, same)) = ap fault_of same
@@ -100,6 +101,7 @@ Says-headed old mid new before between after format p (Ok a) first says = (says.
         let h = subst (λ o. IfSome o (λ xs. (zs : List ℕ) × (new ≡ Some zs) × entry.EntryComes format 0 0 xs (next_of a zs))) is.1 behind in
         (h.0, h.1, header-gives format xs p is.0 (next_of a h.0) is.2 (next-told format 0 0 is.0 (next_of a h.0) h.2))
 Says-headed old mid new before between after format p (Err e) first says =
+    -- the fault that comes after the header comes first in the input, and the source has failed by it if it has not before
     subst (λ b. FailsAs b after (λ fault. IfSome old (λ xs. ComesFirst format (Some p) xs (stops fault))) e) first.0
     (FailsAs-map between after _ _ e (λ fault. value old fault first.1) says)
   where
@@ -118,6 +120,7 @@ pub headed : (old new : Option (List ℕ)) (before after : Bool) (format : Forma
     → TellsWhatComes {A = Times} old new before after (Heads format) gives (Ok p)
 headed old new before after format p says = (
   says.0,
+  -- what is read as a header is spelled as one
   IfSome-map old (λ xs. (ys : List ℕ) × (new ≡ Some ys) × read.HeaderComes xs (gives (format, p) ys)) (λ xs. (ys : List ℕ) × (new ≡ Some ys) × Heads format xs (gives p ys))
       (λ xs w. (w.0, w.1, header-spelled format xs p w.0 w.2)) says.1,
 )
@@ -168,9 +171,11 @@ module _ (old new : ProgressState) (left left2 : Option (List ℕ)) (before afte
   fresh-step mid between format p r stage none no_count no_last moves same times first says =
       subst (λ s. NextsAt s (beside_source old left before) (beside_source new left2 after) r) (sym stage) (record {
         moves = moves;
+        -- a value comes with the times of the header; before it no times were known that could be kept
         times = always r (IsSome new.times) (subst IsSome (sym times) refl);
         kept = subst (λ o. IfSome o (λ p. (new.times ≡ Some p) × (new.format ≡ old.format))) (sym none) tt;
         -- the header, and then what comes by the entry, come first in what is unread
+        -- each `subst` puts a part of the reader for what it is known to be: its stage, what it held, its times, its format, its count and its last moment
         says = subst (λ s. TellsWhatComes (prepend_known old.held left) (prepend_known new.held left2) before after (Comes s (beside_source old left before) (beside_source new left2 after)) next_of r) (sym stage)
             (subst (λ h. TellsWhatComes (prepend_known h left) (prepend_known new.held left2) before after (ComesFirst new.format new.times) next_of r) (sym held)
             (subst (λ t. TellsWhatComes (unread window left) (prepend_known new.held left2) before after (ComesFirst new.format t) next_of r) (sym times)
@@ -187,10 +192,12 @@ module _ (old new : ProgressState) (left left2 : Option (List ℕ)) (before afte
   fault-step e stage none ended same_count same_last no_times fails =
       subst (λ s. NextsAt s (beside_source old left before) (beside_source new left2 after) (Err e)) (sym stage) (record {
         moves = (ended, same_count, same_last);
+        -- an error says nothing of the times, and none were known before that could be kept
         times = tt;
         kept = subst (λ o. IfSome o (λ p. (new.times ≡ Some p) × (new.format ≡ old.format))) (sym none) tt;
         -- the fault of the header comes first in what is unread
         says = subst (λ s. TellsWhatComes {A = Option Entry} (prepend_known old.held left) (prepend_known new.held left2) before after (Comes s (beside_source old left before) (beside_source new left2 after)) next_of (Err e)) (sym stage)
+            -- each `subst` puts a part of the reader for what it is known to be: its stage, what it held and its times
             (subst (λ h. TellsWhatComes {A = Option Entry} (prepend_known h left) (prepend_known new.held left2) before after (ComesFirst new.format new.times) next_of (Err e)) (sym held)
             (subst (λ t. TellsWhatComes {A = Option Entry} (unread window left) (prepend_known new.held left2) before after (ComesFirst new.format t) next_of (Err e)) (sym no_times)
             (FailsAs-map before after _ _ e (λ fault. IfSome-map (unread window left) (λ xs. read.HeaderComes xs (stops fault)) (λ xs. ComesFirst new.format None xs (stops fault)) (λ xs. header-fault new.format xs fault)) fails)));

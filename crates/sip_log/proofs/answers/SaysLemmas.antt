@@ -41,6 +41,7 @@ module _ {B : Type 0} {held held2 : List ℕ} {left left2 : Option (List ℕ)} {
   pub Says-step : {A : Type 0} (rest : List ℕ) (new : Option (List ℕ)) (after : Bool) (Q : List ℕ → Next B → Type 0) (seen : A → List ℕ → Next B)
       (r : Result A LogError) → ((ys : List ℕ) (n : Next B) → left2 ≡ Some ys → Q (rest ++ ys) n → P (held2 ++ ys) n)
       → TellsWhatComes (prepend_known rest left2) new mid after Q seen r → TellsWhatComes (prepend_known held left) new before after P seen r
+  -- a value is told of the whole input: zs is what is left after what Q tells, in the part as in the whole
   Says-step rest new after Q seen (Ok a) step says = (
     says.0 ∙ reads.fine,
     told reads (λ xs. (zs : List ℕ) × (new ≡ Some zs) × P xs (seen a zs))

@@ -1,4 +1,5 @@
 -- What a caller of `next` knows of an input in which any number of entries may come, where it counts anew before each call.
+-- In a clause with `None` the input is not known, and nothing is to be shown of it.
 use Rattle.std.proofs.Common.{◌≡◌, inl, inr, ◌≤◌, ℕ, Bool, List, [], ◌∷◌, ◌++◌, Option, Some, None, IfSome, Result, Ok, Err, refl, subst, sym, ap, ◌∙◌, append_assoc}
 use Rattle.std.specs.Prelude.{flat_map}
 use Rattle.sip_standard.specs.Times.{Times}
@@ -62,6 +63,7 @@ module _ (start : Option (List ℕ)) (p : Times) (items : List Item) (old new : 
       → IfSome old.left (λ xs. (ys : List ℕ) × (new.left ≡ Some ys) × ComesNext old.format old.count old.last xs (gives (item e) ys)) → StartsAt s old.format p (items ++ item e ∷ []) new.left
   gave e None at says = tt
   gave e (Some input) (rest, left, is) says =
+      -- n.0 are the bytes that are left after the entry, and n.2 says that it comes next, after no entries and after the moment of the last item
       let n = subst (λ o. IfSome o (λ xs. (ys : List ℕ) × (new.left ≡ Some ys) × ComesNext old.format old.count old.last xs (gives (item e) ys))) left says in
       let next = subst (λ c. ComesNext old.format c (last_of 0 items) rest (gives (item e) n.0)) none (subst (λ m. ComesNext old.format old.count m rest (gives (item e) n.0)) has.last n.2) in
       (n.0, n.1, starts_push input old.format p items rest is (item e) n.0 next)
@@ -71,6 +73,7 @@ module _ (start : Option (List ℕ)) (p : Times) (items : List Item) (old new : 
   streams_entry e nexts =
       let is = steps (Ok (Some e)) nexts in
       let same = kept (Ok (Some e)) is in
+      -- what comes next in what was left is the entry
       let says = subst (λ s. IfSome old.left (λ xs. (ys : List ℕ) × (new.left ≡ Some ys) × Comes s old new xs (gives (item e) ys))) has.on is.says.1 in
       -- the reader stands after this entry, and its times are the same
       record {
@@ -84,6 +87,7 @@ module _ (start : Option (List ℕ)) (p : Times) (items : List Item) (old new : 
   ended : (s : Option (List ℕ)) → StartsAt s old.format p items old.left → IfSome old.left (λ xs. (ys : List ℕ) × (new.left ≡ Some ys) × (xs ≡ [])) → IfSome s (λ input. StreamSays input p items Clean)
   ended None at says = tt
   ended (Some input) (rest, left, is) says =
+      -- nothing was left before the call
       let n = subst (λ o. IfSome o (λ xs. (ys : List ℕ) × (new.left ≡ Some ys) × (xs ≡ []))) left says in
       starts_end input old.format p items rest is Clean n.2
 
@@ -97,6 +101,7 @@ module _ (start : Option (List ℕ)) (p : Times) (items : List Item) (old new : 
       → IfSome s (λ input. StreamSays input p items (Stops fault))
   stopped fault None at says = tt
   stopped fault (Some input) (rest, left, is) says =
+      -- what comes next in what was left is the fault
       let n = subst (λ o. IfSome o (λ xs. ComesNext old.format old.count old.last xs (stops fault))) left says in
       starts_end input old.format p items rest is (Stops fault) (subst (λ c. ComesNext old.format c (last_of 0 items) rest (stops fault)) none (subst (λ m. ComesNext old.format old.count m rest (stops fault)) has.last n))
 
@@ -115,6 +120,7 @@ streamed_log start p items now has = go start has.starts
     go : (s : Option (List ℕ)) → StartsAt s now.format p items now.left → IfSome s (λ input. (more : List Item) × (end : LogEnd) × StreamSays input p (items ++ more) end)
     go None at = tt
     go (Some input) (rest, left, is) =
+        -- others follow in the rest, up to an end, and what follows is spelled there
         let (more, end, follow) = follows_some now.format (last_of 0 items) rest in
         let spelled = follows_spelled now.format (last_of 0 items) rest more end follow in
         -- the input is the header, the spelling of these items and of those that follow, and what is left

@@ -9,8 +9,10 @@ use Rattle.sip_log.specs.inner.Window.{items, unread}
 -- a fact of the bytes that are held and those left is a fact of the input, once bytes came from the source
 pub told : {held held2 : List ℕ} {left left2 : Option (List ℕ)} {failed failed2 : Bool} → Reads held held2 left left2 failed failed2
     → (P : List ℕ → Type 0) → ((ys : List ℕ) → left2 ≡ Some ys → P (held2 ++ ys)) → IfSome (prepend_known held left) P
+-- where it is not known what the source had left, nothing is to be shown; where it is known, it stays known
 told {left = None} reads P fact = tt
 told {left = Some xs} {left2 = None} reads P fact = absurd reads.left_is
+-- what is held and left now is, in a row, what was held and left before
 told {held = held} {held2 = held2} {left = Some xs} {left2 = Some ys} reads P fact =
     let same : held2 ++ ys ≡ held ++ xs =
     ap (λ (t : List ℕ). t ++ ys) reads.held_is ∙ append_assoc held reads.came ys ∙ ap (λ (t : List ℕ). held ++ t) (sym reads.left_is) in
@@ -19,6 +21,7 @@ told {held = held} {held2 = held2} {left = Some xs} {left2 = Some ys} reads P fa
 -- bytes that came from a source, and then more, are bytes that came from it one after the other
 Consumes-then : (left left2 left3 : Option (List ℕ)) (came more : List ℕ) → Consumes left left2 came → Consumes left2 left3 more → Consumes left left3 (came ++ more)
 Consumes-then None left2 left3 came more first second = tt
+-- a source whose bytes are known does not come to have unknown ones
 Consumes-then (Some xs) None left3 came more first second = absurd first
 Consumes-then (Some xs) (Some ys) None came more first second = absurd second
 Consumes-then (Some xs) (Some ys) (Some zs) came more first second =

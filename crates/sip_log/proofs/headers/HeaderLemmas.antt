@@ -1,5 +1,6 @@
 -- Lemmas of the lines of a header, word by word.
 -- In the lemmas n and n2 are the numbers that stand after a word by two readings.
+-- `λ i. f (e i)`: by the equation e, f of its left side is equal to f of its right side.
 use Rattle.std.proofs.Common.{◌≡◌, ◌⊎◌, inl, inr, Option, None, Some, MatchOption, ◌<◌, ◌≤◌, ◌+◌, ℕ, List, [], ◌++◌, length, get_or, take, drop, refl, subst, sym, ap, ◌∙◌, arith, append_assoc}
 use Rattle.std.specs.Prelude.{codes}
 use Rattle.std.proofs.lemmas.List.{append_cancel_left, take-append-drop, take-append-le, length-append}
@@ -29,6 +30,7 @@ module _ (word text : List ℕ) where
   pub NumberAfter-one : (n n2 : ℕ) (behind behind2 : List ℕ) → NumberAfter word text n behind → NumberAfter word text n2 behind2
       → (n ≡ n2) × (behind ≡ behind2)
   NumberAfter-one n n2 behind behind2 is is2 =
+      -- after the word both readings have one text, of which the number is what stands before the first blank
       let rest = append_cancel_left word _ _ (sym is.whole ∙ is2.whole) in
       let parts = part-one space is.number behind is2.number behind2 (IsNumber-no_space _ n is.number_is) (IsNumber-no_space _ n2 is2.number_is) is.parted is2.parted rest in
       (IsNumber-one is.number is2.number n n2 parts.0 is.number_is is2.number_is, parts.1)
@@ -62,6 +64,7 @@ NumberAfter-length word text n behind low is =
 -- a text tells only one pair of tolerances
 pub Tolerances-one : (format : Format) (text : List ℕ) (early late early2 late2 : ℕ) → Tolerances format text early late → Tolerances format text early2 late2
     → (early ≡ early2) × (late ≡ late2)
+-- format 1 has one number, which is both tolerances
 Tolerances-one One text early late early2 late2 is is2 =
     let same = NumberAfter-one (codes " tolerance ") text late late2 [] [] is.0 is2.0 in
     (is.1 ∙ same.0 ∙ sym is2.1, same.0)
@@ -84,6 +87,7 @@ Tolerances-lacks Two text early late is =
 -- the text of tolerances below 100,000 has at most 23 bytes
 Tolerances-length : (format : Format) (text : List ℕ) (early late : ℕ) → early < 100000 → late < 100000 → Tolerances format text early late → length text ≤ 23
 Tolerances-length One text early late low low2 is = omega (arith, NumberAfter-length (codes " tolerance ") text late [] low2 is.0)
+-- the names take 7 and 6 bytes, and each number at most five
 Tolerances-length Two text early late low low2 is =
     omega (arith, NumberAfter-length (codes " early ") text early is.0 low is.1, NumberAfter-length (codes " late ") is.0 late [] low2 is.2)
 
@@ -149,11 +153,11 @@ cut_times-within p is =
 -- where times are within their limits as the code keeps them, they are within them
 within-cut_times : (p : Times) → AreTimes (cut_times p) → AreTimes p
 within-cut_times p is = record {
+  -- a number that is cut is above every limit; so each of these is not, and has the limits of the one that is kept
   t1_low = omega (arith, is.t1_low);
   t1_high = omega (arith, is.t1_high);
   t2_low = omega (arith, is.t2_low);
   t2_high = omega (arith, is.t2_high);
-  -- each of these numbers has a greatest value, and t4 also a least one
   t4_low = omega (arith, is.t4_low);
   t4_high = omega (arith, is.t4_high);
   early_high = omega (arith, is.early_high);
@@ -189,6 +193,7 @@ longest_times = 50
 -- a line 2 whose numbers are within their limits is shorter than `longest_times`
 pub TimesLine-short : (format : Format) (line : List ℕ) (p : Times) → TimesLine format line p → AreTimes p → length line < longest_times
 TimesLine-short format line p is within =
+    -- the names have 3, 4 and 4 bytes, each number at most five, and the tolerances at most 23, which makes 49
     let t1 = NumberAfter-length (codes "t1 ") line p.t1 is.rest1 (omega (arith, within.t1_high)) is.t1_is in
     let t2 = NumberAfter-length (codes " t2 ") is.rest1 p.t2 is.rest2 (omega (arith, within.t2_high)) is.t2_is in
     let t4 = NumberAfter-length (codes " t4 ") is.rest2 p.t4 is.rest3 (omega (arith, within.t4_high)) is.t4_is in
@@ -209,6 +214,7 @@ module _ (format : Format) (held ys : List ℕ) where
     pub ComesSecond-other : ((p : Times) → TimesLine format (take k held) p → ¬ (AreTimes p)) → ComesSecond format (held ++ ys) (stops faults.Header)
     ComesSecond-other other = inr (
       (λ p behind is.
+          -- the first line, which ends at k, is the line 2 that is told, since neither has a line feed
           let at = line-held longest_times held ys k found in
           let same = cut-one line_feed is.line behind (take k held) (drop (k + 1) held ++ ys) (TimesLine-lacks format is.line p is.times) at.first (sym is.whole ∙ at.whole) in
           other p (subst (λ line. TimesLine format line p) same.0 is.times) is.within),

@@ -31,19 +31,21 @@ len_of (plain action moment) = 0
 pub HeadComes-ahead : (last : ℕ) (action : Action) (moment len : ℕ) (rest text : List ℕ) → KeepsLimits (message action moment len) → last ≤ moment
     → ((more : List ℕ) → MessageComes action moment len (rest ++ more) (gives (item_ahead action moment text) (drop (len + 1) rest ++ more)))
     → (h : Head) → code.Message action moment len ≡ cut_head h → (more : List ℕ) → HeadComes last h (rest ++ more) (gives (item_ahead action moment text) (drop (len + 1) rest ++ more))
+-- h is a head of which the code keeps what the line says; what is kept of one without a message is not what is kept of a message
 HeadComes-ahead last action moment len rest text keeps order comes (plain a m) is more = absurd (cc)
 HeadComes-ahead last action moment len rest text keeps order comes (message a m l) is more =
     let same_action : a ≡ action = sym (ap (λ c. action_of (head_of c)) is) in
     -- numbers within the limits are kept as they are
     let same_moment : m ≡ moment = omega (arith, ap (λ c. moment_of (head_of c)) is, keeps.0) in
     let same_len : l ≡ len = omega (arith, ap (λ c. len_of (head_of c)) is, keeps.2) in
+    -- by the line as it was told the entry comes; then a, m and l, which are the same action, moment and length, are put in their places
     let as_told : HeadComes last (message action moment len) (rest ++ more) (gives (item_ahead action moment text) (drop (len + 1) rest ++ more)) =
     inr (keeps, inr (order, comes more)) in
     subst (λ x. HeadComes last (message x m l) (rest ++ more) (gives (item_ahead action moment text) (drop (len + 1) rest ++ more))) (sym same_action)
     (subst (λ x. HeadComes last (message action x l) (rest ++ more) (gives (item_ahead action moment text) (drop (len + 1) rest ++ more))) (sym same_moment)
     (subst (λ x. HeadComes last (message action moment x) (rest ++ more) (gives (item_ahead action moment text) (drop (len + 1) rest ++ more))) (sym same_len) as_told))
 
--- numbers within the limits are kept as they are
+-- numbers within the limits are kept as they are, since a number that is cut is above every limit
 limits-kept : (h : Head) → KeepsLimits (head_of (cut_head h)) → KeepsLimits h × (moment_of (head_of (cut_head h)) ≡ moment_of h) × (len_of (head_of (cut_head h)) ≡ len_of h)
 limits-kept (message action moment len) keeps =
     ((omega (arith, keeps.0), omega (arith, keeps.1), omega (arith, keeps.2)), omega (arith, keeps.0), omega (arith, keeps.2))
@@ -61,6 +63,7 @@ module _ (last : ℕ) (c : CodeHead) (h : Head) (is : c ≡ cut_head h) (rest : 
   Outside-without outside = (stops faults.Limit, inl ((λ keeps. outside (subst (λ x. KeepsLimits (head_of x)) (sym is) (limits-cut h keeps))), refl), tt)
 
   module _ (keeps : KeepsLimits (head_of c)) where
+    -- the head h is within the limits, as what is kept of it is, and has the moment and the length that are kept
     kept : KeepsLimits h × (moment_of (head_of (cut_head h)) ≡ moment_of h) × (len_of (head_of (cut_head h)) ≡ len_of h)
     kept = limits-kept h (subst (λ x. KeepsLimits (head_of x)) is keeps)
 
@@ -76,8 +79,10 @@ module _ (last : ℕ) (c : CodeHead) (h : Head) (is : c ≡ cut_head h) (rest : 
 pub Missing-without : (last : ℕ) (action : Action) (moment len : ℕ) (rest : List ℕ) → KeepsLimits (message action moment len) → last ≤ moment
     → ((a : Action) (m : ℕ) → (fault : LogReason) × MessageComes a m len rest (stops fault))
     → (h : Head) → code.Message action moment len ≡ cut_head h → ComesWithout (HeadComes last h rest)
+-- what is kept of a head without a message is not what is kept of a message
 Missing-without last action moment len rest keeps order missing (plain a m) is = absurd (cc)
 Missing-without last action moment len rest keeps order missing (message a m l) is =
+    -- a fault comes by the message, whatever the action and the moment are; h is within the limits and in order, so this fault comes by it
     let (fault, comes) = missing a m in
     let k = limits-kept (message a m l) (subst (λ x. KeepsLimits (head_of x)) is keeps) in
     let same_len : len ≡ l = ap (λ x. len_of (head_of x)) is ∙ k.2 in
@@ -87,8 +92,10 @@ Missing-without last action moment len rest keeps order missing (message a m l) 
 -- a line of an entry without a message brings that entry
 pub Plain-without : (last : ℕ) (action : Action) (moment : ℕ) (rest : List ℕ) → KeepsLimits (plain action moment) → last ≤ moment
     → (h : Head) → code.Plain action moment ≡ cut_head h → ComesWithout (HeadComes last h rest)
+-- what is kept of a message is not what is kept of a head without one
 Plain-without last action moment rest keeps order (message a m l) is = absurd (cc)
 Plain-without last action moment rest keeps order (plain a m) is =
+    -- h is within the limits and in order, so the entry comes by it, and has no message
     let k = limits-kept (plain a m) (subst (λ x. KeepsLimits (head_of x)) is keeps) in
     let same_moment : moment ≡ m = ap (λ x. moment_of (head_of x)) is ∙ k.1 in
     (gives (record { action = a; moment = m; text = [] }) rest, inr (k.0, inr (omega (arith, order, same_moment), refl)), refl)
@@ -112,6 +119,7 @@ pub NoLine-without : (format : Format) (count last : ℕ) (held : List ℕ) → 
 NoLine-without format count last [] few none = (ends, inl (refl, refl), tt)
 NoLine-without format count last (x ∷ xs) few none =
     Line-without format count last (x ∷ xs) (omega arith) few (elim (cases_lt (length (x ∷ xs)) longest_line) as (λ _. ComesWithout (LineComes format last ((x ∷ xs) ++ []))) [
+      -- where fewer bytes are held than the longest line has, the log ends within its line; else the line is too long
       | inl short ↦ (stops faults.Truncated, AtLine-truncated format last (x ∷ xs) [] none short refl, tt)
       | inr long ↦ (stops faults.EntryLine, AtLine-long format last (x ∷ xs) [] none long, tt)
     ])

@@ -38,7 +38,7 @@ pub HeadLine-message : (format : Format) (line : List ℕ) (action : Action) (mo
     → get_or line 1 0 ≡ space → Numbers (drop 2 line) moment len → HeadLine format line (message action moment len)
 HeadLine-message format line action moment len has long first second is = (drop 2 line, has, is, lettered line action long first second)
 
--- the action whose letter this is
+-- the action whose letter this is, where 83, 82, 70 and 77 are S, R, F and M
 action_at : ℕ → Action
 action_at n = if n == 83 then Sent else (if n == 82 then Received else (if n == 70 then Failed else (if n == 77 then Mark else Restart)))
 
@@ -67,15 +67,19 @@ HeadLine-unlettered format line none (plain action moment) is = none action is.2
 -- a line with the letter of a message, and without two numbers after it, is no entry's line
 pub HeadLine-no_numbers : (format : Format) (line : List ℕ) (action : Action) → HasMessage action → get_or line 0 0 ≡ letter action
     → ((moment len : ℕ) → ¬ (Numbers (drop 2 line) moment len)) → (head : Head) → ¬ (HeadLine format line head)
+-- an entry with a message would have two numbers after the letter
 HeadLine-no_numbers format line action has first none (message a moment len) is =
     none moment len (subst (λ t. Numbers t moment len) (ap (drop 2) (sym is.3)) is.2)
+-- an entry without a message would have another letter
 HeadLine-no_numbers format line action has first none (plain a moment) is =
     is.1 (subst HasMessage (letter-one action a (sym first ∙ ap (λ (t : List ℕ). get_or t 0 0) is.4)) has)
 
 -- a line with the letter of an entry without a message, and without a number after it, is no entry's line
 pub HeadLine-no_number : (format : Format) (line : List ℕ) (action : Action) → ¬ (HasMessage action) → get_or line 0 0 ≡ letter action
     → ((moment : ℕ) → ¬ (IsNumber (drop 2 line) moment)) → (head : Head) → ¬ (HeadLine format line head)
+-- an entry with a message would have another letter
 HeadLine-no_number format line action lacks first none (message a moment len) is =
     lacks (subst HasMessage (sym (letter-one action a (sym first ∙ ap (λ (t : List ℕ). get_or t 0 0) is.3))) is.1)
+-- an entry without a message would have a number after the letter
 HeadLine-no_number format line action lacks first none (plain a moment) is =
     none moment (subst (λ t. IsNumber t moment) (ap (drop 2) (sym is.4)) is.3)

@@ -17,6 +17,7 @@ grown xs ys start end k n ordered within fits =
     -- the window held what stands from its start to its end
     let same : held ≡ take (end - start) (drop start xs) = ap (λ j. drop start (take j xs)) parts ∙ drop-take start (end - start) xs in
     let after = ys ++ post_of end k xs in
+    -- what is taken there is what the window held, and then n bytes more, which are the first of ys
     ap (take (end + n - start)) (drop-append-le start (take end xs) after (omega arith))
     ∙ ap (λ j. take j (held ++ after)) sum ∙ take-add (end - start) n (held ++ after)
     ∙ (rw (take_at held after _ len, drop_at held after _ len, take-append-le n ys (post_of end k xs) fits, same) refl)

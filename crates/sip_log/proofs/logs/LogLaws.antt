@@ -1,6 +1,7 @@
 -- What is read of an input is only one thing.
 -- In the lemmas n and n2 are what comes by two readings of the same bytes; what belongs to the second reading has a 2.
 -- Of an entry's line a is the action, m the moment and l the length of the message; es are entries, and e the first of them.
+-- `coe 0 1 (i. P (e i)) h`: by the equation e, h, which says P of its left side, says it of the right one. `λ i. f (e i)`: f of both sides is equal.
 use Rattle.std.proofs.Common.{◌≡◌, ◌≢◌, inl, inr, ℕ, ◌+◌, List, [], ◌∷◌, ◌++◌, length, get_or, drop, if◌then◌else◌, ◌==◌, refl, subst, sym, ap, ◌∙◌, arith}
 use Rattle.std.proofs.lemmas.List.{append_cancel_left}
 use Rattle.sip_standard.specs.Times.{Times}
@@ -32,6 +33,7 @@ use Rattle.sip_log.proofs.spelling.SpellingLemmas.{header-read}
 -- an input begins with only one title, and has one rest after it
 title-one : (format format2 : Format) (rest rest2 : List ℕ) → title_text format ++ rest ≡ title_text format2 ++ rest2 → (format ≡ format2) × (rest ≡ rest2)
 title-one One One rest rest2 same = (refl, append_cancel_left (title_text One) rest rest2 same)
+-- the two titles differ at place 10, where the one has the digit 1 (49) and the other the digit 2 (50)
 title-one One Two rest rest2 same = let byte : ◌≡◌ {A = ℕ} 49 50 = ap (λ (t : List ℕ). get_or t 10 0) same in absurd (omega arith)
 title-one Two One rest rest2 same = let byte : ◌≡◌ {A = ℕ} 50 49 = ap (λ (t : List ℕ). get_or t 10 0) same in absurd (omega arith)
 title-one Two Two rest rest2 same = (refl, append_cancel_left (title_text Two) rest rest2 same)
@@ -43,7 +45,7 @@ TimesFront-one format rest p p2 behind behind2 a b =
     let parts = cut-one line_feed a.line behind b.line behind2 (TimesLine-lacks format a.line p a.times) (TimesLine-lacks format b.line p2 b.times) (sym a.whole ∙ b.whole) in
     (TimesLine-one format b.line p p2 (subst (λ line. TimesLine format line p) parts.0 a.times) b.times, parts.1)
 
--- the rules whose line has this byte at its sixth place, counted from 0
+-- the rules whose line has this byte at its sixth place, counted from 0: there `rules 3261` has a 3, which is 51
 rules_at : ℕ → Rules
 rules_at n = if n == 51 then R3261 else R6026
 
@@ -61,9 +63,12 @@ rules_text-one rules rules2 rest rest2 same =
 
 -- a text tells only one set of rules, and has one rest after them
 pub RulesLine-one : (rules rules2 : Rules) (text rest rest2 : List ℕ) → RulesLine rules text rest → RulesLine rules2 text rest2 → (rules ≡ rules2) × (rest ≡ rest2)
+-- by both readings there is a line of rules
 RulesLine-one rules rules2 text rest rest2 (inl a) (inl b) = rules_text-one rules rules2 rest rest2 (sym a ∙ b)
+-- by one of them only there is a line of rules, which cannot be
 RulesLine-one rules rules2 text rest rest2 (inl a) (inr b) = absurd (b.2 rules rest a)
 RulesLine-one rules rules2 text rest rest2 (inr a) (inl b) = absurd (a.2 rules2 rest2 b)
+-- by neither there is one, so that the rules are those of RFC 6026
 RulesLine-one rules rules2 text rest rest2 (inr a) (inr b) = (a.0 ∙ sym b.0, sym a.1 ∙ b.1)
 
 -- only one thing comes after line 2
@@ -113,6 +118,7 @@ Numbers-one text moment len moment2 len2 is is2 =
 
 -- a line tells only one thing as the line of an entry
 HeadLine-one : (format : Format) (line : List ℕ) (h h2 : Head) → HeadLine format line h → HeadLine format line h2 → h ≡ h2
+-- both lines are of messages: the letter, the moment and the length are the same
 HeadLine-one format line (message a m l) (message a2 m2 l2) is is2 =
     let same = sym is.3 ∙ is2.3 in
     let action : a ≡ a2 = letter-one a a2 (ap (λ (t : List ℕ). get_or t 0 0) same) in
@@ -142,13 +148,17 @@ FrontLine-one rest line behind line2 behind2 is is2 =
 -- where only one thing follows, only one thing comes by the case of a demand
 Unless-one : {A : Type 0} (Demand : Type 0) (reason : LogReason) (n n2 : Next A) (Follows Follows2 : Type 0) → (Follows → Follows2 → n ≡ n2)
     → Unless Demand reason n Follows → Unless Demand reason n2 Follows2 → n ≡ n2
+-- by both readings the demand fails, and by both it stops with the same reason
 Unless-one Demand reason n n2 Follows Follows2 one (inl a) (inl b) = a.1 ∙ sym b.1
+-- by one of them only the demand holds, which cannot be
 Unless-one Demand reason n n2 Follows Follows2 one (inl a) (inr b) = absurd (a.0 b.0)
 Unless-one Demand reason n n2 Follows Follows2 one (inr a) (inl b) = absurd (b.0 a.0)
+-- by both the demand holds, and only one thing follows
 Unless-one Demand reason n n2 Follows Follows2 one (inr a) (inr b) = one a.1 b.1
 
 -- where a list is cut in two ways, and the first parts are equally long, the first parts are the same, and so are the second ones
 parts-one : (xs ys xs2 ys2 : List ℕ) → length xs ≡ length xs2 → xs ++ ys ≡ xs2 ++ ys2 → (xs ≡ xs2) × (ys ≡ ys2)
+-- the first parts are equally long, so that both are empty or neither is
 parts-one [] ys [] ys2 len same = (refl, same)
 parts-one [] ys (x2 ∷ xs2) ys2 len same = absurd (omega arith)
 parts-one (x ∷ xs) ys [] ys2 len same = absurd (omega arith)
@@ -186,9 +196,12 @@ AtHead-one last head behind n n2 = Unless-one _ _ n n2 _ _ (Unless-one _ _ n n2 
 
 -- only one thing comes by the form of a line
 AtFront-one : (format : Format) (last : ℕ) (line behind : List ℕ) (n n2 : Next Item) → FormComes format last line behind n → FormComes format last line behind n2 → n ≡ n2
+-- by both readings the line is that of no entry
 AtFront-one format last line behind n n2 (inl a) (inl b) = a.1 ∙ sym b.1
+-- by one of them only it is that of an entry, which cannot be
 AtFront-one format last line behind n n2 (inl a) (inr b) = absurd (a.0 b.0 b.1)
 AtFront-one format last line behind n n2 (inr a) (inl b) = absurd (b.0 a.0 a.1)
+-- by both it is the line of the same entry
 AtFront-one format last line behind n n2 (inr a) (inr b) =
     AtHead-one last b.0 behind n n2 (subst (λ h. HeadComes last h behind n) (HeadLine-one format line a.0 b.0 a.1 b.1) a.2) b.2
 
@@ -206,9 +219,12 @@ AtLine-one format last rest n n2 (inr a) (inr b) =
 
 -- only one thing comes next in the rest
 pub ComesNext-one : (format : Format) (count last : ℕ) (rest : List ℕ) (n n2 : Next Item) → EntryComes format count last rest n → EntryComes format count last rest n2 → n ≡ n2
+-- by both readings nothing is left, so the end comes
 ComesNext-one format count last rest n n2 (inl a) (inl b) = a.1 ∙ sym b.1
+-- by one of them only something is left, which cannot be
 ComesNext-one format count last rest n n2 (inl a) (inr b) = absurd (b.0 a.0)
 ComesNext-one format count last rest n n2 (inr a) (inl b) = absurd (a.0 b.0)
+-- by both bytes are left
 ComesNext-one format count last rest n n2 (inr a) (inr b) = Unless-one _ _ n n2 _ _ (AtLine-one format last rest n n2) a.1 b.1
 
 -- What follows is of logs.
@@ -216,19 +232,23 @@ ComesNext-one format count last rest n n2 (inr a) (inr b) = Unless-one _ _ n n2 
 -- ends of a log after which the same comes next are the same
 pub next_at-one : (end end2 : LogEnd) → next_at end ≡ next_at end2 → end ≡ end2
 next_at-one Clean Clean same = refl
+-- after a clean end the input ends, and after a stop comes a fault, which are not the same
 next_at-one Clean (Stops reason) same = cc
 next_at-one (Stops reason) Clean same = cc
 next_at-one (Stops reason) (Stops reason2) same = ap Stops (cc)
 
 -- the end of a log is no entry that comes next
 pub next_at-not_gives : (end : LogEnd) (e : Item) (behind : List ℕ) → next_at end ≢ gives e behind
+-- what comes at it is the end of the input, or a fault
 next_at-not_gives Clean e behind same = cc
 next_at-not_gives (Stops reason) e behind same = cc
 
 -- the rest of an input has only one list of entries in a row, and one end
 pub Follow-one : (format : Format) (count last : ℕ) (rest : List ℕ) (es es2 : List Item) (end end2 : LogEnd) → Follow format count last rest es end → Follow format count last rest es2 end2
     → (es ≡ es2) × (end ≡ end2)
+-- by both readings the end comes here
 Follow-one format count last rest [] [] end end2 a b = (refl, next_at-one end end2 (ComesNext-one format count last rest _ _ a b))
+-- by one of them only an entry comes here, which cannot be
 Follow-one format count last rest [] (e2 ∷ es2) end end2 a b = absurd (next_at-not_gives end e2 b.0 (ComesNext-one format count last rest _ _ a b.1))
 Follow-one format count last rest (e ∷ es) [] end end2 a b = absurd (next_at-not_gives end2 e a.0 (ComesNext-one format count last rest _ _ b a.1))
 -- both have an entry there, which is the same one, and then the rest goes on alike

@@ -1,5 +1,6 @@
 -- Lemmas of the log of an input: there is one, and only one.
 -- In the lemmas n and n2 are what comes next by two readings, and es and es2 entries, with the times p and p2; e is the first entry.
+-- `coe 0 1 (i. P (e i)) h`: by the equation e, h, which says P of its left side, says it of the right one. `λ i. f (e i)`: f of both sides is equal.
 use Rattle.std.proofs.Common.{◌≡◌, ◌≢◌, ◌⊎◌, inl, inr, ◌≤◌, ◌+◌, ℕ, suc, List, [], ◌∷◌, ◌++◌, length, get_or, refl, subst, sym, ap, ◌∙◌, arith, append_assoc}
 use Rattle.std.specs.Prelude.{flat_map, All, codes}
 use Rattle.std.proofs.lemmas.List.{append-nil, append_cancel_left, length-append}
@@ -103,6 +104,7 @@ pub log_is_some : (input : List ℕ) → LacksHeader input ⊎ ((p : Times) × (
 log_is_some input = elim (header-or-not input) [
   | inr none ↦ inl none
   | inl is ↦
+      -- entries follow the header up to an end, and what stands there is their spelling
       let follow = Follow-some is.0 0 0 is.2 in
       inr (is.1, follow.0, follow.1, log-spelled is.0 input is.1 is.2 follow.0 follow.1 is.3 follow.2)
 ]
@@ -110,6 +112,7 @@ log_is_some input = elim (header-or-not input) [
 -- an input has only one log
 pub log_is_one : (input : List ℕ) (p p2 : Times) (es es2 : List Item) (end end2 : LogEnd) → LogSays input p es end → LogSays input p2 es2 end2 → (p ≡ p2) × (es ≡ es2) × (end ≡ end2)
 log_is_one input p p2 es es2 end end2 is is2 =
+    -- the entries of both logs follow after their headers; the input has one header, and so the same entries follow in the same rest
     let a = log-follows input p es end is in
     let b = log-follows input p2 es2 end2 is2 in
     let header = Header-one a.0 b.0 input p p2 a.1 b.1 a.2 b.2 in
@@ -126,7 +129,7 @@ log_has_header input p es end none is = none is.format p _ is.header
 entry-first : (e : Item) (rest : List ℕ) → get_or (entry_says e ++ rest) 0 0 ≢ 114
 entry-first e rest = letter-other e.action
   where
-    -- no action is spelled with the letter r
+    -- no action is spelled with the letter r, which is 114
     letter-other : (a : Action) → get_or ((line_says a e.moment (length e.text) ++ (codes "\n" ++ body_says e.action e.text)) ++ rest) 0 0 ≢ 114
     letter-other Sent same = absurd (omega arith)
     letter-other Received same = absurd (omega arith)
@@ -141,7 +144,9 @@ entries-first (e ∷ es) same = entry-first e (flat_map entry_says es) same
 
 -- the line of rules that is written is read as these rules
 rules-written : (rules : Rules) (items : List Item) → RulesLine rules (written_rules rules ++ flat_map entry_says items) (flat_map entry_says items)
+-- the line of RFC 3261 is written, and is read
 rules-written R3261 items = inl refl
+-- the rules of RFC 6026 are not written: what follows begins with no r, and so has no line of rules
 rules-written R6026 items = inr (refl, refl, (λ rules more same. entries-first items (ap (λ (t : List ℕ). get_or t 0 0) same ∙ rules-first rules more)))
 
 -- a header that is written, and entries after it, begin with that header
@@ -151,6 +156,7 @@ header-written format p items times one = record {
   times = times;
   one = one;
   rest = written_rules p.rules ++ flat_map entry_says items;
+  -- after the two lines stand the line of rules, if one is written, and the entries
   lines = append_assoc (lines_text format p) (written_rules p.rules) (flat_map entry_says items);
   rules = rules-written p.rules items;
 }
@@ -161,6 +167,7 @@ pub clean-log : (format : Format) (input : List ℕ) (p : Times) (items : List I
 clean-log format input p items header few order = record {
   format = format;
   rest = [];
+  -- nothing is left after the last entry, so the log ends there without a fault
   header = subst (Header format p input) (sym (append-nil (flat_map entry_says items))) header;
   few = few;
   order = order;
@@ -181,6 +188,7 @@ two-order last (e ∷ es) order = (order.0, ((λ same. refl), order.1.1, order.1
 pub log-of-two : (input other : List ℕ) (p : Times) (behind : List ℕ) (items : List Item) → Header One p input behind → Header Two p other behind
     → LogSays input p items Clean → LogSays other p items Clean
 log-of-two input other p behind items one two is =
+    -- the header of the log is that of format 1, and nothing is left after its entries
     let same = Header-one is.format One input p p _ behind is.header one in
     let none : is.rest ≡ [] = is.next in
     let whole : behind ≡ flat_map entry_says items = sym same.2 ∙ ap (λ (t : List ℕ). flat_map entry_says items ++ t) none ∙ append-nil (flat_map entry_says items) in
@@ -191,7 +199,9 @@ log-of-two input other p behind items one two is =
 -- where nothing was taken as a line of rules, the rules are those of RFC 6026
 no-rules : (rules : Rules) (text behind : List ℕ) → text ≡ behind → RulesLine rules text behind → rules ≡ R6026
 no-rules rules text behind same (inr is) = is.0
+-- the line that was taken is that of RFC 6026
 no-rules R6026 text behind same (inl is) = refl
+-- the line of RFC 3261 would have been taken, which has 11 bytes, but no byte was
 no-rules R3261 text behind same (inl is) =
     let line : length (rules_text R3261) ≡ 11 = refl in
     absurd (omega (arith, line, ap length (sym same ∙ is), length-append (rules_text R3261) behind))
@@ -214,6 +224,7 @@ one-order last (e ∷ es) order = All-cons (λ x. x.action ≢ Restart) e es (λ
 pub restarts-of-one : (input : List ℕ) (p q : Times) (behind : List ℕ) (items : List Item) (end : LogEnd) → Header One p input behind → LogSays input q items end
     → All (λ e. e.action ≢ Restart) items
 restarts-of-one input p q behind items end one is =
+    -- the header of the log is that of format 1
     let same = Header-one is.format One input q p _ behind is.header one in
     one-order 0 items (subst (λ f. InOrder f 0 items) same.0 is.order)
 
@@ -221,6 +232,7 @@ restarts-of-one input p q behind items end one is =
 turn-front : (format : Format) (count last : ℕ) (rest : List ℕ) (items : List Item) (end : LogEnd) (read : List Item) (left : List ℕ) → Follow format count last rest items end
     → ComeInTurn format count last rest read left → (more : List Item) × (items ≡ read ++ more)
 turn-front format count last rest items end [] left follow turn = (items, refl)
+-- the log ends where an entry came
 turn-front format count last rest [] end (e ∷ es) left follow (behind, next, turn) =
     absurd (next_at-not_gives end e behind (ComesNext-one format count last rest (next_at end) (gives e behind) follow (next-read format count last rest (gives e behind) next)))
 -- the first entry of both is the same, and the rest goes on alike
@@ -237,5 +249,6 @@ pub log-front : (input : List ℕ) (p : Times) (items : List Item) (end : LogEnd
     (more : List Item) × (items ≡ read ++ more)
 log-front input p items end is format q behind left read header turn =
     let a = log-follows input p items end is in
+    -- both headers are one, so that the entries of the log and those that were read follow in the same rest
     let same = Header-one a.0 format input p q a.1 behind a.2 header in
     turn-front format 0 0 behind items end read left (coe 0 1 (i. Follow (same.0 i) 0 0 (same.2 i) items end) a.3) turn

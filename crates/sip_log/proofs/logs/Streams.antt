@@ -1,5 +1,6 @@
 -- The log of an input in which any number of entries may come: there is one, and only one.
 -- In the lemmas es and es2 are the entries by two readings, e and e2 the first of them, and n and n2 what comes next by each.
+-- `coe 0 1 (i. P (e i)) h`: by the equation e, h, which says P of its left side, says it of the right one. `λ i. f (e i)`: f of both sides is equal.
 use Rattle.std.proofs.Common.{◌≡◌, ◌⊎◌, inl, inr, ◌<◌, ◌≤◌, ◌+◌, ℕ, zero, suc, List, [], ◌∷◌, ◌++◌, length, refl, subst, sym, ap, ◌∙◌, arith, append_assoc}
 use Rattle.std.specs.Prelude.{◌↔◌, flat_map}
 use Rattle.sip_standard.specs.Times.{Times}
@@ -80,6 +81,7 @@ follows_spelled format last rest (e ∷ es) end (behind, next, follow) =
     let first = next-told format 0 last rest (gives e behind) next in
     let more = follows_spelled format e.moment behind es end follow in
     record {
+      -- the two spellings, one after the other, are that of all entries, which are in order since the first keeps it
       left = more.left;
       whole = first.0 ∙ ap (λ (t : List ℕ). entry_says e ++ t) more.whole ∙ sym (append_assoc (entry_says e) (flat_map entry_says es) more.left);
       order = (first.2, first.3, more.order);
@@ -89,8 +91,10 @@ follows_spelled format last rest (e ∷ es) end (behind, next, follow) =
 -- entries in order, spelled before the end, follow there
 spelled_follows : (format : Format) (last : ℕ) (items : List Item) (rest : List ℕ) (end : LogEnd) → InOrder format last items → EndsWith format 0 (last_of last items) rest end
     → Follows format last (flat_map entry_says items ++ rest) items end
+-- without entries the end stands there
 spelled_follows format last [] rest end order next = next-read format 0 last rest (next_at end) (end-comes format 0 last rest end next)
 spelled_follows format last (e ∷ es) rest end order next =
+    -- the first entry is spelled at the front, and the others follow in what is left
     let whole : (entry_says e ++ flat_map entry_says es) ++ rest ≡ entry_says e ++ (flat_map entry_says es ++ rest) = append_assoc (entry_says e) (flat_map entry_says es) rest in (
       flat_map entry_says es ++ rest,
       next-read format 0 last ((entry_says e ++ flat_map entry_says es) ++ rest) (gives e (flat_map entry_says es ++ rest)) (whole, omega arith, order.0, order.1),
@@ -102,6 +106,7 @@ pub stream_is_some : (input : List ℕ) → LacksHeader input ⊎ ((p : Times) �
 stream_is_some input = elim (header-or-not input) [
   | inr none ↦ inl none
   | inl is ↦
+      -- entries follow the header up to an end, and what stands there is their spelling
       let (items, end, follow) = follows_some is.0 0 is.2 in
       let rest = follows_spelled is.0 0 is.2 items end follow in
       inr (is.1, items, end, record { format = is.0; rest = rest.left; header = subst (Header is.0 is.1 input) rest.whole is.3; order = rest.order; next = rest.next })

@@ -1,5 +1,6 @@
 -- A number of a log is the decimal text of std, and that text is a number of a log.
 -- In the lemmas n is a number, and ds are digits: those that come after it, or those of its text.
+-- `λ i. f (e i)`: by the equation e, f of its left side is equal to f of its right side.
 use Rattle.std.proofs.Common.{◌≡◌, ◌<◌, ◌≤◌, ◌+◌, ◌*◌, ◌/◌, ◌%◌, ◌^◌, inl, inr, ℕ, zero, suc, Bool, false, if◌then◌else◌, List, [], ◌∷◌, ◌++◌, length, get_or, subst, refl, sym, ap, ◌∙◌, arith, append_assoc}
 use Rattle.std.proofs.lemmas.Bool.{cases_lt}
 use Rattle.std.proofs.lemmas.List.{append-nil, length-append}
@@ -91,6 +92,7 @@ number-decimal n low =
     -- the text of a number begins with 0 only if it has this one digit
     plain : get_or (decimal n) 0 0 ≡ digit_zero → length (decimal n) ≡ 1
     plain zero_first = elim (cases_lt 0 n) as (λ _. length (decimal n) ≡ 1) [
+      -- the text of a number above 0 begins with no 0, and that of 0 is one digit
       | inl above ↦ absurd (omega (arith, (leads n low).first above, zero_first))
       | inr none ↦ let z : n ≡ 0 = omega arith in ap (λ m. length (decimal m)) z ∙ ap length (decimal_digit 0 (omega arith))
     ]
@@ -116,6 +118,7 @@ from_nil n = refl
 -- a number whose decimal text has at most 63 digits is below 10^64
 pub decimal-short : (n : ℕ) → length (decimal n) ≤ 63 → n < 10 ^ 64
 decimal-short n short = elim (cases_lt n (10 ^ 64)) as (λ _. n < 10 ^ 64) [
+  -- a number of 10^64 or more would have at least 64 digits, by `long`
   | inl low ↦ low
   | inr high ↦ absurd (omega (arith, long 64 n [] high, ap length (from_nil n), short))
 ]

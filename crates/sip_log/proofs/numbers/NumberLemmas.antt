@@ -41,6 +41,7 @@ after-ge n (c ∷ cs) =
 pub IsNumber-short : (text : List ℕ) (n k : ℕ) → 1 ≤ k → n < 10 ^ k → IsNumber text n → length text ≤ k
 IsNumber-short [] n k some low is = omega arith
 IsNumber-short (c ∷ cs) n k some low is = elim (cases_lt 0 (digit_value c)) as (λ _. length (c ∷ cs) ≤ k) [
+  -- the first digit is 0, so it is the whole text
   | inr none ↦
       let first : c ≡ digit_zero = omega (arith, digit_value_digit c (digit_from_value c is.digits.1.0), none) in
       omega (arith, is.plain first)
@@ -48,6 +49,7 @@ IsNumber-short (c ∷ cs) n k some low is = elim (cases_lt 0 (digit_value c)) as
   | inl more ↦ elim (cases_lt (length cs) k) as (λ _. length (c ∷ cs) ≤ k) [
     | inl short ↦ omega arith
     | inr long ↦
+        -- more than k digits, of which the first is not 0, make a number of at least 10^k
         let power : 10 ^ k ≤ 10 ^ length cs = pow-le-pow_right (omega arith) long in
         let times : 10 ^ length cs ≤ 10 ^ length cs * digit_value c = le-mul_of_pos_right (10 ^ length cs) more in
         let front : 0 * 10 + digit_value c ≡ digit_value c = omega arith in

@@ -1,5 +1,6 @@
 -- A header and an entry's line are read as what they spell, by the relations by which the code reads them, and spell what is read of them.
 -- In the lemmas f is a format and q the times that were read; behind is what follows the header.
+-- `coe 1 0 (i. P (e i)) h`: by the equation e, h, which says P of its right side, says it of the left one. `λ i. f (e i)`: f of both sides is equal.
 use Rattle.std.proofs.Common.{◌≡◌, ◌⊎◌, inl, inr, ◌<◌, ℕ, List, [], ◌∷◌, ◌++◌, length, refl, sym, ap, ◌∙◌, arith, append_assoc}
 use Rattle.std.specs.Prelude.{codes, decimal}
 use Rattle.std.proofs.lemmas.List.{append-nil, length-append}
@@ -123,11 +124,11 @@ lines-parts Two p rest =
 -- times within their limits are within them under any rules
 pub within-under : (rules : Rules) (p : Times) → AreTimes p → AreTimes (under rules p)
 within-under rules p is = record {
+  -- the limits are those of the same numbers
   t1_low = is.t1_low;
   t1_high = is.t1_high;
   t2_low = is.t2_low;
   t2_high = is.t2_high;
-  -- the limits are those of the same numbers
   t4_low = is.t4_low;
   t4_high = is.t4_high;
   early_high = is.early_high;
@@ -142,10 +143,12 @@ lines-under Two rules p = refl
 -- in format 1 the early and the late tolerance are the same
 one-tolerance : (format : Format) (text : List ℕ) (early late : ℕ) → Tolerances format text early late → format ≡ One → early ≡ late
 one-tolerance One text early late is same = is.1
+-- format 2 is not format 1
 one-tolerance Two text early late is same = cc
 
 -- a header that is read is spelled
 pub header-spelled : (format : Format) (input : List ℕ) (p : Times) (behind : List ℕ) → HeaderComes input (gives (format, p) behind) → Header format p input behind
+-- where line 1 or line 2 is missing, a fault comes and no header
 header-spelled format input p behind (inr (none, same)) = cc
 header-spelled format input p behind (inl (f, rest, title, inr (none, same))) = cc
 header-spelled format input p behind (inl (f, rest, title, inl (q, rest2, front, (rules, left, line, same)))) =
@@ -188,6 +191,7 @@ pub line-same : (action : Action) (moment len : ℕ) → line_text action moment
 line-same Sent moment len = refl
 line-same Received moment len = refl
 line-same Failed moment len = refl
+-- a mark and a restart have nothing after the moment, and the empty text that is appended there adds nothing
 line-same Mark moment len = append-nil (line_says Mark moment len)
 line-same Restart moment len = append-nil (line_says Restart moment len)
 
@@ -196,6 +200,7 @@ pub message-or-not : (action : Action) → HasMessage action ⊎ ¬ (HasMessage 
 message-or-not Sent = inl ((λ same. cc), (λ same. cc))
 message-or-not Received = inl ((λ same. cc), (λ same. cc))
 message-or-not Failed = inl ((λ same. cc), (λ same. cc))
+-- a mark is ruled out by the first part of `HasMessage`, and a restart by the second
 message-or-not Mark = inr (λ has. has.0 refl)
 message-or-not Restart = inr (λ has. has.1 refl)
 
@@ -216,6 +221,7 @@ pub length-message : (action : Action) (len : ℕ) → HasMessage action → len
 length-message Sent len has = refl
 length-message Received len has = refl
 length-message Failed len has = refl
+-- a mark and a restart have no message
 length-message Mark len has = absurd (has.0 refl)
 length-message Restart len has = absurd (has.1 refl)
 
@@ -224,11 +230,13 @@ pub body-message : (action : Action) (text : List ℕ) → HasMessage action →
 body-message Sent text has = refl
 body-message Received text has = refl
 body-message Failed text has = refl
+-- a mark and a restart have no message
 body-message Mark text has = absurd (has.0 refl)
 body-message Restart text has = absurd (has.1 refl)
 
 -- the line of an entry without a message has nothing after the moment
 pub length-plain : (action : Action) (len : ℕ) → ¬ (HasMessage action) → length_text action len ≡ []
+-- the first three actions have a message, which `none` denies
 length-plain Sent len none = absurd (none has-sent)
 length-plain Received len none = absurd (none has-received)
 length-plain Failed len none = absurd (none has-failed)
@@ -237,6 +245,7 @@ length-plain Restart len none = refl
 
 -- an entry without a message has nothing after its line
 pub body-plain : (action : Action) (text : List ℕ) → ¬ (HasMessage action) → body_says action text ≡ []
+-- the first three actions have a message, which `none` denies
 body-plain Sent text none = absurd (none has-sent)
 body-plain Received text none = absurd (none has-received)
 body-plain Failed text none = absurd (none has-failed)
@@ -282,6 +291,7 @@ plain-text action moment len none = ap (λ (t : List ℕ). letter action ∷ spa
 pub plain-spelled : (format : Format) (line : List ℕ) (action : Action) (moment len : ℕ) → length line < 32 → HeadLine format line (plain action moment) → line ≡ line_says action moment len
 plain-spelled format line action moment len short is =
     let size = ap length is.4 in
+    -- the line has fewer than 32 bytes, so its moment is short, and spelled as std spells it
     let text = decimal-number is.0 moment (omega (arith, size)) is.3 in
     is.4 ∙ ap (λ (t : List ℕ). letter action ∷ space ∷ t) text ∙ sym (plain-text action moment len is.1) ∙ line-same action moment len
 

@@ -1,4 +1,6 @@
 -- Which debt is the first one whose message has a given To, where messages stand under the hashes of their Tos.
+-- `IsFirstPaid P t debts m` says that m is the message of the first debt of which P holds, and that a send of it at t pays that debt; or that there is no m,
+-- and P holds of none. `holds pairs h n` tells whether the number n stands under the hash h.
 use Rattle.sip_machine.proofs.Words.{◌<◌, ◌∷◌, ◌↔◌, ℕ, Option, None, Some, List, [], All, get_or, length, sym, subst, All-get_or, All-head, Debt, IsFirstPaid, PaysSome, paid_by, holds, owed_in, owes_names, Texts, Keeps, text_of, HasTo, All-back, All-front, IsWithoutFirst-alike, All-names, full_hash, FindsFirst, AreBetween, IsToOf, StandUnder}
 
 -- where P and Q hold of the same debts, the first debt of which P holds is the first of which Q holds
@@ -24,6 +26,7 @@ module _ (texts : Texts) (to : List ℕ) (low high t : ℕ) (rows : List (List D
   -- where the message of a debt has the To, it stands under its hash
   under : All (λ d. HasTo texts to t d → Under d) debts
   under = λ k d within has.
+      -- the numbers of what the row owes are from low up to high, and the messages with such numbers stand under the hashes of their Tos
       let between = All-get_or (AreBetween low high) rows row [] inside spans k d within in
       (stand (get_or debts k d).message to (known k d within) between.0 between.1 has.0, has.1)
 

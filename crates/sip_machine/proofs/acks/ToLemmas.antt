@@ -90,8 +90,10 @@ All-picked P bs xs all = grind (arith, get_or_picked)
 
 -- what relates each pair of a list, in order, relates each pair of those that are picked
 pub AllPairs-picked : {X : Type 0} (R : X → X → Type 0) (bs : List Bool) (xs : List X) → AllPairs R xs → AllPairs R (items_where_true bs xs)
+-- nothing is picked where the flags or the elements end
 AllPairs-picked R [] xs up = λ i j d lt low. absurd (omega arith)
 AllPairs-picked R (b ∷ bs) [] up = λ i j d lt low. absurd (omega arith)
+-- the first element is picked, and R relates it to each later one; or it is left out
 AllPairs-picked R (true ∷ bs) (x ∷ xs) up =
     AllPairs-cons R x (items_where_true bs xs) (All-picked (R x) bs xs (AllPairs-head R x xs up)) (AllPairs-picked R bs xs (AllPairs-tail R x xs up))
 AllPairs-picked R (false ∷ bs) (x ∷ xs) up = AllPairs-picked R bs xs (AllPairs-tail R x xs up)
@@ -112,25 +114,31 @@ AllPairs-take R n xs up = grind (arith, nat_tests, cases_lt, take_all, length-ta
 
 -- a number that is put under a hash stands there
 pub put-here : (hash number : ℕ) (old new : Option (List (ℕ × ℕ))) → IsChanged hash number true old new → IsUnder new hash number
+-- where no hashes are kept, nothing is claimed; and they are not kept after where they were not before
 put-here hash number old None changed = tt
 put-here hash number None (Some new) changed = absurd changed
+-- by the change, the pair that was put is there: both tests of equality pass
 put-here hash number (Some old) (Some new) changed =
     changed hash number ∙ ap₂ (λ a b. cond (a && b) true (holds old hash number)) (eq-eqb hash hash refl) (eq-eqb number number refl)
 
 -- where a number is put under a hash, what stood under a hash stands there
 pub put-keeps : (hash number : ℕ) (old new : Option (List (ℕ × ℕ))) → IsChanged hash number true old new → (h n : ℕ) → IsUnder old h n → IsUnder new h n
+-- where no hashes are kept, nothing is claimed; and they are not kept after where they were not before
 put-keeps hash number old None changed h n is = tt
 put-keeps hash number None (Some new) changed h n is = absurd changed
 put-keeps hash number (Some old) (Some new) changed h n is = changed h n ∙ still (h == hash && n == number) (holds old h n) is
   where
+    -- a pair that was there is there, whether it is the one that is put or not
     still : (here before : Bool) → before ≡ true → cond here true before ≡ true
     still true before is = refl
     still false before is = is
 
 -- where a number is taken from a hash, other numbers stand where they stood
 pub taken-keeps : (hash number : ℕ) (old new : Option (List (ℕ × ℕ))) → IsChanged hash number false old new → (h n : ℕ) → n ≢ number → IsUnder old h n → IsUnder new h n
+-- where no hashes are kept, nothing is claimed; and they are not kept after where they were not before
 taken-keeps hash number old None changed h n other is = tt
 taken-keeps hash number None (Some new) changed h n other is = absurd changed
+-- the number is another one than that which is taken, so its pair is as it was
 taken-keeps hash number (Some old) (Some new) changed h n other is =
     changed h n ∙ ap (λ b. cond (h == hash && b) false (holds old h n)) (ne_eqb n number other) ∙ ap (λ b. cond b false (holds old h n)) (and-false (h == hash)) ∙ is
 
@@ -161,6 +169,7 @@ module _ (texts : Texts) (tos : List To) (low high : ℕ) (book : IsBook texts) 
   -- each kept message with a number from low up to high has its To in the list
   beside : (number : ℕ) → Keeps texts number → low ≤ number → number ≤ high → (i : ℕ) × (i < length tos) × ((get_or tos i nobody).number ≡ number)
   beside number kept from to =
+      -- there are as many Tos as messages between the two numbers, and each To is that of a kept message; so each message has one
       let le : low ≤ high = omega (arith, from, to) in
       let as_few : many low high (map (λ k. k.0) texts) ≤ many low high (map (λ to. to.number) tos) =
       omega (arith, as_many, count_between-is low high (map (λ k. k.0) texts) le, count_between-is low high (map (λ to. to.number) tos) le) in
@@ -173,6 +182,7 @@ module _ (texts : Texts) (tos : List To) (low high : ℕ) (book : IsBook texts) 
       (i : ℕ) × (i < length tos) × ((get_or tos i nobody).number ≡ number) × ((get_or tos i nobody).text ≡ text)
   owner number text kept from to is =
       let (i, within, at) = beside number kept from to in
+      -- the To that stands there is the message's one To
       let its = All-get_or (IsTo texts) tos i nobody within are.each in
       let same = IsToOf-one (text_of texts number) text (get_or tos i nobody).text (subst (λ n. IsToOf (text_of texts n) (get_or tos i nobody).text) at its.text) is in
       (i, within, at, same)

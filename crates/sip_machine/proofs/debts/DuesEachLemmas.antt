@@ -48,9 +48,9 @@ pub kept-none : (count : ℕ) (kept : List ℕ) → blank_rows (length kept) ≡
 kept-none count [] = refl
 kept-none count (row ∷ kept) = ap₂ (λ owes rows. owes ∷ rows) (sym (owed-none count row)) (kept-none count kept)
 
--- rows that owe nothing have no debt of which P holds
+-- rows that owe nothing have no debt of which P holds, so that none of them is the first one that a send pays (`IsFirstPaid`)
 pub unpaid-none : (P : Debt → Type 0) (t count row : ℕ) → IsFirstPaid P t (owed_in (blank_rows count) row) None
 unpaid-none P t count row = subst (All (λ debt. ¬ (P debt))) (sym (owed-none count row)) (All-nil (λ debt. ¬ (P debt)))
 
--- how rows that owe nothing stand after each change, and what rows name
+-- how rows that owe nothing stand after each change, and what rows name: the lemmas that `using(..)` gives the prover in `src/dues.rt`
 pub ruleset of_blank = (owed-none, set_none, take_none, drop-replicate, mapped-none, timely-none, paid-none, kept-none, length-replicate, unpaid-none, owed-appends)

@@ -16,7 +16,7 @@ use Rattle.sip_machine.specs.inner.Dues.{blank_rows}
 use Rattle.sip_machine.specs.inner.Pools.{beside}
 use Rattle.sip_machine.proofs.texts.TextLaws.{Contains-nil, Contains-cons_cases}
 
--- a message is among those of some debts exactly if one of them is of it
+-- where a message is among those of some debts, the test finds a debt of it
 named-owed : (m : ℕ) (debts : List Debt) → Contains (owes_names debts) m → owes_message m debts ≡ true
 named-owed m [] there = absurd (Contains-nil m there)
 named-owed m (debt ∷ debts) there = elim (Contains-cons_cases debt.message (owes_names debts) m there) [
@@ -24,15 +24,16 @@ named-owed m (debt ∷ debts) there = elim (Contains-cons_cases debt.message (ow
   | inr rest ↦ or_right (debt.message == m) (owes_message m debts) (named-owed m debts rest)
 ]
 
--- a message that is owed is among those that the debts name
+-- where the test finds a debt of a message, the message is among those that the debts name
 owed-named : (m : ℕ) (debts : List Debt) → owes_message m debts ≡ true → Contains (owes_names debts) m
+-- of no debts the test finds none
 owed-named m [] is = absurd (true≢false (sym is))
 owed-named m (debt ∷ debts) is = elim (cases_eq debt.message m) [
   | inl same ↦ subst (Contains (owes_names (debt ∷ debts))) same (Contains-get_or (owes_names (debt ∷ debts)) 0 m (omega arith))
   | inr other ↦ Contains-append_right (debt.message ∷ []) (owes_names debts) m (owed-named m debts (sym (ap (λ b. b || owes_message m debts) (ne_eqb debt.message m other)) ∙ is))
 ]
 
--- a message that stands among the messages of some rows is owed by one of them
+-- where a message is among those of some rows, the test finds a row that owes it
 named-some : (m : ℕ) (rows : List (List Debt)) → Contains (flat_map owes_names rows) m → some_owes m rows ≡ true
 named-some m [] there = absurd (Contains-nil m there)
 named-some m (owes ∷ rows) there = elim (Contains-append_cases (owes_names owes) (flat_map owes_names rows) m there) [
@@ -40,7 +41,7 @@ named-some m (owes ∷ rows) there = elim (Contains-append_cases (owes_names owe
   | inr later ↦ or_right (owes_message m owes) (some_owes m rows) (named-some m rows later)
 ]
 
--- where this row or a later one owes the message, the message is named by some row
+-- where this row or a later one owes the message, the message is named by some row; b says whether this row owes it
 some-step : (m : ℕ) (owes : List Debt) (rows : List (List Debt)) (b : Bool) → owes_message m owes ≡ b → (b || some_owes m rows) ≡ true →
     (some_owes m rows ≡ true → Contains (flat_map owes_names rows) m) → Contains (flat_map owes_names (owes ∷ rows)) m
 some-step m owes rows true here is later = Contains-append_left (owes_names owes) (flat_map owes_names rows) m (owed-named m owes here)
@@ -115,6 +116,7 @@ module _ {S : Type 0} (names : S → List ℕ) where
 
   -- what the debts of a pool's states name is what its rows name
   debts-beside : (phases : List S) (rows : List (List Debt)) → length rows ≡ length phases → flat_map debt_names (beside phases rows) ≡ flat_map owes_names rows
+  -- there are as many rows as phases, so that both lists end together
   debts-beside [] [] even = refl
   debts-beside [] (row ∷ rows) even = absurd (omega (arith, even))
   debts-beside (phase ∷ phases) [] even = absurd (omega (arith, even))

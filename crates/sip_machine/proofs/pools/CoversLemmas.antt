@@ -20,6 +20,7 @@ module _ {X S : Type 0} where
   pub FromSome-append : (P : S → X → Type 0) (xs ys : List S) (y : X) → (FromSome P xs y ⊎ FromSome P ys y) ↔ FromSome P (xs ++ ys) y
   FromSome-append P [] ys y = (λ h. elim h [ inl none ↦ absurd none | inr later ↦ later ], inr)
   FromSome-append P (x ∷ xs) ys y =
+      -- y comes from the first state, from another one of xs, or from one of ys
       let more = FromSome-append P xs ys y in (
         λ h. elim h [
           | inl first ↦ elim first [ inl here ↦ inl here | inr rest ↦ inr (more.0 (inl rest)) ]
@@ -36,6 +37,7 @@ module _ {X S : Type 0} where
   pub FromSome-either : (P Q : S → X → Type 0) (xs : List S) (y : X) → (FromSome P xs y ⊎ FromSome Q xs y) ↔ FromSome (λ x y. P x y ⊎ Q x y) xs y
   FromSome-either P Q [] y = (λ h. elim h [ inl none ↦ none | inr none ↦ none ], λ none. inl none)
   FromSome-either P Q (x ∷ xs) y =
+      -- y comes from the first state or from another one, in either way
       let more = FromSome-either P Q xs y in (
         λ h. elim h [
           | inl p ↦ elim p [ inl here ↦ inl (inl here) | inr rest ↦ inr (more.0 (inl rest)) ]
@@ -53,6 +55,7 @@ module _ {X S : Type 0} where
   FromSome-same P Q same [] y = (λ none. none, λ none. none)
   FromSome-same P Q same (x ∷ xs) y =
       let here = same x y in
+      -- y comes from the first state, or from another one
       let more = FromSome-same P Q same xs y in (
         λ h. elim h [ inl p ↦ inl (here.0 p) | inr rest ↦ inr (more.0 rest) ],
         λ h. elim h [ inl q ↦ inl (here.1 q) | inr rest ↦ inr (more.1 rest) ],
@@ -120,6 +123,7 @@ module _ {X S : Type 0} (names : S → List ℕ) (InRange : S → Type 0) (seen 
       All (λ x. AnswersOne names InRange seen texts (P x) (cond (test x) (Some (g x)) None)) xs → Cover (FromSome P xs) (map g (filter test xs))
   answers-cover P test g [] all = Covers-none (FromSome P []) (λ y none. none)
   answers-cover P test g (x ∷ xs) all =
+      -- the first state gives its answer, if it passes, and the others cover what leads from them
       let here = All-head (λ x. AnswersOne names InRange seen texts (P x) (cond (test x) (Some (g x)) None)) x xs all in
       let more = answers-cover P test g xs (All-tail (λ x. AnswersOne names InRange seen texts (P x) (cond (test x) (Some (g x)) None)) x xs all) in
       subst (Cover (FromSome P (x ∷ xs))) (sym (map-passing (test x) g x (filter test xs) ∙ answers-front (test x) (g x) (map g (filter test xs))))
@@ -141,6 +145,7 @@ module _ {X S : Type 0} (names : S → List ℕ) (InRange : S → Type 0) (seen 
   pub found-more : (some more all old mid new added : List S) → all ≡ some ++ more → HasFound names InRange seen texts P some old mid → new ≡ mid ++ added →
       Covers names InRange seen texts (FromSome P more) added → HasFound names InRange seen texts P all old new
   found-more some more all old mid new added is (found, mid_is, covers) new_is covers_more = (
+    -- what was found before and what is found now cover together what leads from all
     found ++ added,
     new_is ∙ ap (λ xs. xs ++ added) mid_is ∙ append_assoc old found added,
     subst (λ xs. Covers names InRange seen texts (FromSome P xs) (found ++ added)) (sym is)
@@ -157,6 +162,7 @@ module _ {X S : Type 0} (names : S → List ℕ) (InRange : S → Type 0) (seen 
 module _ {S : Type 0} where
   -- the first n of the first m elements are the first n, where n is not above m
   take-shorter : (n m : ℕ) (xs : List S) → n ≤ m → take n (take m xs) ≡ take n xs
+  -- the first 0 of any list are none; and n is not above m
   take-shorter zero m xs le = refl
   take-shorter (suc n) zero xs le = absurd (omega (arith, le))
   take-shorter (suc n) (suc m) [] le = refl
@@ -181,6 +187,7 @@ module _ {S : Type 0} where
 
   -- the states up to `to` are those up to `at` and those from there up to `to`
   pub take-slice : (at to : ℕ) (xs : List S) → at ≤ to → take to xs ≡ take at xs ++ from_to at to xs
+  -- before 0 there is none; and `at` is not above `to`
   take-slice zero to xs le = refl
   take-slice (suc at) zero xs le = absurd (omega (arith, le))
   take-slice (suc at) (suc to) [] le = refl

@@ -35,6 +35,7 @@ module _ {X : Type 0} (xs : List X) where
   Any-more : (P : ℕ → Type 0) (rows : List ℕ) (row : ℕ) → Any P rows → Any P (rows ++ row ∷ [])
   Any-more P rows row (i, r, low, is, holds) = (i, r, low-more rows row i low, get_or_append_left rows (row ∷ []) r i low ∙ is, holds)
     where
+      -- a place of the rows is a place of the rows with one more after them
       low-more : (rows : List ℕ) (row i : ℕ) → i < length rows → i < length (rows ++ row ∷ [])
       low-more [] row i low = absurd (omega (arith, low))
       low-more (r ∷ rows) row zero low = omega arith
@@ -46,6 +47,7 @@ module _ {X : Type 0} (xs : List X) where
     within = All-push (λ row. (from ≤ row) × (row < at + 1)) rows at
         (All-weaker (λ row. (from ≤ row) × (row < at)) (λ row. (from ≤ row) × (row < at + 1)) (λ row is. let b = is.1 in (is.0, omega (arith, b))) rows first.within)
         (low, omega arith);
+    -- the new row is above all others
     rising = all_pairs_push (λ a b. a < b) rows at first.rising (λ k d low. (first.within k d low).1);
     -- an element before `at` has its first one among the rows, and the one at `at` is one itself
     each = λ k x low_k high_k. elim (cases_lt k at) [
@@ -54,12 +56,14 @@ module _ {X : Type 0} (xs : List X) where
           let here : at ≡ k = omega (arith, behind, high_k) in
           Any-push (λ row. get_or xs row x ≡ get_or xs k x) rows at (ap (λ r. get_or xs r x) here)
     ];
+    -- no two rows have equal elements: the new one has none of those before it
     apart = λ x. all_pairs_push (λ a b. get_or xs a x ≢ get_or xs b x) rows at (first.apart x) (λ k d low. new x k d low);
   }
 
   -- where one of the first ones is the same as the element at `at`, that is no further first one
   pub first-again : (from at : ℕ) (rows : List ℕ) → AreFirstOnes xs from at rows → IsAmong rows at → AreFirstOnes xs from (at + 1) rows
   first-again from at rows first among = record {
+    -- the rows are the same, and the element at `at` has its equal among them
     within = All-weaker (λ row. (from ≤ row) × (row < at)) (λ row. (from ≤ row) × (row < at + 1)) (λ row is. let b = is.1 in (is.0, omega (arith, b))) rows first.within;
     rising = first.rising;
     each = λ k x low_k high_k. elim (cases_lt k at) [
@@ -122,7 +126,7 @@ run_picked xs rows first x run within =
     get_or-take (length rows) (drop first xs) k d inside ∙ get_or-drop first xs k d ∙ ap (λ n. get_or xs n d) (sym is)
     ∙ get_or_default xs (get_or rows k 0) d x row_low ∙ sym (get_or-map (λ row. get_or xs row x) rows k 0 d inside))
 
--- what stays in a pool of which some states are kept
+-- what stays in a pool of which some states are kept: the lemmas that `using(..)` gives the prover in `src/pool.rt`
 pub ruleset of_kept = (beside-length, run_picked)
 
 -- What follows is of elements that are brought to the front of their list.
@@ -149,7 +153,7 @@ module _ {X : Type 0} (xs : List X) (rows : List ℕ) where
     rest = λ k d le_k. rest k d (omega (arith, le_k)) ∙ picking.rest k d (omega (arith, le_k));
   }
 
--- how the elements at some rows come to the front
+-- how the elements at some rows come to the front: the lemmas that `using(..)` gives the prover in `src/pool.rt`
 pub ruleset of_picking = (nat_tests, common_steps, cases_lt, rising-above, picking-more, length-set, length-take-le, take-set-le, get_or-set_same, get_or_default, get_or-set_other)
 
 -- What follows is of prints.
@@ -173,6 +177,7 @@ module _ {S : Type 0} (input : S → List (List ℕ)) (phases : List S) (from : 
   mixed-all rows xs new at is long prints mixing all =
       let size : length xs ≡ length phases = ap length (sym is) ∙ beside-length phases rows in
       record {
+        -- there is a print for each state from `from` on, and equal states have equal ones
         long = omega (arith, size, long, prints.long, mixing.long);
         same = λ i k x above_i low_i above_k low_k e.
             let p = x.phase in

@@ -39,6 +39,7 @@ newest-other slots prints slot newest print other is =
     let old = newest-before slots prints slot (length prints) newest print (omega arith) is in
     let within = old.within in
     record {
+      -- the newest print of this slot is the one that it was
       within = omega (arith, long, within);
       of_slot = old.of_slot;
       -- a later print of this slot would be the new one, which is of another slot

@@ -71,6 +71,7 @@ module _ {X S : Type 0} (names : S → List ℕ) (InRange : S → Type 0) (seen 
             let differ : seen texts s ≢ seen texts t = λ e. apart (seen texts s) ((one.only (seen texts s)).1 refl) ((other.only (seen texts s)).1 e) in
             AllPairs-cons (λ x y. x ≢ y) (seen texts s) (seen texts t ∷ [])
             (All-cons (λ y. seen texts s ≢ y) (seen texts t) [] differ (All-nil (λ y. seen texts s ≢ y))) (λ i j d low high. absurd (omega arith));
+        -- the book has what both states name, and both are in range
         known = All-cons (Knows names texts) s (t ∷ []) one.known (All-cons (Knows names texts) t [] other.known (All-nil (Knows names texts)));
         in_range = All-cons InRange s (t ∷ []) one.in_range (All-cons InRange t [] other.in_range (All-nil InRange));
       }
@@ -79,6 +80,7 @@ module _ {X S : Type 0} (names : S → List ℕ) (InRange : S → Type 0) (seen 
 -- x is the state before the message, and y any state to which it leads
 pub OrStays-one : {X : Type 0} (P : X → Type 0) (x z : X) → ((y : X) → P y ↔ (y ≡ z)) → (y : X) → OrStays P x y ↔ (y ≡ z)
 OrStays-one P x z only y = (
+  -- where P holds of y, y is z; and the state does not stay, since P holds of z
   λ h. elim h [ inl p ↦ (only y).0 p | inr stays ↦ absurd (stays.0 z ((only z).1 refl)) ],
   λ e. inl ((only y).1 e),
 )

@@ -57,6 +57,7 @@ module _ {S X : Type 0} (f : Figure X) (p : Times) (seen : Texts → S → X) (n
       IsWithin t (until_of f p (owing_seen seen texts x))
   timely-lasts t x timers timely =
       let closes = closes_at f p (seen texts x.phase) in
+      -- the test of the debts says that no deadline of what must be sent is past, and t is past no timer either
       let due : IsWithin t (earliest (must_deadlines (owes_seen texts x.owes))) = rw (must_deadlines-seen texts x.owes) (within-tells t (earliest (debt_deadlines x.owes)) timely) in
       (IsWithin-earliest t (closes ++ must_deadlines (owes_seen texts x.owes))).1
       (All-append (λ m. t ≤ m) closes (must_deadlines (owes_seen texts x.owes)) ((IsWithin-earliest t closes).0 timers) ((IsWithin-earliest t (must_deadlines (owes_seen texts x.owes))).0 due))
@@ -195,6 +196,7 @@ module _ {S X : Type 0} (f : Figure X) (p : Times) (seen : Texts → S → X) (n
         let x = InPhase owes in
         let P = Rests f e (owing_seen seen texts (unexpired_at e.moment x)) in
         let can = list_any (is_payable message e.moment) owes in
+        -- the book has the messages of the debts, so that the test of a debt tells whether the send pays it
         let kept = All-names (Keeps texts) owes (All-back (Keeps texts) (names phase) (owes_names owes) knows) in
         let one = paid-answers message owes moves
         (All-weaker (λ debt. Keeps texts debt.message) (λ debt. IsTrue (is_payable message e.moment debt) ↔ PaysFor (f.Satisfies (seen texts phase) e.kind e) texts e.moment debt)
@@ -236,14 +238,17 @@ module _ {S X : Type 0} (f : Figure X) (p : Times) (seen : Texts → S → X) (t
   takes-sent e is x y =
       let leads = leads-is Sent e x y is in
       let steps = steps-same Sent e x y is in (
+        -- a step of a sent message is one by its row, or one at rest
         λ h. elim h [ inl row ↦ let r = leads.0 row in steps.0 (r.0, inl r.1) | inr rest ↦ steps.0 (rest.0, inr rest.1) ],
         λ h. let s = steps.1 h in elim s.1 [ inl row ↦ inl (leads.1 (s.0, row)) | inr rest ↦ inr (s.0, rest) ],
       )
 
 -- what holds of all states from one index up to another, at least one, holds of the first of them
 pub slice-first : {S : Type 0} (P : S → Type 0) (from to : ℕ) (xs : List S) (d : S) → from < to → to ≤ length xs → All P (from_to from to xs) → P (get_or xs from d)
+-- there is at least one element, so the slice does not end at 0, and the list is not empty
 slice-first P from zero xs d order le all = absurd (omega (arith, order))
 slice-first P from (suc to) [] d order le all = absurd (omega (arith, le))
+-- the slice begins at the first element, or later
 slice-first P zero (suc to) (x ∷ xs) d order le all = All-head P x (take to xs) all
 slice-first P (suc from) (suc to) (x ∷ xs) d order le all = slice-first P from to xs d (omega (arith, order)) (omega (arith, le)) all
 
@@ -260,6 +265,7 @@ pub in-run : {S : Type 0} (names : S → List ℕ) (InRange : S → Type 0) (tex
     AreOfPhase names InRange texts phase (from_to from to xs)
 in-run names InRange texts phases rows xs from to phase is here order le known fits same =
     let d = at_rest phase in
+    -- `first` is the first state of the run, whose phase is the one in hand (`at`)
     let first = get_or xs from d in
     let at : first.phase ≡ phase = ap (λ z. z.phase) (state-at phases rows xs from phase d is (omega (arith, order, le))) ∙ sym here in
     -- what holds of each state of the run holds of its phase, and all have that phase

@@ -1,5 +1,6 @@
 -- The steps of the machine of a figure, from the states of the code.
--- In the lemmas x is a state before a step, y one after it, t a moment, and c a change of the debts.
+-- In the lemmas x is a state before a step, y one after it, t a moment, and c a change of the debts: they stay, none must be sent any more, none is left,
+-- or one is gained.
 use Rattle.std.specs.Prelude.{◌≡◌, ◌⊎◌, ◌≤◌, ◌<◌, ◌^◌, ℕ, IsTrue, Bool, true, false, Option, Some, None, List, [], ◌∷◌, ◌++◌, All, filter, length, option_to_list, unwrap_or}
 use Rattle.std.specs.Option.{option_map}
 use Rattle.std.proofs.Common.{inl, inr, refl, sym, ◌∙◌, ap, ap₂, subst, arith, cond, length-append}
@@ -105,7 +106,7 @@ Follows-Stays : {X : Type 0} (f : Figure X) (is : IsFigure f) (p : Times) (e : M
     f.Stays x.phase e.kind × (y ≡ x) → ⊥
 Follows-Stays f is p e x y row stays = is.sent_leaves p x.phase e.kind e row.0 row.1 (inr stays.0) (ap (λ z. z.phase) (sym row.2 ∙ stays.1))
 
--- where something holds of P, the end is the only state to which the end of P leads
+-- where P holds of some state, the end is the only state to which the end of P leads
 ends-some : {X S : Type 0} (names : S → List ℕ) (InRange : S → Type 0) (seen : Texts → S → X) (texts : Texts) (P : X → Type 0) (end : S) →
     Knows names texts end → InRange end → (z : X) × P z →
     AnswersBoth names InRange seen texts (λ y. ((z : X) × P z) × (y ≡ seen texts end)) (Some end, None)
@@ -113,7 +114,7 @@ ends-some {X} names InRange seen texts P end known fits some =
     StandFor-one names InRange seen texts (λ y. ((z : X) × P z) × (y ≡ seen texts end)) end
     (record { only = λ y. (λ h. h.1, λ e. (some, e)); known = known; in_range = fits })
 
--- where P holds of nothing, the end of P leads nowhere
+-- where P holds of no state, the end of P leads nowhere
 ends-none : {X S : Type 0} (names : S → List ℕ) (InRange : S → Type 0) (seen : Texts → S → X) (texts : Texts) (P Q : X → Type 0) →
     AnswersBoth {S = S} names InRange seen texts P (None, None) →
     AnswersBoth {S = S} names InRange seen texts (λ y. ((z : X) × P z) × Q y) (None, None)
@@ -135,6 +136,7 @@ IsWithoutFirst-filter p P xs ys passes a =
       after = filter p a.after;
       whole = ap (filter p) a.whole ∙ filter-append p a.before (a.first ∷ a.after)
           ∙ ap (λ b. filter p a.before ++ cond b (a.first ∷ filter p a.after) (filter p a.after)) (passes a.first a.holds);
+      -- P holds of the first, and still of none before it
       holds = a.holds;
       none_before = All-filter p (λ x. ¬ (P x)) a.before a.none_before;
       rest = ap (filter p) a.rest ∙ filter-append p a.before a.after;
@@ -155,6 +157,7 @@ module _ {S X : Type 0} (f : Figure X) (p : Times) (seen : Texts → S → X) (n
       let there : led_to p e.moment (owes_seen texts x.owes) after
       ≡ owing_seen seen texts (record x { phase = turn.phase; owes = changed_debts p e.moment turn.change x.owes })
       = ap (λ (owes : List Owed). record { phase = seen texts turn.phase; owes = owes }) (changed-seen p texts e.moment turn.change x.owes) in
+      -- the book has the messages of what was owed, and the one that the turn gains, if it gains one
       let owes_known = All-back (Keeps texts) (names x.phase) (owes_names x.owes) known in
       let here = All-back (Keeps texts) (names turn.phase) (change_names turn.change) one.known in
       -- the state is the only one, the book has what it names, and it is in range
@@ -163,6 +166,7 @@ module _ {S X : Type 0} (f : Figure X) (p : Times) (seen : Texts → S → X) (n
           λ h. h.2 ∙ ap (led_to p e.moment (owes_seen texts x.owes)) ((one.only h.0).0 h.1) ∙ there,
           λ same. (after, (one.only after).1 refl, same ∙ sym there),
         );
+        -- the book has what the new phase names and the messages of the debts after the change, and the moments are in range
         known = All-append (Keeps texts) (names turn.phase) (owes_names (changed_debts p e.moment turn.change x.owes))
             (All-front (Keeps texts) (names turn.phase) (change_names turn.change) one.known)
             (names-kept texts (changed_debts p e.moment turn.change x.owes) (changed-known p texts e.moment turn.change x.owes here owes_known));
@@ -374,7 +378,9 @@ module _ {S X : Type 0} (f : Figure X) (p : Times) (seen : Texts → S → X) (n
   -- where an effect that gives the states of P is not empty, P holds of some state
   pub has_step : (P : Owing X → Type 0) (t : ℕ) (x : CodeOwing S) (turn : Option (Turn S)) (rest : Option Rest) →
       ((turn ≡ None) × (rest ≡ None) → ⊥) → Gives P t x (record { turn = turn; rest = rest }) → (z : Owing X) × P z
+  -- an effect with neither a turn nor a rest is empty
   has_step P t x None None some gives = absurd (some (refl, refl))
+  -- P holds of the state that rests, or of the one to which the turn leads
   has_step P t x None (Some rest) some gives =
       let z = owing_seen seen texts (rests_at t rest x) in (z, (gives.members z).0 (0, omega arith, refl))
   has_step P t x (Some turn) rest some gives =

@@ -1,4 +1,4 @@
--- What the test whether two numbers are equal says of them.
+-- What the test whether a number is lower than another says of the two.
 use Rattle.std.specs.Prelude.{◌≡◌, ◌<◌, ℕ, true, nat_lt}
 use Rattle.std.proofs.Common.{arith}
 use Rattle.std.proofs.lemmas.Bool.Decides.{nat_tests}

@@ -33,7 +33,7 @@ Is100-read bytes r reads = (
   λ is. (is.reason, ap (λ s. s.start) (sym (said-is bytes r is.said reads is.says)) ∙ is.start),
 )
 
--- where a text is the code 100 in three digits, it is "100"
+-- where a text is the code 100 in three digits, it is "100"; the prover looks into `digits`, the digits of a number (`unfolding`)
 digits-100 : (text : List ℕ) → CodeText text 100 → text ≡ codes "100"
 unfolding digits
 digits-100 text is = sym (code-decimal text 100 is)
@@ -57,7 +57,7 @@ code-100 bytes m reason text start =
     let behind_version : bytes ≡ parts.version ++ (0x20 ∷ (code ++ more)) =
     behind_first ∙ ap (λ line. line ++ more) parts.whole ∙ append_assoc parts.version (0x20 ∷ code) more in
     let eight : 8 ≡ length parts.version + 1 = omega (arith, length-version parts.version parts.is_version) in
-    -- the code stands from the eighth byte on
+    -- the version and its blank are eight bytes, and the code stands after these
     let dropped : drop 8 bytes ≡ code ++ more =
     ap (drop 8) behind_version ∙ ap (λ n. drop n (parts.version ++ (0x20 ∷ (code ++ more)))) eight
     ∙ drop-append-add parts.version (0x20 ∷ (code ++ more)) 1 in

@@ -1,5 +1,7 @@
 -- Rising numbers and a part of them: where both have as many between two bounds, they are the same there.
--- In the lemmas n is the first of some rising numbers and ns are the others, and m is a number that is looked for.
+-- In the lemmas n is the first of some rising numbers and ns are the others; m is a number that is looked for, or the first of the part, whose others are ms.
+-- `count_by p xs` is how many elements pass; `IsPartitionPoint P Q xs i` says that P holds of those before i and Q of those from i on;
+-- `IsNonDecreasingBy f xs` that what f gives never falls.
 use Prim.Native.Nat.{zero, suc}
 use Rattle.std.specs.Prelude.{◌≡◌, ◌≢◌, ◌<◌, ◌≤◌, ◌+◌, ◌-◌, ◌&&◌, ℕ, Bool, true, false, List, [], ◌∷◌, AllPairs, Contains, length, map, nat_le, nat_lt}
 use Rattle.std.specs.List.{count_by}
@@ -35,7 +37,9 @@ count-cons p x xs = sum_by-cons (λ x. cond (p x) 1 0) x xs
 
 -- where the elements that pass stand first in a list, as many pass as stand before the first that does not
 pub count-parted : {X : Type 0} (p : X → Bool) (xs : List X) (i : ℕ) → i ≤ length xs → IsPartitionPoint (λ x. p x ≡ true) (λ x. p x ≡ false) xs i → count_by p xs ≡ i
+-- of an empty list nothing passes
 count-parted p [] i low parts = omega (arith, low)
+-- the first element does not pass, and so none of the others does
 count-parted p (x ∷ xs) zero low parts =
     let here : p x ≡ false = parts.1 0 x (omega arith) (omega arith) in
     let rest = count-parted p xs zero (omega arith) (λ k d le lt. absurd (omega (arith, lt)), λ k d le lt. parts.1 (suc k) d (omega arith) (omega (arith, lt))) in
@@ -49,6 +53,7 @@ count-parted p (x ∷ xs) (suc i) low parts =
 
 -- as many elements have a number that passes as there are numbers that pass
 count-map : {X : Type 0} (f : X → ℕ) (p : ℕ → Bool) (xs : List X) → count_by p (map f xs) ≡ count_by (λ x. p (f x)) xs
+-- the first element counts where its number passes, and so do the others
 count-map f p [] = refl
 count-map f p (x ∷ xs) = count-cons p (f x) (map f xs) ∙ ap (λ n. cond (p (f x)) 1 0 + n) (count-map f p xs) ∙ sym (count-cons (λ x. p (f x)) x xs)
 
@@ -57,6 +62,7 @@ pub count_between-parted : {X : Type 0} (f : X → ℕ) (xs : List X) (low high 
     IsPartitionPoint (λ x. nat_lt (f x) low ≡ true) (λ x. nat_lt (f x) low ≡ false) xs from → IsPartitionPoint (λ x. nat_le (f x) high ≡ true) (λ x. nat_le (f x) high ≡ false) xs to →
     to - from ≡ count_between low high (map f xs)
 count_between-parted f xs low high from to within within' parts parts' =
+    -- `to` elements have numbers up to high, and `from` of them have numbers below low
     sym (ap₂ (λ n m. n - m)
     (count-map f (λ n. nat_le n high) xs ∙ count-parted (λ x. nat_le (f x) high) xs to within' parts')
     (count-map f (λ n. nat_lt n low) xs ∙ count-parted (λ x. nat_lt (f x) low) xs from within parts))
@@ -98,6 +104,7 @@ count_between-is low high ns le =
 -- where one of the numbers is from low up to high, there are some
 many-some : (low high : ℕ) (ns : List ℕ) (n : ℕ) → Contains ns n → low ≤ n → n ≤ high → 0 < many low high ns
 many-some low high ns n (k, within, at) le le' =
+    -- the count is a sum of ones, so it is no less than what the number n, which is counted, adds to it
     let some = get_or-le-sum_by (λ n. cond (between low high n) 1 0) ns k n within in
     let here : between low high n ≡ true = grind (arith, nat_tests) in
     let one : one_of (between low high (get_or ns k n)) ≡ 1 = ap (λ m. one_of (between low high m)) at ∙ ap one_of here in
@@ -143,6 +150,7 @@ all_behind n m ns ms up up' all other =
 
 -- where each number of ms is one of ns, and both rise, no more of ms than of ns are from low up to high
 many-among : (low high : ℕ) (ns ms : List ℕ) → AllPairs (λ a b. a < b) ns → AllPairs (λ a b. a < b) ms → ((x : ℕ) → Contains ms x → Contains ns x) → many low high ms ≤ many low high ns
+-- of no numbers none is counted; and where ns is empty, ms is too
 many-among low high [] [] up up' all = omega arith
 many-among low high [] (m ∷ ms) up up' all = absurd (Contains-nil m (all m (head_in m ms)))
 many-among low high (n ∷ ns) [] up up' all = omega arith
@@ -165,6 +173,7 @@ many-among low high (n ∷ ns) (m ∷ ms) up up' all =
 -- where ms are a part of ns, both rise, and as many of both lie from low up to high, each of ns from low up to high is one of ms
 pub among-all : (low high : ℕ) (ns ms : List ℕ) → AllPairs (λ a b. a < b) ns → AllPairs (λ a b. a < b) ms → ((x : ℕ) → Contains ms x → Contains ns x) →
     many low high ns ≤ many low high ms → (x : ℕ) → Contains ns x → low ≤ x → x ≤ high → Contains ms x
+-- x is one of ns, so ns is not empty; and where ms is empty, nothing of ns lies from low up to high, but x does
 among-all low high [] ms up up' all few x has le le' = absurd (Contains-nil x has)
 among-all low high (n ∷ ns) [] up up' all few x has le le' = absurd (let some = many-some low high (n ∷ ns) x has le le' in omega (arith, some, few))
 among-all low high (n ∷ ns) (m ∷ ms) up up' all few x has le le' =

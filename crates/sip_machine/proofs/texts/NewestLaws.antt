@@ -42,6 +42,7 @@ module _ (texts : Texts) (number : ℕ) (bytes : List ℕ) (book : IsBook (texts
   -- the number of the newest message is above those of all others
   pub newest_above : (n : ℕ) → Keeps texts n → n < number
   newest_above n keeps =
+      -- the message stands at a place k before the newest, and the numbers rise along the book
       let (k, low, is) = kept_place texts n keeps in
       let less = book.rising k (length texts) (0, []) low (omega (arith, long)) in
       let first : ℕ × List ℕ → ℕ = λ t. t.0 in
@@ -83,6 +84,7 @@ module _ (texts : Texts) (number : ℕ) (bytes : List ℕ) (book : IsBook (texts
   pub AreTos-front : (tos : List To) → All (λ to. to.number < number) tos → AreTos grown tos → AreTos texts tos
   AreTos-front tos below all = record {
     each = λ k d low.
+        -- the number of each To is below that of the newest message, so the To is one of another message
         let to = get_or tos k d in
         let is = all.each k d low in
         let under = below k d low in
@@ -147,6 +149,7 @@ pub kept_newest : (old new : Texts) (runs : List PlaceRun) (tos : List To) (numb
     → (0 < length runs → IsInside runs newest.gap) → new ≡ old ++ (number, bytes) ∷ [] → IsKept new runs (Some newest) tos
 kept_newest old new runs tos number bytes newest book order beside above hashed gap inside is =
     let i = index_of runs newest.gap in
+    -- i is the gap of the new bytes among all places, so no old message has these bytes
     let other = text_of-none old bytes (none_in_gap old (places_of runs) bytes i order.order (subst (λ h. IsGap old (h, bytes) (places_of runs) i) hashed gap)) in (
       subst IsBook (sym is) (IsBook-grow old number bytes book above other),
       record { others = old; number = number; bytes = bytes; last = is; order = order; hash = hashed; gap = gap; inside = inside },
@@ -160,6 +163,7 @@ kept_front old new runs tos number bytes None some kept below is = absurd (false
 kept_front old new runs tos number bytes (Some newest) some kept below is =
     let (whole, stands, beside) = kept in
     let book = subst IsBook is whole in
+    -- the messages that have a place are those before the newest, which are `new`
     let same : stands.others ≡ new = sym (placed_front stands.others (stands.number, stands.bytes)) ∙ ap (placed true) (sym stands.last ∙ is) ∙ placed_front new (number, bytes) in
     (IsBook-front new number bytes book, subst (λ ts. IsInRuns ts runs) same stands.order, AreTos-front new number bytes book tos below (subst (λ ts. AreTos ts tos) is beside))
 
@@ -184,8 +188,11 @@ module _ (texts : Texts) (number : ℕ) (bytes : List ℕ) (book : IsBook (texts
     where
       -- the book without the newest message has a number that is below the next one, since that number is not the newest
       go : Keeps texts (get_or numbers k d) ⊎ (number ≡ get_or numbers k d) → Keeps texts (get_or numbers (k + 1) d) ⊎ (number ≡ get_or numbers (k + 1) d) → get_or numbers k d < get_or numbers (k + 1) d → Keeps texts (get_or numbers k d)
+      -- the number is of a message before the newest, as it has to be
       go (inl keeps) next less = keeps
+      -- it is that of the newest message, and the next number is of an older one, so it would not be above it
       go (inr same) (inl keeps) less = absurd (let above = newest_above texts number bytes book (get_or numbers (k + 1) d) keeps in omega (arith, above, same, less))
+      -- both numbers are that of the newest message, so the next one would not be above it
       go (inr same) (inr next) less = absurd (omega (arith, same, next, less))
 
   -- the numbers without the last rise
@@ -203,6 +210,7 @@ module _ (texts : Texts) (number : ℕ) (bytes : List ℕ) (book : IsBook (texts
   -- the messages with the earlier numbers are those with all these numbers, without the last one
   only_earlier : only earlier texts ≡ placed true (only numbers (texts ++ (number, bytes) ∷ []))
   only_earlier =
+      -- f gives of a number the message with it; to leave the last number out is to leave its message out
       let f : ℕ → ℕ × List ℕ = λ n. (n, text_of (texts ++ (number, bytes) ∷ []) n) in
       sym (only_grown earlier earlier_kept) ∙ sym (take-map f (length numbers - 1) numbers) ∙ ap (λ n. take (n - 1) (map f numbers)) (sym (length-map numbers f))
 
@@ -220,14 +228,17 @@ split_last texts last size = grind (arith, take_all, take_more)
 pub placed_texts : (loose : Bool) (kept : List KeptMessage) → texts_of (placed loose kept) ≡ placed loose (texts_of kept)
 placed_texts false kept = refl
 placed_texts true kept =
+    -- to leave the last message out and then to see each as the book has it comes to the same in either order
     let text : KeptMessage → ℕ × List ℕ = λ k. (k.number, k.bytes.items) in
     sym (take-map text (length kept - 1) kept) ∙ ap (λ n. take (n - 1) (map text kept)) (sym (length-map kept text))
 
 -- where some messages stay, the places of those that have one are in order
 pub retained_order : (loose : Bool) (texts : Texts) (numbers : List ℕ) → IsBook texts → AllPairs (λ a b. a < b) numbers → All (Keeps texts) numbers → (places : List Place)
     → IsOrder (placed loose texts) places → IsOrder (placed loose (only numbers texts)) (filter_map (moved (placed loose texts) (placed loose numbers)) places)
+-- all messages have a place; or the newest has none, and then a book without messages is left as it is
 retained_order false texts numbers book up kept places order = IsOrder-only texts numbers book up kept places order
 retained_order true [] [] book up kept places order = IsOrder-only [] [] book up kept places order
+-- a number that stays is that of a message, so there is one
 retained_order true [] (n ∷ ns) book up kept places order = absurd (Contains-nil n (All-head (Keeps []) n ns kept))
 retained_order true (x ∷ xs) numbers book up kept places order =
     let texts : Texts = x ∷ xs in

@@ -1,4 +1,6 @@
 -- Laws of the order of hashes and bytes in which a book finds equal bytes.
+-- `insert xs i y` is xs with y put in at the place i; `AllWithin P xs i j` says that P holds of the elements from i on and before j;
+-- `IsPartitionPoint P Q xs i` that P holds of those before i and Q of those from i on; `IsNonDecreasingBy f xs` that what f gives never falls along xs.
 use Rattle.std.specs.Prelude.{◌≡◌, ◌≢◌, ◌<◌, ◌≤◌, ◌+◌, ◌-◌, ◌⊎◌, ℕ, List, [], ◌∷◌, ◌++◌, All, AllPairs, Contains, map, length}
 use Rattle.std.specs.List.{insert, drop-map, AllWithin}
 use Rattle.std.specs.List.Sorted.{IsNonDecreasingBy, IsPartitionPoint}
@@ -46,6 +48,7 @@ AllPairs-insert R xs i y within pairs before after a b d lt end =
             -- b stands after i, and a before i, at i, or after it
             let b_above : i < b = omega (arith, b_past.1) in
             elim (cases_lt a i) [
+              -- both are old elements, or a is y, which R relates to each old one from there on
               | inl a_below ↦ rw (above b b_above, below a a_below) (pairs a (b - 1) d (omega arith) (omega arith))
               | inr a_from ↦ elim (eqb_tells a i) [
                 | inl a_here ↦ rw (a_here.1, above b b_above, here) (after (b - 1) d (omega arith) (omega arith))
@@ -62,17 +65,19 @@ pub searchable : (texts : Texts) (places : List Place) (key : ℕ × List ℕ) �
 searchable texts places key rising =
     searchable_from_sorted compare-total (key_of texts) places key
     (λ k d low high.
+    -- each place compares as less than the next one
     let less = rising k (k + 1) d (omega arith) high in
     ap is_lt (compare-total.antisymm (key_of texts (get_or places (k + 1) d)) (key_of texts (get_or places k d)) ∙ ap ordering_reverse less))
 
 -- an answer that two things are equal is neither that the one is less nor that it is greater
 never-equal : (o : Ordering) → o ≡ Equal → (o ≡ Less) ⊎ (o ≡ Greater) → ⊥
+-- the ordering is `Less` or `Greater`, which is not `Equal`, or it is `Equal`, and then it is neither of the two
 never-equal Less equal other = absurd (omega (arith, ap ordering_index equal))
 never-equal Equal equal (inl less) = absurd (omega (arith, ap ordering_index less))
 never-equal Equal equal (inr greater) = absurd (omega (arith, ap ordering_index greater))
 never-equal Greater equal other = absurd (omega (arith, ap ordering_index equal))
 
--- where two comparisons in turn say that nothing differs, the second one does
+-- where two comparisons, of which the second counts if the first says `Equal`, come to `Equal`, the second one says `Equal`
 then-equal : (a b : Ordering) → ordering_then a b ≡ Equal → b ≡ Equal
 then-equal Less b e = absurd (omega (arith, ap ordering_index e))
 then-equal Equal b e = e
@@ -121,6 +126,7 @@ none_in_gap texts places bytes i order gap =
     (All-get_or (IsPlace texts) places j none within order.hashed).1 in
     let tie : compare (key_of texts place) (hash_of bytes, bytes) ≡ Equal =
     rw (hash, kept) (tied_itself compare-total (hash_of bytes, bytes)) in
+    -- before the gap it would be less, and after it greater
     never-equal (compare (key_of texts place) (hash_of bytes, bytes)) tie (elim (cases_lt j i) [
       | inl below ↦ inl (gap.before j none (omega arith) below)
       | inr from ↦ inr (gap.after j none from within)
@@ -156,12 +162,13 @@ IsOrder-grow texts places number bytes i order gap =
     let place = get_or places k d in
     let here = (All-get_or (IsPlace texts) places k d low order.hashed).0 in
     ap (λ b. (place.hash, b)) (bytes_at-grow texts (number, bytes) place.position here) in
+    -- the new place tells the new bytes with their hash, and an old place is one of the book that has grown
     let new : key_of grown added ≡ (hash_of bytes, bytes) = ap (λ b. (hash_of bytes, b)) (bytes_at-added texts number bytes) in
     let kept : (p : Place) → IsPlace texts p → IsPlace grown p = λ p is.
     (omega (arith, size, is.0), is.1 ∙ ap hash_of (sym (bytes_at-grow texts (number, bytes) p.position is.0))) in
     let hashed : All (IsPlace grown) places =
     All-weaker (IsPlace texts) (IsPlace grown) kept places order.hashed in
-    -- each place has the hash of its message
+    -- the places with the new one among them are the order of the book with the new message
     record {
       -- the keys of the old places are as they were and rise, those in front are less than the new one, and those behind it are greater
       rising = AllPairs-insert (λ a b. compare (key_of grown a) (key_of grown b) ≡ Less) places i added gap.within
@@ -169,6 +176,7 @@ IsOrder-grow texts places number bytes i order gap =
           (λ k d low high. ap₂ compare (old k d (omega (arith, gap.within))) new ∙ gap.before k d low high)
           (λ k d low high. ap₂ compare new (old k d high)
           ∙ compare-total.antisymm (hash_of bytes, bytes) (key_of texts (get_or places k d)) ∙ ap ordering_reverse (gap.after k d low high));
+      -- each place, old or new, is that of a message and has the hash of its bytes
       hashed = All-append (IsPlace grown) (take i places) (added ∷ drop i places) (All-take (IsPlace grown) i places hashed)
           (All-cons (IsPlace grown) added (drop i places) (omega (arith, size), ap hash_of (sym (bytes_at-added texts number bytes))) (All-drop (IsPlace grown) i places hashed));
       -- each message has its place, the new one that of the gap

@@ -1,5 +1,7 @@
 -- What a book holds once the messages of some numbers alone are kept.
 -- In the lemmas t is the first message of a book with its number, and ts are the others; n is a number, and ns are numbers.
+-- `set xs i y` is xs with y in the place i; `SwappedAt xs ys i j` says that ys is xs with the elements at i and j in each other's place; `cons_option o xs` is
+-- xs with the value of o before it, if there is one.
 use Rattle.std.specs.Prelude.{◌≡◌, ◌≢◌, ◌<◌, ◌≤◌, ◌+◌, ◌⊎◌, ℕ, zero, suc, Bool, true, nat_eq, Option, Some, None, List, [], ◌∷◌, ◌++◌, All, AllPairs, Contains, map, length, take, drop}
 use Rattle.std.specs.List.{filter, filter_map, cons_option, SwappedAt}
 use Rattle.std.specs.Option.{option_map}
@@ -113,6 +115,7 @@ place_none (m ∷ ms) n none =
 -- number
 found_later : (m : ℕ) (ms : List ℕ) (n i d : ℕ) (o : Option ℕ) → ((j : ℕ) → place_among ms n ≡ Some j → (j < length ms) × (get_or ms j d ≡ n))
     → place_among ms n ≡ o → option_map suc (place_among ms n) ≡ Some i → (i < suc (length ms)) × (get_or (m ∷ ms) i d ≡ n)
+-- where the number has no place among the others, it has none among all, so this cannot be
 found_later m ms n i d None found is next = absurd (let none : None ≡ Some i = sym (ap (option_map suc) is) ∙ next in cc)
 found_later m ms n i d (Some j) found is next =
     -- the place among all is one more than the place among the others
@@ -140,6 +143,7 @@ place_found (m ∷ ms) n i d at =
 
 module _ {X Y : Type 0} (f : X → Option Y) where
   -- one step of the next lemma: where P holds of x, Q holds of what f gives of x, if anything, and of all that f gives of the rest
+  -- o is what f gives of the first element x: nothing, so that nothing is added, or y
   all_step : (P : X → Type 0) (Q : Y → Type 0) → ((x : X) (y : Y) → f x ≡ Some y → P x → Q y) → (x : X) (xs : List X) → P x → All Q (filter_map f xs)
       → (o : Option Y) → f x ≡ o → All Q (cons_option o (filter_map f xs))
   all_step P Q so x xs p rest None is = rest
@@ -151,7 +155,7 @@ module _ {X Y : Type 0} (f : X → Option Y) where
   All-filter_map P Q so (x ∷ xs) all = all_step P Q so x xs (All-head P x xs all) (All-filter_map P Q so xs (All-tail P x xs all)) (f x) refl
 
   -- one step of the next lemma, at the first element x of the list
-  -- f maps x to y and u to v; P holds of elements, R of two of them and S of what f maps these to
+  -- f maps x to y and u to v; P holds of elements, R of two of them and S of what f maps these to; o is what f gives of x, perhaps nothing
   pairs_step : (P : X → Type 0) (R : X → X → Type 0) (S : Y → Y → Type 0) → ((x u : X) (y v : Y) → f x ≡ Some y → f u ≡ Some v → P x → P u → R x u → S y v)
       → (x : X) (xs : List X) → P x → All (λ u. P u × R x u) xs → AllPairs S (filter_map f xs) → (o : Option Y) → f x ≡ o → AllPairs S (cons_option o (filter_map f xs))
   pairs_step P R S so x xs p both rest None is = rest
@@ -167,16 +171,19 @@ module _ {X Y : Type 0} (f : X → Option Y) where
       (AllPairs-filter_map P R S so xs (All-tail P x xs all) (AllPairs-tail R x xs pairs)) (f x) refl
 
   -- where f gives y of x, and x is in a list, y is in what f gives of the list
+  -- u is the first element of the list, xs are the others, and o is what f gives of u
   contains_step : (u x : X) (xs : List X) (y : Y) → f x ≡ Some y → (Contains xs x → Contains (filter_map f xs) y) → (o : Option Y) → f u ≡ o → (u ≡ x) ⊎ Contains xs x
       → Contains (cons_option o (filter_map f xs)) y
   -- u is the first element, and f gives nothing of it: so it is not x
   contains_step u x xs y gives rest None is (inl same) = absurd (let never : None ≡ Some y = sym is ∙ ap f same ∙ gives in cc)
+  -- x is one of the others, and so y is in what f gives of them
   contains_step u x xs y gives rest None is (inr has) = rest has
   -- f gives v of u: where u is x, v is y, which comes first
   contains_step u x xs y gives rest (Some v) is (inl same) =
       let both : Some v ≡ Some y = sym is ∙ ap f same ∙ gives in
       let one : v ≡ y = cc in
       subst (Contains (v ∷ filter_map f xs)) one (Contains-get_or (v ∷ filter_map f xs) 0 v (omega arith))
+  -- x is one of the others: y comes after v
   contains_step u x xs y gives rest (Some v) is (inr has) = Contains-append_right (v ∷ []) (filter_map f xs) y (rest has)
 
   -- what the function makes of an element of a list is in what it makes of the list
@@ -186,7 +193,8 @@ module _ {X Y : Type 0} (f : X → Option Y) where
 
 -- What follows is of a loop that reads at i, and writes what it keeps after what it has kept.
 
--- the first `left` elements of `now` are what f gives of the first i of `old`, and from i on nothing was changed
+-- the first `left` elements of `now` are what f gives of the first i of `old`, and from i on nothing was changed; no more elements stay than were read
+-- (`behind`), no more were read than there were (`within`), and the list is as long as it was (`long`)
 pub record MovesInPlace {X : Type 0} (f : X → Option X) (old now : List X) (left i : ℕ) : Type 0 where
   pub front : take left now ≡ filter_map f (take i old)
   pub rest : drop i now ≡ drop i old
@@ -234,7 +242,8 @@ merged_none : (texts : Texts) → merged [] texts ≡ []
 merged_none [] = refl
 merged_none (t ∷ ts) = refl
 
--- the first `left` messages of `now`, and those of the rest with the numbers after, are all with these numbers; from i on nothing was changed
+-- the first `left` messages of `now`, and those of the rest with the numbers after, are all with these numbers; from i on nothing was changed; no more
+-- messages stay than were read (`behind`), no more were read than there were (`within`), and the list is as long as it was (`long`)
 pub record KeepsInPlace {K : Type 0} (text : K → ℕ × List ℕ) (numbers : List ℕ) (old now : List K) (left i : ℕ) : Type 0 where
   pub front : map text (take left now) ++ merged (drop left numbers) (map text (drop i old)) ≡ merged numbers (map text old)
   pub rest : drop i now ≡ drop i old
@@ -335,6 +344,7 @@ places_filled : (runs : List PlaceRun) → places_of (filter has_places runs) �
 places_filled [] = refl
 places_filled (run ∷ runs) =
     elim (cases_lt 0 (length run.places.items)) [
+      -- the run has a place and stays, or it has none, and adds nothing to the places
       | inl some ↦ ap places_of (cond-true (has_places run) (run ∷ filter has_places runs) (filter has_places runs) (lt-ltb 0 (length run.places.items) some)) ∙ ap (λ ps. items run ++ ps) (places_filled runs)
       | inr none ↦
           let empty : items run ≡ [] = nil_from_length (items run) (omega arith) in
@@ -388,6 +398,7 @@ module _ (texts : Texts) (numbers : List ℕ) (book : IsBook texts) (up : AllPai
       -- where the place is moved to q, q keeps its hash and has the position of the number of its message
       go : (o : Option ℕ) → place_among numbers (number_at texts p.position) ≡ o → option_map (λ i. record { hash = p.hash; position = i }) (place_among numbers (number_at texts p.position)) ≡ Some q
           → (q.hash ≡ p.hash) × (q.position < length numbers) × (get_or numbers q.position 0 ≡ number_at texts p.position)
+      -- the number has no place among those that stay, so the place is not moved at all
       go None is out = absurd (let never : None ≡ Some q = sym (ap (option_map (λ i. record { hash = p.hash; position = i })) is) ∙ out in cc)
       -- the place is among the numbers at i, so it is moved there
       go (Some i) is out =
@@ -397,7 +408,7 @@ module _ (texts : Texts) (numbers : List ℕ) (book : IsBook texts) (up : AllPai
           let found = place_found numbers (number_at texts p.position) i 0 is in
           subst (λ r. (r.hash ≡ p.hash) × (r.position < length numbers) × (get_or numbers r.position 0 ≡ number_at texts p.position)) same (refl, found.0, found.1)
 
-  -- a place that is moved is that of the same bytes as before
+  -- a place that is moved is that of the same bytes as before: at its new position stands the number of its message, under which the book has the bytes
   moved_bytes : (p q : Place) → moved texts numbers p ≡ Some q → p.position < length texts → bytes_at (only numbers texts) q.position ≡ bytes_at texts p.position
   moved_bytes p q gives low =
       let (hash, within, number) = moved_is p q gives in
@@ -434,9 +445,11 @@ module _ (texts : Texts) (numbers : List ℕ) (book : IsBook texts) (up : AllPai
   -- the places that are moved are the order of the messages that stay
   pub IsOrder-only : (places : List Place) → IsOrder texts places → IsOrder (only numbers texts) (filter_map (moved texts numbers) places)
   IsOrder-only places order = record {
+    -- the keys of the places that are moved are as before, so they rise as before
     rising = AllPairs-filter_map (moved texts numbers) (IsPlace texts) (λ a b. compare (key_of texts a) (key_of texts b) ≡ Less)
         (λ a b. compare (key_of (only numbers texts) a) (key_of (only numbers texts) b) ≡ Less)
         (λ x u y v gx gu px pu less. ap₂ compare (moved_key x y gx px) (moved_key u v gu pu) ∙ less) places order.hashed order.rising;
+    -- each place that is moved is that of a message, with its hash, and each message has one
     hashed = All-filter_map (moved texts numbers) (IsPlace texts) (IsPlace (only numbers texts)) moved_place places order.hashed;
     whole = moved_whole places order;
   }
@@ -469,6 +482,7 @@ module _ (texts : Texts) (numbers : List ℕ) (book : IsBook texts) (up : AllPai
   pub text_of-only : (n : ℕ) → Contains numbers n → text_of (only numbers texts) n ≡ text_of texts n
   text_of-only n (k, low, is) =
       let within : k < length (only numbers texts) = (let size = length-only numbers texts in omega arith) in
+      -- x is the message at the place k of those that stay, with the number n
       let x : ℕ × List ℕ = (get_or numbers k n, text_of texts (get_or numbers k n)) in
       let at = text_of-at (only numbers texts) k x rising-only within (sym (at_number k n low) ∙ get_or_default (only numbers texts) k (0, []) x within) in
       ap (text_of (only numbers texts)) (sym is) ∙ at ∙ ap (text_of texts) is
@@ -478,6 +492,7 @@ module _ (texts : Texts) (numbers : List ℕ) (book : IsBook texts) (up : AllPai
   IsBook-only = record {
     rising = rising-only;
     apart = λ a b keeps_a keeps_b same.
+        -- two messages that stay with the same bytes had the same bytes before, and so they have one number
         let in_a = Keeps-only a keeps_a in
         let in_b = Keeps-only b keeps_b in
         book.apart a b (All-contains (Keeps texts) numbers a kept in_a) (All-contains (Keeps texts) numbers b kept in_b) (sym (text_of-only a in_a) ∙ same ∙ text_of-only b in_b);

@@ -1,5 +1,8 @@
 -- Laws of the runs in which a book holds its places.
 -- Where a place is read from a list (`get_or xs i first`), `first` stands for what is past the end: any place will do.
+-- The rank of an ordering (`ordering_index`) is 0 for `Less`, 1 for `Equal` and 2 for `Greater`. `set xs i y` is xs with y in the place i, and `insert xs i y`
+-- xs with y put in there. `IsPartitionPoint P Q xs i` says that P holds of the elements before i and Q of those from i on; `IsPartitionedBy p xs` that no
+-- element that passes comes after one that fails; `IsNonDecreasingBy f xs` that what f gives never falls.
 use Rattle.std.specs.Prelude.{◌≡◌, ◌<◌, ◌≤◌, ◌+◌, ◌-◌, ◌⊎◌, ℕ, true, false, List, [], ◌∷◌, ◌++◌, length, take, All}
 use Rattle.std.specs.List.{insert}
 use Rattle.std.specs.List.Sorted.{IsNonDecreasingBy, IsPartitionedBy, IsPartitionPoint}
@@ -57,6 +60,7 @@ pub places-inserted : (runs : List PlaceRun) (gap : Gap) (place : Place) (d run 
 places-inserted runs gap place d run low within is =
     let before = places_of (take gap.run runs) in
     let after = places_of (drop (gap.run + 1) runs) in
+    -- all places are those before the run, those of the run and those after it, and the new one comes into those of the run
     places-set runs gap.run run low ∙ ap (λ run. before ++ (run ++ after)) is
     ∙ sym (insert-within before (items (get_or runs gap.run d)) after gap.place place within)
     ∙ ap (λ all. insert all (index_of runs gap) place) (sym (places-around runs gap.run d low))
@@ -192,6 +196,7 @@ module _ (texts : Texts) (runs : List PlaceRun) (key : ℕ × List ℕ) (held : 
             let up = rw (place_at runs i 0 d first low led_i.filled, place_at runs j 0 d first high led_j.filled) at
             (searchable texts (places_of runs) key held.order.rising (off_i + 0) (off_j + 0) first (omega arith) (omega arith)) in
             begins texts key (get_or runs i d) led_i ∙ begun_of_rank (compare (key_of texts (get_or (items (get_or runs i d)) 0 first)) key) (omega (arith, up, later))
+        -- else both are one run
         | inr from ↦ let same : i ≡ j = omega arith in rw same begun
       ]
 
@@ -276,6 +281,7 @@ module _ (texts : Texts) (runs : List PlaceRun) (key : ℕ × List ℕ) (held : 
                     let led' = led_at (r + 1) d more in
                     let begin' = place_at runs (r + 1) 0 d first more led'.filled in
                     let front' = compare (key_of texts (get_or (items (get_or runs (r + 1) d)) 0 first)) key in
+                    -- the next run does not begin by the key, so its first place is greater than the key
                     let high : 2 ≤ ordering_index front' = rank_of_later front' (sym (begins texts key (get_or runs (r + 1) d) led') ∙ parts.1 (r + 1) d next more) in
                     let step = rw begin' at (up (length (places_of (take (r + 1) runs)) + 0) k first (omega (arith, size)) end) in
                     let greater = greater_of_rank (compare (key_of texts (get_or all k first)) key) (omega (arith, step, high)) in

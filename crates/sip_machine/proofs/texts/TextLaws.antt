@@ -30,6 +30,7 @@ text_of-other number bytes texts n e = rw (ne_eqb number n e)
 -- the bytes of the number of the message at an index are its bytes
 pub text_of-at : (texts : Texts) (i : ℕ) (x : ℕ × List ℕ) → AllPairs (λ a b. a.0 < b.0) texts → i < length texts →
     x ≡ get_or texts i x → text_of texts x.0 ≡ x.1
+-- a book without messages has no index
 text_of-at [] i x rising low e = absurd (omega arith)
 -- the message is the first one
 text_of-at (kept ∷ texts) zero x rising low e = text_of-same kept.0 kept.1 texts x.0 (ap (λ k. k.0) (sym e)) ∙ ap (λ k. k.1) (sym e)
@@ -89,6 +90,7 @@ text_of-grow (kept ∷ texts) number bytes n keeps =
           elim (Contains-cons_cases kept.0 (map (λ k. k.0) texts) n keeps) [
             | inl same ↦ absurd (other.1 same)
             | inr rest ↦
+                -- a later message has the number, and its bytes stay by the lemma itself
                 text_of-other kept.0 kept.1 (texts ++ (number, bytes) ∷ []) n other.1
                 ∙ text_of-grow texts number bytes n rest
                 ∙ sym (text_of-other kept.0 kept.1 texts n other.1)
@@ -100,6 +102,7 @@ pub text_of-added : (texts : Texts) (number : ℕ) (bytes : List ℕ) → ((n : 
     text_of (texts ++ (number, bytes) ∷ []) number ≡ bytes
 text_of-added [] number bytes above = text_of-same number bytes [] number refl
 text_of-added (kept ∷ texts) number bytes above =
+    -- the first message has a lower number, so the new number is looked for among the others
     let low : kept.0 < number = above kept.0 (Keeps-at (kept ∷ texts) 0 kept (omega arith) refl) in
     text_of-other kept.0 kept.1 (texts ++ (number, bytes) ∷ []) number (omega arith)
     ∙ text_of-added texts number bytes (λ n keeps. above n (Contains-append_right (kept.0 ∷ []) (map (λ k. k.0) texts) n keeps))
@@ -113,6 +116,7 @@ IsBook-grow texts number bytes book above other =
     let kept_is : (n : ℕ) → Keeps texts n → text_of (texts ++ (number, bytes) ∷ []) n ≡ text_of texts n = text_of-grow texts number bytes in
     let added_is : text_of (texts ++ (number, bytes) ∷ []) number ≡ bytes = text_of-added texts number bytes above in
     record {
+      -- the numbers of the old messages rise, and the new one is above them all
       rising = all_pairs_push (λ a b. a.0 < b.0) texts (number, bytes) book.rising
           (λ k d low. let at = Contains-get_or texts k d low in above (get_or texts k d).0 (Keeps-at texts at.0 (get_or texts k d) at.1 (sym at.2)));
       -- two old numbers, an old one and the new one, or the new one twice

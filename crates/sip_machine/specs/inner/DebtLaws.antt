@@ -142,6 +142,7 @@ fold-append a (x ∷ xs) ys = fold-append (min a x) xs ys
 
 -- the earliest of two lists is the earlier of the earliest of each
 pub earliest-some : (m : ℕ) (xs ys : List ℕ) → Some m ≡ earliest xs → earliest (m ∷ option_to_list (earliest ys)) ≡ earliest (xs ++ ys)
+-- the first list has an earliest moment, so it is not empty
 earliest-some m [] ys e = cc
 earliest-some m (x ∷ xs) ys e =
     let same : m ≡ fold min x xs = cc in
@@ -149,6 +150,7 @@ earliest-some m (x ∷ xs) ys e =
 
 -- where the first list has no least element, the least of both lists is that of the second
 pub earliest-none : (xs ys : List ℕ) → None ≡ earliest xs → earliest ys ≡ earliest (xs ++ ys)
+-- only an empty list has no earliest moment
 earliest-none [] ys e = refl
 earliest-none (x ∷ xs) ys e = cc
 

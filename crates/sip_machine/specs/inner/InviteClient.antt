@@ -7,6 +7,7 @@ use Rattle.sip_machine.specs.Texts.{Texts, text_of}
 use Rattle.sip_machine.specs.inner.Waiting.{waiting_seen, WaitingInRange}
 use Rattle.sip_machine.specs.inner.Coded.{Coded}
 use Rattle.sip_standard.specs.InviteClient.{InviteClientPhase, Idle, Ended, Calling, Proceeding, Accepted, Completed}
+-- The laws that a machine has to show of these phases stand in a file of their own.
 pub mod Laws
 
 -- the phase of the figure that a phase of the code stands for beside a book
@@ -41,6 +42,7 @@ invite_client_coded =
       seen = invite_client_seen;
       names = invite_client_names;
       InRange = InviteClientInRange;
+      -- a transaction begins in idle, and is in ended after its end
       idle = code.Idle;
       ended = code.Ended;
     }

@@ -1,4 +1,6 @@
 -- How a book finds equal bytes: the places of its messages in the order of hash and bytes, in runs.
+-- `slice_index_or xs i d` is the element at the place i, or d past the end; `AllWithin P xs i j` says that P holds of the elements from i on and before j;
+-- `nat_cmp` compares numbers, and `slice_cmp` lists, element by element; `ordering_then` is the first answer, or the second one where the first is `Equal`.
 use Rattle.std.specs.Prelude.{◌≡◌, ◌<◌, ◌≤◌, ◌+◌, ◌-◌, ◌++◌, ◌∷◌, ℕ, Bool, true, false, Option, Some, None, List, [], All, AllPairs, Contains, map, length, take, slice_index_or}
 use Rattle.std.specs.declared.cmp.Ordering.{Ordering}
 use Rattle.std.specs.declared.cmp.Ordering.TheVariants.{Less, Greater}
@@ -22,11 +24,11 @@ abbrev pub placed : {X : Type 0} → Bool → List X → List X
 placed false all = all
 placed true all = take (length all - 1) all
 
--- the hash of all of these bytes
+-- the hash of all of these bytes: what the hasher of the standard library gives at its end, to which the bytes were written
 abbrev pub full_hash : List ℕ → ℕ
 full_hash bytes = finish (write initial bytes)
 
--- the hash of these bytes, by the first 256 of them
+-- the hash of these bytes, by the first 256 of them, by which ordinary messages differ
 abbrev pub hash_of : List ℕ → ℕ
 hash_of bytes = full_hash (take 256 bytes)
 
@@ -95,6 +97,7 @@ pub record IsLoose (texts : Texts) (runs : List PlaceRun) (newest : Loose) : Typ
   pub others : Texts
   pub number : ℕ
   pub bytes : List ℕ
+  -- the book is the others and then the newest message; the runs hold the others
   pub last : texts ≡ others ++ (number, bytes) ∷ []
   pub order : IsInRuns others runs
   pub hash : newest.hash ≡ hash_of bytes

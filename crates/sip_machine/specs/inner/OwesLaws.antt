@@ -28,6 +28,7 @@ debt_same c d message deadline must =
 -- debts that stand for the same beside one book are the same
 pub owes_apart : (texts : Texts) (xs ys : List Debt) → IsBook texts → All (Keeps texts) (owes_names xs) →
     All (Keeps texts) (owes_names ys) → owes_seen texts xs ≡ owes_seen texts ys → xs ≡ ys
+-- lists of different lengths stand for different ones
 owes_apart texts [] [] book x_known y_known e = refl
 owes_apart texts [] (y ∷ ys) book x_known y_known e = cc
 owes_apart texts (x ∷ xs) [] book x_known y_known e = cc

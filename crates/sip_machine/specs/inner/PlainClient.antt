@@ -7,6 +7,7 @@ use Rattle.sip_machine.specs.Texts.{Texts}
 use Rattle.sip_machine.specs.inner.Waiting.{waiting_seen, WaitingInRange}
 use Rattle.sip_machine.specs.inner.Coded.{Coded}
 use Rattle.sip_standard.specs.PlainClient.{PlainClientPhase, Idle, Ended, Trying, Proceeding, Completed}
+-- The laws that a machine has to show of these phases stand in a file of their own.
 pub mod Laws
 
 -- the phase of the figure that a phase of the code stands for beside a book
@@ -38,6 +39,7 @@ plain_client_coded =
       seen = plain_client_seen;
       names = plain_client_names;
       InRange = PlainClientInRange;
+      -- a transaction begins in idle, and is in ended after its end
       idle = code.Idle;
       ended = code.Ended;
     }

@@ -6,6 +6,7 @@ use Rattle.sip_standard.specs.Times.{last_moment}
 use Rattle.sip_machine.specs.Texts.{Texts, text_of}
 use Rattle.sip_machine.specs.inner.Coded.{Coded}
 use Rattle.sip_standard.specs.PlainServer.{PlainServerPhase, Idle, Trying, Proceeding, Completed}
+-- The laws that a machine has to show of these phases stand in a file of their own.
 pub mod Laws
 
 -- the phase of the figure that a phase of the code stands for beside a book
@@ -34,6 +35,7 @@ plain_server_coded =
       seen = plain_server_seen;
       names = plain_server_names;
       InRange = PlainServerInRange;
+      -- a transaction begins in idle, and is in idle again after its end
       idle = code.Idle;
       ended = code.Idle;
     }

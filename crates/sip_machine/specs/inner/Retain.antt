@@ -1,4 +1,4 @@
--- How a book keeps the messages of some numbers, and forgets the others.
+-- How a book keeps the messages of some numbers, and forgets the others. `slice_index_or xs i d` is the element at the place i, or d past the end.
 use Rattle.std.specs.Prelude.{ℕ, suc, Option, Some, None, List, [], ◌∷◌, cond, nat_eq, slice_index_or}
 use Rattle.std.specs.Option.{option_map}
 use Rattle.sip_machine.specs.Texts.{Texts}

@@ -12,7 +12,7 @@ pub record Slotted : Type 0 where
 abbrev pub slotted : List ℕ → List SlotPrint → Slotted
 slotted newest kept = record { newest = newest; prints = map (λ x. x.print) kept; olders = map (λ x. x.older) kept }
 
--- the slot of a print, where there are this many slots
+-- the slot of a print, where there are this many slots: its top bits tell it, as a print has 64 bits
 abbrev pub slot_of : ℕ → ℕ → ℕ
 slot_of slots print = print * slots / 2 ^ 64
 

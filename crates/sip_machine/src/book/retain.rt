@@ -36,6 +36,7 @@ fn move_places(places: &mut Vec<Place>, kept: &[KeptMessage], numbers: &[u64])
 {
     let mut left = 0;
     for i in 0..places.len() {
+        // The places that stay are written one after another at the front, where `left` of them stand.
         if let Some(place) = moved(kept, places[i], numbers) {
             places[left] = place;
             left += 1;
@@ -77,6 +78,7 @@ pub(super) fn keep_only(kept: &mut Vec<KeptMessage>, spare: &mut Vec<Vec<u8>>, n
 {
     let mut left = 0;
     for i in 0..kept.len() {
+        // Messages and numbers rise, so the next message that stays is the one with the number at `left`.
         if left < numbers.len() && kept[i].number == numbers[left] {
             kept.swap(left, i);
             left += 1;
@@ -97,6 +99,7 @@ fn set_aside(kept: &mut Vec<KeptMessage>, spare: &mut Vec<Vec<u8>>, left: usize)
 {
     let most = left.saturating_add(MORE);
     spare.truncate(most);
+    // There are to be `most` spare buffers at most, and no memory is taken for more of them.
     for _ in spare.len()..most.min(spare.capacity()) {
         if kept.len() <= left {
             return;

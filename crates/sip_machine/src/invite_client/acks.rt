@@ -31,15 +31,18 @@ pub(crate) fn first_acked(
     ensures same { dues.new ≡ dues.old }
     ensures finds { IfOk result (FindsFirst (PaysDebt book.now (text_of book.now event.now.number) (text_of book.now request) event.now.moment) event.now.moment (owed_in dues.old row)) }
 {
+    // Nothing is read where nothing is owed.
     if dues.owes_nothing(row) {
         return Ok(None);
     }
+    // Bytes that are no message are no ACK, and no ACK is for them.
     let Some(ack) = book.message(alloc, event.number())? else {
         return Ok(None);
     };
     let Some(invite) = book.message(alloc, request)? else {
         return Ok(None);
     };
+    // The two tell whether it is an ACK for the INVITE; to which response it belongs, its To tells alone.
     if !is_ack_for(&ack, &invite) {
         return Ok(None);
     }
@@ -70,6 +73,7 @@ fn first_with_to(
         if found.is_some() {
             return Ok(found);
         }
+        // All debts were looked at, and none has the To.
         if debts.len() < most {
             return Ok(None);
         }
@@ -96,16 +100,20 @@ fn first_under(
     ensures { IfOk result (λ found. IfSome found (FindsFirst (HasTo book.now to.now moment) moment (owed_in dues.now row))) }
 {
     let (low, high) = dues.span();
+    // Where hashes are not kept, or some message between the two numbers has no To beside it, they tell nothing.
     let Some(hashes) = book.hashes(low, high) else {
         return Ok(None);
     };
+    // So many messages stand under the hash that a look at each debt may cost less.
     let Some(first) = dues.first_payable(row, hashes, to.hash(), moment, most) else {
         book.count_steps(most);
         return Ok(None);
     };
+    // None of the messages under the hash is owed, and so none that is owed has the To.
     let Some(message) = first else {
         return Ok(Some(None));
     };
+    // Another To may have the same hash, and then the hash tells nothing.
     if !book.has_to(alloc, message, to, &mut 0)? {
         return Ok(None);
     }

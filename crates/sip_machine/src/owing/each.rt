@@ -140,6 +140,7 @@ fn leads_each<M: Phases>(
     ensures before { take (length pool.old) pool.new ≡ pool.old }
 {
     let mut at = 0;
+    // The states from `at` up to `end` are of one phase, so the machine is asked once for them.
     while at < count {
         let end = pool.run_end(at, count);
         leads_run(machine, book, pool, at, end, event)?;
@@ -168,7 +169,7 @@ fn leads_run<M: Phases>(
         (FromSome (LeadsFrom M.figure (M.times machine.now) M.seen book.now (event_in book.now event.now)) (from_to from to pool.old)) added) }
     ensures before { take (length pool.old) pool.new ≡ pool.old }
 {
-    // `turn` is where the send leads from the phase, whichever debts the state has.
+    // `turn` is where the event leads from the phase, whichever debts the state has.
     let alloc = *pool.phases.allocator();
     let phase = pool.phases[from];
     if is_past(event.moment(), machine.closes(&phase)) {
@@ -292,6 +293,7 @@ fn rests_row<M: Phases>(
 {
     let alloc = *pool.phases.allocator();
     let phase = pool.phases[at];
+    // A state that had to change before the event gives nothing.
     if is_past(event.moment(), until(machine, &phase, &pool.dues, at)) {
         return Ok(());
     }

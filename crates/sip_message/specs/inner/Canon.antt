@@ -35,7 +35,7 @@ abbrev pub Appends : {A E : Type 0} → List ℕ → List ℕ → List ℕ → R
 Appends old new text (Ok _) = new ≡ old ++ text
 Appends old new text (Err _) = (part : List ℕ) × (new ≡ old ++ part)
 
--- a status line's code has three digits
+-- a status line's code has three digits, of which the first is 1 to 6
 abbrev pub HasCode : StartLine → Type 0
 HasCode (request method uri) = ⊤
 HasCode (status code reason) = (100 ≤ code) × (code < 700)

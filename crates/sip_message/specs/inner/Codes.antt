@@ -1,4 +1,5 @@
--- How the parts of a message are written as lists and numbers, so that equality of them is a fact without content.
+-- How the parts of a message are written as lists and numbers, so that two proofs of one equality of them are the same.
+-- `code_by D c to from back`: values are written in D by `to` and read again by `from`, by which each is as it was (`back`); c is how D is written.
 use Rattle.std.specs.Prelude.{◌≡◌, ◌⊎◌, refl, ℕ, zero, suc, Bool, List, Option}
 use Rattle.std.proofs.Common.{inl, inr}
 use Rattle.std.specs.Coded.{Coded, code_by, coded_ℕ, coded_bool, coded_list, coded_option, coded×, coded⊎}

@@ -1,4 +1,5 @@
 -- Lemmas of the agenda: the last moment of each index as records, and as lines in the order of the moments.
+-- What holds anyway, as a fact of a value that is not there, holds by `tt`.
 use Rattle.std.proofs.Common.{◌≡◌, ◌↔◌, ◌≤◌, ◌<◌, ℕ, Bool, true, false, cond, ◌==◌, ◌&&◌, List, [], ◌∷◌, length, Option, Some, None, IfSome, position, slice_get, get_or, refl, sym, ap, subst, ◌∙◌, true≢false, arith, ◌⊎◌, inl, inr}
 use Rattle.std.proofs.lemmas.Grind.{common_steps}
 use Rattle.std.proofs.lemmas.List.Quantifiers.{position-Some}
@@ -40,11 +41,13 @@ not_above a b = by (nat_cmp a.0 b.0) (ranks a.0 b.0)
 
 -- an order with one line more has a line exactly where it had the line, or the line is the new one
 with_line : (P : Type 0) (own had : Bool) → Decides own P → (cond own true had ≡ true → (had ≡ true) ⊎ P) × ((had ≡ true) ⊎ P → cond own true had ≡ true)
+-- the line compares as equal with the new one, or it does not and is looked for among the old ones
 with_line P true had decides = (λ e. inr (decides.0 refl), λ e. refl)
 with_line P false had decides = (λ e. inl e, λ h. elim h [ inl e ↦ e | inr p ↦ absurd (true≢false (sym (decides.1 p))) ])
 
 -- an order from which a line was taken has a line exactly where it had the line, and the line is another one
 without_line : (P : Type 0) (own had : Bool) → Decides own P → (cond own false had ≡ true → (had ≡ true) × (P → ⊥)) × ((had ≡ true) × (P → ⊥) → cond own false had ≡ true)
+-- the line compares as equal with the one that was taken, or it does not and is looked for among the old ones
 without_line P true had decides = (λ e. absurd (true≢false (sym e)), λ h. absurd (h.1 (decides.0 refl)))
 without_line P false had decides = (λ e. (e, λ p. true≢false (sym (decides.1 p))), λ h. h.0)
 
@@ -95,6 +98,7 @@ pub not_below : (records : Records) (order : BTreeSet (ℕ × ℕ)) (moment : �
 not_below records order moment ordered none line has =
     let at : slice_get records line.1 ≡ Some (Some (Some line.0)) = (ordered line).0 has in
     let within = slice_get_within records line.1 (Some (Some line.0)) at in
+    -- no record of the list is overdue, so the one of the line is not: its last moment is not below the moment
     let past : length records ≤ position_or_len (is_overdue moment) records = grind (arith, common_steps) in
     let passed = fails_before_first (is_overdue moment) records line.1 None (omega (arith, within, past)) in
     let kept = get_or_from_slice_get records line.1 (Some (Some line.0)) None at in

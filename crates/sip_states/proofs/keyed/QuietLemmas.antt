@@ -20,6 +20,7 @@ use Rattle.sip_states.proofs.lists.Listed.{Contains-single}
 -- a state that a restart led to is left as it is by a second restart
 -- the first restart leads from x to y, and the second one from y to z
 pub restarts_once : {X : Type 0} (f : Figure X) (x y z : Owing X) → Restarts f x y → Restarts f y z → z ≡ y
+-- y is the idle state or the ended one, as x is idle or not; the second restart finds y idle and leaves it so, or ends it
 restarts_once f x y z (inl (idle, y_is)) (inl (same, z_is)) = z_is ∙ sym y_is
 restarts_once f x y z (inl (idle, y_is)) (inr (other, z_is)) = absurd (other (ap (λ s. s.phase) y_is))
 restarts_once f x y z (inr (busy, y_is)) (inl (same, z_is)) = z_is ∙ ap quiet (sym same ∙ ap (λ s. s.phase) y_is) ∙ sym y_is
@@ -71,11 +72,11 @@ module _ (p : Times) (machine : MachineKind) (e : MachineEvent) (is : e.action �
       let steps = subst (λ a. Steps f p a e (quiet f.ended) y ↔ (y ≡ quiet f.ended)) (sym is) (ended_restarts f (coded_holds machine).ended_decided y) in
       (λ h. steps.0 h.1, λ same. (stays, steps.1 same))
 
--- the moments of the first state, and those of the ended one, are in range
+-- the moments of the first state are in range: its phase has none, and it owes nothing, so that no deadline has to be below 2^50
 first_in_range : (machine : MachineKind) → (meaning_of machine).in_range (first_of machine)
 first_in_range machine = ((coded_holds machine).idle_fits.1, All-nil (λ debt. debt.deadline < 2 ^ 50))
 
--- the moments of the ended state are in range
+-- the moments of the ended state are in range: its phase has none, and it owes nothing, so that no deadline has to be below 2^50
 last_in_range : (machine : MachineKind) → (meaning_of machine).in_range (last_of machine)
 last_in_range machine = ((coded_holds machine).ended_fits.1, All-nil (λ debt. debt.deadline < 2 ^ 50))
 
@@ -150,9 +151,10 @@ module _ (p : Times) (machine : MachineKind) (texts : Texts) (x : StateOf machin
       λ has.
           let same = (Contains-single q y).0 has in
           record { before = q; among = (waits_still h e.moment low q).1 refl; takes = (still.takes e is y).1 same },
-      -- the state is the only one, the book has what it names, and it is in range
+      -- the converse: what the restart gives from the wait is that state
       λ given. (Contains-single q y).1 ((still.takes e is y).0 (subst (λ z. r.Take z e y) ((waits_still h e.moment low given.before).0 given.among) given.takes)),
     );
+    -- the state is the only one, the book has what it names, and it is in range
     distinct = λ i j d lt within. absurd (omega (arith, lt, within));
     known = All-cons (Knows (meaning_of machine).names texts) x [] still.known (All-nil (Knows (meaning_of machine).names texts));
     in_range = All-cons (meaning_of machine).in_range x [] still.in_range (All-nil (meaning_of machine).in_range);

@@ -15,6 +15,7 @@ module _ {S : Type 0} (ys : List S) (first : ℕ) (rows : List ℕ) (x : S) (one
   -- each element that is picked is one from `first` on
   picked-there : (z : S) → Contains (picked ys x rows) z → Contains (drop first ys) z
   picked-there z has =
+      -- z stands at a row among those that are picked, and so at this row less `first` among the elements from `first` on
       let (row, among, is) = Contains-from_map at rows z has in
       let (low, high) = All-contains (λ row. (first ≤ row) × (row < length ys)) rows row ones.within among in
       let size : length (drop first ys) ≡ length ys - first = length-drop first ys in

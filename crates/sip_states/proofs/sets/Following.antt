@@ -30,8 +30,7 @@ module _ {X S : Type 0} (names : S → List ℕ) (InRange : S → Type 0) (seen 
   ended_stays = sym (follows.until_is [] ended) ∙ ap r.until (follows.ended_is []) ∙ follows.lawful.ended_stays
 
 -- What follows is of a machine of the code and the rules r that it follows, beside the book `texts`: `seen` gives what a state stands for, `names` the
--- messages
--- that it names, `window` when it may end, `until` how long it can stay, and `ended` is the state after its end.
+-- messages that it names, `window` when it may end, `until` how long it can stay, and `ended` is the state after its end.
 module _ {X S : Type 0} (names : S → List ℕ) (InRange : S → Type 0) (seen : Texts → S → X) (r : MachineRules X) (ended : S) (window : S → Option (ℕ × Option ℕ)) (until : S → Option ℕ)
     (follows : Follows names seen r ended window until) (texts : Texts) where
   -- a state of the code can wait until the same moments as the state for which it stands

@@ -78,6 +78,7 @@ parts-mark mark u v lacks =
 pub before-nowhere : (mark : ℕ) (text : List ℕ) → Nowhere (Passes (is_byte mark) text) 0 (length text) → (before mark text ≡ text) × (behind mark text ≡ None)
 before-nowhere mark [] none = (refl, refl)
 before-nowhere mark (b ∷ text) none =
+    -- the first byte is not the mark, and no byte of the rest is
     let other : nat_eq b mark ≡ false = false_from_ne_true (nat_eq b mark) (none 0 (omega arith) (omega arith)) in
     let rest = before-nowhere mark text (λ k low high. none (suc k) (omega arith) (omega arith)) in (
       ap (λ same. cond same [] (b ∷ before mark text)) other ∙ ap (λ t. b ∷ t) rest.0,
@@ -87,6 +88,7 @@ before-nowhere mark (b ∷ text) none =
 -- where k is the first place of the mark, the first part of the text is its first k bytes, and what follows the mark is the rest after it
 pub before-first : (mark k : ℕ) (text : List ℕ) → k < length text → Nowhere (Passes (is_byte mark) text) 0 k → Passes (is_byte mark) text k → (before mark text ≡ take k text) × (behind mark text ≡ Some (drop (k + 1) text))
 before-first mark k [] within none is = absurd (omega (arith, within))
+-- the first byte is the mark
 before-first mark zero (b ∷ text) within none is = (
   ap (λ same. cond same [] (b ∷ before mark text)) is,
   ap (λ same. cond same (Some text) (behind mark text)) is,
@@ -108,6 +110,7 @@ past-some mark (b ∷ text) rest is = at (nat_eq b mark) refl is
     -- the claim holds whether or not the first byte is the mark
     at : (same : Bool) → nat_eq b mark ≡ same → cond same (Some text) None ≡ Some rest → b ∷ text ≡ mark ∷ rest
     at true same found = let rest_is : text ≡ rest = cc in ap (λ x. x ∷ text) (eqb-true b mark same) ∙ ap (λ t. mark ∷ t) rest_is
+    -- where the first byte is another one, nothing is found past the mark
     at false same found = cc
 
 -- what stands after a mark is shorter than the text

@@ -10,6 +10,7 @@ use Rattle.sip_text.proofs.texts.LacksLemmas.{Lacks}
 pub last_byte : (text : List ℕ) → (text ≡ []) ⊎ ((u : List ℕ) × (b : ℕ) × (text ≡ u ++ (b ∷ [])))
 last_byte [] = inl refl
 last_byte (a ∷ text) = elim (last_byte text) [
+  -- what follows the first byte is empty, so the first byte is the last; or it has a last byte, which is that of the text
   | inl none ↦ inr ([], a, ap (λ t. a ∷ t) none)
   | inr more ↦ inr (a ∷ more.0, more.1, ap (λ t. a ∷ t) more.2)
 ]
@@ -31,6 +32,7 @@ length-end u b = omega (arith, length-append u (b ∷ []))
 -- u and one byte more end with the mark exactly if that byte is the mark, and then u is the text up to it
 pub up_to-end : (mark : ℕ) (u : List ℕ) (b : ℕ) → up_to mark (u ++ (b ∷ [])) ≡ cond (nat_eq b mark) (Some u) None
 up_to-end mark u b =
+    -- the test of the end is computed step by step: the last place, that the text is not empty, the byte at that place, and what stands before it
     ap (λ n. cond (nat_lt 0 (length text) && nat_eq (slice_index text n) mark) (Some (take n text)) None) (length-end u b)
     ∙ ap (λ long. cond (long && nat_eq (slice_index text (length u)) mark) (Some (take (length u) text)) None)
     (lt-ltb 0 (length text) (omega (arith, length-append u (b ∷ []))))
@@ -48,6 +50,7 @@ up_to-mark mark u = up_to-end mark u mark ∙ ap (λ same. cond same (Some u) No
 -- where u is the text up to the mark at the end of a text, the text is u and the mark
 pub up_to-some : (mark : ℕ) (text u : List ℕ) → up_to mark text ≡ Some u → text ≡ u ++ (mark ∷ [])
 up_to-some mark text u found = elim (last_byte text) [
+  -- an empty text has no mark at its end; else its last byte decides
   | inl none ↦ let missing = sym (ap (up_to mark) none) ∙ found in cc
   | inr more ↦ at more.0 more.1 more.2 (nat_eq more.1 mark) refl (sym (up_to-end mark more.0 more.1) ∙ sym (ap (up_to mark) more.2) ∙ found)
 ]
@@ -62,6 +65,7 @@ up_to-some mark text u found = elim (last_byte text) [
 -- a text that ends with v, which is not empty and lacks the mark, does not end with the mark
 pub up_to-lacks : (mark : ℕ) (u v : List ℕ) → Lacks mark v → 0 < length v → up_to mark (u ++ v) ≡ None
 up_to-lacks mark u v lacks long = elim (last_byte v) [
+  -- v is not empty, so it has a last byte, which is not the mark
   | inl none ↦ absurd (omega (arith, long, ap length none))
   | inr more ↦
       ap (λ t. up_to mark (u ++ t)) more.2 ∙ ap (up_to mark) (sym (append_assoc u more.0 (more.1 ∷ [])))

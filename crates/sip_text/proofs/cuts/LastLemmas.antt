@@ -20,9 +20,11 @@ last-nowhere mark (b ∷ text) none =
 -- where k is the last place of the mark, the text before the last mark is the first k bytes
 pub last-place : (mark k : ℕ) (text : List ℕ) → k < length text → Nowhere (Passes (is_byte mark) text) (k + 1) (length text) → Passes (is_byte mark) text k → before_last mark text ≡ Some (take k text)
 last-place mark k [] within none is = absurd (omega (arith, within))
+-- the mark is the first byte, and none follows it
 last-place mark zero (b ∷ text) within none is =
     ap (onto mark b) (last-nowhere mark text (λ k low high. none (suc k) (omega arith) (omega arith)))
     ∙ ap (λ same. cond same (Some []) None) is
+-- the mark stands later, so that the rest is cut there, with the first byte before it
 last-place mark (suc k) (b ∷ text) within none is =
     ap (onto mark b) (last-place mark k text (omega (arith, within)) (λ j low high. none (suc j) (omega arith) (omega arith)) is)
 
@@ -63,6 +65,7 @@ last-split mark (b ∷ text) u is = later (before_last mark text) (last-split ma
     here true same at =
         let empty : [] ≡ u = cc in
         ap (λ x. x ∷ text) (eqb-true b mark same) ∙ ap (λ t. t ++ (mark ∷ drop (suc (length t)) (b ∷ text))) empty
+    -- where the first byte is another one, nothing stands before a mark here
     here false same at = cc
 
     -- the claim holds whether or not the mark stands in the text after the first byte

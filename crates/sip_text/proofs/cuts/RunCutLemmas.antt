@@ -28,6 +28,7 @@ run-before test mark text fails all =
 -- where the longest run of a class without the mark is the whole text, the text has no mark, and all its bytes are of the class
 pub run-end : (test : ℕ → Bool) (mark n : ℕ) (text : List ℕ) → test mark ≡ false → n ≡ prefix_len test text → n ≡ length text → (text ≡ before mark text) × (None ≡ behind mark text) × (true ≡ list_all test (before mark text))
 run-end test mark n text fails run all =
+    -- all bytes of the text are of the class, so the text lacks the mark
     let many = front-whole (Many (One test)) text (prefix_len test text) (run-front test text) (sym run ∙ all) in
     let lacks = lack-many mark (One test) (lack-one mark test fails) text many in
     let whole = sym (before-led mark text None lacks) ∙ ap (before mark) (append-nil text) in (

@@ -36,6 +36,7 @@ hexseq-is text seq = joined-is is_hex4 colon Hex4 text lack-hex4 (group-between 
 optional-yes : (text : List ℕ) → is_optional_hexseq text ≡ true → Optional Hexseq text
 optional-yes [] pass = inl refl
 optional-yes (b ∷ text) pass = elim (or_cases (nat_eq (length (b ∷ text)) 0) (is_hexseq (b ∷ text)) pass) [
+  -- the text has a byte, so it is not empty; then it is a hexseq
   | inl none ↦ absurd (omega (arith, eqb-true (length (b ∷ text)) 0 none))
   | inr seq ↦ inr (hexseq-yes (b ∷ text) seq)
 ]
@@ -68,6 +69,7 @@ single-colon (b ∷ u) v lacks starts single =
 
 -- a hex4 begins with no colon
 starts-hex4 : (u v : List ℕ) → Hex4 u → Starts (u ++ v)
+-- a hex4 has a byte
 starts-hex4 [] v group = absurd (omega (arith, length-ones is_ascii_hexdigit group.0 group.1, ap length group.2, group.3))
 starts-hex4 (b ∷ u) v group = (lack-hex4 (b ∷ u) group).0
 
@@ -101,6 +103,7 @@ single-none (b ∷ text) single = ap (rest_onto text) here ∙ single-none text 
     -- no "::" stands at the front
     here : is_double_at (b ∷ text) 0 ≡ false
     here = elim (and_cases (nat_eq b colon) (nat_eq (slice_index_or text 0 colon) colon) single.0) [
+      -- either the first byte is no colon, or the one after it is none; `slice_index_or t 0 colon` takes a colon for the byte of an empty text
       | inl other ↦ and_left (nat_eq b colon) (nat_eq (slice_index text 0) colon) other
       | inr other ↦ and_right (nat_eq b colon) (nat_eq (slice_index text 0) colon) (next_default text other)
     ]
@@ -114,7 +117,7 @@ single-double (b ∷ u) v single =
       ap (rest_onto (u ++ (double_colon ++ v))) here ∙ rest.1,
     )
   where
-    -- the text begins with no colon, and so it does with "::" after it
+    -- a text whose first byte is no colon begins so also with "::" after it; an empty one counts here as a colon, and so it is ruled out
     next : (t : List ℕ) → nat_eq (slice_index_or t 0 colon) colon ≡ false → nat_eq (slice_index (t ++ (double_colon ++ v)) 0) colon ≡ false
     next [] other = cc
     next (a ∷ t) other = other
@@ -122,6 +125,7 @@ single-double (b ∷ u) v single =
     -- no "::" stands at the front
     here : is_double_at (b ∷ (u ++ (double_colon ++ v))) 0 ≡ false
     here = elim (and_cases (nat_eq b colon) (nat_eq (slice_index_or u 0 colon) colon) single.0) [
+      -- either the first byte is no colon, or the one after it is none
       | inl other ↦ and_left (nat_eq b colon) (nat_eq (slice_index (u ++ (double_colon ++ v)) 0) colon) other
       | inr other ↦ and_right (nat_eq b colon) (nat_eq (slice_index (u ++ (double_colon ++ v)) 0) colon) (next u other)
     ]
@@ -129,6 +133,7 @@ single-double (b ∷ u) v single =
 -- two optional hexseqs with "::" between them pass the test of a hexpart
 double-is : (u v text : List ℕ) → Optional Hexseq u → Optional Hexseq v → text ≡ u ++ (double_colon ++ v) → is_hexpart text ≡ true
 double-is u v text left right whole =
+    -- the first "::" is the one between the two, so the text is cut there
     let cut = single-double u v (single-optional u left) in
     let front : before_double text ≡ u = ap before_double whole ∙ cut.0 in
     let rest : behind_double text ≡ Some v = ap behind_double whole ∙ cut.1 in
@@ -137,6 +142,7 @@ double-is u v text left right whole =
 
 -- a hexpart passes the test of one
 pub hexpart-is : (text : List ℕ) → Hexpart text → is_hexpart text ≡ true
+-- a hexseq has no "::", so it is tested as one
 hexpart-is text (inl seq) =
     ap (λ o. option_map_or (λ r. is_optional_hexseq (before_double text) && is_optional_hexseq r) o (is_hexseq text)) (single-none text (single-hexseq text seq))
     ∙ hexseq-is text seq
@@ -173,12 +179,14 @@ open-yes text pass = at (up_to colon text) refl pass
 
     -- the claim holds whether or not the text ends with a colon
     at : (o : Option (List ℕ)) → up_to colon text ≡ o → option_map_or is_optional_hexseq o false ≡ true → OpenHexpart (text ++ (colon ∷ []))
+    -- without a colon at the end the test fails
     at None is passes = cc
     at (Some u) is passes = ends u (optional-yes u passes) (up_to-some colon text u is)
 
 -- a hexpart that ends with "::" passes the test `is_open` without its last colon
 pub open-is : (text : List ℕ) → OpenHexpart text → (front : List ℕ) × (text ≡ front ++ (colon ∷ [])) × (is_open front ≡ true)
 open-is text hexpart = elim hexpart [
+  -- a hexseq stands before the "::", or nothing does
   | inl ends ↦ at ends.0 (inr ends.2) (ends.4 ∙ ap (λ t. ends.0 ++ t) ends.3)
   | inr is ↦ at [] (inl refl) is
 ]

@@ -29,6 +29,7 @@ bracketed text reference lacks =
 -- a letter is no digit
 no_digit : (b : ℕ) → is_ascii_alphabetic b ≡ true → is_ascii_digit b ≡ false
 no_digit b letter = and_right _ _ (lt-leb b 57 (elim (or_cases (is_in_range 65 90 b) (is_in_range 97 122 b) letter) [
+  -- a capital letter is at least 65 and a small one at least 97, and the last digit is 57
   | inl upper ↦ omega (arith, leb-true 65 b (and_parts _ _ upper).0)
   | inr lower ↦ omega (arith, leb-true 97 b (and_parts _ _ lower).0)
 ]))
@@ -39,12 +40,14 @@ no_dot b letter = ne_eqb dot b (λ same. both_ways (is_ascii_alphabetic dot) ref
 
 -- a label whose first byte is a letter is a letter and what follows it
 starts_with : (text : List ℕ) → Label is_ascii_alphabetic text → (b : ℕ) × (rest : List ℕ) × (is_ascii_alphabetic b ≡ true) × (text ≡ b ∷ rest)
+-- the label is the letter alone, or more bytes follow it
 starts_with text (inl one) = (one.0, [], one.1, one.2)
 starts_with text (inr more) = (more.2.0, more.1, more.2.1, more.4 ∙ ap (λ t. t ++ more.1) more.2.2)
 
 -- no hostname is an IPv4 address
 lettered : (text : List ℕ) → Hostname text → Ipv4 text → ⊥
 lettered text (u, t, many, (top, end, is_top, optional, t_is), whole) address =
+    -- the last label begins with a letter b, which would stand in an IPv4 address too
     let first = starts_with top is_top in
     let b = first.0 in
     let spelled : text ≡ u ++ (b ∷ (first.1 ++ end)) = whole ∙ ap (λ x. u ++ x) (t_is ∙ ap (λ x. x ++ end) first.3) in
@@ -61,6 +64,7 @@ only-v6 text pass = ((reference-yes text pass, refl), only)
   where
     -- the text is no other host than the IPv6 address in brackets
     only : (x : HostParts) → HostText text x → x ≡ v6 text
+    -- neither a name nor an IPv4 address has a `[`
     only (name host) fits = absurd (bracketed text (reference-yes text pass) (lack-hostname left_bracket refl refl refl refl text fits.0))
     only (v4 host) fits = absurd (bracketed text (reference-yes text pass) (lack-v4 left_bracket refl refl text fits.0))
     only (v6 host) fits = ap v6 fits.1
@@ -71,8 +75,10 @@ only-v4 text pass = ((v4-yes text pass, refl), only)
   where
     -- the text is no other host than the IPv4 address
     only : (x : HostParts) → HostText text x → x ≡ v4 text
+    -- no hostname is an IPv4 address
     only (name host) fits = absurd (lettered text fits.0 (v4-yes text pass))
     only (v4 host) fits = ap v4 fits.1
+    -- an IPv4 address has no `[`
     only (v6 host) fits = absurd (bracketed text fits.0 (lack-v4 left_bracket refl refl text (v4-yes text pass)))
 
 -- a text that passes the test of a hostname is that host and no other
@@ -82,7 +88,9 @@ only-name text pass = ((hostname-yes text pass, refl), only)
     -- the text is no other host than the name
     only : (x : HostParts) → HostText text x → x ≡ name text
     only (name host) fits = ap name fits.1
+    -- no hostname is an IPv4 address
     only (v4 host) fits = absurd (lettered text (hostname-yes text pass) fits.0)
+    -- a hostname has no `[`
     only (v6 host) fits = absurd (bracketed text fits.0 (lack-hostname left_bracket refl refl refl refl text (hostname-yes text pass)))
 
 -- a text that passes none of the three tests is no host

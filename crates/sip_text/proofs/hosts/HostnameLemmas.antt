@@ -91,12 +91,14 @@ name-is text (u, top, many, is_top, whole) =
 -- a text whose parts between the dots pass the test of labels is a hostname that has no dot at its end
 name-yes : (text : List ℕ) → are_labels (parts dot text) ≡ true → Name text
 name-yes text pass =
+    -- the text is its parts, joined by dots, of which the first is what stands before the first dot
     let cut = parts-cut dot text in
     subst Name (ap (join_with_byte dot) (sym cut) ∙ join_with_byte-slice_split dot text)
     (go (before dot text) (later_parts dot (behind dot text)) (ap are_labels (sym cut) ∙ pass))
   where
     -- labels that pass the test, with dots between them, are a name
     go : (label : List ℕ) (labels : List (List ℕ)) → are_labels (label ∷ labels) ≡ true → Name (join_with_byte dot (label ∷ labels))
+    -- the last label alone is the top label, with no labels before it
     go label [] pass = ([], label, many-nil (Label is_ascii_alphanumeric then Byte dot), top-yes label pass, refl)
     -- the first label passes its test, and the others are a hostname
     go label (next ∷ labels) pass =
@@ -104,8 +106,10 @@ name-yes text pass =
         let rest = go next labels both.1 in (
           (label ++ (dot ∷ [])) ++ rest.0,
           rest.1,
+          -- the first label with its dot stands before the labels of the rest; the top label is that of the rest
           many-cons (Label is_ascii_alphanumeric then Byte dot) (label ++ (dot ∷ [])) rest.0 (label, dot ∷ [], domain-yes label both.0, refl, refl) rest.2,
           rest.3,
+          -- the text is the first label, a dot and the text of the rest
           ap (λ t. label ++ (dot ∷ t)) rest.4
               ∙ sym (append_assoc (label ++ (dot ∷ [])) rest.0 rest.1 ∙ append_assoc label (dot ∷ []) (rest.0 ++ rest.1)),
         )

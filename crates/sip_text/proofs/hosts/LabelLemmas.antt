@@ -58,7 +58,9 @@ labels-other text other = at (behind dot text) refl
   where
     -- the claim holds whether or not the text has a dot
     at : (o : Option (List ℕ)) → behind dot text ≡ o → are_labels (parts dot text) ≡ false
+    -- without a dot the only part has such a byte, and is no toplabel
     at None is = labels-last text is ∙ and_right (has_top_ends (before dot text)) (list_all is_label_byte (before dot text)) other
+    -- with a dot the first part has such a byte, and is no label
     at (Some rest) is =
         labels-fail text rest (and_right (has_label_ends (before dot text)) (list_all is_label_byte (before dot text)) other) is
 
@@ -74,6 +76,7 @@ other_byte test mark b fails pass = at (nat_eq b mark) refl
 -- a byte of a label that is no hyphen is a letter or digit
 alphanumeric-label : (b : ℕ) → is_label_byte b ≡ true → nat_eq b hyphen ≡ false → is_ascii_alphanumeric b ≡ true
 alphanumeric-label b pass other = elim (or_cases (is_ascii_alphanumeric b) (nat_eq b hyphen) pass) [
+  -- a byte of a label is a letter or digit, or a hyphen, which is ruled out
   | inl is ↦ is
   | inr is ↦ absurd (both_ways (nat_eq b hyphen) other is)
 ]
@@ -81,6 +84,7 @@ alphanumeric-label b pass other = elim (or_cases (is_ascii_alphanumeric b) (nat_
 -- a letter is a letter or digit
 pub alphanumeric-alphabetic : (b : ℕ) → is_ascii_alphabetic b ≡ true → is_ascii_alphanumeric b ≡ true
 alphanumeric-alphabetic b pass = elim (or_cases (is_in_range 65 90 b) (is_in_range 97 122 b) pass) [
+  -- a capital letter is in the second of the three ranges, and a small one in the third
   | inl upper ↦ or_left (is_in_range 48 57 b || is_in_range 65 90 b) (is_in_range 97 122 b) (or_right (is_in_range 48 57 b) (is_in_range 65 90 b) upper)
   | inr lower ↦ or_right (is_in_range 48 57 b || is_in_range 65 90 b) (is_in_range 97 122 b) lower
 ]
@@ -95,6 +99,7 @@ record LabelPasses (text : List ℕ) : Type 0 where
 -- a text that passes the test of a label passes each part of the test
 passes_parts : (text : List ℕ) → is_label text ≡ true → LabelPasses text
 passes_parts text pass =
+    -- the test is one of the two ends and one of all bytes; that of the ends asks for a first byte, which is no hyphen, and for a last one that is none
     let all = and_parts (has_label_ends text) (list_all is_label_byte text) pass in
     let ends = and_parts _ (not (nat_eq (slice_index text (length text - 1)) hyphen)) all.0 in
     let front = and_parts (nat_lt 0 (length text)) (not (nat_eq (slice_index text 0) hyphen)) ends.0 in
@@ -166,8 +171,10 @@ list_all-end test (b ∷ m) e all =
 
 -- a text that passes the test of a label, and whose first byte passes the test of the first one, is a label
 pub label-yes : (first : ℕ → Bool) (text : List ℕ) → is_label text ≡ true → first (slice_index text 0) ≡ true → Label first text
+-- an empty text does not pass the test
 label-yes first [] pass starts = let none = (passes_parts [] pass).long in cc
 label-yes first (b ∷ text) pass starts = elim (last_byte text) [
+  -- the first byte stands alone, or more bytes follow it
   | inl none ↦ inl (b, starts, ap (λ t. b ∷ t) none)
   | inr more ↦ longer more.0 more.1 more.2
 ]
@@ -195,6 +202,7 @@ label-yes first (b ∷ text) pass starts = elim (last_byte text) [
 
 -- a text that passes the test of a label begins with a letter or digit
 pub label-starts : (text : List ℕ) → is_label text ≡ true → is_ascii_alphanumeric (slice_index text 0) ≡ true
+-- an empty text does not pass the test
 label-starts [] pass = let none = (passes_parts [] pass).long in cc
 label-starts (b ∷ text) pass =
     let passes = passes_parts (b ∷ text) pass in

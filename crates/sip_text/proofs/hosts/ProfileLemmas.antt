@@ -37,6 +37,7 @@ optional-led mark P text (inr (u, v, u_is, is, whole)) = (Some v, is, whole ∙ 
 userinfo-optional : (user password : Option (List ℕ)) → IfSome user User → IfSome password Password → Optional Userinfo (userinfo_text user password)
 userinfo-optional None password user_fits fits = inl refl
 userinfo-optional (Some user) password user_fits fits =
+    -- before the "@" stand the user and, after a colon, the password if there is one
     inr (
       user,
       led colon password ++ at_sign ∷ [],
@@ -86,6 +87,7 @@ pub uri-parts : (text : List ℕ) → Uri text → (p : UriParts) × UriText tex
 -- s is the scheme, c the colon, i the userinfo, h the host, o the port, and a and b the parameters and the headers; r1 to r5 are what follows each, and e0 to
 -- e5 say so
 uri-parts text (inl (s, r1, scheme, (c, r2, c_is, (i, r3, info, (h, r4, host, (o, r5, port, (a, b, params, headers, e5), e4), e3), e2), e1), e0)) =
+    -- each part of the text is a part of the URI
     let named = named-scheme s scheme in
     let info_parts = optional-userinfo i info in
     let host_is = host-parts h host in
@@ -93,6 +95,7 @@ uri-parts text (inl (s, r1, scheme, (c, r2, c_is, (i, r3, info, (h, r4, host, (o
     let headers_is = optional-led question Headers b headers in
     -- each part stands where its text is in the URI
     let p : SipParts = record { secure = named.0; user = info_parts.user; password = info_parts.password; host = host_is.0; port = port_is.0; params = a; headers = headers_is.0 } in
+    -- what follows the userinfo is the host, the port, the parameters and the headers in a row
     let rest : r3 ≡ hostport_text p.host p.port ++ p.params ++ led question p.headers =
     e3 ∙ ap (λ t. t ++ r4) host_is.2 ∙ ap (λ t. host_text host_is.0 ++ t) (e4 ∙ ap (λ t. t ++ r5) port_is.2 ∙ ap (λ t. led colon port_is.0 ++ t) (e5 ∙ ap (λ t. a ++ t) headers_is.2))
     ∙ sym (append_assoc (host_text host_is.0 ++ led colon port_is.0) a (led question headers_is.0) ∙ append_assoc (host_text host_is.0) (led colon port_is.0) (a ++ led question headers_is.0)) in (

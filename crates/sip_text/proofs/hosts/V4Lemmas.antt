@@ -24,6 +24,7 @@ decimal_dot-yes later Q text each pass = at (is_decimal (before dot text)) (behi
   where
     -- the text is digits, a dot and a text of Q, since the test passes only where digits stand before a dot
     at : (digits : Bool) (o : Option (List ℕ)) → is_decimal (before dot text) ≡ digits → behind dot text ≡ o → option_map_or later (cond digits o None) false ≡ true → (DecimalGroup then Byte dot then Q) text
+    -- where no 1*3DIGIT stands before the first dot, or there is no dot, the test fails
     at false o none is passes = cc
     at true None some is passes = cc
     -- the digits, the dot and what follows it are the text
@@ -39,8 +40,10 @@ decimal_dot-yes later Q text each pass = at (is_decimal (before dot text)) (behi
 decimal_dot-is : (later : List ℕ → Bool) (Q : List ℕ → Type 0) (text : List ℕ) → ((t : List ℕ) → Q t → later t ≡ true) → (DecimalGroup then Byte dot then Q) text → is_decimal_dot later text ≡ true
 -- u is the digits, v the text of Q, and t the dot and v
 decimal_dot-is later Q text each (u, t, group, (mark, v, is_mark, one, t_is), whole) =
+    -- the text is cut at its first dot, since digits have none
     let split : text ≡ u ++ led dot (Some v) = whole ∙ ap (λ x. u ++ x) (t_is ∙ ap (λ x. x ++ v) is_mark) in
     let lacks = lack-decimal dot refl u group in
+    -- the digits before the dot pass their test, and then what stands after it is tested by `later`
     let digits : is_decimal (before dot text) ≡ true =
     ap (λ x. is_decimal (before dot x)) split ∙ ap is_decimal (before-led dot u (Some v) lacks) ∙ group-between variant.Digit 3 u group in
     ap (λ pass. option_map_or later (cond pass (behind dot text) None) false) digits

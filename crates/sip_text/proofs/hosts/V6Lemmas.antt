@@ -16,12 +16,14 @@ use Rattle.sip_text.proofs.hosts.HexLemmas.{hexpart-yes, hexpart-is, open-yes, o
 -- a front that may stand before the last colon, a colon and an IPv4 address pass the test `has_v4_tail`
 tail-is : (text front v4 : List ℕ) → is_before_v4 front ≡ true → Ipv4 v4 → text ≡ front ++ (colon ∷ v4) → has_v4_tail text ≡ true
 tail-is text front v4 before address whole =
+    -- an IPv4 address has no colon, so the text is cut at the last one into the front and the address
     let lacks = lack-v4 colon refl refl v4 address in
     ap (λ o. option_map_or (λ f. is_v4 (behind_last colon text) && is_before_v4 f) o false) (ap (before_last colon) whole ∙ before_last-mark colon front v4 lacks)
     ∙ and_from _ _ (ap (λ t. is_v4 (behind_last colon t)) whole ∙ ap is_v4 (behind_last-mark colon front v4 lacks) ∙ v4-is v4 address) before
 
 -- an IPv6 address passes its test
 pub v6-is : (text : List ℕ) → Ipv6 text → is_v6 text ≡ true
+-- this clause is of a hexpart alone
 v6-is text (inl (hexpart, end, is_hex, inl none, whole)) =
     let all : text ≡ hexpart = whole ∙ ap (λ t. hexpart ++ t) none ∙ append-nil hexpart in
     or_left (is_hexpart text) (has_v4_tail text) (ap is_hexpart all ∙ hexpart-is hexpart is_hex)
@@ -47,19 +49,24 @@ tail-yes text pass = at (before_last colon text) refl pass
 
     -- the claim holds whether or not the text has a colon
     at : (o : Option (List ℕ)) → before_last colon text ≡ o → option_map_or (λ f. is_v4 v4 && is_before_v4 f) o false ≡ true → Ipv6 text
+    -- without a colon the test fails
     at None is passes = cc
     at (Some front) is passes =
+        -- what stands after the last colon is an IPv4 address, and what stands before it passes one of two tests
         let both = and_parts (is_v4 v4) (is_before_v4 front) passes in
         let address = v4-yes v4 both.0 in
         let whole = last-whole colon text front is in
         elim (or_cases (is_hexpart front) (is_open front) both.1) [
+          -- a hexpart stands before the colon
           | inl hexpart ↦ inl (front, colon ∷ v4, hexpart-yes front hexpart, inr (colon ∷ [], v4, refl, address, refl), whole)
+          -- what stands before the colon ends with a colon, so that both make "::"
           | inr ends ↦ inr (front ++ (colon ∷ []), v4, open-yes front ends, address, whole ∙ sym (append_assoc front (colon ∷ []) v4))
         ]
 
 -- a text that passes the test of an IPv6 address is one
 pub v6-yes : (text : List ℕ) → is_v6 text ≡ true → Ipv6 text
 v6-yes text pass = elim (or_cases (is_hexpart text) (has_v4_tail text) pass) [
+  -- the text is a hexpart with no IPv4 address after it, or has one
   | inl hexpart ↦ inl (text, [], hexpart-yes text hexpart, inl refl, sym (append-nil text))
   | inr tail ↦ tail-yes text tail
 ]

@@ -79,6 +79,7 @@ blank-piece (a ∷ text) = at (is_wsp a) refl
   where
     -- CR, LF and a WSP are a blank of three bytes
     fold : (t : List ℕ) → a ≡ carriage_return → slice_index t 0 ≡ line_feed → is_wsp (slice_index t 1) ≡ true → HasFront Blank (a ∷ t) 3
+    -- a text of fewer bytes is no fold
     fold [] cr lf wsp = absurd (omega (arith, lf))
     fold (l ∷ []) cr lf wsp = cc
     fold (l ∷ b ∷ t) cr lf wsp = (crlf ++ (b ∷ []), t, blank-fold b wsp, ap (λ x. x ∷ l ∷ b ∷ t) cr ∙ ap (λ x. carriage_return ∷ x ∷ b ∷ t) lf, refl)
@@ -87,6 +88,7 @@ blank-piece (a ∷ text) = at (is_wsp a) refl
     folds : (is : Bool) → begins_with_fold (a ∷ text) ≡ is → (fold_len is ≡ 0) ⊎ HasFront Blank (a ∷ text) (fold_len is)
     folds false is = inl refl
     folds true is =
+        -- the first two bytes are CR and LF, and the third is a WSP
         let both = and_parts _ _ is in
         let ends = and_parts _ _ both.0 in
         inr (fold text (eqb-true _ _ ends.0) (eqb-true _ _ ends.1) both.1)
@@ -103,10 +105,12 @@ blank-step = record { at_piece = blank-at_front; moves = blank-moves; piece = bl
 -- the first n bytes of a text are its longest blank run where they are blanks and no blank follows them
 pub longest-blanks : (text : List ℕ) (n : ℕ) → HasFront (Many Blank) text n → blank_len (drop n text) ≡ 0 → IsLongestFront Blanks text n
 longest-blanks text n front stops = record {
+  -- a blank run in pieces is one of the grammar, or nothing
   front = elim (blanks-units front.0 front.2) [
     | inl none ↦ inl (front.4 ∙ ap length none)
     | inr blanks ↦ inr (front.0, front.1, blanks, front.3, front.4)
   ];
+  -- no longer front is a blank run: it would have one piece more, and no piece follows
   longest = λ m other.
       longest_many Blank blank_len text n blank-step front stops m
       (other.0, other.1, units-blanks other.0 other.2, other.3, other.4);
@@ -119,6 +123,7 @@ blanks-longest text n run = (units, stops (blank_len (drop n text)) refl)
     -- the run is any number of blanks
     units : HasFront (Many Blank) text n
     units = elim run.front [
+      -- the run has no byte, or its bytes are blanks, which are one blank after another
       | inl none ↦ subst (HasFront (Many Blank) text) (sym none) ([], text, many-nil Blank, refl, refl)
       | inr front ↦ (front.0, front.1, units-blanks front.0 front.2, front.3, front.4)
     ]
@@ -126,6 +131,7 @@ blanks-longest text n run = (units, stops (blank_len (drop n text)) refl)
     -- no blank run at the front of the text is longer than n bytes
     longer : (k : ℕ) → HasFront (Many Blank) text (n + suc k) → ⊥
     longer k front = elim (blanks-units front.0 front.2) [
+      -- a run of n + 1 bytes or more is not empty, and as blanks it would be longer than the longest
       | inl none ↦ absurd (omega (arith, front.4, ap length none))
       | inr blanks ↦ absurd (omega (arith, run.longest (n + suc k) (front.0, front.1, blanks, front.3, front.4)))
     ]

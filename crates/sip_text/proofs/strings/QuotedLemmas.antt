@@ -23,6 +23,7 @@ IsPlain b = (is_quoted_byte b ≡ false) × (nat_eq b backslash ≡ false)
 -- a WSP is no byte of qdtext, and begins no quoted pair
 plain_wsp : (b : ℕ) → is_wsp b ≡ true → IsPlain b
 plain_wsp b wsp = elim (or_cases (nat_eq b space) (nat_eq b tab) wsp) [
+  -- a WSP is SP or HTAB
   | inl is ↦ subst IsPlain (sym (eqb-true b space is)) (refl, refl)
   | inr is ↦ subst IsPlain (sym (eqb-true b tab is)) (refl, refl)
 ]
@@ -30,6 +31,7 @@ plain_wsp b wsp = elim (or_cases (nat_eq b space) (nat_eq b tab) wsp) [
 -- where a blank stands at the front of a text, `item_len` gives what `blank_len` gives
 item-blank : (u v : List ℕ) → Blank u → item_len (u ++ v) ≡ blank_len (u ++ v)
 item-blank u v (front, b, inl none, one, whole) =
+    -- the blank is SP or HTAB, which is a piece of one byte by both
     let text : u ≡ one.0 ∷ [] = whole ∙ ap (λ t. t ++ b) none ∙ one.2 in
     let plain = plain_wsp one.0 one.1 in
     ap (λ t. item_len (t ++ v)) text
@@ -43,6 +45,7 @@ item-blank u v (front, b, inr fold, one, whole) =
 
 -- where a piece of a quoted string stands at the front of a text, `item_len` gives its length
 item-at_front : (u v : List ℕ) → QuotedItem u → item_len (u ++ v) ≡ length u
+-- the piece is one byte of qdtext
 item-at_front u v (inl byte) =
     ap (λ t. item_len (t ++ v)) byte.2
     ∙ ap (λ q. cond q 1 (cond (begins_with_pair (byte.0 ∷ v)) 2 (blank_len (byte.0 ∷ v)))) byte.1
@@ -80,6 +83,7 @@ item-piece (a ∷ text) = at (is_quoted_byte a) refl
     -- a blank at the front is a piece
     blank_at : (blank_len (a ∷ text) ≡ 0) ⊎ HasFront QuotedItem (a ∷ text) (blank_len (a ∷ text))
     blank_at = elim (blank-step.piece (a ∷ text)) [
+      -- no blank stands there, or one does, which is the third kind of piece
       | inl none ↦ inl none
       | inr front ↦ inr (front.0, front.1, inr (inr front.2), front.3, front.4)
     ]
@@ -198,8 +202,10 @@ closes : (text inner : List ℕ) (n k : ℕ) (blanks items rest : List ℕ) (fro
 closes text inner n k blanks items rest front contents stops found ends quotes =
     let at_rest = front-rest (Many QuotedItem) inner k contents in
     let opened = opens text n blanks items rest front stops quotes in
+    -- the text opens with its blanks and the quote, so that the pieces and the last quote stand in what follows
     let both : dquote ∷ inner ≡ dquote ∷ (items ++ (dquote ∷ rest)) = sym (past-some dquote (drop n text) inner found) ∙ opened.1 in
     let inner_is : inner ≡ items ++ (dquote ∷ rest) = cc in
+    -- the pieces are read in one way, up to where no piece follows
     let same = same_many QuotedItem item_len contents.0 contents.1 items (dquote ∷ rest) item-step contents.2 quotes.are_items (sym contents.3 ∙ inner_is) (ap item_len (sym at_rest) ∙ ends) refl in
     (same.0, at_rest ∙ same.1)
 
@@ -208,6 +214,7 @@ pub none-opens : (text : List ℕ) (n : ℕ) → HasFront (Many Blank) text n �
 none-opens text n front stops missing m quoted =
     let parse = quotes-front text m quoted in
     let opened = opens text n parse.0 parse.1 parse.2 front stops parse.3 in
+    -- a quote would stand after the blanks, but none does
     let found = ap (past dquote) opened.1 in
     cc
 
@@ -216,6 +223,7 @@ pub none-closes : (text inner : List ℕ) (n k : ℕ) → HasFront (Many Blank) 
 none-closes text inner n k front contents stops first ends missing m quoted =
     let parse = quotes-front text m quoted in
     let closed = closes text inner n k parse.0 parse.1 parse.2 front contents stops first ends parse.3 in
+    -- a quote would stand after the pieces, but none does
     let found = ap (past dquote) closed.1 in
     cc
 

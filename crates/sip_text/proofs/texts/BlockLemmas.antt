@@ -1,4 +1,6 @@
 -- Bytes of tokens, sixteen at a time: two look-ups by the halves of each byte.
+-- A shuffle, `swz_l`, looks up each lane in a table, and `SwzOk` says that it may. `zip2 h a b` is h of the lanes at each place, `replicate n y` is y in
+-- each lane, and `Each1 P v` says that P holds of each number of v.
 -- In the lemmas v is a block of bytes, i and k are places, and js, a and b are what each byte of a block becomes.
 use Rattle.std.proofs.Common.{◌≡◌, ℕ, zero, suc, ◌+◌, ◌-◌, ◌/◌, ◌^◌, ◌<◌, ◌≤◌, eqb, Bool, true, false, not, cond, List, [], ◌∷◌, map, length, get_or, replicate, bit_and, Fits, w8, refl, sym, ap, ◌∙◌, subst, inl, inr, arith}
 use Rattle.std.specs.List.{prefix_len}

@@ -18,6 +18,7 @@ length-ones test (u ∷ us) all =
 -- a text of one to `most` bytes of the class passes the test of a group
 pub group-between : (class : Class) (most : ℕ) (text : List ℕ) → Between 1 most (One (is_in class)) text → is_group class most text ≡ true
 group-between class most text many =
+    -- the text has as many bytes as the repetition has pieces, since each is one byte
     let ones = length-ones (is_in class) many.0 many.1 in
     let len = ap length many.2 in
     and_from (nat_lt 0 (length text) && nat_le (length text) most) (list_all (is_in class) text)

@@ -34,12 +34,14 @@ parts-joined mark P text lack joined =
 -- where each part is a text of P, the text is texts of P with the mark between them
 pub joined-parts : (mark : ℕ) (P : List ℕ → Type 0) (text : List ℕ) → AllByRecursion P (parts mark text) → Joined mark P text
 joined-parts mark P text all =
+    -- the text is its parts, joined by the mark
     let cut = parts-cut mark text in
     subst (Joined mark P) (ap (join_with_byte mark) (sym cut) ∙ join_with_byte-slice_split mark text)
     (go (before mark text) (later_parts mark (behind mark text)) (subst (AllByRecursion P) cut all))
   where
     -- texts of P with the mark between them are joined by it
     go : (u : List ℕ) (us : List (List ℕ)) → AllByRecursion P (u ∷ us) → Joined mark P (join_with_byte mark (u ∷ us))
+    -- one part alone has nothing joined to it
     go u [] each = (u, [], each.0, many-nil (Byte mark then P), sym (append-nil u))
     -- the first part is followed by a mark and the other parts
     go u (v ∷ us) each =

@@ -82,12 +82,14 @@ front-within P text n front = omega (arith, ap length front.3, length-append fro
 pub run-more : (P : List ℕ → Type 0) (len : List ℕ → ℕ) (text : List ℕ) (n k : ℕ) → IsStep P len → HasFront (Many P) text n → k ≡ len (drop n text) → (k ≡ 0 → ⊥) → HasFront (Many P) text (n + k)
 run-more P len text n k step front k_is some =
     elim (step.piece front.1) [
+      -- k is not 0, so a piece stands there
       | inl stops ↦ absurd (some (at_rest ∙ stops))
       -- one piece more follows, which has k bytes
       | inr next ↦ (
         front.0 ++ next.0,
         next.1,
         many-push P front.0 next.0 front.2 next.2,
+        -- the text is the pieces before, the next one and what is left, and its length is counted so too
         front.3 ∙ ap (λ t. front.0 ++ t) next.3 ∙ sym (append_assoc front.0 next.0 next.1),
         ap (λ m. m + k) front.4 ∙ ap (λ m. length front.0 + m) (at_rest ∙ next.4) ∙ sym (length-append front.0 next.0),
       )

@@ -41,6 +41,7 @@ run-front test (b ∷ text) = at (run-front test text) (test b) refl
       ap (λ t. b ∷ t) rest.3,
       omega (arith, rest.4),
     )
+    -- the first byte fails
     at rest false is = ([], b ∷ text, many-nil (One test), refl, refl)
 
 -- no run of bytes of the class at the front of a text is longer than `prefix_len`
@@ -78,6 +79,7 @@ longest-run test text = record {
 
         -- the claim holds whether or not the first byte passes the test
         at : (passes : Bool) → test b ≡ passes → (cond passes (1 + prefix_len test xs) 0 ≡ 0) ⊎ HasFront (OneOrMore (One test)) (b ∷ xs) (cond passes (1 + prefix_len test xs) 0)
+        -- the first byte passes, and begins the run
         at true is = inr (
           b ∷ rest.0,
           rest.1,
@@ -85,6 +87,7 @@ longest-run test text = record {
           ap (λ t. b ∷ t) rest.3,
           omega (arith, rest.4),
         )
+        -- the first byte fails, and the run has no byte
         at false is = inl refl
 
 -- two longest fronts of one text are equally long

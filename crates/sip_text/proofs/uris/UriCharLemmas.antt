@@ -27,6 +27,7 @@ escaped-bytes text (mark, digits, is_mark, (u, v, (high, high_is, u_is), (low, l
   high,
   low,
   (high_is, low_is),
+  -- the text is "%" and the two digits
   whole ∙ ap (λ t. t ++ digits) is_mark
       ∙ ap (λ t. percent ∷ t) (both ∙ ap (λ t. t ++ v) u_is ∙ ap (λ t. high ∷ t) v_is),
 )
@@ -43,6 +44,7 @@ strips-escape high low rest digits =
 
 -- a text that has a rest after an escape at its front is "%", two hexadecimal digits and that rest
 stripped-escape : (text rest : List ℕ) → behind_escape text ≡ Some rest → (high : ℕ) × (low : ℕ) × AreDigits high low × (text ≡ percent ∷ high ∷ low ∷ rest)
+-- a text of fewer than three bytes begins with no escape, so it has no rest after one
 stripped-escape [] rest is = cc
 stripped-escape (mark ∷ []) rest is = cc
 stripped-escape (mark ∷ high ∷ []) rest is = cc
@@ -52,8 +54,10 @@ stripped-escape (mark ∷ high ∷ low ∷ text) rest is = at _ refl is
     -- the test of an escape passes, since there is a rest, and so the text begins with an escape
     -- t is the answer of the test, and x and y are the two digits
     at : (t : Bool) → (mark == percent && is_ascii_hexdigit high && is_ascii_hexdigit low) ≡ t → (if t then Some text else None) ≡ Some rest → (x : ℕ) × (y : ℕ) × AreDigits x y × (mark ∷ high ∷ low ∷ text ≡ percent ∷ x ∷ y ∷ rest)
+    -- where the test fails, there is no rest
     at false test is = cc
     at true test is =
+        -- the test passed, so each of its three parts does
         let last = and_parts (mark == percent && is_ascii_hexdigit high) (is_ascii_hexdigit low) test in
         let first = and_parts (mark == percent) (is_ascii_hexdigit high) last.0 in
         let mark_is : mark ≡ percent = eqb-true mark percent first.0 in
@@ -84,6 +88,7 @@ chars-cons class b text many =
 chars-tail : (class : Class) (b : ℕ) (text : List ℕ) → is_in class percent ≡ false → IsTrue (is_in class b) → Many (ClassChar class) (b ∷ text) → Many (ClassChar class) text
 chars-tail class b text no_percent test many =
     elim (chars-cons class b text many) [
+      -- the byte is a character of its own; or an escape begins with it, but then it is "%", which is not of the class
       | inl plain ↦ plain.1
       | inr (rest, _, is, _) ↦ absurd (both_ways (is_in class percent) no_percent (ap (is_in class) (sym is) ∙ test))
     ]
@@ -160,6 +165,7 @@ chars-past class text stop rest no_percent run is =
 
 -- where no escape follows the run, the text is characters exactly if it ends there
 pub chars-stop : (class : Class) (text stop : List ℕ) → is_in class percent ≡ false → IsRun (is_in class) text stop → behind_escape stop ≡ None → Decides (length stop == 0) (Many (ClassChar class) text)
+-- nothing follows the run, so the text is the run alone, whose bytes are characters
 chars-stop class text [] no_percent run is = (
   λ _. subst (Many (ClassChar class)) (sym run.whole) (chars-before class run.run [] run.all (many-nil (ClassChar class))),
   λ _. refl,
@@ -168,9 +174,11 @@ chars-stop class text [] no_percent run is = (
 chars-stop class text (b ∷ stop) no_percent run is = (
   λ empty. absurd (omega (arith, eqb-true (length (b ∷ stop)) 0 empty)),
   λ many.
+      -- if the text were characters, a character would stand after the run: a byte of the class does not, since the run stops, and an escape does not
       let here : Many (ClassChar class) (b ∷ stop) =
       chars-behind class run.run _ no_percent run.all (subst (Many (ClassChar class)) run.whole many) in
       elim (chars-cons class b stop here) [
+        -- a byte of the class is ruled out by the end of the run, and an escape since none stands there
         | inl plain ↦ absurd (both_ways (is_in class b) (run.stops b stop refl) plain.0)
         | inr (rest, other, _, _) ↦ cc
       ],
@@ -185,6 +193,7 @@ run-slice test text n is =
 pub some-decides : (P : List ℕ → Type 0) (text : List ℕ) (r : Bool) → (length text == 0) ≡ false → Decides r (Many P text) → Decides r (OneOrMore P text)
 some-decides P text r full decides =
     Decides-like r (λ many. elim (some-many P text many) [
+      -- the pieces are none, and then the text would be empty, or some
       | inl empty ↦ absurd (both_ways (length text == 0) full (ap (λ t. length t == 0) empty))
       | inr some ↦ some
     ]) (many-some P text) decides
@@ -211,6 +220,7 @@ own-first own u (inr (inr escape)) = inr escape
 first-own : (own : ℕ → Bool) (u : List ℕ) → Own own u → CharOf own u
 first-own own u (inl (b, test, is)) =
     elim (or_cases (is_unreserved b) (own b) test) [
+      -- the byte is unreserved, or one of the part's own
       | inl unreserved ↦ inr (inl (b, unreserved, is))
       | inr other ↦ inl (b, other, is)
     ]

@@ -83,6 +83,7 @@ has-mark mark (b ∷ u) v lacks = has-mark mark u v lacks.1
 last-in : (mark b : ℕ) (x u v : List ℕ) → x ++ mark ∷ [] ≡ u ++ b ∷ v → Lacks mark (b ∷ v) → ⊥
 -- the mark is the last byte, so it stands in the end, which lacks it; and u is shorter than x and the mark
 last-in mark b x [] v same lacks = has-mark mark x [] (subst (Lacks mark) (sym same) lacks)
+-- the text is the mark alone, and so is too short for u and an end
 last-in mark b [] (c ∷ u) v same lacks =
     let tail : [] ≡ u ++ b ∷ v = cc in
     omega (arith, ap length tail, length-append u (b ∷ v))
@@ -92,6 +93,7 @@ last-in mark b (a ∷ x) (c ∷ u) v same lacks =
 
 -- no host ends with ":" and a port
 pub host-no_port : (text : List ℕ) (host : HostParts) (u port : List ℕ) → HostText text host → Port port → text ≡ u ++ colon ∷ port → ⊥
+-- neither a name nor an IPv4 address has a colon
 host-no_port text (name host) u port fits is_port whole =
     has-mark colon u port (subst (Lacks colon) whole (lack-hostname colon refl refl refl refl text fits.0))
 host-no_port text (v4 host) u port fits is_port whole =

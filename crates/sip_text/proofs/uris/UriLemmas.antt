@@ -42,6 +42,7 @@ scheme-lacks =
 one-scheme : (scheme : List ℕ) (a b : Bool) → SameText scheme (scheme_name a) → SameText scheme (scheme_name b) → a ≡ b
 one-scheme scheme true true same also = refl
 one-scheme scheme false false same also = refl
+-- a scheme cannot be both names, since they have not as many letters
 one-scheme scheme true false same also = let names = sym same ∙ also in cc
 one-scheme scheme false true same also = let names = sym same ∙ also in cc
 
@@ -70,24 +71,28 @@ scheme-at text scheme later rest front_is later_is some =
 
 -- where a URI has the scheme "sip" or "sips", its rest is that of a SIP URI
 uri-sip : (secure : Bool) (text scheme rest : List ℕ) (x : UriParts) → IsSchemeCut text scheme rest → SameText scheme (scheme_name secure) → UriText text x → SipText secure rest x
+-- the scheme of the parts is what stands before the first ":", so it is the one that was cut off
 uri-sip secure text scheme rest (sip p) cut same (name, same_name, fits, whole) =
     let parts = scheme-cut text scheme rest name (sip_text p) cut (sip-lacks name p.secure same_name) whole in (
       one-scheme scheme p.secure secure (subst (λ s. SameText s (scheme_name p.secure)) parts.0 same_name) same,
       fits,
       parts.1,
     )
+-- another URI has another scheme than "sip" or "sips"
 uri-sip secure text scheme rest (other name tail) cut same (is_scheme, not_sip, _, whole) =
     let parts = scheme-cut text scheme rest name tail cut (scheme-lacks name is_scheme) whole in
     absurd (not_sip secure (subst (λ s. SameText s (scheme_name secure)) (sym parts.0) same))
 
 -- where the scheme is "sip" or "sips", and the rest is that of a SIP URI, the text is a URI
 sip-uri : (secure : Bool) (text scheme rest : List ℕ) (x : UriParts) → IsSchemeCut text scheme rest → SameText scheme (scheme_name secure) → SipText secure rest x → UriText text x
+-- the scheme is the one that the parts name, and the text is the scheme, ":" and the rest
 sip-uri secure text scheme rest (sip p) cut same (secure_is, fits, rest_is) = (
   scheme,
   subst (λ b. SameText scheme (scheme_name b)) (sym secure_is) same,
   fits,
   scheme-whole text scheme rest cut ∙ ap (λ t. scheme ++ colon ∷ t) rest_is,
 )
+-- what follows the scheme of a SIP URI has no parts of another URI
 sip-uri secure text scheme rest (other name tail) cut same none = absurd none
 
 -- where the scheme is "sip" or "sips", what is read of the rest is the one value that the text has as a URI
@@ -115,9 +120,11 @@ other-fits text scheme rest cut neither fits uric = (fits, neither, uric, scheme
 
 -- where the scheme is neither "sip" nor "sips", a URI's parts are its scheme and its rest, and nothing else
 pub other-only : (text scheme rest : List ℕ) (x : UriParts) → IsSchemeCut text scheme rest → ((secure : Bool) → SameText scheme (scheme_name secure) → ⊥) → UriText text x → Scheme scheme × OneOrMore Uric rest × (x ≡ other scheme rest)
+-- the parts of a SIP URI have the scheme "sip" or "sips", which this one is not
 other-only text scheme rest (sip p) cut neither (name, same, _, whole) =
     let parts = scheme-cut text scheme rest name (sip_text p) cut (sip-lacks name p.secure same) whole in
     absurd (neither p.secure (subst (λ s. SameText s (scheme_name p.secure)) parts.0 same))
+-- the scheme and the rest of the parts are those that were cut
 other-only text scheme rest (other name tail) cut neither (fits, _, uric, whole) =
     let parts = scheme-cut text scheme rest name tail cut (scheme-lacks name fits) whole in (
       subst Scheme parts.0 fits,
@@ -127,10 +134,12 @@ other-only text scheme rest (other name tail) cut neither (fits, _, uric, whole)
 
 -- a text with no ":" is no URI
 pub no-colon : (text : List ℕ) (x : UriParts) → None ≡ behind colon text → UriText text x → ⊥
+-- a SIP URI has ":" after its scheme
 no-colon text (sip p) none (name, same, _, whole) =
     let some : behind colon text ≡ Some (sip_text p) =
     ap (behind colon) whole ∙ behind-led colon name (Some (sip_text p)) (sip-lacks name p.secure same) in
     cc
+-- so has any other URI
 no-colon text (other name tail) none (fits, _, _, whole) =
     let some : behind colon text ≡ Some tail =
     ap (behind colon) whole ∙ behind-led colon name (Some tail) (scheme-lacks name fits) in

@@ -21,6 +21,7 @@ use Rattle.sip_text.proofs.texts.JoinedLemmas.{parts-joined, joined-parts}
 
 -- where P lacks the mark, a text of P [ mark Q ] is of P before its first mark, and of Q after it if there is one
 pub cut-optional : (mark : ℕ) (P Q : List ℕ → Type 0) (text : List ℕ) → AllLack mark P → (P then Optional (Byte mark then Q)) text → P (before mark text) × IfSome (behind mark text) Q
+-- nothing follows the text of P
 cut-optional mark P Q text lack (u, v, one, inl none, whole) =
     let same : text ≡ u ++ led mark None = whole ∙ ap (λ t. u ++ t) none in (
       subst P (sym (ap (before mark) same ∙ before-led mark u None (lack u one))) one,
@@ -72,6 +73,7 @@ lack-hname = lack-some equals HeaderChar (lack-char equals is_hnv_unreserved ref
 -- what decides the name and the value of a parameter, cut at the first "=", decides the parameter
 pub decides-param : (text name : List ℕ) (value : Option (List ℕ)) (r : Bool) → name ≡ before equals text → value ≡ behind equals text → Decides r (ParamWord name × IfSome value ParamWord) → Decides r (UriParameter text)
 decides-param text name value r name_is value_is =
+    -- the text is a parameter where its name and its value are words, and only there, since a word has no "="
     Decides-like r
     (λ both.
     optional-cut equals ParamWord ParamWord text
@@ -82,6 +84,7 @@ decides-param text name value r name_is value_is =
 
 -- what decides the name and the value of a header, cut at the first "=", decides the header
 pub decides-header : (text name : List ℕ) (value : Option (List ℕ)) (r : Bool) → name ≡ before equals text → value ≡ behind equals text → Decides r (OneOrMore HeaderChar name × IsSomeAnd value (Many HeaderChar)) → Decides r (Header text)
+-- the text is a header where its name has characters and its value is of characters, and only there, since a name has no "="
 decides-header text name value r name_is value_is =
     Decides-like r
     (λ both.
@@ -118,17 +121,20 @@ Each mark P text = AllByRecursion P (parts mark text)
 
 -- a text that has a rest past the mark at its front is the mark and that rest
 past-is : (mark : ℕ) (text rest : List ℕ) → past mark text ≡ Some rest → text ≡ mark ∷ rest
+-- an empty text has no mark at its front
 past-is mark [] rest is = cc
 past-is mark (b ∷ text) rest is = at (b == mark) refl is
   where
     -- the text is the mark and the rest, since the first byte is the mark
     at : (same : Bool) → (b == mark) ≡ same → (if same then Some text else None) ≡ Some rest → b ∷ text ≡ mark ∷ rest
+    -- the first byte is not the mark, so there is no rest past it
     at false same is = cc
     at true same is = let tail : text ≡ rest = cc in ap (λ x. x ∷ text) (eqb-true b mark same) ∙ ap (λ t. mark ∷ t) tail
 
 -- where the first part is of P, all parts of what follows it are exactly if all parts of the text are, and what follows is shorter
 pub each-past : (mark : ℕ) (P : List ℕ → Type 0) (text part rest : List ℕ) → part ≡ before mark text → Some rest ≡ behind mark text → P part → (Each mark P rest ↔ Each mark P text) × (length rest < length text)
 each-past mark P text part rest part_is rest_is one =
+    -- the parts of the text are the first one and the parts of the rest
     let split : parts mark text ≡ part ∷ parts mark rest =
     parts-cut mark text ∙ ap (λ t. t ∷ later_parts mark (behind mark text)) (sym part_is)
     ∙ ap (λ o. part ∷ later_parts mark o) (sym rest_is) in
@@ -137,9 +143,11 @@ each-past mark P text part rest part_is rest_is one =
     cut-whole mark text ∙ ap (λ t. t ++ led mark (behind mark text)) (sym part_is)
     ∙ ap (λ o. part ++ led mark o) (sym rest_is) in (
       (
+        -- what holds of all parts holds of the first one and of the others, and the other way round
         λ each. subst (AllByRecursion P) (sym split) (one, each),
         λ each. (subst (AllByRecursion P) split each).1,
       ),
+      -- the rest is shorter than the text
       omega (arith, ap length whole, length-append part (mark ∷ rest)),
     )
 
@@ -209,7 +217,9 @@ joined-params text (p, v, one, more, whole) =
 pub params-led : (text : List ℕ) → UriParameters text → (rest : Option (List ℕ)) × (text ≡ led semicolon rest)
 params-led text many =
     elim (some-many (Byte semicolon then UriParameter) text many) [
+      -- there are no parameters
       | inl empty ↦ (None, empty)
+      -- u is the ";" (m) and the first parameter p, and v the others
       | inr (u, v, (m, p, is_mark, one, both), more, whole) ↦
           (Some (p ++ v), whole ∙ ap (λ t. t ++ v) (both ∙ ap (λ t. t ++ p) is_mark))
     ]
@@ -230,6 +240,7 @@ decides-no_params (b ∷ text) r none is = (
   λ many.
       let (rest, led_is) = params-led (b ∷ text) many in
       elim rest as (λ o. b ∷ text ≡ led semicolon o → r ≡ true) [
+        -- without parameters the text would be empty; with some, it would have a semicolon at the front
         | None ↦ λ none. cc
         | Some more ↦ λ some.
             let other : None ≡ Some more = none ∙ ap (past semicolon) some in

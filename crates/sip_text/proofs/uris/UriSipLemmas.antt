@@ -48,8 +48,10 @@ none-is (Some u) none = absurd (false≢true (sym none))
 
 -- where a text is the spelling of a userinfo and a tail, the reader cuts off that userinfo and leaves that tail
 pub info-agrees : (text : List ℕ) (user password : Option (List ℕ)) (rest : List ℕ) (owner key : Option (List ℕ)) (tail : List ℕ) → IsInfoCut text user password rest → text ≡ userinfo_text owner key ++ tail → IfSome owner (Lacks at_sign) → IfSome owner (Lacks colon) → IfSome key (Lacks at_sign) → (IsNone owner → IsNone key) → Lacks at_sign tail → (user ≡ owner) × (password ≡ key) × (rest ≡ tail)
+-- neither has a userinfo, so the rest is the whole text, which is the tail
 info-agrees text None password rest None key tail (_, password_is, rest_is) whole _ _ _ unowned _ =
     (refl, password_is ∙ sym (none-is key (unowned refl)), rest_is ∙ whole)
+-- the text is spelled without a userinfo, so no `@` stands in it at which the reader could have cut
 info-agrees text (Some user) password rest None key tail (behind_is, _, _) whole _ _ _ _ lacks =
     let none : behind at_sign text ≡ None = ap (behind at_sign) whole ∙ (uncut at_sign tail lacks).1 in
     cc
@@ -77,9 +79,12 @@ info-agrees text (Some user) password rest (Some owner) key tail (behind_is, use
 
 -- where a text is a host with a port or without one, the reader cuts it into that host and that port
 pub port-agrees : (text host : List ℕ) (port : Option (List ℕ)) (name : List ℕ) (parts : HostParts) (number : Option (List ℕ)) → IsPortCut text host port → HostText name parts → IfSome number Port → text ≡ name ++ led colon number → (host ≡ name) × (port ≡ number)
+-- neither has a port, so the text is the host alone
 port-agrees text host None name parts None (host_is, _) fits _ whole =
     (host_is ∙ whole ∙ append-nil name, refl)
+-- the text is spelled with a port at its end, which the reader would have cut off
 port-agrees text host None name parts (Some number) (_, none) fits is_port whole = absurd (none name number is_port whole)
+-- the reader has cut off a port, but the text is a host alone, and no host ends with ":" and a port
 port-agrees text host (Some port) name parts None (is_port, there) fits _ whole =
     absurd (host-no_port name parts host port fits is_port (sym (append-nil name) ∙ sym whole ∙ there))
 -- both have a port, which stands after the last colon
@@ -171,6 +176,7 @@ cuts-agree text cut p is fits whole =
     let no_question : Lacks question (hostport ++ p.params) =
     lacks-append question hostport p.params (hostport-lacks question p.host p.port question-foreign fits.host fits.port)
     (params-lack question refl refl refl p.params fits.params) in
+    -- what stands before the headers is the host, the port and the parameters, where `listed` is what follows their first ";"
     let (listed, listed_is) = params-led p.params fits.params in
     let front : before question is.rest ≡ hostport ++ led semicolon listed =
     ap (before question) info.2 ∙ before-led question (hostport ++ p.params) p.headers no_question
@@ -210,6 +216,7 @@ not-lacks mark (b ∷ u) v lacks = not-lacks mark u v lacks.1
 -- where all bytes after the userinfo are of a class without "?", ";" and ":", they are the host, and no other part follows
 pub host-cut : (test : ℕ → Bool) (text : List ℕ) (user password : Option (List ℕ)) (rest : List ℕ) → test question ≡ false → test semicolon ≡ false → test colon ≡ false → IsInfoCut text user password rest → list_all test rest ≡ true → IsSipCut text (record { user = user; password = password; host = rest; port = None; params = []; headers = None })
 host-cut test text user password rest no_question no_semicolon no_colon info all =
+    -- the rest has no "?" and no ";", so nothing is cut off it there
     let headers = uncut question rest (lacks-all question test rest no_question all) in
     let params = uncut semicolon rest (lacks-all semicolon test rest no_semicolon all) in
     let whole : before semicolon (before question rest) ≡ rest = ap (before semicolon) (headers.0) ∙ params.0 in
@@ -228,6 +235,7 @@ host-cut test text user password rest no_question no_semicolon no_colon info all
 -- the reader's cuts, one after the other, are those of a SIP URI
 pub sip-cut : (text : List ℕ) (cut : CutParts) (rest front hostport : List ℕ) → IsInfoCut text cut.user cut.password rest → front ≡ before question rest → cut.headers ≡ behind question rest → hostport ≡ before semicolon front → IsPortCut hostport cut.host cut.port → cut.params ≡ drop (length hostport) front → IsSipCut text cut
 sip-cut text cut rest front hostport info front_is headers_is hostport_is port params_is =
+    -- the host and the port stand before the first ";" of what stands before the first "?"
     let hostport_cut : hostport ≡ before semicolon (before question rest) = hostport_is ∙ ap (before semicolon) front_is in
     let whole : front ≡ hostport ++ led semicolon (behind semicolon front) =
     cut-whole semicolon front ∙ ap (λ t. t ++ led semicolon (behind semicolon front)) (sym hostport_is) in
@@ -244,11 +252,14 @@ sip-cut text cut rest front hostport info front_is headers_is hostport_is port p
 
 -- a text is its userinfo and the rest
 info-whole : (text : List ℕ) (user password : Option (List ℕ)) (rest : List ℕ) → IsInfoCut text user password rest → text ≡ userinfo_text user password ++ rest
+-- without a user the rest is the whole text
 info-whole text None password rest (_, _, rest_is) = sym rest_is
 info-whole text (Some user) password rest (behind_is, user_is, password_is) =
+    -- the userinfo stands before the first "@", and is cut at its first ":"
     let info : before at_sign text ≡ user ++ led colon password =
     cut-whole colon (before at_sign text) ∙ ap (λ t. t ++ led colon (behind colon (before at_sign text))) (sym user_is)
     ∙ ap (λ o. user ++ led colon o) (sym password_is) in
+    -- the text is the userinfo, the "@" and the rest
     cut-whole at_sign text ∙ ap (λ o. before at_sign text ++ led at_sign o) behind_is
     ∙ ap (λ t. t ++ at_sign ∷ rest) info ∙ sym (append_assoc (user ++ led colon password) (at_sign ∷ []) rest)
 
@@ -282,6 +293,7 @@ read_parts secure cut host = record {
 -- where the parts that were cut fit, and the host was read of its text, the text is a SIP URI with these parts
 pub parts-fit : (secure : Bool) (text : List ℕ) (cut : CutParts) (host : HostParts) → IsSipCut text cut → InfoFits cut → TailFits cut → HostText cut.host host → SipText secure text (sip (read_parts secure cut host))
 parts-fit secure text cut host is info tail fits =
+    -- the text of the host that was read is the text that was cut off as a host
     let spelled = host-spelled cut.host host fits in
     let hostport = before semicolon (before question is.rest) in
     -- the rest is the host, the port, the parameters and the headers in a row
@@ -325,6 +337,7 @@ same-parts p secure cut host secure_is same host_is =
 -- where the host's text is one host alone, the parts that a SIP URI has are those that were cut
 pub parts-only : (secure : Bool) (text : List ℕ) (cut : CutParts) (host : HostParts) (x : UriParts) → IsSipCut text cut → ((y : HostParts) → HostText cut.host y → y ≡ host) → SipText secure text x → x ≡ sip (read_parts secure cut host)
 parts-only secure text cut host (sip p) is only (secure_is, fits, whole) =
+    -- what was cut are the parts of this URI, so its host is one that the text cut off as a host spells, and that is the one that was read
     let same = cuts-agree text cut p is fits whole in
     ap sip (same-parts p secure cut host secure_is same (only p.host (subst (λ t. HostText t p.host) (sym same.host) fits.host)))
 parts-only secure text cut host (other scheme rest) is only none = absurd none

@@ -43,6 +43,7 @@ module _ (texts : Texts) (t : Tabled) (es : List (Observation KeyParts)) (from :
 
     -- a key whose last moment on record is past has no run that stands at the moment
     late : (r : Option (Option ℕ)) → slice_get t.records n ≡ Some r → is_overdue moment r ≡ true → ¬ Runs key
+    -- a key without a record is not overdue
     late None on is = absurd (false≢true is)
     late (Some limit) on is = λ run.
         overdue_none texts t.times (machine_of_key t.times.rules key) (events_for key es) (newest_moment es) s leads limit (recorded.each n s (Some limit) here on) moment newest low is
@@ -50,12 +51,13 @@ module _ (texts : Texts) (t : Tabled) (es : List (Observation KeyParts)) (from :
 
     -- a key whose last moment on record is not past has a run that stands at the moment
     in_time : (r : Option (Option ℕ)) → slice_get t.records n ≡ Some r → is_overdue moment r ≡ false → Runs key
+    -- each key has a last moment on record
     in_time None on is = absurd (false≢true (recorded.each n s None here on))
     in_time (Some limit) on is =
         run-stands t.times (machine_of_key t.times.rules key) (events_for key es) moment
         (in_time_some texts t.times (machine_of_key t.times.rules key) (events_for key es) (newest_moment es) s leads limit (recorded.each n s (Some limit) here on) moment newest low is)
 
-  -- each key has a set and a last moment on record
+  -- each key has a set
   set_of_key : (n : ℕ) (key : KeyParts) → slice_get t.keys n ≡ Some key → (s : AnySet) × (slice_get t.sets n ≡ Some s)
   set_of_key n key at = at_place t.sets n (let within = slice_get_within t.keys n key at in let long = may.long in omega arith)
 
@@ -74,6 +76,7 @@ module _ (texts : Texts) (t : Tabled) (es : List (Observation KeyParts)) (from :
       -- where no record is found overdue, none is
       nothing : (found : Option ℕ) → position (is_overdue moment) t.records ≡ found → option_map (λ i. i + 1) found ≡ None → (n : ℕ) (r : Option (Option ℕ)) → slice_get t.records n ≡ Some r → is_overdue moment r ≡ false
       nothing None is e n r on = not_passing (is_overdue moment r) (All-place (λ x. ¬ (IsTrue (is_overdue moment x))) t.records n r on (All-position_None (is_overdue moment) t.records is))
+      -- the search found none, as is given
       nothing (Some i) is e n r on = absurd cc
 
   -- where each transaction can wait until the moment, no last moment is past
@@ -87,6 +90,7 @@ module _ (texts : Texts) (t : Tabled) (es : List (Observation KeyParts)) (from :
           let found = position-Some (is_overdue moment) t.records i None is in
           let (key, at) = at_place t.keys i (let long = recorded.long in omega (arith, found.0)) in
           let (s, here) = set_of_key i key at in
+          -- the key of that record would have no run at the moment, while each has one
           absurd (late i key s at here (get_or t.records i None) (slice_get-get_or t.records i None found.0) found.1 (All-place Runs t.keys i key at (subst (All Runs) (sym keys_of_all) waits)))
 
   -- where P holds exactly if no last moment is past, each transaction can wait until the moment exactly if P holds

@@ -30,6 +30,7 @@ seen-push before (y ∷ xs) (f ∷ es) x e a s =
 pub judges_front : (p : Times) (end : LogEnd) (v : Verdict) (before : List (Observation KeyParts)) (items rest : List Item) (es : List (Observation KeyParts)) → AreSeen before items es → IsGood p (before ++ es) →
     IsVerdictAfter p (before ++ es) rest end v → IsVerdictAfter p before (items ++ rest) end v
 judges_front p end v before [] rest [] seen good left = subst (λ fs. IsVerdictAfter p fs rest end v) (append-nil before) left
+-- there are as many entries as items
 judges_front p end v before [] rest (e ∷ es) seen good left = elim seen [ ]
 judges_front p end v before (item ∷ items) rest [] seen good left = elim seen [ ]
 -- the first of the entries is in no trouble, so the verdict is on those after it

@@ -89,7 +89,7 @@ silent_kept old new entry stays same = go entry.action refl
     go Mark is = same
     go Restart is = (same, silent_none (item entry) stays)
 
--- an entry whose message went some way is neither a mark nor a restart
+-- an entry whose message went some way is no mark
 pub going : (action : Action) (direction : Direction) → direction_of action ≡ Some direction → action ≡ Mark → ⊥
 going action direction goes mark = let e : None ≡ Some direction = sym (ap direction_of mark) ∙ goes in cc
 
@@ -102,6 +102,7 @@ pub going_says : (action : Action) (direction : Direction) → direction_of acti
 going_says Sent direction goes = refl
 going_says Received direction goes = refl
 going_says Failed direction goes = refl
+-- a mark and a restart go no way
 going_says Mark direction goes = cc
 going_says Restart direction goes = cc
 
@@ -153,6 +154,7 @@ event_kept item r texts event number bytes is keeps text = let same : number ≡
 -- where there is no branch there is no key
 pub no_keys : {A B : Type 0} (own other : A → B) (cancels : Bool) (branch : Option A) → branch ≡ None
     → option_to_list (option_map own branch) ++ option_to_list (if cancels then option_map other branch else None) ≡ []
+-- there is no branch, and so neither an own key nor a cancelled one
 no_keys own other cancels (Some x) none = absurd cc
 no_keys own other true None none = refl
 no_keys own other false None none = refl
@@ -161,11 +163,13 @@ no_keys own other false None none = refl
 no_branch : {A B : Type 0} (own other : A → B) (cancels : Bool) (branch : Option A)
     → option_to_list (option_map own branch) ++ option_to_list (if cancels then option_map other branch else None) ≡ [] → branch ≡ None
 no_branch own other cancels None none = refl
+-- with a branch there would be the own key
 no_branch own other cancels (Some x) none = absurd cc
 
 -- a request that lacks the cookie has no branch
 lacks_branch : {A : Type 0} (sends : Bool) (branch : Option A) → (sends && not (is_some branch)) ≡ true → branch ≡ None
 lacks_branch sends None lacks = refl
+-- a branch that is there has the cookie, and so a request with it lacks none
 lacks_branch true (Some x) lacks = absurd (false≢true lacks)
 lacks_branch false (Some x) lacks = absurd (false≢true lacks)
 
@@ -176,6 +180,7 @@ branchless direction item s says none = go (lacks_cookie s direction) refl
     -- the message is observed without keys, whether or not its missing cookie is a fault
     go : (lacks : Bool) → lacks_cookie s direction ≡ lacks → (e : Observation KeyParts) × ObservesMessage direction item e × (e.keys ≡ [])
     go true lacks = (fault_observation item no_cookie, has_no_cookie s says lacks refl, refl)
+    -- without a branch there is neither an own key nor a cancelled one
     go false has =
         (keyless_observation item s, is_heard s [] says has (sym (no_keys _ _ (is_sent (λ method. bytes_eq method (codes "CANCEL")) s.start direction) (cookie_branch s.via.branch) none)) refl, refl)
 
@@ -194,12 +199,14 @@ pub went : (action : Action) → has_message action ≡ true → (direction : Di
 went Sent says = (way.Sent, refl)
 went Received says = (way.Received, refl)
 went Failed says = (way.Sent, refl)
+-- a mark and a restart have no message
 went Mark says = absurd (false≢true says)
 went Restart says = absurd (false≢true says)
 
 -- of two entries whose messages have the same bytes, one concerns no key exactly as the other does
 pub none_alike : (i j : Item) → i.text ≡ j.text → has_message i.action ≡ true → has_message j.action ≡ true → ConcernsNone i → ConcernsNone j
 none_alike i j same i_says j_says (e, seen, none) =
+    -- each of the two messages went some way, and concerns no key whichever way it went
     let (way, i_goes) = went i.action i_says in
     let (direction, j_goes) = went j.action j_says in
     let (f, f_seen, f_none) = other_way way direction i j e same (subst (λ d. MatchOption d (e ≡ silent_observation i.action i.moment []) (λ way. ObservesMessage way i e)) i_goes seen) none in
@@ -212,6 +219,7 @@ concerns_some i keys e seen are some (f, f_seen, none) = some (sym are ∙ ap (�
 -- a message that concerns some transactions, and not all, concerns at least one key
 pub each_some : {T : Type 0} (c : Concerned T) → is_all c ≡ false → c ≢ concerned.None → each c ≢ []
 each_some concerned.None named some none = some refl
+-- with an own key the list of keys is not empty, and the case of all is left out by what is given
 each_some (concerned.Own own) named some none = cc
 each_some (concerned.OwnAndCancelled own cancelled) named some none = cc
 each_some concerned.All named some none = absurd (false≢true (sym named))

@@ -62,6 +62,7 @@ module _ (old new : Texts) (number : ℕ) (bytes : List ℕ) where
       let o = some_machine set in
       let names = (meaning_of o.0).names in
       subst (IsKnownSet new) (sym o.2)
+      -- each message that a state of the set names was kept in the old book, and so is in the new one
       (to_set (λ X M S m s. IsKnown m new s) o.0 o.1
       (All-weaker (Knows names old) (Knows names new) (λ x knows. All-weaker (Keeps old) (Keeps new) (grown_keeps grown) (names x) knows) o.1.states
       (of_set (λ X M S m s. IsKnown m old s) o.0 o.1 (subst (IsKnownSet old) o.2 known))))
@@ -71,6 +72,7 @@ module _ (old new : Texts) (number : ℕ) (bytes : List ℕ) where
   grown_may grown t moment may = record { order = may.order; known = All-weaker (IsKnownSet old) (IsKnownSet new) (grown_known grown) t.sets may.known; long = may.long }
 
   -- each number of a book that has grown is above 0
+  -- the book is as before, or one message more has the number
   grown_some : IsGrown old number bytes new → 0 < number → ((n : ℕ) → Keeps old n → 0 < n) → (n : ℕ) → Keeps new n → 0 < n
   grown_some (inl same) some above n keeps = above n (subst (λ texts. Keeps texts n) same keeps)
   grown_some (inr more) some above n keeps = elim (Keeps-grow_cases old number bytes n (subst (λ texts. Keeps texts n) more keeps)) [ inl k ↦ above n k | inr e ↦ omega (arith, some, e) ]
@@ -121,6 +123,7 @@ module _ (ks : List KeyParts) (ns : List ℕ) (old new : Tabled) (touched : Touc
     where
       -- a last moment that is on record is so, too, where those of the entry's keys may be missing
       waits_more : (n : ℕ) (set : AnySet) (r : Option (Option ℕ)) → IsOnRecord [] (n + 1) set r → IsOnRecord ns (n + 1) set r
+      -- no last moment is missing, where no set is still to hear
       waits_more n set None h = absurd (false≢true h)
       waits_more n set (Some limit) h = h
 
@@ -130,6 +133,7 @@ module _ (ks : List KeyParts) (ns : List ℕ) (old new : Tabled) (touched : Touc
   touched_track texts es e long keys s =
       let p = old.times in
       let k = key_keeping texts p in
+      -- the keys are those of the entries and of e, and each set leads to its runs over the entries, as before
       before_touched p k es e (transactions_of new)
       (subst (λ xs. AreKept k es (fold keyed.with_key (keys_in es) xs) (transactions_of new)) (sym keys)
       (kept_each texts p es (keys_in es) ks ns old new refl long touched (kept_tracked k es p (transactions_of old) s))) s.good
@@ -152,11 +156,13 @@ text_of_none (kept ∷ texts) n none = go (kept.0 == n) refl (text_of_none texts
   where
     -- a number that the book does not keep has no text, whether or not the first message has the number
     go : (b : Bool) → (kept.0 == n) ≡ b → text_of texts n ≡ [] → cond b kept.1 (text_of texts n) ≡ []
+    -- the book would keep the number, which it does not
     go true same rest = absurd (none (subst (Contains (map (λ k. k.0) (kept ∷ texts))) ((unsigned_Decides kept.0 n).0 same) (Contains-here kept.0 (map (λ k. k.0) texts))))
     go false differ rest = rest
 
 -- where an entry does not concern all, those that it names are listed
 pub listed_each : (count : ℕ) (numbers : Concerned ℕ) → is_all numbers ≡ false → listed count numbers ≡ each numbers
+-- each case but that of all has the same list by both
 listed_each count concerned.None some = refl
 listed_each count (concerned.Own own) some = refl
 listed_each count (concerned.OwnAndCancelled own cancelled) some = refl
@@ -166,6 +172,7 @@ listed_each count concerned.All some = absurd (false≢true (sym some))
 -- ns are the numbers of the keys ks among all keys, and n is the number of k
 have_more : (all : List KeyParts) (ns : List ℕ) (ks : List KeyParts) (n : ℕ) (k : KeyParts) → HaveNumbers all ns ks → 0 < n → slice_get all (n - 1) ≡ Some k → HaveNumbers all (ns ++ n ∷ []) (ks ++ k ∷ [])
 have_more all [] [] n k have low at = (low, at, tt)
+-- there are as many numbers as keys
 have_more all [] (key ∷ ks) n k have low at = absurd have
 have_more all (m ∷ ns) [] n k have low at = absurd have
 have_more all (m ∷ ns) (key ∷ ks) n k (some, there, rest) low at = (some, there, have_more all ns ks n k rest low at)
@@ -203,6 +210,7 @@ may_next (Some x) old mid last t u v number moment bytes may grown few keys book
 -- ns are the numbers of the keys ks in the tables t
 pub are_given : (t : Tabled) (ns : List ℕ) (ks : List KeyParts) → HaveNumbers t.keys ns ks → All (IsGiven t) ns
 are_given t [] ks h = All-nil (IsGiven t)
+-- there are as many numbers as keys
 are_given t (n ∷ ns) [] h = absurd h
 are_given t (n ∷ ns) (k ∷ ks) (low, at, rest) =
     All-cons (IsGiven t) n ns (let within = slice_get_within t.keys (n - 1) k at in record { low = low; high = omega arith }) (are_given t ns ks rest)
@@ -214,6 +222,7 @@ module _ (verdict : Option Verdict) (old mid last : Texts) (number : ℕ) (bytes
   Tells told = (es : List (Observation KeyParts)) → (e : Observation KeyParts) × Sees es i e × IsObserved mid es i told e
 
   -- an entry that no transaction hears is judged as what is observed of it
+  -- `judged` is what the passing promises: whatever entries es came before, and whatever e is observed as it was told, e is judged rightly
   pub unheard_judged : (t v : Tabled) → i.moment ≡ moment → Tells Unheard
       → ((es : List (Observation KeyParts)) (e : Observation KeyParts) → e.fault ≡ None → newest_moment es ≤ moment → AreTold mid t.keys moment None e → TablesTrackBefore mid es e t → count ≡ length es + 1
       → IsJudged t.times (key_keeping last t.times) es e (transactions_of v) verdict)
@@ -232,6 +241,7 @@ module _ (verdict : Option Verdict) (old mid last : Texts) (number : ℕ) (bytes
   -- a message that transactions hear is judged as what is observed of it, with the keys that it concerns
   -- t are the tables before, u those with the entry's keys looked up, and v those after the event
   -- mid is the book with the message of the entry, last the book that is kept in the end, and i the item of the entry
+  -- `judged` is what the passing promises: whatever entries es came before, and whatever e is observed as it was told, e is judged rightly
   pub heard_judged : (event : NumberedEvent) (concerned : Concerned KeyParts) (numbers : Concerned ℕ) (t u v : Tabled) → length t.sets ≡ length t.keys → TouchesEach (each concerned) (each numbers) t u
       → AllPairs (λ a b. a ≢ b) u.keys → v.keys ≡ u.keys → event.moment ≡ moment → is_all numbers ≡ false
       → Tells (Heard event concerned)
@@ -249,6 +259,7 @@ module _ (verdict : Option Verdict) (old mid last : Texts) (number : ℕ) (bytes
         (judged es seen refl newest (told_event mid u.keys moment (record { event = event; concerned = numbers }) seen apart some have at refl)
         (subst (λ p. TracksBefore p (key_keeping mid p) es seen (transactions_of u)) (sym times)
         (touched_track (each concerned) (each numbers) t u touched mid es seen long refl (grown_track old mid number bytes grown es t tracks))) counts),
+    -- the keys have these numbers after the event too
     subst (λ all. HaveNumbers all (each numbers) (each concerned)) (sym keys) have,
   )
     where
@@ -266,6 +277,7 @@ module _ (verdict : Option Verdict) (old mid last : Texts) (number : ℕ) (bytes
 
   -- a restart is judged as what is observed of it, with all keys so far
   -- t and v are the tables before and after the restart
+  -- `judged` is what the passing promises: whatever entries es came before, and whatever e is observed as it was told, e is judged rightly
   pub restart_judged : (event : NumberedEvent) (t v : Tabled) → length t.sets ≡ length t.keys → AllPairs (λ a b. a ≢ b) t.keys → v.keys ≡ t.keys
       → event ≡ record { moment = moment; action = Restart; number = 0; kind = Request Other; reliable = false } → ((n : ℕ) → Keeps mid n → 0 < n) → i.moment ≡ moment
       → Tells told.Restart
@@ -295,6 +307,7 @@ module _ (verdict : Option Verdict) (old mid last : Texts) (number : ℕ) (bytes
 -- the number at a place of the numbers stands for the key at the same place of the keys
 -- ns are the numbers of the keys ks among all keys, i is the place, and k the key there; d stands for no number
 number_at : (all : List KeyParts) (ns : List ℕ) (ks : List KeyParts) → HaveNumbers all ns ks → (i d : ℕ) → i < length ns → (k : KeyParts) × (slice_get ks i ≡ Some k) × (slice_get all (get_or ns i d - 1) ≡ Some k)
+-- no place is in an empty list, and there are as many numbers as keys; the place is the first or a later one
 number_at all [] ks h i d low = absurd (omega arith)
 number_at all (n ∷ ns) [] h i d low = absurd h
 number_at all (n ∷ ns) (k ∷ ks) h zero d low = (k, refl, h.1)
@@ -312,6 +325,7 @@ numbers_differ all ns ks have apart i j d less low same =
 pub may_hear : (texts : Texts) (moment : ℕ) (event : NumberedEvent) (concerned : Concerned KeyParts) (numbers : Concerned ℕ) (t u : Tabled) → TouchesEach (each concerned) (each numbers) t u → FitsBook texts event
     → event.moment ≡ moment → AllPairs (λ a b. a ≢ b) (each concerned) → is_all numbers ≡ false → MayHear texts u moment (record { event = event; concerned = numbers })
 may_hear texts moment event concerned numbers t u touched fits at differ some =
+    -- the keys have these numbers, which are given, and which differ since the keys do; and the event is not one for all
     let have = have_numbers (each concerned) (each numbers) t u touched in
     record { fits = fits; at = at; given = are_given u (each numbers) (each concerned) have; apart = numbers_differ u.keys (each numbers) (each concerned) have differ; restart = λ all. absurd (false≢true (sym some ∙ all)) }
 
@@ -319,6 +333,7 @@ may_hear texts moment event concerned numbers t u touched fits at differ some =
 pub may_restart : (texts : Texts) (moment : ℕ) (event : NumberedEvent) (t : Tabled) → event ≡ record { moment = moment; action = Restart; number = 0; kind = Request Other; reliable = false } → moment ≤ last_moment
     → MayHear texts t moment (record { event = event; concerned = concerned.All })
 may_restart texts moment event t is limit = subst (λ e. MayHear texts t moment (record { event = e; concerned = concerned.All })) (sym is) (record {
+  -- a restart has no message, and names no transaction by its number, since all hear it
   fits = record { keeps = λ other. absurd (other refl); limit = limit };
   at = refl;
   given = All-nil (IsGiven t);

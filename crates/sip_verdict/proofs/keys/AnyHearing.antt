@@ -1,4 +1,5 @@
 -- What an event leaves of the runs of a transaction of any machine.
+-- In the proofs o is the old set and n the new one, each as a set of its machine, and m is what the states of the machine mean.
 use Rattle.std.proofs.Common.{◌≡◌, ◌≢◌, ◌≤◌, ℕ, List, [], ◌∷◌, ◌++◌, sym, ap, ◌∙◌, subst}
 use Rattle.sip_standard.specs.Times.{Times}
 use Rattle.sip_machine.specs.Texts.{Texts}

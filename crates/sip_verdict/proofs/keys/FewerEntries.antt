@@ -1,4 +1,6 @@
 -- A run over entries in the order of their moments gives a run over the first of them.
+-- In the lemmas `front` are the first entries and `more` those after them; `from` says that no entry is before a moment, and `order` that none is before an
+-- earlier one.
 use Rattle.std.proofs.Common.{◌≡◌, ◌≤◌, ℕ, List, [], ◌∷◌, ◌++◌, All, map, ap, ◌∙◌, subst, arith}
 use Rattle.std.specs.Prelude.{filter, fold, AllPairs}
 use Rattle.std.proofs.lemmas.List.{map-append}
@@ -37,6 +39,7 @@ newest last es = fold (λ moment e. e.event.moment) last es
 newest-from : (last : ℕ) (front more : List (Observation KeyParts)) → All (IsFrom last) (front ++ more) → AllPairs IsNotAfter (front ++ more) → last ≤ newest last front
 newest-from last [] more from order = omega arith
 newest-from last (e ∷ front) more from order =
+    -- the first entry is not before `last`, and the newest is not before the first
     let here : last ≤ e.event.moment = All-head (IsFrom last) e (front ++ more) from in
     let later : e.event.moment ≤ newest e.event.moment front = newest-from e.event.moment front more (AllPairs-head IsNotAfter e (front ++ more) order) (AllPairs-tail IsNotAfter e (front ++ more) order) in
     omega arith
@@ -56,6 +59,7 @@ newest-before last (e ∷ front) more from order =
 
 -- the newest moment of more entries is no earlier
 newest-more : (last : ℕ) (front more : List (Observation KeyParts)) → All (IsFrom last) (front ++ more) → AllPairs IsNotAfter (front ++ more) → newest last front ≤ newest last (front ++ more)
+-- there is no entry; or the first of all is one of those that come after; or it is one of the first ones
 newest-more last [] [] from order = omega arith
 newest-more last [] (e ∷ more) from order =
     let here : last ≤ e.event.moment = All-head (IsFrom last) e more from in
@@ -87,4 +91,5 @@ fewer-entries p key front more order run =
     (events-all key (λ f. f.moment ≤ newest_moment front) front (newest-to 0 front more order))
     (events-all key (λ f. newest_moment front ≤ f.moment) more (newest-before 0 front more from order))
     (newest-more 0 front more from order)
+    -- the events of all entries are those of the first ones and then those of the others
     (subst (λ events. RuledRun r events (newest_moment (front ++ more)) y) (events-append key front more) whole))

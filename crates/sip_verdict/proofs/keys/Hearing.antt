@@ -50,6 +50,7 @@ module _ {M X S : Type 0} (names : S → List ℕ) (InRange : S → Type 0) (see
     pub heard_some : new.machine ≡ set.machine → new.moment ≡ e.moment → new.states ≢ [] → length new.states ≤ widest
         → IsStepped (rules machine) events e (λ es. LeadsTo names seen rules texts machine new es e.moment) Stands all.Fine
     heard_some same at some few = (
+      -- some run goes on, the last states are not too many, and the new set leads to the runs over one event more
       some_runs names seen texts (rules machine) (events ++ e ∷ []) e.moment e.moment new.states taken (omega arith)
           (took_waits names InRange seen texts (rules machine) (lawful machine) _ e new.states given) some,
       λ wide. took_narrow names InRange seen texts (rules machine) events from set.moment set.states leads.leads e late low new.states given few wide,

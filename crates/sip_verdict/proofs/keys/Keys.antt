@@ -17,6 +17,7 @@ use Rattle.sip_verdict.specs.inner.Keyed.{with_key, concerns}
 
 -- where the disjunction of two tests is false, both are false
 pub or_false : (a b : Bool) → (a || b) ≡ false → (a ≡ false) × (b ≡ false)
+-- where the first test is true, so is the disjunction
 or_false true b h = absurd (false≢true (sym h))
 or_false false b h = (refl, h)
 
@@ -53,6 +54,7 @@ events_for-other key es e h = events_for-push key es e ∙ ap (λ b. events_for 
 
 -- a key that is found among keys is one of them
 pub among-contains : (key : KeyParts) (keys : List KeyParts) → list_any (same_key key) keys ≡ true → Contains keys key
+-- in an empty list no key is found
 among-contains key [] h = absurd (false≢true h)
 among-contains key (k ∷ keys) h = go (same_key key k) refl (among-contains key keys) h
   where
@@ -63,6 +65,7 @@ among-contains key (k ∷ keys) h = go (same_key key k) refl (among-contains key
 
 -- a key that is one of the keys is found among them
 pub contains-among : (key : KeyParts) (keys : List KeyParts) → Contains keys key → list_any (same_key key) keys ≡ true
+-- an empty list has no key
 contains-among key [] h = absurd (omega (arith, h.1))
 -- the key stands at the first place, or at a later one, n
 contains-among key (k ∷ keys) (zero, lt, h) = ap (λ b. b || list_any (same_key key) keys) ((same_key-decides key k).1 (sym h))

@@ -46,6 +46,7 @@ module _ {X S : Type 0} (names : S → List ℕ) (seen : Texts → S → X) wher
   pub Leads-none : (texts : Texts) (r : MachineRules X) (events : List MachineEvent) (from moment : ℕ) (states : List S) → Leads names seen texts r events from moment states →
       states ≡ [] → (n : ℕ) → from ≤ n → moment ≤ n → (x : X) → RuledRun r events n x → ⊥
   Leads-none texts r events from moment states leads none n late low x run =
+      -- a run that stood there would have waited from a state of the set, which has none
       let wait = (leads.runs n x late low).1 run in
       Contains-none wait.start (subst (λ xs. Contains (map (seen texts) xs) wait.start) none wait.begins)
 
@@ -53,6 +54,7 @@ module _ {X S : Type 0} (names : S → List ℕ) (seen : Texts → S → X) wher
   pub Leads-some : (texts : Texts) (r : MachineRules X) (events : List MachineEvent) (from moment : ℕ) (states : List S) → Leads names seen texts r events from moment states → from ≤ moment →
       (s : S) → Contains states s → Waits r (seen texts s) moment → RuledRun r events moment (seen texts s)
   Leads-some texts r events from moment states leads late s member waits =
+      -- to wait in the state up to its own moment is a wait, and the set leads to where the runs stand
       let reached : moment ≤ moment = omega arith in
       (leads.runs moment (seen texts s) late reached).0
       (Wait-stay r (Contains (map (seen texts) states)) moment moment (seen texts s)
@@ -79,9 +81,8 @@ module _ {X S : Type 0} (names : S → List ℕ) (seen : Texts → S → X) wher
       Leads-book by_names texts (texts ++ (number, bytes) ∷ []) r events from moment states
       (All-weaker (Knows names texts) (AgreeOn names texts (texts ++ (number, bytes) ∷ [])) (AgreeOn-grow names texts number bytes) states leads.known) leads
 
--- What follows is of states of the code by the rules r of a machine: `seen` gives what each stands for beside the book `texts`, `names` the messages that it
--- names,
--- and InRange says that its numbers are in range.
+-- What follows is of states of the code by the rules r of a machine: `seen` gives what each stands for beside the book `texts`, `names` the messages that
+-- it names, and InRange says that its numbers are in range.
 module _ {X S : Type 0} (names : S → List ℕ) (InRange : S → Type 0) (seen : Texts → S → X) (texts : Texts) (r : MachineRules X) where
   -- the states that the event e gives from a set that leads to the runs over the events lead to the runs over the events and e
   pub Leads-take : (events : List MachineEvent) (from moment : ℕ) (states : List S) → Leads names seen texts r events from moment states →

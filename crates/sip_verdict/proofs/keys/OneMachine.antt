@@ -30,6 +30,7 @@ module _ {X S : Type 0} (names : S → List ℕ) (seen : Texts → S → X) (tex
     where
       -- a list that is not empty has an element
       first_of_some : (xs : List S) → xs ≢ [] → (s : S) × Contains xs s
+      -- the list is not empty, by what is given
       first_of_some [] some = absurd (some refl)
       first_of_some (x ∷ xs) some = (x, Contains-here x xs)
 

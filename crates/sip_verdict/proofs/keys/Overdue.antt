@@ -21,6 +21,7 @@ use Rattle.sip_states.proofs.keyed.ByMachine.{moment_is, of_set}
 -- where a run over the events and e stands somewhere, a run over the events stands at the moment of e
 pub run_before : {X : Type 0} (r : MachineRules X) (events : List MachineEvent) (e : MachineEvent) (n : ℕ) → RunsUntil r (events ++ e ∷ []) n → RunsUntil r events e.moment
 run_before r events e n (y, run) =
+    -- a run over the events and e waits from where it stood after e, and it came there from where it stood before e, at the moment of e
     let wait = (Run-wait r events e n y).0 run in
     let given = (After-run r events e wait.start).0 wait.begins in
     (given.before, given.among)

@@ -49,6 +49,7 @@ module _ (texts : Texts) (p : Times) (machine : MachineKind) (events : List Mach
   pub quiet_stepped : IsStepped (key_rules p machine) events (event_in texts e) (λ es. LeadsOf texts p machine es e.moment set) (λ f. StandsOf texts p machine events f set) all.Fine
   quiet_stepped =
       let m = meaning_of machine in
+      -- x is the one state of the set, `one` says that it is the only one, and `still` that no wait and no restart leads it elsewhere
       let (x, one, still) = quiet_still p machine texts held (quiet_in machine held (subst IsQuietSet leads.1 quiet)) in
       -- the restart leads from the one state to that state alone
       let gives : StandFor m.names m.in_range m.seen texts (RunGives r (Wait r (Contains (map (m.seen texts) held.states)) held.moment e.moment) (event_in texts e)) held.states =

@@ -5,6 +5,7 @@ use Rattle.std.proofs.Common.{◌≡◌, ◌⊎◌, inl, inr, List, [], ◌∷�
 -- the one split is at x, with xs before it and us after it, and the other at y, with ys before it and vs after it
 pub split_compare : {A : Type 0} (xs us ys vs : List A) (x y : A) → xs ++ x ∷ us ≡ ys ++ y ∷ vs
     → ((xs ≡ ys) × (x ≡ y)) ⊎ (((zs : List A) × (ys ≡ xs ++ x ∷ zs)) ⊎ ((zs : List A) × (xs ≡ ys ++ y ∷ zs)))
+-- where one split is at the front, the other is there too, or comes after it
 split_compare [] us [] vs x y e = inl (refl, cc)
 split_compare [] us (b ∷ ys) vs x y e = inr (inl (ys, cc))
 split_compare (a ∷ xs) us [] vs x y e = inr (inr (xs, cc))

@@ -38,6 +38,7 @@ use Rattle.sip_verdict.proofs.listings.ListingLemmas.{TellsBook, told_set, stand
 
 -- the keys that are observed of a message have methods in ASCII
 message_ascii : (i : Item) (e : Observation KeyParts) (d : Direction) → ObservesMessage d i e → All (λ k. IsAscii k.method) e.keys
+-- a message with a fault, or without the cookie, concerns no key; of one that is heard the keys are those of the message that was read
 message_ascii i e d (has_fault fault has is) = subst (All (λ k. IsAscii k.method)) (sym (ap (λ x. x.keys) is)) (All-nil (λ k. IsAscii k.method))
 message_ascii i e d (has_no_cookie s says lacks is) = subst (All (λ k. IsAscii k.method)) (sym (ap (λ x. x.keys) is)) (All-nil (λ k. IsAscii k.method))
 message_ascii i e d (is_heard s keys says has concerns is) =
@@ -120,6 +121,7 @@ module _ (number : List ℕ → ℕ) (texts : Texts) (tells : TellsBook number t
               (told_set number texts tells set (All-place (IsKnownSet texts) t.sets (n - 1) set set_at known)) lists;
           whole = refl;
         },
+        -- the text has grown by the listing of this key
         subst (λ x. new ≡ old ++ transaction_text n x lines) same (is (subst (λ x. IsAscii x.method) (sym same) ascii)),
       )
 
@@ -140,6 +142,7 @@ module _ (number : List ℕ → ℕ) (texts : Texts) (tells : TellsBook number t
   -- the text of the transactions with these numbers is what is asked for of an entry that concerns their keys
   texts_of : (ks : List KeyParts) (ns : List ℕ) (text : List ℕ) → All (λ k. (concerns k e ≡ true) × IsAscii k.method) ks → HaveNumbers t.keys ns ks → IsTextOf t ns text
       → IsEntryText p number es e ks text
+  -- where the entry concerns no key, the text says that there is no transaction; there are as many numbers as keys
   texts_of [] [] text good have is = is
   texts_of [] (n ∷ ns) text good have is = absurd have
   texts_of (k ∷ ks) [] text good have is = absurd have

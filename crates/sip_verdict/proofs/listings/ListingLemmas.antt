@@ -35,6 +35,7 @@ module _ (number : List ℕ → ℕ) (texts : Texts) (tells : TellsBook number t
   -- a set whose messages the book keeps is told by the book's numbers
   pub told_set : (set : AnySet) → IsKnownSet texts set → TellsSet number texts set
   told_set set known =
+      -- s is the set as one of its machine, and the book keeps what each of its states names
       let (machine, s, is) = some_machine set in
       let known_s = of_set (λ X M S m s. IsKnown m texts s) machine s (subst (IsKnownSet texts) is known) in
       subst (TellsSet number texts) (sym is) (to_set (λ X M S m s. All (λ x. Tells number texts (m.names x)) s.states) machine s (told_states (meaning_of machine).names s.states known_s))
@@ -67,7 +68,9 @@ lines_alike text P Q lines same are = record {
 pub standing_lines : (number : List ℕ → ℕ) (texts : Texts) (p : Times) (machine : MachineKind) (events : List MachineEvent) (e : MachineEvent) (set : AnySet) (lines : List (List ℕ))
     → StandsOf texts p machine events e set → TellsSet number texts set → Lists set lines → AreLinesOf (state_text machine number) (StandsAfter (transaction_of machine).figure p events e) lines
 standing_lines number texts p machine events e set lines (s, is, stand) told lists =
+    -- the lines are those of the set's states, and these are just the ones in which a run may stand after the event
     let listed = of_machine (λ kind held. AreLinesOfHeld number texts kind held lines) machine s (subst (λ x. AreLinesOfSet number texts x lines) is (lists number texts told)) in
     let same = stands-after (transaction_of machine).figure (coded_holds machine).is_figure p events e in
+    -- what holds by the rules of the machine holds in the words of the standard
     lines_alike (state_text machine number) (AfterRun (key_rules p machine) events e) (StandsAfter (transaction_of machine).figure p events e) lines (λ y. ((same y).1, (same y).0))
     (stood_lines _ _ _ texts (state_text machine number) _ s.states lines stand listed)

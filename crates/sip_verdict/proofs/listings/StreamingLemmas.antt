@@ -32,11 +32,12 @@ pub streams_on : (count : ℕ) (old mid new : ProgressState) (left : Option (Lis
     → (e numbered : Entry) → numbered.number ≡ count + 1 → numbered.moment ≡ e.moment → numbered.bytes ≡ e.bytes → Nexts (beside_source mid left before) (beside_source new rest after) (Ok (Some e))
     → StreamsOn count old new (next.Entry numbered)
 streams_on count old mid new left before rest after is on e numbered number moment bytes nexts =
+    -- `steps` is what the answer says of a reader that reads entries, and `continues` what it says of the entry
     let steps = subst (λ s. NextsAt s (beside_source mid left before) (beside_source new rest after) (Ok (Some e))) (ap (λ (q : ProgressState). q.stage) is ∙ on) nexts in
     let continues = steps.moves.1 in (
       steps.moves.0,
       record {
-        -- the entry has the next number, keeps order and is within the limits
+        -- the entry has the next number, keeps order and is within the limits; 65535 is the most bytes that a message in a log may have
         number_is = number;
         order = subst (λ m. old.last ≤ m) (sym moment) (subst (λ m. m ≤ e.moment) (ap (λ (q : ProgressState). q.last) is) continues.order);
         moment_high = subst (λ m. m ≤ last_moment) (sym moment) continues.moment_high;

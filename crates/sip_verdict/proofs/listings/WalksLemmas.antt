@@ -1,4 +1,5 @@
 -- What a walk adds to the entries that were judged, and what it answers.
+-- In the lemmas `says` is what a judge promises of the entry in hand, whatever entries came before it.
 use Rattle.std.proofs.Common.{◌≡◌, inl, inr, ◌<◌, ◌≤◌, ◌+◌, ◌∙◌, ℕ, Option, Some, None, Result, Ok, Err, IsSomeAnd, IfSome, IfNone, IfOk, OnOk, List, [], ◌∷◌, ◌++◌, length, refl, sym, ap, subst, arith}
 use Rattle.std.proofs.lemmas.List.{append-nil, length_push}
 use Rattle.sip_standard.specs.Key.{KeyParts}
@@ -79,6 +80,7 @@ module _ (old new : Texts) (t u : Tabled) (left rest : ℕ) (e : Entry) where
       → JudgesOn way old t left new u rest e verdict
   judges_end way is verdict says =
       subst (λ a. JudgesOn a old t left new u rest e verdict) (sym is)
+      -- h is what is seen of the entry, and that it is followed, or its verdict
       (λ items es follows long next order. let h = says es follows next order in (h.0, h.1, end_on items es h.0 verdict h.2))
 
   -- a book that numbers the messages of the entries numbers those of the entry too, where the aim is an entry, or the verdict of the entry is given
@@ -106,6 +108,7 @@ module _ (old new : Texts) (t u : Tabled) (left rest : ℕ) (e : Entry) where
 
 -- the verdict of trouble at the entry e after these entries names the number of e
 trouble_at : (p : Times) (es : List (Observation KeyParts)) (e : Observation KeyParts) (v : Verdict) → HasTrouble p es e v → trouble_of v ≡ Some (length es + 1)
+-- only the fault of a message, a breach and what is undecided tell of trouble at an entry, each with the entry's number
 trouble_at p es e (Legal whole transactions) is = absurd is
 trouble_at p es e (Malformed entry fault) is = ap Some is.0
 trouble_at p es e (Breach entry transaction) is = ap Some is.0
@@ -114,6 +117,7 @@ trouble_at p es e (FaultOfLog entry reason) is = absurd is
 
 -- where a walk ends with the verdict of trouble before its aim, this verdict is what is listed
 listed_trouble : (v : Verdict) (k : ℕ) → trouble_of v ≡ Some k → listed_after v ≡ Stopped v
+-- a legal log has no trouble, and every other verdict is listed as it is
 listed_trouble (Legal whole transactions) k at = cc
 listed_trouble (Malformed entry fault) k at = refl
 listed_trouble (Breach entry transaction) k at = refl
@@ -192,6 +196,7 @@ module _ (way : Aim) (start : Option (List ℕ)) (now : log.ReaderState) (count 
     walks_on left2 texts2 u says times last =
         let h = says walks.items walks.es walks.follows walks.long number_is in_order in
         record {
+          -- the entry was read after the others, and what is kept follows it too
           items = walks.items ++ item e ∷ [];
           es = walks.es ++ h.0 ∷ [];
           observed = seen-push [] walks.items walks.es (item e) h.0 walks.observed h.1;
@@ -216,6 +221,7 @@ module _ (way : Aim) (start : Option (List ℕ)) (now : log.ReaderState) (count 
     listed_at : (listing : Listing)
         → ((more : List Item) → (seen : Observation KeyParts) × Sees walks.es (item e) seen × IsListedEntry t.times (first_entry ((walks.items ++ item e ∷ []) ++ more)) walks.es seen listing)
         → IfSome start (λ input. IsListingOf input e.number listing)
+    -- what is listed of an entry that stands in the log is never that it is not there
     listed_at NoEntry says = absurd (says []).2
     -- an entry in trouble: the verdict on the log is what is listed
     listed_at (Stopped v) says =
@@ -230,6 +236,7 @@ module _ (way : Aim) (start : Option (List ℕ)) (now : log.ReaderState) (count 
         let h = says l.0 in
         let observed = seen-push [] walks.items walks.es (item e) h.0 walks.observed h.1 in
         record {
+          -- l tells the log of the input: its items up to this one, the rest, and its end
           times = t.times;
           items = walks.items ++ item e ∷ [];
           rest = l.0;

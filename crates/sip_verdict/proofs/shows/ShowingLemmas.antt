@@ -23,12 +23,14 @@ use Rattle.sip_log.specs.Reading as log
 -- where entries are shown, and one entry more with its number and its canonical form, all of these are shown
 AreShown-push : (count : ℕ) (items : List Item) (text : List ℕ) (e : Item) (form : List ℕ) (n : ℕ) → n ≡ count + length items + 1 → AreShown count items text → IsCanonOf e.action e.text form
     → AreShown count (items ++ e ∷ []) (text ++ shown_entry n e form)
+-- no entry was shown before, so that this one is the first after `count` others
 AreShown-push count [] text e form n number none is =
     let one : n ≡ count + 1 = omega (arith, number) in (
       form,
       [],
       is,
       refl,
+      -- the text is that of this entry alone
       ap (λ (t : List ℕ). t ++ shown_entry n e form) none ∙ ap (λ k. shown_entry k e form) one ∙ sym (append-nil (shown_entry (count + 1) e form)),
     )
 -- the first entry is shown before the others and this one
@@ -47,6 +49,7 @@ pub record Showed (start : Option (List ℕ)) (now : log.ReaderState) (old new :
   pub text : List ℕ
   pub shown : AreShown 0 items text
   pub appends : Appends old new text
+  -- the reader stands after these entries
   pub on : now.stage ≡ entries
   pub times_are : now.times ≡ Some times
   pub stands : Stands start items now
@@ -88,6 +91,7 @@ module _ (start : Option (List ℕ)) (now : log.ReaderState) (old w : Option (Li
     ends : (end : LogEnd) (shown : Shown) → EndsAs (length s.items) [] end shown → (t : Option Times) → t ≡ Some s.times → IfSome start (λ input. IfSome t (λ p. LogSays input p s.items end))
         → Appends w w2 (last_text shown ++ line_feed ∷ []) → Answers start old w2 shown
     ends end shown is t same logs last =
+        -- the log l of the input has the items that were shown, and ends here; all that was written is their text and the last line
         IfSome-map start (λ input. IfSome t (λ p. LogSays input p s.items end)) (λ input. (text : List ℕ) × IsShownOf input text shown × Appends old w2 text) (λ input l. (
           s.text ++ (last_text shown ++ line_feed ∷ []),
           -- all items of the log were shown
@@ -108,6 +112,7 @@ module _ (start : Option (List ℕ)) (now : log.ReaderState) (old w : Option (Li
 
     -- where the log ends, what was written with the last line is right, and the answer is how many entries there are
     pub showed_end : (n : ℕ) → n ≡ now.count → Nexts now new (Ok None) → Appends w w2 (last_text (End n) ++ line_feed ∷ []) → Answers start old w2 (End n)
+    -- the reader told the end after the items that were read, and the times of the header
     showed_end n many nexts last =
         ends Clean (End n) (ap End (many ∙ count_is)) new.times (Nexts-times now new (Ok None) s.times s.on s.times_are nexts) (Stands-ends start s.items now new (inr s.on) s.stands nexts) last
 

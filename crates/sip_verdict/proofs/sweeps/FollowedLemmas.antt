@@ -32,6 +32,7 @@ use Rattle.sip_verdict.proofs.tables.NamedTables.{no_events_silent}
 not_below : (texts : Texts) → AllPairs (λ a b. a.0 < b.0) texts → (d : ℕ × List ℕ) (i : ℕ) → i < length texts → i ≤ (get_or texts i d).0
 not_below texts rising d zero low = omega arith
 not_below texts rising d (suc i) low =
+    -- its number is above that of the message before it, which is not below its own place
     let before = not_below texts rising d i (omega (arith, low)) in
     let more = rising i (suc i) d (omega arith) low in
     omega (arith, before, more)
@@ -139,6 +140,7 @@ module _ (old mid : Texts) (t u : Tabled) (times : u.times ≡ t.times) (number 
       )
 
   -- where the entry is in no trouble and the book was swept, what is left follows the entry too
+  -- `tracks`: the sweep keeps what the tables track; `named`: the book then has as many messages as are named; `now` counts them
   pub followed_swept : Says None → (texts : Texts) (v : Tabled) → v.times ≡ u.times → ((es : List (Observation KeyParts)) → TablesTrack mid es u → TablesTrack texts es v)
       → ((es : List (Observation KeyParts)) → TablesTrack mid es u → newest_moment es ≡ i.moment → AreMany (IsNamed u.times es) (length texts))
       → (now : ℕ) → now ≡ length texts → (left : ℕ) (es : List (Observation KeyParts)) → AreFollowed old t left es → number ≡ length es + 1 → newest_moment es ≤ i.moment
@@ -154,6 +156,7 @@ module _ (old mid : Texts) (t u : Tabled) (times : u.times ≡ t.times) (number 
           tracks = tracks (es ++ h.0 ∷ []) on;
           named = subst (λ n. WereNamed v.times (es ++ h.0 ∷ []) n) (sym is)
               (subst (λ p. WereNamed p (es ++ h.0 ∷ []) (length texts)) (sym same) (now_named u.times (es ++ h.0 ∷ []) (length texts) many));
+          -- no more messages are kept than are named
           few = omega (arith, is);
         },
       )
@@ -165,6 +168,7 @@ pub swept_take : (old texts : Texts) (t u : Tabled) (number moment : ℕ) → Ma
 swept_take old texts t u number moment may passes recorded fewer keys = record {
   passes = passes;
   recorded = recorded;
+  -- the book has no message that is new, and the tables have the same keys
   numbered = λ n keeps. may.numbered n (fewer n keeps);
   some = λ n keeps. may.some n (fewer n keeps);
   few = subst (λ ks. length ks + 2 ≤ number + number) (sym keys) may.few;

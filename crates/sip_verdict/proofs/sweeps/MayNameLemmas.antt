@@ -1,4 +1,5 @@
 -- When a message may be named by the transactions that an entry concerns.
+-- An `Any` gives the element (.1), its place (.0, with .2 and .3, that it stands there), and that P holds of it (.4).
 use Rattle.std.proofs.Common.{◌≡◌, ◌-◌, ◌⊎◌, inl, inr, ℕ, true, false, Some, [], ◌∷◌, List, Contains, slice_get, refl, sym, ◌∙◌, subst, arith}
 use Rattle.std.specs.Prelude.{◌↔◌}
 use Rattle.std.specs.List.{Any}
@@ -42,6 +43,7 @@ module _ (t : Tabled) (message : ℕ) where
   -- where an entry concerns one transaction, its message may be named just where the set of this one may name it
   pub own_may : (own : ℕ) (set : AnySet) → slice_get t.sets (own - 1) ≡ Some set → SetMayName message set ↔ MayBeNamed t message (concerned.Own own)
   own_may own set at = (
+    -- where the set may name it, one of the entry's transactions may; and the other way round, since there is only this one
     λ may. inr (any_first (OneMayName t message) own [] (set, at, may)),
     λ may. elim may [
       | inl all ↦ absurd (false≢true all)

@@ -37,12 +37,14 @@ module _ {X S : Type 0} (names : S → List ℕ) (InRange : S → Type 0) (seen 
       → StandFor names InRange seen texts (Wait r (Contains (map (seen texts) old)) at moment) new → (text : List ℕ)
       → RunNames r messages events moment text ↔ IsNumberOf texts (flat_map names new) text
   waited_names from at moment old new late low leads stand text = (
+    -- y is a state of a run that names the text: x, one of the new states, stands for it, and n is the number of the text among the names of x
     λ h. let (y, run, has) = h in
         let (x, among, is) = Contains-from_map (seen texts) new y ((stand.members y).1 ((leads.runs moment y late low).1 run)) in
         let there : Contains (map (text_of texts) (names x)) text = subst (λ ts. Contains ts text) (named texts x) (subst (λ z. Contains (messages z) text) (sym is) has) in
         let (n, in_names, text_is) = Contains-from_map (text_of texts) (names x) text there in
         (n, Contains-flat_map names new x n among in_names, text_is),
     -- the converse: a number that a new state names
+    -- n is the number, x the new state that names it, and y what x stands for: a run stands there
     λ h. let (n, has, is) = h in
         let (x, among, in_names) = Contains-from_flat_map names new n has in
         let y = seen texts x in (
@@ -61,6 +63,7 @@ module _ {X S : Type 0} (names : S → List ℕ) (InRange : S → Type 0) (seen 
       go : StaysFrom r (Contains (map (seen texts) old)) at moment y ⊎ EndsFrom r (Contains (map (seen texts) old)) at moment y → ⊥
       -- the state is one of the set, which names nothing; or it is the ended one, which names nothing either
       go (inl stays) =
+          -- x would be a state of the set that names the text by the number n, while the set names nothing
           let (x, among, is) = Contains-from_map (seen texts) old y stays.among in
           let there : Contains (map (text_of texts) (names x)) text = subst (λ ts. Contains ts text) (named texts x) (subst (λ z. Contains (messages z) text) (sym is) has) in
           let (n, in_names, text_is) = Contains-from_map (text_of texts) (names x) text there in

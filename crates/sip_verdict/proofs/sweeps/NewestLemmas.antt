@@ -44,6 +44,7 @@ others_known texts concerned hearing t u known leaves apart some n set among at 
 -- a set names no message whose number is above all that are kept
 pub known_unnamed : (texts : Texts) (number : ℕ) → ((n : ℕ) → Keeps texts n → n < number) → (set : AnySet) → IsKnownSet texts set → ¬ Contains (numbers_of set) number
 known_unnamed texts number below set known has =
+    -- s is the set as one of its machine: x would be a state of it that names the number, which the book would keep, so that it were below itself
     let (machine, s, is) = some_machine set in
     let names = (meaning_of machine).names in
     let (x, among, named) = Contains-from_flat_map names s.states number (subst (λ ns. Contains ns number) (ap numbers_of is ∙ numbers_are machine s) has) in
@@ -63,6 +64,7 @@ module _ (number : ℕ) (bytes : List ℕ) (new : Texts) where
   agree machine s unnamed knows k d low n has =
       let names = (meaning_of machine).names in
       let x = get_or s.states k d in
+      -- x is the state at the place k, and the old book keeps the message n that it names
       let kept = All-contains (Keeps old) (names x) n (knows k d low) has in
       go (Keeps-grow_cases new number bytes n kept)
     where
@@ -80,6 +82,7 @@ module _ (number : ℕ) (bytes : List ℕ) (new : Texts) where
   -- a set that does not name the dropped message names only messages that are kept still
   pub unnamed_known : (set : AnySet) → ¬ Contains (numbers_of set) number → IsKnownSet old set → IsKnownSet new set
   unnamed_known set unnamed known =
+      -- s is the set as one of its machine: what each of its states names is kept beside both books
       let (machine, s, is) = some_machine set in
       let m = meaning_of machine in
       let knows = of_set (λ X M S m s. IsKnown m old s) machine s (subst (IsKnownSet old) is known) in
@@ -94,6 +97,7 @@ module _ (number : ℕ) (bytes : List ℕ) (new : Texts) where
         s,
         is,
         record {
+          -- the set has the same machine, and its states stand for the same without the message
           machine_is = leads.machine_is;
           leads = Leads-book m.names m.seen (seen_by_names_of machine) old new (m.rules p) events from s.moment s.states (agree machine s (unnamed_of machine s set is unnamed) leads.leads.known) leads.leads;
         },
@@ -163,6 +167,7 @@ dropped_within sets number texts_before new (inr (bytes, is, unnamed)) = λ k d 
 -- where none of the transactions with these numbers names a message, none of their sets does
 these_unnamed : (message : ℕ) (t : Tabled) (numbers : List ℕ) → All (NamesNot t message) numbers → (n : ℕ) (set : AnySet) → is_among numbers (n + 1) ≡ true → slice_get t.sets n ≡ Some set
     → ¬ Contains (numbers_of set) message
+-- no number is among none; a set is that of the first number, or of one of the others
 these_unnamed message t [] none n set among at = absurd (false≢true among)
 these_unnamed message t (m ∷ ms) none n set among at =
     elim (eqb_tells (n + 1) m) [

@@ -13,6 +13,7 @@ same_within old new same = subst (λ texts. All (Contains old) texts) (sym same)
 -- a book has each number that it keeps with its message
 keeps_text : (texts : Texts) → IsBook texts → (n : ℕ) → Keeps texts n → Contains texts (n, text_of texts n)
 keeps_text texts book n keeps =
+    -- t is what the book has with this number: the number and its message
     let (t, has, is) = Contains-from_map (λ k. k.0) texts n keeps in
     subst (λ m. Contains texts (m, text_of texts m)) is
     (subst (λ bytes. Contains texts (t.0, bytes)) (sym (text_of-at texts has.0 t book.rising has.1 (sym has.2))) has)

@@ -33,6 +33,7 @@ use Rattle.sip_states.proofs.keyed.NamesLemmas.{Contains-flat_map}
 pub waited_leads : {X S : Type 0} (names : S → List ℕ) (InRange : S → Type 0) (seen : Texts → S → X) (texts : Texts) (r : MachineRules X) → IsLawful r → (events : List MachineEvent) (from at moment : ℕ) (old new : List S) → at ≤ moment
     → Leads names seen texts r events from at old → StandFor names InRange seen texts (Wait r (Contains (map (seen texts) old)) at moment) new → Leads names seen texts r events from moment new
 waited_leads names InRange seen texts r lawful events from at moment old new low leads stand = record {
+  -- to wait on from the new states is to wait from the old ones, and that is where the runs stand
   known = stand.known;
   runs = λ n x late later.
       iff_trans (Wait-iff r (Contains (map (seen texts) new)) (Wait r (Contains (map (seen texts) old)) at moment) stand.members moment n x)
@@ -47,10 +48,12 @@ pub kept_leads : {X S : Type 0} (names : S → List ℕ) (seen : Texts → S →
 kept_leads names seen by_names texts numbers book up kept r events from moment states within leads =
     Leads-book names seen by_names texts (only numbers texts) r events from moment states
     (λ k d low n has.
+    -- what a state names is among the numbers, so that the smaller book has it, with the same bytes
     (let among : Contains numbers n = within n (Contains-flat_map names states (get_or states k d) n (Contains-get_or states k d low) has) in
     (only-Keeps texts numbers book up kept n among, sym (text_of-only texts numbers book up kept n among)))) leads
 
 -- What follows is of the set of one transaction, and a book of which the messages with these numbers alone are kept.
+-- `up` says that the numbers rise, and `kept` that the book has a message under each.
 module _ (texts : Texts) (numbers : List ℕ) (book : IsBook texts) (up : AllPairs (λ a b. a < b) numbers) (kept : All (Keeps texts) numbers) (p : Times) (machine : MachineKind) (events : List MachineEvent) (from : ℕ) where
   -- a set of the tables that has waited leads to the same runs beside the book with some of its messages alone, where these are all that it names
   pub swept_leads : (moment : ℕ) (old new : AnySet) → moment_of old ≤ moment → IsAdvanced moment old new → ((n : ℕ) → Contains (numbers_of new) n → Contains numbers n)
@@ -85,8 +88,7 @@ module _ (texts : Texts) (numbers : List ℕ) (book : IsBook texts) (up : AllPai
       )
 
 -- What follows shows that the end of a wait does not depend on the book: by the rules r what a state stands for, as `seen` gives it, may end in the same
--- window
--- and wait until the same moment beside each book.
+-- window and wait until the same moment beside each book.
 
 module _ {X S : Type 0} (seen : Texts → S → X) (r : MachineRules X) (lawful : IsLawful r) (window_same : (a b : Texts) (x : S) → r.window (seen a x) ≡ r.window (seen b x))
     (until_same : (a b : Texts) (x : S) → r.until (seen a x) ≡ r.until (seen b x)) where
@@ -98,7 +100,7 @@ module _ {X S : Type 0} (seen : Texts → S → X) (r : MachineRules X) (lawful 
       -- the run waits on by the other book, whether it stays or ends
       go : StaysFrom r (Contains (map (seen a) states)) h m y ⊎ EndsFrom r (Contains (map (seen a) states)) h m y → (y : X) × Wait r (Contains (map (seen b) states)) h m y
       go (inl stays) =
-          -- the state stays, or it ends
+          -- the state stays: it can be waited in until the same moment beside both books
           let (x, among, is) = Contains-from_map (seen a) states y stays.among in (
             seen b x,
             Wait-stay r (Contains (map (seen b) states)) h m (seen b x) (record {
@@ -114,6 +116,7 @@ module _ {X S : Type 0} (seen : Texts → S → X) (r : MachineRules X) (lawful 
             Wait-end r lawful (Contains (map (seen b) states)) h m r.ended (record {
               start = seen b x;
               among = Contains-map (seen b) states x among;
+              -- it ends at the same moment, in the same window
               at = ends.at;
               -- the state ends at the same moment
               after = ends.after;
@@ -152,15 +155,16 @@ until_of machine p a b x = until_same (transaction_of machine).figure (coded_of 
 -- where a last moment is on record of a set, it is that of the set after a sweep
 pub swept_agenda : (texts : Texts) → IsBook texts → (moment : ℕ) (old new : AnySet) → moment_of old ≤ moment → IsAdvanced moment old new
     → IsKnownSet texts old → (limit : Option ℕ) → IsAgendaOf limit old → IsAgendaOf limit new
+-- the set was not made to wait, and is as it was; or it has waited
 swept_agenda texts book moment old new low (inr (same, silent)) known limit agenda = subst (IsAgendaOf limit) (sym same) agenda
 swept_agenda texts book moment old new low (inl waits) known limit agenda =
     let (machine, s, is) = some_machine old in
-    -- the set has waited, from the moment s until the moment t
+    -- the set s has waited until the moment, and t is what it has become
     let m = meaning_of machine in
     let known_s = of_set (λ X M S m s. IsKnown m texts s) machine s (subst (IsKnownSet texts) is known) in
     let (t, new_is, waited) = of_sets (λ X M S m s u. HasWaited m moment s u) machine s new (subst (λ o. SetWaits moment o new) is waits) in
     let not_later : s.moment ≤ moment = subst (λ n. n ≤ moment) (ap moment_of is ∙ moment_is machine s) low in
-    -- the last moment was right before the wait, and so it is after it
+    -- the states of t stand for those in which a wait from s ends; the last moment was right of s, and so it is right of t, beside this book and any other
     let r = m.rules s.machine in
     let stand = waited.states texts book known_s in
     let was : IsAgenda r (Contains (map (m.seen texts) s.states)) s.moment limit = of_set (λ X M S m s. HasAgenda m limit s) machine s (subst (IsAgendaOf limit) is agenda) texts in

@@ -33,6 +33,7 @@ named_is t start out none (added, is, rising, same) numbers are =
     (subst (AllPairs (λ a b. a < b)) (sym all) rising, λ n. subst (λ xs. Contains xs n ↔ Contains (flat_map numbers_of t.sets) n) (sym all) (same n))
 
 -- What follows is of a sweep of the book `texts`: t are the tables before, u after all sets have waited until the moment, and `numbers` what the sets name.
+-- `up` says that the numbers rise, and `same` that they are just those that the sets of u name.
 module _ (texts : Texts) (book : IsBook texts) (t u : Tabled) (moment : ℕ) (advances : AdvancesAll moment t u) (may : MayPass texts t moment)
     (numbers : List ℕ) (up : AllPairs (λ a b. a < b) numbers) (same : (n : ℕ) → Contains numbers n ↔ Contains (flat_map numbers_of u.sets) n) where
   -- the set that stood at the place before the sweep
@@ -62,6 +63,7 @@ module _ (texts : Texts) (book : IsBook texts) (t u : Tabled) (moment : ℕ) (ad
   -- each message that the sets name was kept before the sweep
   pub swept_kept : All (Keeps texts) numbers
   swept_kept = All-of numbers (λ k has.
+      -- the set `new` at the place n names the message k after the sweep, and `old` is what it was before
       (let (new, (n, low, is), in_set) = Contains-from_flat_map numbers_of u.sets k ((same k).0 has) in
       let at : slice_get u.sets n ≡ Some new = slice_get-get_or u.sets n new low ∙ ap Some is in
       let (old, was) = before n new at in
@@ -119,6 +121,7 @@ module _ (texts : Texts) (book : IsBook texts) (t u : Tabled) (moment : ℕ) (ad
               let (old, was) = before n x.1 there.1 in
               let key_at : slice_get t.keys n ≡ Some x.0 = ap (λ ks. slice_get ks n) (sym advances.keys) ∙ there.0 in
               let leads = All-place (IsReady (key_keeping texts p) es) (transactions_of t) n (x.0, old) (zip-place t.keys t.sets n x.0 old key_at was) tracks.ready in
+              -- the set at the place, once it has waited, leads to the runs of its key
               swept_leads texts numbers book up kept p (machine_of_key p.rules x.0) (events_for x.0 es) (newest_moment es) moment old x.1 (All-place (λ set. moment_of set ≤ moment) t.sets n old was may.order)
               (advances.each n old x.1 was there.1) (within n x.1 there.1) leads);
           good = tracks.good;
@@ -129,6 +132,7 @@ module _ (texts : Texts) (book : IsBook texts) (t u : Tabled) (moment : ℕ) (ad
   swept_recorded recorded = record {
     long = ap length advances.records ∙ recorded.long ∙ sym (ap length advances.keys);
     each = λ n new r at here.
+        -- `old` is the set before the wait: what is on record of it is right of the set after the wait
         let (old, was) = before n new at in
         let there : slice_get t.records n ≡ Some r = ap (λ rs. slice_get rs n) (sym advances.records) ∙ here in
         go r old new (All-place (λ set. moment_of set ≤ moment) t.sets n old was may.order) (All-place (IsKnownSet texts) t.sets n old was may.known) (advances.each n old new was at)

@@ -95,6 +95,7 @@ module _ (texts : Texts) (p : Times) (es : List (Observation KeyParts)) (e : Obs
             -- the key has a run and is not too wide, and its set leads on
             let passed = h.passed refl n x.0 x.1 key there.1 refl in
             record { runs = says.0; narrow = says.1; ready = passed.0; stands = passed.1 }
+    -- where a key is in trouble, the first such key among those that have passed is the first of all
     halfway_all (all.NoRun number) h = first (λ key. ¬ HasOne key) number h.same h.says
     halfway_all (all.TooWide number) h = (
       subst (All HasOne) (sym (names h.same)) (All-places HasOne keys (λ n key at. h.says.0 n key at refl)),
@@ -103,6 +104,7 @@ module _ (texts : Texts) (p : Times) (es : List (Observation KeyParts)) (e : Obs
 
   -- What follows is of one set more that hears the event, that with this number; those of ns are still to hear it. The tables were t and are u,
   -- `outcome` is how the hearing had come out so far, and `one` how it comes out for this set.
+  -- `once`: the number is not among ns; h: how it stood before this set heard the event; `own`: what the hearing did to this set.
   module _ (event : NumberedEvent) (is_event : (n : ℕ) (key : KeyParts) → slice_get keys n ≡ Some key → e.event ≡ event_in texts event) (number : ℕ) (ns : List ℕ) (once : is_among ns number ≡ false) (late : newest_moment es ≤ event.moment) (t u : Tabled) (outcome : Outcome)
       (h : IsHalfway (number ∷ ns) t outcome) (given : IsGiven t number) (one : Outcome) (own : Hears texts event number t u one) where
     -- the place of the set
@@ -135,6 +137,7 @@ module _ (texts : Texts) (p : Times) (es : List (Observation KeyParts)) (e : Obs
 
     -- of the one key, its own outcome says what the event left of its runs
     own_says : (o : Outcome) → IsOwnOutcome number o → IsPassed p k es e (mine.0, own.after) o → Says HasOne (IsWideAt p es e) keys (λ n. n ≡ place) o
+    -- g says how the key passed, and the claim is of the key at this place alone: no key before it is at the place
     own_says all.Fine is g = λ n key at same. (subst HasOne (mine_is n key at same) g.runs, λ wide. g.narrow (subst (IsWideAt p es e) (sym (mine_is n key at same)) wide))
     own_says (all.NoRun told) is g = record { place = place; counts = is ∙ sym next; key = mine.0; at = mine.1; holds = g; earlier = λ n key low at same. absurd (omega (arith, low, same)) }
     own_says (all.TooWide told) is g = (
@@ -169,6 +172,7 @@ module _ (texts : Texts) (p : Times) (es : List (Observation KeyParts)) (e : Obs
             let g : GoesOn p k es e (mine.0, own.after) = subst (IsPassed p k es e (mine.0, own.after)) (both_fine outcome one fine).1 left in
             subst (λ x. IsReady k (es ++ e ∷ []) x × IsStanding k es e x) (λ i. (mine_is n key at a.0 i, a.1 i)) (g.ready, g.stands)
         go (inr b) (inl old) = h.passed (both_fine outcome one fine).0 n key s at b.1 old
+        -- the set would stand at the place of the one that heard, and not there
         go (inr b) (inr same) = absurd (b.0 same)
 
     -- after the set has heard the event, the other sets that are to hear it are ready, and the outcome is joined with its own
@@ -186,12 +190,15 @@ module _ (texts : Texts) (p : Times) (es : List (Observation KeyParts)) (e : Obs
   pub halfway_each : (event : NumberedEvent) → ((n : ℕ) (key : KeyParts) → slice_get keys n ≡ Some key → e.event ≡ event_in texts event) → newest_moment es ≤ event.moment → (ns : List ℕ) (t u : Tabled) (before after : Outcome) → IsHalfway ns t before → All (IsGiven t) ns
       → AllPairs (λ a b. a ≢ b) ns → HearsEach texts event ns t before u after → IsHalfway [] u after
   halfway_each event is_event late [] t u before after h given apart (same, fine) = subst (λ o. IsHalfway [] u o) (sym fine) (subst (λ x. IsHalfway [] x before) (sym same) h)
+  -- the first of the sets has heard the event, and the others hear it one after another
   halfway_each event is_event late (n ∷ ns) t u before after h given apart (between, one, first, rest) =
       halfway_each event is_event late ns between u (first_of before one) after
       (one_more event is_event n ns (first_apart n ns apart) late t between before h (All-head (IsGiven t) n ns given) one first)
       (heard_given texts event n t between one first ns (All-tail (IsGiven t) n ns given)) (AllPairs-tail n ns apart) rest
 
 -- What follows is of the tables t, in which no set has heard the event of the entry e yet: `numbers` are those of the sets that are to hear it.
+-- `recorded`: only these sets may lack a last moment; `told`: each key is told the event or waits; `heard`: the event concerns these sets; `others`: each
+-- other key is not concerned, or goes on over e.
 module _ (texts : Texts) (p : Times) (es : List (Observation KeyParts)) (e : Observation KeyParts) (moment : ℕ) (hearing : Option Hearing) (t : Tabled) (may : MayPass texts t moment)
     (numbers : List ℕ) (recorded : AreOnRecord numbers t) (told : AreTold texts t.keys moment hearing e) (ready : All (IsReady (key_keeping texts p) es) (transactions_of t))
     (newest : newest_moment es ≤ moment) (heard : (number : ℕ) → is_among numbers number ≡ true → concerns_number hearing number ≡ true)
@@ -213,6 +220,7 @@ module _ (texts : Texts) (p : Times) (es : List (Observation KeyParts)) (e : Obs
 
     -- a key whose last moment on record is past has no run over the entries and e
     late : (r : Option (Option ℕ)) → slice_get t.records n ≡ Some r → is_overdue moment r ≡ true → ¬ RunsOver p (es ++ e ∷ []) key
+    -- a key without a record is not overdue
     late None on is = absurd (false≢true is)
     late (Some limit) on is = λ run.
         overdue_none texts p (machine_of_key p.rules key) (events_for key es) (newest_moment es) s leads limit (recorded.each n s (Some limit) here on) moment newest low is
@@ -220,6 +228,7 @@ module _ (texts : Texts) (p : Times) (es : List (Observation KeyParts)) (e : Obs
 
     -- a key whose last moment is not past, and that is not to hear the event, goes on over e
     in_time : (r : Option (Option ℕ)) → slice_get t.records n ≡ Some r → is_overdue moment r ≡ false → is_among numbers (n + 1) ≡ false → GoesOn p (key_keeping texts p) es e (key, s)
+    -- only a key that is to hear the event lacks a record
     in_time None on is other = absurd (false≢true (sym other ∙ recorded.each n s None here on))
     in_time (Some limit) on is other = elim (others n key s at here other) [ inl apart ↦ waits_on apart | inr goes ↦ goes ]
       where
@@ -333,6 +342,7 @@ quiet_others texts p es e moment h t may told ready newest hear numbers hearers 
         let low = All-place (λ x. moment_of x ≤ moment) t.sets n s here may.order in
         let machine = machine_of_key p.rules key in
         let events = events_for key es in
+        -- the set is quiet, since the restart need not be heard by it, and passes as it is
         let stepped = quiet_stepped texts p machine events (newest_moment es) s leads (hearers.others every n s here none) h.event (hear.restart every) (omega (arith, newest, hear.at)) (omega (arith, low, hear.at)) in
         own_passed p k es e (key, s) ((told n key at).concerned ∙ ap (λ b. b || is_among (each h.concerned) (n + 1)) every) all.Fine
         (subst (λ f. IsStepped (key_rules p machine) events f (λ fs. LeadsOf texts p machine fs f.moment s) (λ g. StandsOf texts p machine events g s) all.Fine) (sym (told n key at).event) stepped)

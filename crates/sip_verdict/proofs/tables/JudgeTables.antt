@@ -11,6 +11,7 @@ use Rattle.sip_verdict.specs.inner.TablesTracking.{MayTake}
 -- the first entry may come at any moment
 pub first_may : (texts : Texts) (t : Tabled) (p : Times) (moment : ℕ) → texts ≡ [] → t ≡ record { times = p; keys = []; sets = []; records = [] } → MayTake texts t 1 moment
 first_may texts t p moment none empty = subst (λ b. MayTake b t 1 moment) (sym none) (subst (λ u. MayTake [] u 1 moment) (sym empty) (record {
+  -- no set is later and none unknown, for there is none
   passes = record {
     order = All-nil (λ set. moment_of set ≤ moment);
     known = All-nil (IsKnownSet []);

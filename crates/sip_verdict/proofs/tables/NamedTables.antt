@@ -70,6 +70,7 @@ no_events_silent p moment machine events text none named =
 pub many_texts : (texts : Texts) → IsBook texts → (P : List ℕ → Type 0) (all : List ℕ) → ((text : List ℕ) → P text ↔ IsNumberOf texts all text) → (numbers : List ℕ) → AllPairs (λ a b. a < b) numbers
     → ((n : ℕ) → Contains numbers n ↔ Contains all n) → All (Keeps texts) numbers → AreMany P (length (only numbers texts))
 many_texts texts book P all named numbers up same kept = record {
+  -- the texts are those with these numbers, which differ: equal texts would have one number, and the numbers rise
   texts = map (text_of texts) numbers;
   distinct = λ i j d lt low alike.
       (let size : length (map (text_of texts) numbers) ≡ length numbers = length-map numbers (text_of texts) in
@@ -109,6 +110,7 @@ module _ (texts : Texts) (book : IsBook texts) (p : Times) (moment : ℕ) where
     -- for a set that has waited until the moment, the runs name the text exactly if the set names its number
     by_set : IsAdvanced moment old new → RunNames r (messages_of machine) events moment text ↔ IsNumberOf texts (numbers_of new) text
     by_set (inl waits) =
+        -- the set has waited: t is what it has become, and its states stand for those in which a wait from the old ones ends
         let m = meaning_of machine in
         let (t, new_is, waited) = of_sets (λ X M S m s u. HasWaited m moment s u) machine held new (subst (λ o. SetWaits moment o new) leads.1 waits) in
         let stand = subst (λ q. StandFor m.names m.in_range m.seen texts (Wait (m.rules q) (Contains (map (m.seen texts) held.states)) held.moment moment) t.states) leads.2.machine_is
@@ -128,6 +130,7 @@ module _ (texts : Texts) (book : IsBook texts) (p : Times) (moment : ℕ) where
     key_named advanced = iff_trans (names_stand p machine events moment text) (by_set advanced)
 
   -- What follows is of all keys of the entries es: t are the tables before the wait, and u after it.
+  -- `advanced` says that each set has waited until the moment, or stayed as it was and names nothing.
   module _ (es : List (Observation KeyParts)) (t u : Tabled) (times : t.times ≡ p) (tracks : TablesTrack texts es t) (long : length t.sets ≡ length t.keys) (newest : newest_moment es ≡ moment)
       (order : All (λ set. moment_of set ≤ moment) t.sets) (as_long : length u.sets ≡ length t.sets)
       (advanced : (n : ℕ) (old new : AnySet) → slice_get t.sets n ≡ Some old → slice_get u.sets n ≡ Some new → IsAdvanced moment old new) where
@@ -147,6 +150,7 @@ module _ (texts : Texts) (book : IsBook texts) (p : Times) (moment : ℕ) where
     -- what the runs of a key name is named by its set
     from_key : (key : KeyParts) (text : List ℕ) → StandsNaming p (machine_of_key p.rules key) (events_for key es) moment text
         → (b : Bool) → list_any (same_key key) (keys_in es) ≡ b → IsNumberOf texts (flat_map numbers_of u.sets) text
+    -- a key that no entry concerns has no events, and so names nothing
     from_key key text named false none = absurd (no_events_silent p moment (machine_of_key p.rules key) (events_for key es) text (new_key key es none) named)
     -- the key is one of the tables, with the set before the wait and after it
     from_key key text named true some =
@@ -155,6 +159,7 @@ module _ (texts : Texts) (book : IsBook texts) (p : Times) (moment : ℕ) where
         let at : slice_get t.keys n ≡ Some key = slice_get-get_or t.keys n key low ∙ ap Some is in
         let (old, here) = at_place t.sets n (omega (arith, low, long)) in
         let (new, there) = at_place u.sets n (omega (arith, low, long, as_long)) in
+        -- the set of the key names the text, by this number
         let (number, has, text_is) = (at_key n key old new at here there text).0 named in
         (number, Contains-flat_map numbers_of u.sets new number (n, slice_get_within u.sets n new there, get_or_from_slice_get u.sets n new new there) has, text_is)
 
@@ -169,6 +174,7 @@ module _ (texts : Texts) (book : IsBook texts) (p : Times) (moment : ℕ) where
           let there : slice_get u.sets n ≡ Some new = slice_get-get_or u.sets n new low ∙ ap Some is in
           let (old, here) = at_place t.sets n (omega (arith, low, as_long)) in
           let (key, at) = at_place t.keys n (omega (arith, low, as_long, long)) in
+          -- a run of the key stands in a state y that names the text
           let (y, run, names) = (at_key n key old new at here there text).1 (number, in_set, text_is) in
           record { key = key; state = y; stands = subst (λ n. Stands (transaction_of (machine_of_key p.rules key)).figure p (events_for key es) n y) (sym newest) run; names = names },
     )

@@ -29,6 +29,7 @@ use Rattle.sip_verdict.proofs.verdicts.Outcomes.{both_fine}
 
 -- a list has an element at each place
 pub at_place : {A : Type 0} (xs : List A) (n : ℕ) → n < length xs → (x : A) × (slice_get xs n ≡ Some x)
+-- no place is in an empty list; the place is the first, or a later one
 at_place [] n low = absurd (omega arith)
 at_place (x ∷ xs) zero low = (x, refl)
 at_place (x ∷ xs) (suc n) low = at_place xs n (omega arith)
@@ -43,6 +44,7 @@ All-places P xs each n d low = let x = at_place xs n low in subst P (sym (get_or
 
 -- where x and y stand at the same place of two lists, the pair of them stands there in both lists side by side
 pub zip-place : {A B : Type 0} (xs : List A) (ys : List B) (n : ℕ) (x : A) (y : B) → slice_get xs n ≡ Some x → slice_get ys n ≡ Some y → slice_get (zip xs ys) n ≡ Some (x, y)
+-- a list that ends before the place has no element there
 zip-place [] ys n x y a b = absurd cc
 zip-place (u ∷ xs) [] n x y a b = absurd cc
 zip-place (u ∷ xs) (v ∷ ys) zero x y a b = cc
@@ -51,6 +53,7 @@ zip-place (u ∷ xs) (v ∷ ys) (suc n) x y a b = zip-place xs ys n x y a b
 -- a pair at a place of two lists side by side has the two elements that stand there
 -- z is the pair at the place n of the lists xs and ys
 pub place-zip : {A B : Type 0} (xs : List A) (ys : List B) (n : ℕ) (z : A × B) → slice_get (zip xs ys) n ≡ Some z → (slice_get xs n ≡ Some z.0) × (slice_get ys n ≡ Some z.1)
+-- a list that ends before the place has no element there
 place-zip [] ys n z at = absurd cc
 place-zip (u ∷ xs) [] n z at = absurd cc
 place-zip (u ∷ xs) (v ∷ ys) zero z at = let same : (u, v) ≡ z = cc in (ap (λ w. Some w.0) same, ap (λ w. Some w.1) same)
@@ -104,8 +107,9 @@ first_apart number ns apart = list_any_none (nat_eq number) ns (λ k d low. diff
         go true same = absurd (apart_from ((unsigned_Decides number n).0 same))
         go false same = refl
 
--- a set that has heard leaves the keys and the other sets as they were
+-- a set that has heard leaves the keys as they were
 pub leaves_keys : (number : ℕ) (after : AnySet) (outcome : Outcome) (t u : Tabled) → Leaves number after outcome t u → u.keys ≡ t.keys
+-- in trouble or not, only the place of the set is written, and its record where it goes on
 leaves_keys number after all.Fine t u h = ap (λ x. x.keys) h.2
 leaves_keys number after (all.NoRun told) t u h = ap (λ x. x.keys) h
 leaves_keys number after (all.TooWide told) t u h = ap (λ x. x.keys) h
@@ -126,6 +130,7 @@ settles_leaves number after t u s = (s.limit, subst (IsAgendaOf s.limit) same s.
 
 -- where its transaction is in trouble, a set that has heard stands with its number, and nothing else changes
 pub trouble_leaves : (number : ℕ) (after : AnySet) (outcome : Outcome) (t : Tabled) → outcome ≢ all.Fine → Leaves number after outcome t (with_set t number after)
+-- the outcome is trouble, by what is given; then only the set is written
 trouble_leaves number after all.Fine t trouble = absurd (trouble refl)
 trouble_leaves number after (all.NoRun told) t trouble = refl
 trouble_leaves number after (all.TooWide told) t trouble = refl
@@ -136,6 +141,7 @@ given_still number t u keys g = record { low = g.low; high = (let same = ap leng
 
 -- What follows is of `after`, the set with this number, which has heard its event and has a state: `limit` is its last moment, which is put on record,
 -- and those of ns are still to hear the event.
+-- `old` says that, before this, only this set and those of ns may lack a last moment on record.
 module _ (t : Tabled) (number : ℕ) (ns : List ℕ) (low : 0 < number) (after : AnySet) (limit : Option ℕ) (agenda : IsAgendaOf limit after) (old : AreOnRecord (number ∷ ns) t) where
   -- where the set's last moment was written, each place is on record, or its set is still to hear the event
   recorded_at : (n : ℕ) (s : AnySet) (r : Option (Option ℕ)) → slice_get (set t.sets (number - 1) after) n ≡ Some s → slice_get (set t.records (number - 1) (Some limit)) n ≡ Some r → IsOnRecord ns (n + 1) s r
@@ -144,6 +150,7 @@ module _ (t : Tabled) (number : ℕ) (ns : List ℕ) (low : 0 < number) (after :
       -- the last moment of the set is on record, whether the set stands at the place of the number or elsewhere
       go : ((n ≡ number - 1) × (after ≡ s)) ⊎ ((n ≢ number - 1) × (slice_get t.sets n ≡ Some s)) → ((n ≡ number - 1) × (Some limit ≡ r)) ⊎ ((n ≢ number - 1) × (slice_get t.records n ≡ Some r))
           → IsOnRecord ns (n + 1) s r
+      -- at the place of the number set and record are the new ones, elsewhere both are the old ones, and a mixture cannot be
       go (inl a) (inl b) = subst (IsOnRecord ns (n + 1) s) b.1 (subst (IsAgendaOf limit) a.1 agenda)
       go (inl a) (inr b) = absurd (b.0 a.0)
       go (inr a) (inl b) = absurd (a.0 b.0)
@@ -165,6 +172,7 @@ module _ (t : Tabled) (number : ℕ) (ns : List ℕ) (low : 0 < number) (after :
 heard_record : (texts : Texts) (event : NumberedEvent) (number : ℕ) (ns : List ℕ) (t u : Tabled) (outcome : Outcome) → IsGiven t number → AreOnRecord (number ∷ ns) t → Hears texts event number t u outcome → outcome ≡ all.Fine
     → AreOnRecord ns u
 heard_record texts event number ns t u outcome given old h fine =
+    -- `left`: the set stands in its place, with its last moment, `limit`, on record
     let (limit, agenda, left) = subst (λ o. Leaves number h.after o t u) fine h.leaves in
     settled t number ns given.low h.after limit agenda old u (ap (λ x. x.keys) left) (ap (λ x. x.sets) left) (ap (λ x. x.records) left)
 
@@ -220,6 +228,7 @@ named_hearers t c some given apart = record {
 
 -- a number that is an element of numbers is among them
 pub is_among-of : (ns : List ℕ) (n : ℕ) → Contains ns n → is_among ns n ≡ true
+-- an empty list has no element; n is the first number, or one of the others
 is_among-of [] n has = absurd (Contains-none n has)
 is_among-of (m ∷ ns) n has = elim (Contains-cons m ns n has) [ inl same ↦ among_first n m ns (sym same) | inr rest ↦ among_rest n m ns (is_among-of ns n rest) ]
 
@@ -248,6 +257,7 @@ hears_more texts event (m ∷ ns) n t u v before mid one (between, first, hears,
 
 -- the element at a place stays where the element at another place is replaced
 pub set-other : {A : Type 0} (xs : List A) (i n : ℕ) (a : A) → n ≢ i → slice_get (set xs i a) n ≡ slice_get xs n
+-- the place that is written and the place that is looked at are each the first or a later one, and not both the first
 set-other [] i n a other = refl
 set-other (x ∷ xs) zero zero a other = absurd (other refl)
 set-other (x ∷ xs) zero (suc n) a other = refl
@@ -270,6 +280,7 @@ hears_others texts event [] t u before after given h n none = ap (λ x. slice_ge
 hears_others texts event (m ∷ ns) t u before after given (between, one, first, rest) n none =
     let (other, others) = among_none (n + 1) m ns none in
     let low = (All-head (IsGiven t) m ns given).low in
+    -- the set of the first hearer was written at another place
     let here : slice_get between.sets n ≡ slice_get t.sets n = ap (λ xs. slice_get xs n) (leaves_sets m first.after one t between first.leaves)
     ∙ set-other t.sets (m - 1) n first.after (λ same. other (omega (arith, same, low))) in
     hears_others texts event ns between u (first_of before one) after (heard_given texts event m t between one first ns (All-tail (IsGiven t) m ns given)) rest n others ∙ here

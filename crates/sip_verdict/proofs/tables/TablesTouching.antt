@@ -40,6 +40,7 @@ touched_elim Q more key number old new holds (inr h) = subst Q (sym h.2) (more o
 -- what holds of tables, and of them with any key more, holds after several keys were looked up
 -- Q is what holds of tables, and ns are the numbers of the keys ks
 pub touches_elim : (Q : Tabled → Type 0) → ((t : Tabled) (key : KeyParts) → Q t → Q (with_key t key)) → (ks : List KeyParts) (ns : List ℕ) (old new : Tabled) → Q old → TouchesEach ks ns old new → Q new
+-- no key is left, or one is looked up and then the others; there are as many numbers as keys
 touches_elim Q more [] [] old new holds same = subst Q (sym same) holds
 touches_elim Q more [] (n ∷ ns) old new holds h = absurd h
 touches_elim Q more (k ∷ ks) [] old new holds h = absurd h
@@ -55,6 +56,7 @@ long_more t key long = length-append t.sets (start_of t.times key ∷ []) ∙ ap
 
 -- keys that are looked up bring at most one new key each
 pub touches_few : (ks : List KeyParts) (ns : List ℕ) (old new : Tabled) → TouchesEach ks ns old new → length new.keys ≤ length old.keys + length ks
+-- no key is left; there are as many numbers as keys; a key that is known brings none, and a new one brings itself
 touches_few [] [] old new same = let long = ap (λ t. length t.keys) same in omega arith
 touches_few [] (n ∷ ns) old new h = absurd h
 touches_few (k ∷ ks) [] old new h = absurd h
@@ -85,6 +87,7 @@ touches_may texts moment ks ns old new may h = touches_elim (λ t. MayPass texts
     -- one key more leaves what the entry may pass
     more : (t : Tabled) (key : KeyParts) → MayPass texts t moment → MayPass texts (with_key t key) moment
     more t key m = record {
+      -- the set that the key starts with is of the moment 0 and names no message, and there are as many sets as keys
       order = All-push (λ set. moment_of set ≤ moment) t.sets (start_of t.times key) m.order (let at = start_at t.times key in omega arith);
       known = All-push (IsKnownSet texts) t.sets (start_of t.times key) m.known (start_known texts t.times key);
       long = long_more t key m.long;
@@ -93,7 +96,9 @@ touches_may texts moment ks ns old new may h = touches_elim (λ t. MayPass texts
 -- What follows shows that each last moment stays on record when keys come, except those of the sets that are to hear an event, whose numbers are `waits`.
 module _ (waits : List ℕ) where
   -- where a key comes that is to hear the event, the last moments of the sets that are to hear alone may be missing
+  -- the new key has no last moment on record, as one that waits for its event may
   with_key_recorded : (key : KeyParts) (number : ℕ) (old : Tabled) → length old.sets ≡ length old.keys → number ≡ length old.keys + 1 → is_among waits number ≡ true → AreOnRecord waits old → AreOnRecord waits (with_key old key)
+  -- `counts` says that the number is the one after all others, and `waiting` that the new key is to hear the event
   with_key_recorded key number old long counts waiting h = record {
     long = length-append old.records (None ∷ []) ∙ ap (λ i. i + 1) h.long ∙ sym (length-append old.keys (key ∷ []));
     each = λ i s r at here. go i s r (push_place old.sets (start_of old.times key) i s at) (push_place old.records None i r here);
@@ -129,6 +134,7 @@ module _ (waits : List ℕ) where
 -- x and y are the elements more
 zip-push : {A B : Type 0} (xs : List A) (ys : List B) (x : A) (y : B) → length ys ≡ length xs → zip (xs ++ x ∷ []) (ys ++ y ∷ []) ≡ zip xs ys ++ (x, y) ∷ []
 zip-push [] [] x y long = refl
+-- both lists are of the same length
 zip-push [] (v ∷ ys) x y long = absurd (omega arith)
 zip-push (u ∷ xs) [] x y long = absurd (omega arith)
 zip-push (u ∷ xs) (v ∷ ys) x y long = ap (λ z. (u, v) ∷ z) (zip-push xs ys x y (omega arith))
@@ -148,6 +154,7 @@ module _ (texts : Texts) (p : Times) where
   -- what is kept of keys is kept when one key is looked up, and of that key too
   touched : (key : KeyParts) (number : ℕ) (old new : Tabled) → old.times ≡ p → length old.sets ≡ length old.keys → Touches key number old new
       → IsTouched (key_keeping texts p) (key, start_of p key) (transactions_of old) (transactions_of new)
+  -- the key was known, and the tables are the same
   touched key number old new times long (inl h) = inl (
     ap transactions_of h.1,
     subst (λ ks. Contains ks key) (sym (keys_are old long)) (number - 1, slice_get_within old.keys (number - 1) key h.0.1, get_or_from_slice_get old.keys (number - 1) key key h.0.1),
@@ -165,6 +172,7 @@ module _ (texts : Texts) (p : Times) where
   -- what is kept of keys is kept when keys are looked up one after another, and of these too
   pub kept_each : (es : List (Observation KeyParts)) (keys ks : List KeyParts) (ns : List ℕ) (old new : Tabled) → old.times ≡ p → length old.sets ≡ length old.keys → TouchesEach ks ns old new
       → AreKept (key_keeping texts p) es keys (transactions_of old) → AreKept (key_keeping texts p) es (fold keyed.with_key keys ks) (transactions_of new)
+  -- no key is left, or one is looked up and then the others; there are as many numbers as keys
   kept_each es keys [] [] old new times long same kept = subst (λ t. AreKept (key_keeping texts p) es keys (transactions_of t)) (sym same) kept
   kept_each es keys [] (n ∷ ns) old new times long h kept = absurd h
   kept_each es keys (k ∷ ks) [] old new times long h kept = absurd h
@@ -176,6 +184,7 @@ module _ (texts : Texts) (p : Times) where
 -- an element of a list stays at its place when more elements come after it
 -- x is the element at the place n of xs, and ys are those that come after
 pub slice_get-more : {A : Type 0} (xs ys : List A) (n : ℕ) (x : A) → slice_get xs n ≡ Some x → slice_get (xs ++ ys) n ≡ Some x
+-- an empty list has no element; the place is the first, or a later one
 slice_get-more [] ys n x at = absurd cc
 slice_get-more (u ∷ xs) ys zero x at = at
 slice_get-more (u ∷ xs) ys (suc n) x at = slice_get-more xs ys n x at
@@ -187,6 +196,7 @@ slice_get-last (u ∷ xs) x = slice_get-last xs x
 
 -- keys that were looked up have their numbers
 pub have_numbers : (ks : List KeyParts) (ns : List ℕ) (old new : Tabled) → TouchesEach ks ns old new → HaveNumbers new.keys ns ks
+-- there are as many numbers as keys; the first has its number, and keeps it when the others are looked up
 have_numbers [] [] old new h = tt
 have_numbers [] (n ∷ ns) old new h = absurd h
 have_numbers (k ∷ ks) [] old new h = absurd h
@@ -210,6 +220,7 @@ same_test false false f g = refl
 -- where all elements of a list differ, no element stands at two places
 -- x is the element that would stand at the places i and k
 pub same_place : {A : Type 0} (xs : List A) → AllPairs (λ a b. a ≢ b) xs → (i k : ℕ) (x : A) → slice_get xs i ≡ Some x → slice_get xs k ≡ Some x → i ≡ k
+-- an empty list has no element; both places are the first, or one of them is, or both are later ones
 same_place [] apart i k x a b = absurd cc
 same_place (u ∷ xs) apart zero zero x a b = refl
 same_place (u ∷ xs) apart zero (suc k) x a b =
@@ -225,6 +236,7 @@ same_place (u ∷ xs) apart (suc i) (suc k) x a b =
 -- a key is one of the keys exactly if its number is among theirs
 -- ns are the numbers of the keys ks among all keys, and k is the key at the place n of all
 pub same_numbers : (all : List KeyParts) → AllPairs (λ a b. a ≢ b) all → (ns : List ℕ) (ks : List KeyParts) → HaveNumbers all ns ks → (n : ℕ) (k : KeyParts) → slice_get all n ≡ Some k → list_any (same_key k) ks ≡ is_among ns (n + 1)
+-- no key and no number is among none; there are as many numbers as keys
 same_numbers all apart [] [] h n k at = refl
 same_numbers all apart [] (key ∷ ks) h n k at = absurd h
 same_numbers all apart (i ∷ ns) [] h n k at = absurd h
@@ -235,6 +247,7 @@ same_numbers all apart (i ∷ ns) (key ∷ ks) (some, there, rest) n k at = λ j
     one : same_key k key ≡ nat_eq (n + 1) i
     one =
         same_test (same_key k key) (nat_eq (n + 1) i)
+        -- equal keys stand at one place, which has this number; and one number is of one place, where one key stands
         (λ same. (let place : n ≡ i - 1 = same_place all apart n (i - 1) key (at ∙ ap Some ((same_key-decides k key).0 same)) there in (unsigned_Decides (n + 1) i).1 (omega (arith, place, some))))
         (λ same. (let place : i - 1 ≡ n = omega (arith, (unsigned_Decides (n + 1) i).0 same) in
         let both : Some key ≡ Some k = sym there ∙ ap (slice_get all) place ∙ at in

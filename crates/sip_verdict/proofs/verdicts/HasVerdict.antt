@@ -1,4 +1,5 @@
 -- Each input has a verdict: none is without.
+-- In the proofs `never` says that what is claimed is false, from which a contradiction is drawn.
 use Rattle.std.proofs.Common.{◌≡◌, ◌⊎◌, inl, inr, ◌+◌, ℕ, Bool, true, false, Option, Some, None, List, [], ◌∷◌, ◌++◌, length, All, refl, sym, ap, subst, arith, MatchOption}
 use Rattle.std.proofs.lemmas.List.Elements.{All-nil, All-cons, All-head, All-tail}
 use Rattle.sip_standard.specs.declared.fault.Fault.{Fault}
@@ -35,11 +36,11 @@ first_or_none : (P : KeyParts → Type 0) (keys : List KeyParts) → Weakly (All
 first_or_none P [] never = never (inl (All-nil (λ k. ¬ (P k))))
 first_or_none P (key ∷ keys) never = first_or_none P keys at
   where
-    -- P does not hold of the first key
+    -- P does not hold of the first key, which would else be the first of which it holds
     here : P key → ⊥
     here holds = never (inr (1, ([], key, keys, refl, holds, All-nil (λ k. ¬ (P k)), refl)))
 
-    -- P holds of no later key, or of a first one
+    -- a contradiction follows whether P holds of no later key, or of a first one
     at : (All (λ k. ¬ (P k)) keys ⊎ ((n : ℕ) × IsFirstKey P keys n)) → ⊥
     at (inl none) = never (inl (All-cons (λ k. ¬ (P k)) key keys here none))
     at (inr (n, (before, first, rest, is, holds, earlier, counts))) =
@@ -69,12 +70,12 @@ module _ (p : Times) (es : List (Observation KeyParts)) (e : Observation KeyPart
   fine_or_trouble : ((v : Verdict) → ¬ (HasTrouble p es e v)) → Weakly (IsFine p es e)
   fine_or_trouble no_trouble not_fine = by_fault e.fault refl
     where
-      -- no key is too wide, or some key is the first that is
+      -- where each key has a run, a contradiction follows whether no key is too wide, or some key is the first that is
       by_width : e.fault ≡ None → All Runs keys → (All (λ key. ¬ (Wide key)) keys ⊎ ((n : ℕ) × IsFirstKey Wide keys n)) → ⊥
       by_width none runs (inl narrow) = not_fine (record { formed = none; runs = runs; narrow = narrow })
       by_width none runs (inr (n, first)) = no_trouble (Undecided (length es + 1) n) (refl, none, runs, first)
 
-      -- each key has a run, or some key is the first without one
+      -- without a fault a contradiction follows whether each key has a run, or some key is the first without one
       by_run : e.fault ≡ None → (All (λ key. ¬ (¬ (Runs key))) keys ⊎ ((n : ℕ) × IsFirstKey (λ key. ¬ (Runs key)) keys n)) → ⊥
       by_run none (inl all) = all_of Runs keys all (λ runs. first_or_none Wide keys (by_width none runs))
       by_run none (inr (n, first)) = no_trouble (Breach (length es + 1) n) (refl, none, first)
@@ -88,11 +89,11 @@ module _ (p : Times) (es : List (Observation KeyParts)) (e : Observation KeyPart
 observes_message : (direction : Direction) (item : Item) → Weakly ((e : Observation KeyParts) × ObservesMessage direction item e)
 observes_message direction item never = reading-or-fault item.text no_reading no_fault
   where
-    -- the message has no fault
+    -- the message has no fault, which would else be observed, while `never` says that nothing is
     no_fault : (fault : Fault) → ¬ (Says item.text (stops fault))
     no_fault fault is = never (_, has_fault fault is refl)
 
-    -- the message has no reading
+    -- the message has no reading, of which something would else be observed
     no_reading : (r : message.Reading) → ¬ (Reads item.text r)
     no_reading r reads = by_cookie (lacks_cookie (said_of r) direction) refl
       where
@@ -115,6 +116,7 @@ sees_entry before item = by_action item.action refl
 
     -- something is observed, whichever action the entry has
     by_action : (a : Action) → item.action ≡ a → Weakly ((e : Observation KeyParts) × Sees before item e)
+    -- what was sent, received or refused is observed as a message that went its way, a mark and a restart without one
     by_action Sent is never = observes_message way.Sent item (λ seen. never (seen.0, subst (Seen seen.0) (sym is) seen.1))
     by_action Received is never = observes_message way.Received item (λ seen. never (seen.0, subst (Seen seen.0) (sym is) seen.1))
     by_action Failed is never = observes_message way.Sent item (λ seen. never (seen.0, subst (Seen seen.0) (sym is) seen.1))
@@ -126,6 +128,7 @@ judges_some : (p : Times) (es : List (Observation KeyParts)) (items : List Item)
 judges_some p es [] Clean never = never (Legal (length es) (length (keys_in es)), refl)
 judges_some p es [] (Stops fault) never = never (LogFault (length es + 1) fault, refl)
 judges_some p es (item ∷ items) end never =
+    -- something is observed of the item; either it is in trouble, which is the verdict, or in none, and then the items after it have one
     sees_entry es item (λ seen.
     fine_or_trouble p es seen.0 (λ v trouble. never (v, (seen.0, seen.1, inl trouble))) (λ fine.
     judges_some p (es ++ seen.0 ∷ []) items end (λ left. never (left.0, (seen.0, seen.1, inr (fine.formed, fine.runs, fine.narrow, left.1))))))

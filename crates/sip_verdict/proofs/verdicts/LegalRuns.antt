@@ -54,6 +54,7 @@ module _ (input : List ℕ) (entries transactions : ℕ) (p : Times) where
   legal_end : (done : List Item) (es : List (Observation KeyParts)) (rest : List Item) (end : LogEnd) → LogSays input p (done ++ rest) end → AreSeen [] done es → IsGood p es →
       IsVerdictAfter p es rest end (Legal entries transactions) → IsLegalLog input entries transactions
   legal_end done es [] Clean log seen good is = record {
+    -- the log was read to its end, with these items
     times = p;
     items = done;
     es = es;
@@ -66,6 +67,7 @@ module _ (input : List ℕ) (entries transactions : ℕ) (p : Times) where
     runs = good_runs p es good;
     formed = all_formed [] done es seen (good_formed p es good);
   }
+  -- a log that cannot be read to its end, or has trouble at the next item, has another verdict
   legal_end done es [] (Stops fault) log seen good is = cc
   legal_end done es (item ∷ rest) end log seen good (e, sees, inl trouble) = absurd trouble
   -- the next item is in no trouble, so the log goes on with it
@@ -75,5 +77,6 @@ module _ (input : List ℕ) (entries transactions : ℕ) (p : Times) where
 
 -- a log with a legal verdict has messages of the grammar, and a run of each transaction
 pub legal_log : (input : List ℕ) (entries transactions : ℕ) → IsVerdictOf input (Legal entries transactions) → IsLegalLog input entries transactions
+-- an input without a header has another verdict
 legal_log input entries transactions (inl faulty) = let e = faulty.1 in cc
 legal_log input entries transactions (inr (p, items, end, log, left)) = legal_end input entries transactions p [] [] items end log tt (good-nil p) left

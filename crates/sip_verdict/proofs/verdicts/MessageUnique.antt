@@ -34,6 +34,7 @@ heard_once item direction s t keys more same c d =
 
 -- two things that are observed of one message are the same
 pub message_one : (direction : Direction) (item : Item) (e f : Observation KeyParts) → ObservesMessage direction item e → ObservesMessage direction item f → e ≡ f
+-- the bytes have one fault, and bytes that have one say no message, so that they neither lack the cookie nor are heard
 message_one direction item e f (has_fault a has is) (has_fault b has2 is2) =
     let same : ◌≡◌ {A = Outcome Said} (stops a) (stops b) = says-one item.text (stops a) (stops b) has has2 in
     let alike : a ≡ b = cc in is ∙ ap (fault_observation item) alike ∙ sym is2

@@ -28,6 +28,7 @@ judges_one p es (item ∷ items) end v w (e, seen, a) (f, seen2, b) = go a (subs
     -- the two verdicts are the same: both are of the next entry, or both are of later ones
     go : After e v → After e w → (IsVerdictAfter p (es ++ e ∷ []) items end v → IsVerdictAfter p (es ++ e ∷ []) items end w → v ≡ w) → v ≡ w
     go (inl a) (inl b) later = trouble_is_one p es e v w a b
+    -- the next entry cannot be in trouble by one verdict and in none by the other
     go (inl a) (inr b) later = absurd (fine_no_trouble p es e v (record { formed = b.0; runs = b.1; narrow = b.2 }) a)
     go (inr a) (inl b) later = absurd (fine_no_trouble p es e w (record { formed = a.0; runs = a.1; narrow = a.2 }) b)
     go (inr a) (inr b) later = later a.3 b.3

@@ -12,6 +12,7 @@ use Rattle.sip_verdict.specs.inner.Tracking.{first_of}
 -- a key of which P holds, and before which P holds of none, is the first of which it holds
 pub first_at : (P : KeyParts → Type 0) (keys : List KeyParts) (place : ℕ) (key : KeyParts) → slice_get keys place ≡ Some key → P key
     → ((n : ℕ) (k : KeyParts) → n < place → slice_get keys n ≡ Some k → ¬ P k) → IsFirstKey P keys (place + 1)
+-- no key stands in an empty list; the key is the first, or it is the first of those after the first
 first_at P [] place key at holds earlier = absurd cc
 first_at P (x ∷ xs) zero key at holds earlier = ([], x, xs, refl, (let same : key ≡ x = cc in subst P same holds), All-nil (λ k. ¬ P k), refl)
 first_at P (x ∷ xs) (suc place) key at holds earlier =
@@ -48,6 +49,7 @@ module _ (Runs Wide : KeyParts → Type 0) (keys : List KeyParts) where
     -- the first key for some places, of which P holds, is the first for fewer places
     first_fewer : (P : KeyParts → Type 0) (number : ℕ) → IsFirstAmong P keys A number → IsFirstAmong P keys B number
     first_fewer P number f = record {
+      -- the same key is the first, since fewer keys come before it
       place = f.place;
       counts = f.counts;
       key = f.key;
@@ -77,6 +79,7 @@ module _ (Runs Wide : KeyParts → Type 0) (keys : List KeyParts) where
     -- i is the number of the key that is first, and k any key at a place n before it
     first_left : (P : KeyParts → Type 0) (i : ℕ) → IsFirstAmong P keys A i → ((n : ℕ) (k : KeyParts) → n + 1 < i → slice_get keys n ≡ Some k → B n → ¬ P k) → IsFirstAmong P keys Either i
     first_left P i f others = record {
+      -- the same key is the first, since P holds of none before it at the places of A, and of none at those of B
       place = f.place;
       counts = f.counts;
       key = f.key;
@@ -89,6 +92,7 @@ module _ (Runs Wide : KeyParts → Type 0) (keys : List KeyParts) where
     -- i is the number of the key that is first, and k any key at a place n before it
     first_right : (P : KeyParts → Type 0) (i : ℕ) → IsFirstAmong P keys B i → ((n : ℕ) (k : KeyParts) → n + 1 < i → slice_get keys n ≡ Some k → A n → ¬ P k) → IsFirstAmong P keys Either i
     first_right P i f others = record {
+      -- the same key is the first, since P holds of none before it at the places of B, and of none at those of A
       place = f.place;
       counts = f.counts;
       key = f.key;
@@ -122,6 +126,7 @@ module _ (Runs Wide : KeyParts → Type 0) (keys : List KeyParts) where
 -- where the join of two outcomes is no trouble, both are no trouble
 pub both_fine : (a b : Outcome) → first_of a b ≡ all.Fine → (a ≡ all.Fine) × (b ≡ all.Fine)
 both_fine all.Fine b h = (refl, h)
+-- where one of the two is trouble, the join is trouble
 both_fine (all.NoRun i) all.Fine h = absurd cc
 both_fine (all.NoRun i) (all.NoRun j) h = absurd cc
 both_fine (all.NoRun i) (all.TooWide j) h = absurd cc

@@ -27,6 +27,7 @@ first_is_one P keys n k (before, key, rest, is, holds, earlier, counts) (front, 
     -- the two numbers are the same, since the two first keys are
     go : ((before ≡ front) × (key ≡ first)) ⊎ (((zs : List KeyParts) × (front ≡ before ++ key ∷ zs)) ⊎ ((zs : List KeyParts) × (before ≡ front ++ first ∷ zs))) → n ≡ k
     go (inl h) = counts ∙ ap (λ xs. length xs + 1) h.0 ∙ sym number
+    -- the one cannot come before the other, of which P would then hold before its first key
     go (inr (inl h)) = absurd (All-middle (λ x. ¬ (P x)) before h.0 key (subst (All (λ x. ¬ (P x))) h.1 none) holds)
     go (inr (inr h)) = absurd (All-middle (λ x. ¬ (P x)) front h.0 first (subst (All (λ x. ¬ (P x))) h.1 earlier) also)
 
@@ -54,6 +55,7 @@ module _ (p : Times) (front : List (Observation KeyParts)) (e : Observation KeyP
 
   -- an entry that is in no trouble has no verdict of trouble
   pub fine_no_trouble : (v : Verdict) → IsFine p front e → HasTrouble p front e v → ⊥
+  -- only a breach, what is undecided and the fault of a message are verdicts of trouble, and each denies what an entry in no trouble has
   fine_no_trouble (Legal n t) f h = h
   fine_no_trouble (Malformed n fault) f h = let a : None ≡ Some fault = sym f.formed ∙ h.1 in cc
   fine_no_trouble (Breach n t) f h = first_not_run Runs keys t h.2 f.runs
@@ -62,6 +64,7 @@ module _ (p : Times) (front : List (Observation KeyParts)) (e : Observation KeyP
 
   -- two verdicts of trouble at one entry are the same
   pub trouble_is_one : (v w : Verdict) → HasTrouble p front e v → HasTrouble p front e w → v ≡ w
+  -- the fault of a message is the one that is observed, and where there is one, neither of the others is told
   trouble_is_one (Malformed n f) (Malformed k g) a b = let s : Some f ≡ Some g = sym a.1 ∙ b.1 in let s' : n ≡ k = a.0 ∙ sym b.0 in cc
   trouble_is_one (Malformed n f) (Breach k t) a b = let s : Some f ≡ None = sym a.1 ∙ b.1 in cc
   trouble_is_one (Malformed n f) (Undecided k t) a b = let s : Some f ≡ None = sym a.1 ∙ b.1 in cc
@@ -83,6 +86,7 @@ module _ (p : Times) (front : List (Observation KeyParts)) (e : Observation KeyP
 module _ (p : Times) where
   -- the empty log has no entry in trouble
   pub good-nil : IsGood p []
+  -- an empty list is no list with an entry in it
   good-nil [] e rest is = cc
   good-nil (f ∷ front) e rest is = cc
 
@@ -94,5 +98,6 @@ module _ (p : Times) where
       -- the entry f is fine after those before it: it is the last one, or an earlier one
       go : ((es ≡ front) × (e ≡ f)) ⊎ (((zs : List (Observation KeyParts)) × (front ≡ es ++ e ∷ zs)) ⊎ ((zs : List (Observation KeyParts)) × (es ≡ front ++ f ∷ zs))) → IsFine p front f
       go (inl h) = subst (λ x. IsFine p front x) h.1 (subst (λ x. IsFine p x e) h.0 fine)
+      -- no entry comes after the last one
       go (inr (inl h)) = absurd (omega (arith, simp length-append at (ap length is), simp length-append at (ap length h.1)))
       go (inr (inr h)) = good front f h.0 h.1

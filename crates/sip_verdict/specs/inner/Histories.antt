@@ -8,7 +8,7 @@ use Rattle.sip_verdict.specs.declared.histories.History.{History}
 abbrev pub SpellsBranch : List ℕ → List ℕ → Type 0
 SpellsBranch text branch = (s : Said) → Says text (gives s) → IfSome s.via.branch (λ spelled. branch ≡ spelled)
 
--- the entry with this number and text becomes the last entry of the history of a transaction that is known
+-- the entry with the number `entry` becomes the last one in the history of a known transaction, whose number is `number`
 pub record NotesLast (entry number : ℕ) (old new : List History) : Type 0 where
   pub before : History
   pub after : History
@@ -18,7 +18,7 @@ pub record NotesLast (entry number : ℕ) (old new : List History) : Type 0 wher
   pub first : after.first ≡ before.first
   pub last : after.last ≡ entry
 
--- the entry with this number and text begins the history of a new transaction: it is its first and its last entry
+-- the entry with the number `entry` and this text begins the history of a new transaction, whose number is `number`: it is its first and its last entry
 pub record NotesFirst (entry : ℕ) (text : List ℕ) (number : ℕ) (old new : List History) : Type 0 where
   pub begun : History
   pub beyond : length old ≤ number - 1

@@ -88,7 +88,7 @@ module _ (texts : Texts) (p : Times) (es : List (Observation KeyParts)) (e : Obs
   AreConcerned event numbers keys =
       (n : ℕ) (key : KeyParts) → slice_get keys n ≡ Some key → is_among numbers (n + 1) ≡ true → (e.event ≡ event_in texts event) × (concerns key e ≡ true)
 
--- the predicate on numbers that holds of none: each key is still to hear the entry
+-- the predicate on numbers that holds of each: each key is still to hear the entry
 abbrev pub any : ℕ → Bool
 any number = true
 

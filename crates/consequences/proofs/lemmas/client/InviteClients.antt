@@ -1,5 +1,6 @@
 -- Both INVITE clients: they send by the same rows, and differ only in where a received 2xx leads.
 -- In the lemmas k is the kind of the message of the event e, and y is where its row leads.
+-- `Unit {0}` holds anyway, by `tt`.
 use Rattle.std.proofs.Common.{◌≡◌, ◌*◌, ◌⊎◌, inl, inr, ℕ, Bool, true, Option, Some, None, List, refl}
 use Rattle.sip_standard.specs.AckOf.{AckOf}
 use Rattle.sip_standard.specs.declared.kind.Method.TheVariants.{Invite, Ack, Cancel}
@@ -62,6 +63,7 @@ pub record IsReceiving (R : Receiving) : Type 0 where
 -- by RFC 6026 a row in calling is one of a response, and leads where `Answers` says
 -- w is the data of calling, k the kind of the message e, and y the row
 calling_6026 : (p : Times) (w : Waiting) (k : Kind) (e : MachineEvent) (y : Row) → Receives p (Calling w) k e y → Answers w.reliable w.request k e y
+-- the response is provisional, a 2xx, or one of 300 to 699: one case for each; no request has a row
 calling_6026 p w (Response code) e y (inl h) = (code, refl, inl h)
 calling_6026 p w (Response code) e y (inr (inl h)) = (code, refl, inr (inl (h.0, rw h.1 tt)))
 calling_6026 p w (Response code) e y (inr (inr h)) = (code, refl, inr (inr h))
@@ -99,6 +101,7 @@ receives_6026 = record {
 -- by RFC 3261 alone a row in calling is one of a response, and leads where `Answers` says
 -- w is the data of calling, k the kind of the message e, and y the row
 calling_3261 : (p : Times) (w : Waiting) (k : Kind) (e : MachineEvent) (y : Row) → without.Receives p (Calling w) k e y → Answers w.reliable w.request k e y
+-- the response is provisional, a 2xx, or one of 300 to 699: one case for each; no request has a row
 calling_3261 p w (Response code) e y (inl h) = (code, refl, inl h)
 calling_3261 p w (Response code) e y (inr (inl h)) = (code, refl, inr (inl (h.0, rw h.1 tt)))
 calling_3261 p w (Response code) e y (inr (inr h)) = (code, refl, inr (inr h))

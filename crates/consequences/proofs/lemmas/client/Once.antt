@@ -1,5 +1,9 @@
 -- A client sends its request once: after it the client is never idle again, and a restart ends it.
 -- In the lemmas x is the phase or the state before a step and y what follows it, k is the kind of a message, and m a moment.
+-- In cases of `Emits` a message that is sent has a row (`row`, `is_row`, `to`), or pays a debt (`left`, `pays`), or changes nothing (`stays`,
+-- `same`), which only the INVITE server by RFC 3261 alone lets it (Stays). In cases of `Steps` a message that is received has a row, or has none and
+-- changes nothing (`none`, `same`), and a restart leaves idle as it is (`idle`) and ends any other phase (`other`).
+-- `Unit {0}` holds anyway, by `tt`.
 use Rattle.std.proofs.Common.{◌≡◌, ◌⊎◌, inl, inr, ℕ, Bool, true, false, Some, List, ◌∷◌, ◌++◌, refl, sym, subst, ◌∙◌}
 use Rattle.sip_standard.specs.declared.action.Action.{Action}
 use Rattle.sip_standard.specs.declared.action.Action.TheVariants.{Sent, Received, Failed, Mark, Restart}
@@ -147,6 +151,7 @@ module _ (R : Receiving) (is : IsReceiving R) (p : Times) where
 
   -- the row of a response leads to a phase after the INVITE
   answers-invited : (reliable : Bool) (request : List ℕ) (k : Kind) (e : MachineEvent) (row : Row) → Answers reliable request k e row → IsInvited row.0
+  -- a provisional response leads to proceeding, a 2xx to a phase that is done, and a 300 to 699 to completed
   answers-invited reliable request k e row (code, kind, inl h) = rw h.1 tt
   answers-invited reliable request k e row (code, kind, inr (inl h)) = done-invited row.0 h.1
   answers-invited reliable request k e row (code, kind, inr (inr h)) = rw h.1 tt
@@ -219,6 +224,7 @@ IsAnyRequest k = (method : Method) × (k ≡ Request method)
 
 -- the row of a received message leads from a phase after the request to a phase after the request
 plain-received : (p : Times) (x : plain.PlainClientPhase) (k : Kind) (e : MachineEvent) (row : plain.PlainClientPhase × Change) → IsAsked x → plain.Receives p x k e row → IsAsked row.0
+-- a response leads to proceeding or to completed, which come after the request
 plain-received p (plain.Trying w) (Response code) e row asked (inl h) = rw h.1 tt
 plain-received p (plain.Trying w) (Response code) e row asked (inr h) = rw h.1 tt
 plain-received p (plain.Proceeding w) (Response code) e row asked h = rw h.1 tt
@@ -226,6 +232,7 @@ plain-received p x k e row asked h = absurd h
 
 -- the row of a sent message leads to a phase after the request
 plain-sent : (p : Times) (x : plain.PlainClientPhase) (k : Kind) (e : MachineEvent) (row : plain.PlainClientPhase × Change) → plain.Sends p x k e row → IsAsked row.0
+-- the request leads to trying, and a repeat leaves the phase
 plain-sent p plain.Idle (Request method) e row h = rw h tt
 plain-sent p (plain.Trying w) (Request method) e row h = rw h.1 tt
 plain-sent p (plain.Proceeding w) (Request method) e row h = rw h.1 tt

@@ -1,5 +1,9 @@
 -- How far apart a client sends its request again.
 -- In the lemmas ms are the moments of the requests so far and m the one of the next; x is the phase or the state before a step, and y the state after it.
+-- In cases of `Emits` a message that is sent has a row (`row`, `is_row`, `to`), or pays a debt (`left`, `pays`), or changes nothing (`stays`,
+-- `same`), which only the INVITE server by RFC 3261 alone lets it (Stays). In cases of `Steps` a message that is received has a row, or has none and
+-- changes nothing (`none`, `same`), and a restart leaves idle as it is (`idle`) and ends any other phase (`other`).
+-- What holds anyway, as a fact of a value that is not there, holds by `tt`.
 use Rattle.std.proofs.Common.{◌≡◌, ◌≤◌, ◌*◌, ◌⊎◌, inl, inr, ℕ, Bool, true, false, Some, List, [], ◌∷◌, ◌++◌, filter, map, min, refl, sym, ap, subst, ◌∙◌, arith, if◌then◌else◌}
 use Rattle.sip_standard.specs.declared.action.Action.{Action}
 use Rattle.sip_standard.specs.declared.action.Action.TheVariants.{Sent, Received, Failed, Mark, Restart}
@@ -60,7 +64,7 @@ passed-more : (test : MachineEvent → Bool) (es : List MachineEvent) (e : Machi
 passed-more test [] e is = pass-cons test e [] true is
 passed-more test (g ∷ es) e is = by (test g) refl (passed-more test es e is)
   where
-    -- where e passes the test, its moment is the last of those that pass, whether or not g passes as well
+    -- where e passes the test, its moment is the last of those that pass, whether or not g passes as well, which b says
     by : (b : Bool) → test g ≡ b → passed test (es ++ e ∷ []) ≡ passed test es ++ e.moment ∷ [] → passed test (g ∷ (es ++ e ∷ [])) ≡ passed test (g ∷ es) ++ e.moment ∷ []
     by true here same = pass-cons test g (es ++ e ∷ []) true here ∙ ap (λ ms. g.moment ∷ ms) same ∙ sym (ap (λ ms. ms ++ e.moment ∷ []) (pass-cons test g es true here))
     by false here same = pass-cons test g (es ++ e ∷ []) false here ∙ same ∙ sym (ap (λ ms. ms ++ e.moment ∷ []) (pass-cons test g es false here))
@@ -70,7 +74,7 @@ passed-same : (test : MachineEvent → Bool) (es : List MachineEvent) (e : Machi
 passed-same test [] e is = pass-cons test e [] false is
 passed-same test (g ∷ es) e is = by (test g) refl (passed-same test es e is)
   where
-    -- where e does not pass the test, the moments of those that pass stay as they are, whether or not g passes
+    -- where e does not pass the test, the moments of those that pass stay as they are, whether or not g passes, which b says
     by : (b : Bool) → test g ≡ b → passed test (es ++ e ∷ []) ≡ passed test es → passed test (g ∷ (es ++ e ∷ [])) ≡ passed test (g ∷ es)
     by true here same = pass-cons test g (es ++ e ∷ []) true here ∙ ap (λ ms. g.moment ∷ ms) same ∙ sym (pass-cons test g es true here)
     by false here same = pass-cons test g (es ++ e ∷ []) false here ∙ same ∙ sym (pass-cons test g es false here)
@@ -108,6 +112,7 @@ module _ (R : Receiving) (is : IsReceiving R) (p : Times) where
 
   -- where Invited holds of a phase, the moments lie apart
   invited-spaced : (ms : List ℕ) (x : invite.InviteClientPhase) → Invited ms x → IsSpaced p next ms
+  -- in idle there are no moments, and in calling they begin the intervals of the phase (Begins); elsewhere Invited says just this
   invited-spaced ms invite.Idle invited = rw invited tt
   invited-spaced ms (invite.Calling w) invited = begins-spaced p next ms w.set w.interval invited
   invited-spaced ms (invite.Proceeding reliable request cancel) invited = invited
@@ -123,6 +128,7 @@ module _ (R : Receiving) (is : IsReceiving R) (p : Times) where
 
   -- the row of a response leads to a phase in which Invited asks only that the moments lie apart
   answers-invited : (ms : List ℕ) (reliable : Bool) (request : List ℕ) (k : Kind) (e : MachineEvent) (row : Row) → IsSpaced p next ms → Answers reliable request k e row → Invited ms row.0
+  -- a provisional response leads to proceeding, a 2xx to a phase that is done, and a 300 to 699 to completed
   answers-invited ms reliable request k e row spaced (code, kind, inl h) = rw h.1 spaced
   answers-invited ms reliable request k e row spaced (code, kind, inr (inl h)) = done-invited ms row.0 h.1 spaced
   answers-invited ms reliable request k e row spaced (code, kind, inr (inr h)) = rw h.1 spaced
@@ -204,6 +210,7 @@ module _ (R : Receiving) (is : IsReceiving R) (p : Times) where
   -- a step keeps what is known of the moments, with that of the event where it is an INVITE that is sent
   invited-steps : (a : Action) (es : List MachineEvent) (e : MachineEvent) (x y : Owing invite.InviteClientPhase) → e.action ≡ a → Invited (passed test es) x.phase → Steps f p a e x y
       → Invited (passed test (es ++ e ∷ [])) y.phase
+  -- what is received adds no moment
   invited-steps Received es e x y was invited (inl (row, is_row, to)) =
       rw (to, passed-same test es e (ap (λ a. sends_invite a e.kind) was)) (invited-received (passed test es) x.phase e row invited is_row)
   invited-steps Received es e x y was invited (inr (none, same)) = rw (same, passed-same test es e (ap (λ a. sends_invite a e.kind) was)) invited
@@ -212,6 +219,7 @@ module _ (R : Receiving) (is : IsReceiving R) (p : Times) where
       invited-emits (passed test es) (passed test (es ++ e ∷ [])) e x y
       (λ is_invite. passed-more test es e (ap (λ a. sends_invite a e.kind) was ∙ ap (sends_invite Sent) is_invite))
       (λ other. passed-same test es e (ap (λ a. sends_invite a e.kind) was ∙ not-an-invite e.kind other)) invited emits
+  -- what is refused was not sent, and adds no moment
   invited-steps Failed es e x y was invited fails =
       rw (passed-same test es e (ap (λ a. sends_invite a e.kind) was)) (invited-fails (invite.ends_refused x.phase e.kind) (passed test es) e x y refl invited fails)
   -- a mark is no event, and a restart adds no moment
@@ -266,6 +274,7 @@ module _ (p : Times) where
   -- the row of a received message keeps what is known of the moments
   -- x is the phase, k the kind of the message e, and ms the moments at which the request was sent until then
   asked-received : (ms : List ℕ) (x : plain.PlainClientPhase) (k : Kind) (e : MachineEvent) (row : plain.PlainClientPhase × Change) → Asked ms x → plain.Receives p x k e row → Asked ms row.0
+  -- a provisional response leaves timer E as it is, and a final one ends the sending
   asked-received ms (plain.Trying w) (Response code) e row asked (inl h) = rw h.1 asked
   asked-received ms (plain.Trying w) (Response code) e row asked (inr h) = rw h.1 (asked-spaced ms (plain.Trying w) asked)
   asked-received ms (plain.Proceeding w) (Response code) e row asked h = rw h.1 (asked-spaced ms (plain.Proceeding w) asked)
@@ -292,6 +301,7 @@ module _ (p : Times) where
   -- a step keeps what is known of the moments, with that of the event where it is a request that is sent
   asked-steps : (a : Action) (es : List MachineEvent) (e : MachineEvent) (x y : Owing plain.PlainClientPhase) → e.action ≡ a → Asked (passed test-plain es) x.phase → Steps plain.plain_client p a e x y
       → Asked (passed test-plain (es ++ e ∷ [])) y.phase
+  -- what is received adds no moment
   asked-steps Received es e x y was asked (inl (row, is_row, to)) =
       rw (to, passed-same test-plain es e (ap (λ a. sends_request a e.kind) was)) (asked-received (passed test-plain es) x.phase e.kind e row asked is_row)
   asked-steps Received es e x y was asked (inr (none, same)) = rw (same, passed-same test-plain es e (ap (λ a. sends_request a e.kind) was)) asked
@@ -301,6 +311,7 @@ module _ (p : Times) where
       rw (to, passed-more test-plain es e (ap (λ a. sends_request a e.kind) was ∙ sent.0)) sent.1
   asked-steps Sent es e x y was asked (inr (inl (left, pays, to))) = absurd pays.holds.0
   asked-steps Sent es e x y was asked (inr (inr (stays, same))) = absurd stays
+  -- what is refused was not sent, and adds no moment
   asked-steps Failed es e x y was asked fails =
       rw (fails.1, passed-same test-plain es e (ap (λ a. sends_request a e.kind) was)) (asked-spaced (passed test-plain es) x.phase asked)
   -- a mark is no event, and a restart adds no moment

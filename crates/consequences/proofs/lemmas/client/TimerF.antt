@@ -2,6 +2,10 @@
 -- In the lemmas x is the phase or the state before a step and y the state after it, k is the kind of a message, row is where a row leads, m is a moment, and
 -- h is a moment or what is known of a row.
 -- es are the events so far; w is what a client that waits has: its request, when it was first sent, and when it is sent again.
+-- In cases of `Emits` a message that is sent has a row (`row`, `is_row`, `to`), or pays a debt (`left`, `pays`), or changes nothing (`stays`,
+-- `same`), which only the INVITE server by RFC 3261 alone lets it (Stays). In cases of `Steps` a message that is received has a row, or has none and
+-- changes nothing (`none`, `same`), and a restart leaves idle as it is (`idle`) and ends any other phase (`other`).
+-- `Unit {0}` holds anyway, by `tt`.
 use Rattle.std.proofs.Common.{◌≡◌, ◌≤◌, ◌<◌, ◌*◌, ◌⊎◌, inl, inr, ℕ, List, [], ◌∷◌, ◌++◌, All, refl, subst, arith}
 use Rattle.std.specs.List.{Any}
 use Rattle.sip_standard.specs.declared.action.Action.{Action}
@@ -39,6 +43,7 @@ module _ (p : Times) where
 
   -- the row of a received message keeps BeganBy
   began-received : (x : PlainClientPhase) (k : Kind) (e : MachineEvent) (row : PlainClientPhase × Change) → BeganBy e.moment x → Receives p x k e row → BeganBy e.moment row.0
+  -- a provisional response leaves the wait, and after a final one the client waits no more
   began-received (Trying w) (Response code) e row began (inl h) = rw h.1 began
   began-received (Trying w) (Response code) e row began (inr h) = rw h.1 tt
   began-received (Proceeding w) (Response code) e row began h = rw h.1 tt
@@ -58,6 +63,7 @@ module _ (p : Times) where
 
   -- the row of a request that is sent leads to a client that waits
   sent-waits : (x : PlainClientPhase) (k : Kind) (e : MachineEvent) (row : PlainClientPhase × Change) → BeganBy e.moment x → Sends p x k e row → WaitsBy e.moment row.0
+  -- the request begins the wait at its moment, and a repeat leaves when it began
   sent-waits Idle (Request method) e row began h = rw h (omega arith)
   sent-waits (Trying w) (Request method) e row began h = rw h.1 began
   sent-waits (Proceeding w) (Request method) e row began h = rw h.1 began
@@ -115,6 +121,7 @@ module _ (p : Times) where
 
     -- the row of a sent message leaves a client that waits waiting
     sent-still : (x : PlainClientPhase) (k : Kind) (e : MachineEvent) (row : PlainClientPhase × Change) → WaitsBy moment x → Sends p x k e row → WaitsBy moment row.0
+    -- a repeat of the request leaves the wait; a client sends no response
     sent-still (Trying w) (Request method) e row waits h = rw h.1 waits
     sent-still (Proceeding w) (Request method) e row waits h = rw h.1 waits
     sent-still (Trying w) (Response code) e row waits h = absurd h

@@ -2,6 +2,10 @@
 -- In the lemmas x is the phase or the state before a step and y the state after it, k is the kind of a message, row is where a row leads, m is a moment, and
 -- h is a moment or what is known of a row.
 -- es are the events so far; w is what a client that calls has: its request, when it was first sent, and when it is sent again.
+-- In cases of `Emits` a message that is sent has a row (`row`, `is_row`, `to`), or pays a debt (`left`, `pays`), or changes nothing (`stays`,
+-- `same`), which only the INVITE server by RFC 3261 alone lets it (Stays). In cases of `Steps` a message that is received has a row, or has none and
+-- changes nothing (`none`, `same`), and a restart leaves idle as it is (`idle`) and ends any other phase (`other`).
+-- `Unit {0}` holds anyway, by `tt`.
 use Rattle.std.proofs.Common.{◌≡◌, ◌≤◌, ◌<◌, ◌*◌, ◌⊎◌, inl, inr, ℕ, Bool, true, false, Some, None, List, [], ◌∷◌, ◌++◌, All, refl, sym, ap, subst, ◌∙◌, arith}
 use Rattle.std.specs.List.{Any}
 use Rattle.std.proofs.lemmas.List.{append-nil}
@@ -57,6 +61,7 @@ module _ (R : Receiving) (is : IsReceiving R) (p : Times) where
 
   -- what is sent, unless it is an INVITE, leads from idle or ended to idle or ended
   unasked-emits : (e : MachineEvent) (x : InviteClientPhase) (owes : List Owed) (y : Owing InviteClientPhase) → IsUnasked x → ¬ (e.kind ≡ Request Invite) → Emits f p e (record { phase = x; owes = owes }) y → IsUnasked y.phase
+  -- a debt that is paid leaves the phase; in idle what is no INVITE stays there, and in ended a CANCEL does
   unasked-emits e x owes y from never (inr (inl (left, pays, to))) = rw to from
   unasked-emits e x owes y from never (inr (inr (stays, same))) = absurd stays
   unasked-emits e Idle owes y from never (inl (row, is_row, to)) = by (sends-idle p e.kind e row is_row)
@@ -82,6 +87,7 @@ module _ (R : Receiving) (is : IsReceiving R) (p : Times) where
   -- a step, unless it sends an INVITE, leads from idle or ended to idle or ended
   unasked-steps : (a : Action) (e : MachineEvent) (x : InviteClientPhase) (owes : List Owed) (y : Owing InviteClientPhase) → e.action ≡ a → IsUnasked x → ¬ (SendsRequest Invite e)
       → Steps f p a e (record { phase = x; owes = owes }) y → IsUnasked y.phase
+  -- in idle and in ended no received message has a row, so that the phase stays
   unasked-steps Received e Idle owes y was from never (inl (row, is_row, to)) = absurd (is.idle p e.kind e row is_row)
   unasked-steps Received e Ended owes y was from never (inl (row, is_row, to)) = absurd (is.ended p e.kind e row is_row)
   unasked-steps Received e x owes y was from never (inl row) = absurd from
@@ -117,10 +123,12 @@ module _ (R : Receiving) (is : IsReceiving R) (p : Times) where
 
       -- after the INVITE the client calls with it: an INVITE is sent by a row, since nothing is owed before it
       by : (phase : InviteClientPhase) (owes : List Owed) → IsUnasked phase → Emits f p invite (record { phase = phase; owes = owes }) y → CallsFrom invite y.phase
+      -- in idle the INVITE has its row; the ended phase sends a CANCEL alone, and from any other phase it does not come
       by Idle owes from (inl (row, is_row, to)) = rw to (by_row row owes (sends-idle p invite.kind invite row is_row))
       by Ended owes from (inl (row, is_row, to)) = absurd (no-cancel (sym sent.1 ∙ (sends-ended p invite.kind invite row is_row).0))
       by phase owes from (inr (inl (left, pays, to))) = absurd (no-ack (sym sent.1 ∙ (pays-nothing phase invite.kind invite pays.first.message pays.holds.0).4))
         where
+          -- an INVITE is no ACK, which alone pays a debt
           no-ack : ¬ (Request Invite ≡ Request Ack)
           no-ack is = cc
       by phase owes from (inr (inr (stays, same))) = absurd stays
@@ -165,6 +173,7 @@ module _ (R : Receiving) (is : IsReceiving R) (p : Times) where
     -- what is sent in calling is the INVITE, and the phase stays calling
     calls-emits : (es : List MachineEvent) (e : MachineEvent) (x : InviteClientPhase) (owes : List Owed) (y : Owing InviteClientPhase) → CallsFrom invite x
         → Emits f p e (record { phase = x; owes = owes }) y → (e.kind ≡ Request Invite) × CallsFrom invite y.phase
+    -- a debt is paid in completed alone, and so not in calling, where the INVITE is sent again by its row
     calls-emits es e x owes y calls (inr (inl (left, pays, to))) =
         let pay = pays-nothing x e.kind e pays.first.message pays.holds.0 in not-calling x pay.0 pay.1 pay.2 invite pay.3 calls
     calls-emits es e x owes y calls (inr (inr (stays, same))) = absurd stays
@@ -209,6 +218,7 @@ module _ (R : Receiving) (is : IsReceiving R) (p : Times) where
         SendsRequest Cancel e → StandsAfter f p (before ++ invite ∷ after) e y → Over after e.moment
     cancel-waits before after e y none sent cancels (x, stands, take) = by-cut (cut f p (quiet Idle) 0 before invite after e.moment x (stands-run f p (before ++ invite ∷ after) e.moment x stands))
       where
+        -- a CANCEL is no INVITE
         no-invite : ¬ (Request Cancel ≡ Request Invite)
         no-invite is = cc
 
@@ -231,6 +241,7 @@ module _ (R : Receiving) (is : IsReceiving R) (p : Times) where
   -- what began by a moment began by every later one
   -- x is the phase, and h and m are the two moments
   began-later : (x : InviteClientPhase) (h m : ℕ) → h ≤ m → BeganBy h x → BeganBy m x
+  -- only of calling BeganBy says something: that it began by the moment
   began-later (Calling w) h m low began = omega (arith, low, began)
   began-later Idle h m low began = tt
   began-later Ended h m low began = tt
@@ -246,6 +257,7 @@ module _ (R : Receiving) (is : IsReceiving R) (p : Times) where
 
   -- the row of a response leads to a phase of which BeganBy holds
   answers-began : (reliable : Bool) (request : List ℕ) (k : Kind) (e : MachineEvent) (row : Row) → Answers reliable request k e row → BeganBy e.moment row.0
+  -- a provisional response leads to proceeding, a success to a phase that is done, and any other final response to completed
   answers-began reliable request k e row (code, kind, inl h) = rw h.1 tt
   answers-began reliable request k e row (code, kind, inr (inl h)) = done-began row.0 e.moment h.1
   answers-began reliable request k e row (code, kind, inr (inr h)) = rw h.1 tt
@@ -269,6 +281,7 @@ module _ (R : Receiving) (is : IsReceiving R) (p : Times) where
           ⊎ (¬ (k ≡ Request Invite) × (row ≡ (Idle, keeps))) → BeganBy e.moment row.0
       by (inl leads) = rw leads.1 (omega arith)
       by (inr leads) = rw leads.1 tt
+  -- in calling the INVITE is sent again, and the moment of the first one stays
   sent-began (Calling w) k e row began h = rw (sends-calling p w k e row h).2 began
   sent-began (Proceeding reliable request cancel) k e row began h = by (sends-proceeding p reliable request cancel k e row h).1
     where
@@ -276,6 +289,7 @@ module _ (R : Receiving) (is : IsReceiving R) (p : Times) where
       by : (row ≡ (Proceeding reliable request (Some e.moment), keeps)) ⊎ (row ≡ (Proceeding reliable request cancel, keeps)) → BeganBy e.moment row.0
       by (inl leads) = rw leads tt
       by (inr leads) = rw leads tt
+  -- accepted, completed and ended stay as they are
   sent-began (Accepted set) k e row began h = rw (sends-accepted p set k e row h).1 tt
   sent-began (Completed reliable request set) k e row began h = rw (sends-completed p reliable request set k e row h).1 tt
   sent-began Ended k e row began h = rw (sends-ended p k e row h).1 tt
@@ -321,6 +335,7 @@ module _ (R : Receiving) (is : IsReceiving R) (p : Times) where
       → Emits f p e (record { phase = x; owes = owes }) y → CallsBy e.moment y.phase
   invite-calls e x owes y invite began (inr (inl (left, pays, to))) = absurd (no-ack (sym invite ∙ (pays-nothing x e.kind e pays.first.message pays.holds.0).4))
     where
+      -- an INVITE is no ACK, which alone pays a debt
       no-ack : ¬ (Request Invite ≡ Request Ack)
       no-ack is = cc
   invite-calls e x owes y invite began (inr (inr (stays, same))) = absurd stays

@@ -51,7 +51,7 @@ pub contains-filter : {X : Type 0} (p : X → Bool) (xs : List X) (x : X) → p 
 contains-filter p [] x passes c = absurd (Contains-none x c)
 contains-filter {X} p (y ∷ ys) x passes c = by (p y) refl (contains-filter p ys x passes) (contains-cases [] ys y x c)
   where
-    -- x is y, or among the elements that pass, whether or not y passes the test
+    -- x is y, or among the elements that pass, whether or not y passes the test, which b says
     by : (b : Bool) → p y ≡ b → (Contains ys x → Contains (filter p ys) x) → Contains ys x ⊎ (y ≡ x) → Contains (if b then y ∷ filter p ys else filter p ys) x
     by true is among (inl later) = Contains-there y (filter p ys) x (among later)
     by true is among (inr here) = subst (λ z. Contains (z ∷ filter p ys) x) (sym here) (contains-here [] (filter p ys) x)

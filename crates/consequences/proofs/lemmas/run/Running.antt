@@ -14,6 +14,7 @@ use Rattle.sip_standard.specs.Stands.{Stands, begins, waits, ends, takes}
 
 -- from the state x at h, waits and ends lead to a state at a moment, without an event
 pub data Rests {X : Type 0} (f : Figure X) (p : Times) (x : Owing X) (h : ℕ) : ℕ → Owing X → Type 0 where
+  -- nothing has happened yet; or the state y waits from k until m; or the state y ends at m
   rests : Rests f p x h h x
   rest_waits : (k m : ℕ) (y : Owing X) → Rests f p x h k y → k ≤ m → Lasts f p y m → Rests f p x h m y
   rest_ends : (m : ℕ) (y : Owing X) → Rests f p x h m y → MayEnd f p y m → Rests f p x h m (quiet f.ended)
@@ -25,6 +26,7 @@ Runs {X} f p x h (e ∷ es) m y = (a : Owing X) × (b : Owing X) × Rests f p x 
 
 -- P, a fact of the events so far, the moment and the state, is kept by waits, ends and events
 pub record IsKept {X : Type 0} (f : Figure X) (p : Times) (P : List MachineEvent → ℕ → Owing X → Type 0) : Type 0 where
+  -- P holds on while a state lasts until m; after an end of the state x at h; and after the event e, which leads from x to y
   pub as_it_waits : (es : List MachineEvent) (h m : ℕ) (x : Owing X) → P es h x → h ≤ m → Lasts f p x m → P es m x
   pub as_it_ends : (es : List MachineEvent) (h : ℕ) (x : Owing X) → P es h x → MayEnd f p x h → P es h (quiet f.ended)
   pub as_it_takes : (es : List MachineEvent) (e : MachineEvent) (x y : Owing X) → P es e.moment x → Takes f p x e y → P (es ++ e ∷ []) e.moment y
@@ -56,6 +58,7 @@ module _ {X : Type 0} (f : Figure X) (p : Times) where
 
   -- where a run stands, a run leads from the idle state at moment 0
   pub stands-run : (es : List MachineEvent) (m : ℕ) (y : Owing X) → Stands f p es m y → Runs f p (quiet f.idle) 0 es m y
+  -- the run begins, or waits, or ends, or takes an event: so the run from idle does it last
   stands-run _ _ _ begins = rests
   stands-run _ _ _ (waits es h m x stands low lasts) = run-waits (quiet f.idle) 0 es h m x (stands-run es h x stands) low lasts
   stands-run _ _ _ (ends es h x stands may) = run-ends (quiet f.idle) 0 es h x (stands-run es h x stands) may
@@ -72,6 +75,7 @@ module _ {X : Type 0} (f : Figure X) (p : Times) where
   -- a run over events can be cut at each of them
   pub cut : (x : Owing X) (h : ℕ) (before : List MachineEvent) (e : MachineEvent) (after : List MachineEvent) (m : ℕ) (y : Owing X) →
       Runs f p x h (before ++ e ∷ after) m y → Cut x h before e after m y
+  -- the event is the first, or comes after the first, g, and then the run from there is cut
   cut x h [] e after m y (a, b, rest, take, run) = record { from = a; to = b; leads = rest; step = take; goes = run }
   cut x h (g ∷ before) e after m y (a, b, rest, take, run) =
       let later = cut b g.moment before e after m y run in
@@ -81,6 +85,7 @@ module _ {X : Type 0} (f : Figure X) (p : Times) where
   module _ (P : List MachineEvent → ℕ → Owing X → Type 0) (kept : IsKept f p P) where
     -- a run keeps the fact while it waits and ends
     rest-keeps : (es : List MachineEvent) (x : Owing X) (h m : ℕ) (y : Owing X) → P es h x → Rests f p x h m y → P es m y
+    -- nothing has happened yet, or a wait comes last, or an end
     rest-keeps es x h _ _ holds rests = holds
     rest-keeps es x h _ _ holds (rest_waits k m y rest low lasts) = kept.as_it_waits es k m y (rest-keeps es x h k y holds rest) low lasts
     rest-keeps es x h _ _ holds (rest_ends m y rest may) = kept.as_it_ends es m y (rest-keeps es x h m y holds rest) may

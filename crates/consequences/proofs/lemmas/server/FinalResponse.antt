@@ -1,6 +1,9 @@
 -- An INVITE server before its first final response, and after it.
 -- In the lemmas x is the phase or the state before a step and y the state after it, k is the kind of a message, row is where a row leads, m is a moment, and
 -- h is a moment or what is known of a row. Of events es are those before e.
+-- In cases of `Emits` a message that is sent has a row (`row`, `is_row`, `to`), or pays a debt (`left`, `pays`), or changes nothing (`stays`,
+-- `same`), which only the INVITE server by RFC 3261 alone lets it (Stays). In cases of `Steps` a message that is received has a row, or has none and
+-- changes nothing (`none`, `same`), and a restart leaves idle as it is (`idle`) and ends any other phase (`other`).
 use Rattle.std.proofs.Common.{◌≡◌, ◌≤◌, ◌<◌, ◌*◌, ◌⊎◌, inl, inr, ℕ, Bool, true, false, Option, Some, IsSomeAnd, List, [], ◌∷◌, ◌++◌, All, refl, sym, ap, subst, ◌∙◌, arith}
 use Rattle.std.specs.List.{Any}
 use Rattle.std.proofs.lemmas.List.Elements.{All-nil, All-filter, All-push, All-weaker, All-map}
@@ -94,6 +97,7 @@ module _ {X : Type 0} (f : Figure X) (p : Times) (held : InviteServerPhase → X
     -- the row of a message that is no final response keeps Opens
     opens-sent : (x : InviteServerPhase) (k : Kind) (row : Row) (owes : List Owed) → IsOut e → e.kind ≡ k → ¬ (SendsResponse IsFinal e) → Opens es e.moment x owes → SentRow p x k e row
         → Opens Now e.moment row.0 (changed p e.moment row.1 owes)
+    -- a provisional response is said now, and becomes the last; a final one is ruled out, and later phases are none in which Opens holds
     opens-sent _ _ _ owes out kind never opens (provisional _ reliable set last code is_provisional) =
         (any-last (λ g. SendsResponse IsProvisional g × (g.text ≡ e.text)) es e ((out, (code, kind, is_provisional)), refl), are-said-later es (e ∷ []) e.moment e.moment owes (omega arith) opens.1)
     opens-sent _ _ _ owes out kind never opens (success _ reliable set last code is_success) = absurd (never (out, (code, kind, (is_success.0, omega (arith, is_success.1)))))
@@ -127,6 +131,7 @@ module _ {X : Type 0} (f : Figure X) (p : Times) (held : InviteServerPhase → X
         → Fails ends f p e (record { phase = held x; owes = owes }) y → HoldsIn (Opens Now e.moment) y
     opens-fails true x owes y ends out never opens fails = absurd (true-false (sym ends ∙ is.undaunted (held x) e.kind))
       where
+        -- true is not false: no refused send ends the server
         true-false : ¬ (true ≡ false)
         true-false same = cc
     opens-fails false x owes y ends out never opens emits = opens-emits x owes y out never opens emits
@@ -247,6 +252,7 @@ module _ {X : Type 0} (f : Figure X) (p : Times) (held : InviteServerPhase → X
       -- the row of a sent message sends what may be sent after the final response, and keeps Closes
       closes-sent : (x : InviteServerPhase) (k : Kind) (row : Row) (owes : List Owed) → e.kind ≡ k → Closes es e.moment x owes → SentRow p x k e row
           → IsAllowed e × Closes (es ++ e ∷ []) e.moment row.0 (changed p e.moment row.1 owes)
+      -- proceeding is no phase after the final response; accepted sends a 2xx again, and completed its final response
       closes-sent _ _ _ owes kind closes (provisional _ reliable set last code is_provisional) = absurd closes
       closes-sent _ _ _ owes kind closes (success _ reliable set last code is_success) = absurd closes
       closes-sent _ _ _ owes kind closes (unsuccessful _ reliable set last code is_unsuccessful) = absurd closes
@@ -280,7 +286,7 @@ module _ {X : Type 0} (f : Figure X) (p : Times) (held : InviteServerPhase → X
         where
           -- the debt that is paid is the message that was sent
           bytes : pays.first.message ≡ e.text
-          -- without a row a debt is paid, and all debts are allowed
+          -- the server pays only the debt that has the bytes of what it sends
           bytes = is.paid x e.kind e pays.first.message pays.holds.0
 
           -- the debt that is paid is the final response, or a provisional one that was owed before it
@@ -294,6 +300,7 @@ module _ {X : Type 0} (f : Figure X) (p : Times) (held : InviteServerPhase → X
           → Fails ends f p e (record { phase = held x; owes = owes }) y → HoldsIn (Closes (es ++ e ∷ []) e.moment) y
       closes-fails true x owes y ends closes fails = absurd (true-false (sym ends ∙ is.undaunted (held x) e.kind))
         where
+          -- true is not false: no refused send ends the server
           true-false : ¬ (true ≡ false)
           true-false same = cc
       closes-fails false x owes y ends closes emits = (closes-emits x owes y closes emits).1
@@ -330,6 +337,7 @@ module _ {X : Type 0} (f : Figure X) (p : Times) (held : InviteServerPhase → X
 
     -- where the phase may end, the transaction may be over
     closes-ends : (es : List MachineEvent) (h : ℕ) (x : InviteServerPhase) (owes : List Owed) → Closes es h x owes → IsSomeAnd (corrected.timer_window p x) (λ window. window.0 ≤ h) → Past es h
+    -- accepted ends by timer L, completed by timer H, both set with the final response, and confirmed after an ACK
     closes-ends es h Idle owes closes opening = closes.1
     closes-ends es h (Proceeding reliable set last) owes closes opening = absurd closes
     closes-ends es h (Accepted set) owes closes opening = inl (subst (λ m. open_at p m (64 * p.t1) ≤ h) closes.1 opening)
@@ -404,6 +412,7 @@ module _ {X : Type 0} (f : Figure X) (p : Times) (held : InviteServerPhase → X
         -- the row of the final response leads to a phase of which Closes holds
         final-sent : (x : InviteServerPhase) (k : Kind) (row : Row) (owes : List Owed) → final.kind ≡ k → Opens before final.moment x owes → SentRow p x k final row
             → Closes [] final.moment row.0 (changed p final.moment row.1 owes)
+        -- the response is final, so it has one of the two rows of proceeding for such, which leads to accepted or to completed
         final-sent _ _ _ owes kind opens (provisional _ reliable set last code is_provisional) = absurd (not-provisional before final is_final one_kind code kind is_provisional)
         final-sent _ _ _ owes kind opens (success _ reliable set last code is_success) = ((code, kind, is_success), refl, old-softened owes opens.1)
         final-sent _ _ _ owes kind opens (unsuccessful _ reliable set last code is_unsuccessful) = ((code, kind, is_unsuccessful), refl, refl, old-softened owes opens.1)
@@ -423,6 +432,7 @@ module _ {X : Type 0} (f : Figure X) (p : Times) (held : InviteServerPhase → X
             → Fails ends f p final (record { phase = held x; owes = owes }) y → HoldsIn (Closes [] final.moment) y
         final-fails true x owes y ends opens fails = absurd (true-false (sym ends ∙ is.undaunted (held x) final.kind))
           where
+            -- true is not false: no refused send ends the server
             true-false : ¬ (true ≡ false)
             true-false same = cc
         final-fails false x owes y ends opens emits = final-emits x owes y opens emits

@@ -1,6 +1,9 @@
 -- An INVITE server that has just got its INVITE answers it within 200 ms.
 -- In the lemmas x is the phase or the state before a step and y the state after it, k is the kind of a message, row is where a row leads, m is a moment, and
 -- h is a moment or what is known of a row.
+-- In cases of `Emits` a message that is sent has a row (`row`, `is_row`, `to`), or pays a debt (`left`, `pays`), or changes nothing (`stays`,
+-- `same`), which only the INVITE server by RFC 3261 alone lets it (Stays). In cases of `Steps` a message that is received has a row, or has none and
+-- changes nothing (`none`, `same`), and a restart leaves idle as it is (`idle`) and ends any other phase (`other`).
 use Rattle.std.proofs.Common.{◌≡◌, ◌≤◌, ◌<◌, ◌⊎◌, inl, inr, ℕ, Bool, true, false, Option, None, IsSomeAnd, List, [], ◌∷◌, ◌++◌, All, refl, sym, ap, subst, ◌∙◌, arith}
 use Rattle.std.specs.List.{Any}
 use Rattle.std.proofs.lemmas.List.Elements.{All-head}
@@ -38,6 +41,7 @@ module _ {X : Type 0} (f : Figure X) (p : Times) (held : InviteServerPhase → X
 
   -- while the server has sent nothing, no received message has a row
   no-row : (reliable : Bool) (set : ℕ) (x : InviteServerPhase) (k : Kind) (e : MachineEvent) (row : Row) → x ≡ Proceeding reliable set None → ¬ (ReceivedRow x k e row)
+  -- each row is of another phase: idle, proceeding with a response before, or completed
   no-row reliable set x k e row here (comes _) = cc
   no-row reliable set x k e row here (again _ r s last must) = cc
   no-row reliable set x k e row here (again_after _ r final s repeat interval) = cc
@@ -45,6 +49,7 @@ module _ {X : Type 0} (f : Figure X) (p : Times) (held : InviteServerPhase → X
 
   -- what a row sends while the server has sent nothing is a response
   is-response : (x : InviteServerPhase) (k : Kind) (e : MachineEvent) (row : Row) → SentRow p x k e row → (reliable : Bool) (set : ℕ) → x ≡ Proceeding reliable set None → (code : ℕ) × (k ≡ Response code) × IsAnyCode code
+  -- in proceeding a row sends a provisional response, a 2xx, or one of 300 to 699
   is-response _ _ _ _ (provisional _ r s last code is_provisional) reliable set here = (code, refl, (is_provisional.0, omega (arith, is_provisional.1)))
   is-response _ _ _ _ (success _ r s last code is_success) reliable set here = (code, refl, (omega (arith, is_success.0), omega (arith, is_success.1)))
   is-response _ _ _ _ (unsuccessful _ r s last code is_unsuccessful) reliable set here = (code, refl, (omega (arith, is_unsuccessful.0), is_unsuccessful.1))

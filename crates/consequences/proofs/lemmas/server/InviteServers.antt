@@ -44,6 +44,7 @@ pub is-server-6026 : (p : Times) → IsServer corrected.invite_server p (λ x. x
 is-server-6026 p = record {
   idle = refl;
   ended = refl;
+  -- its rows are themselves those of RFC 6026
   received = λ x k e y h. (y, h, refl);
   sent = λ x k e y h. inl (y, h, refl);
   -- what pays a debt has its bytes, and a refusal counts as sent
@@ -79,6 +80,7 @@ paid-3261 x (Request method) e message h = absurd h
 unmoved-3261 : (x : InviteServerPhase) (k : Kind) → ¬ (without.Stays (first_in x) k)
 unmoved-3261 x (Response code) h = never h.0
   where
+    -- false is not true: the phase does not remember that the INVITE came again
     never : ¬ (false ≡ true)
     never is = cc
 unmoved-3261 x (Request method) h = absurd h
@@ -88,6 +90,7 @@ pub is-server-3261 : (p : Times) → IsServer without.invite_server_3261 p first
 is-server-3261 p = record {
   idle = refl;
   ended = refl;
+  -- a row of a received message is one of RFC 6026 by the definition (Within)
   received = λ x k e y h. h;
   sent = sent-3261 p;
   -- what pays a debt has its bytes, and a refusal counts as sent
@@ -103,11 +106,15 @@ is-server-3261 p = record {
 
 -- the rows of a received request: an INVITE comes to an idle server, or comes again, or an ACK comes
 pub data ReceivedRow : InviteServerPhase → Kind → MachineEvent → Row → Type 0 where
+  -- the INVITE makes an idle server proceed
   comes : (e : MachineEvent) → ReceivedRow Idle (Request Invite) e (Proceeding e.reliable e.moment None, keeps)
+  -- it comes again in proceeding, and the last response is owed once more, as one that must be sent or may be (`must`)
   again : (e : MachineEvent) (reliable : Bool) (set : ℕ) (last : List ℕ) (must : Bool) →
       ReceivedRow (Proceeding reliable set (Some last)) (Request Invite) e (Proceeding reliable set (Some last), gains must last)
+  -- it comes again in completed, and the final response may be sent once more
   again_after : (e : MachineEvent) (reliable : Bool) (final : List ℕ) (set repeat interval : ℕ) →
       ReceivedRow (Completed reliable final set repeat interval) (Request Invite) e (Completed reliable final set repeat interval, gains false final)
+  -- the ACK makes a completed server confirmed
   acknowledged : (e : MachineEvent) (reliable : Bool) (final : List ℕ) (set repeat interval : ℕ) →
       ReceivedRow (Completed reliable final set repeat interval) (Request Ack) e (Confirmed reliable e.moment, keeps)
 

@@ -1,5 +1,8 @@
 -- An INVITE server by RFC 3261 alone after a 2xx: it sends nothing but 2xx until an INVITE comes.
 -- In the lemmas x is the phase or the state before a step and y the state after it, and k is the kind of a message.
+-- In cases of `Emits` a message that is sent has a row (`row`, `is_row`, `to`), or pays a debt (`left`, `pays`), or changes nothing (`stays`,
+-- `same`), which only the INVITE server by RFC 3261 alone lets it (Stays). In cases of `Steps` a message that is received has a row, or has none and
+-- changes nothing (`none`, `same`), and a restart leaves idle as it is (`idle`) and ends any other phase (`other`).
 use Rattle.std.proofs.Common.{◌≡◌, ◌⊎◌, inl, inr, ℕ, Bool, true, false, List, [], ◌∷◌, ◌++◌, All, refl, sym, subst, ◌∙◌, arith}
 use Rattle.sip_standard.specs.declared.action.Action.{Action}
 use Rattle.sip_standard.specs.declared.action.Action.TheVariants.{Sent, Received, Failed, Mark, Restart}
@@ -101,6 +104,7 @@ module _ (p : Times) where
     -- the row of the 2xx leads to `Passed`, and drops the debts
     success-row : (x : InviteServerPhase) (k : Kind) (row : InviteServer3261Phase × Change) (owes : List Owed) → Opens f p first_in (is-server-3261 p) before final.moment x owes → IsResponse IsSuccess final → final.kind ≡ k
         → Sends p (first_in x) k final row → row ≡ (Passed, drops)
+    -- in proceeding a 2xx has the row that leads to `Passed`, and not that of another response; no other phase before the final response sends one
     success-row (Proceeding reliable set last) (Response code) row owes opens (other, kind, success) here (inl h) = h.1
     success-row (Proceeding reliable set last) (Response code) row owes opens (other, kind, success) here (inr h) = absurd (h.0 (subst IsSuccess (codes-are-one other code (sym kind ∙ here)) success))
     success-row (Proceeding reliable set last) (Request method) row owes opens success here h = absurd h

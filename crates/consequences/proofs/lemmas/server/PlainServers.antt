@@ -1,6 +1,9 @@
 -- The non-INVITE server answers a request that comes again after its final response by that response.
 -- In the lemmas x is the phase or the state before a step and y the state after it, k is the kind of a message, row is where a row leads, m is a moment, and
 -- h is a moment or what is known of a row.
+-- In cases of `Emits` a message that is sent has a row (`row`, `is_row`, `to`), or pays a debt (`left`, `pays`), or changes nothing (`stays`,
+-- `same`), which only the INVITE server by RFC 3261 alone lets it (Stays). In cases of `Steps` a message that is received has a row, or has none and
+-- changes nothing (`none`, `same`), and a restart leaves idle as it is (`idle`) and ends any other phase (`other`).
 use Rattle.std.proofs.Common.{◌≡◌, ◌≤◌, ◌<◌, ◌*◌, ◌⊎◌, inl, inr, ℕ, Bool, true, false, List, [], ◌∷◌, ◌++◌, All, Contains, refl, sym, subst, arith}
 use Rattle.std.specs.List.{Any}
 use Rattle.std.proofs.lemmas.List.Elements.{All-nil, All-filter, All-push, All-weaker, Contains-push}
@@ -60,6 +63,7 @@ module _ (p : Times) where
 
   -- Opens stays true after more events
   opens-later : (es more : List MachineEvent) (x : PlainServerPhase) (owes : List Owed) → Opens es x owes → Opens (es ++ more) x owes
+  -- what was said before is said after more events too
   opens-later es more Idle owes opens = opens
   opens-later es more (Trying reliable) owes opens = (opens.0, are-said-later es more owes opens.1)
   opens-later es more (Proceeding reliable last) owes opens = (opens.0, said-later es more last opens.1, are-said-later es more owes opens.2)
@@ -176,6 +180,7 @@ module _ (p : Times) where
 
     -- the row of the final response leads to completed, by that response
     final-sent : (x : PlainServerPhase) (k : Kind) (row : Row) (owes : List Owed) → final.kind ≡ k → Opens before x owes → Sends p x k final row → IsCompleted row.0
+    -- the response is final, so its row is not that of a provisional one
     final-sent (Trying reliable) (Response code) row owes kind opens (inl h) = absurd (not-provisional before final is_final one_kind code kind h.0)
     final-sent (Trying reliable) (Response code) row owes kind opens (inr h) = rw h.1 (opens.0, refl, refl)
     final-sent (Proceeding reliable last) (Response code) row owes kind opens (inl h) = absurd (not-provisional before final is_final one_kind code kind h.0)
@@ -206,6 +211,7 @@ module _ (p : Times) where
 
     -- the row of a received message leaves the server completed by the final response
     completed-received : (x : PlainServerPhase) (k : Kind) (e : MachineEvent) (row : Row) → IsCompleted x → Receives p x k e row → IsCompleted row.0
+    -- a request leaves the server completed, and it receives no response
     completed-received (Completed reliable message set) (Request method) e row done h = rw h done
     completed-received (Completed reliable message set) (Response code) e row done h = absurd h
     completed-received x k e row done h = absurd done
@@ -307,6 +313,7 @@ module _ (p : Times) where
 
       -- the row of a received message leaves the final response owed
       owes-received : (x : PlainServerPhase) (owes : List Owed) (k : Kind) (e : MachineEvent) (row : Row) → IsCompleted x → Contains owes debt → Receives p x k e row → Contains (changed p e.moment row.1 owes) debt
+      -- a request makes one more debt, after which the others are still owed
       owes-received (Completed reliable message set) owes (Request method) e row done owed h = rw h (more-owed debt refl owes (record { message = message; deadline = close_at p e.moment 0; must = true } ∷ []) owed)
       owes-received (Completed reliable message set) owes (Response code) e row done owed h = absurd h
       owes-received x owes k e row done owed h = absurd done

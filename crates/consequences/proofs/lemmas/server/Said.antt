@@ -1,4 +1,5 @@
 -- What a server has sent as provisional responses, and what it owes.
+-- `Unit {0}` holds anyway, by `tt`.
 use Rattle.std.proofs.Common.{◌≡◌, ◌<◌, ◌⊎◌, ℕ, Option, Some, None, List, ◌∷◌, ◌++◌, length, All, sym, subst, ◌∙◌, arith}
 use Rattle.std.specs.List.{Any}
 use Rattle.std.proofs.lemmas.List.Elements.{All-head, All-contains}

@@ -30,6 +30,7 @@ IsKnown e = (e.keys ≡ []) ⊎ HasItsKind e.event
 
 -- IsKnown holds of the observation of an entry with a message
 observed-known : (direction : Direction) (item : Item) (e : Observation KeyParts) → 1 ≤ length item.text → ObservesMessage direction item e → IsKnown e
+-- a message with a fault, or without the cookie, concerns no key; any other has the kind that its bytes say
 observed-known direction item e long (has_fault fault says is) = inl (rw is refl)
 observed-known direction item e long (has_no_cookie s says lacks is) = inl (rw is refl)
 observed-known direction item e long (is_heard s keys says has concerns is) = inr (rw is (inr (s, says, refl, long)))
@@ -37,6 +38,7 @@ observed-known direction item e long (is_heard s keys says has concerns is) = in
 -- IsKnown holds of the observation of each entry of a log
 seen-known : (action : Action) (front : List (Observation KeyParts)) (item : Item) (e : Observation KeyParts) → (HasMessage action → 1 ≤ length item.text)
     → MatchOption (direction_of action) (e ≡ silent_observation action item.moment (keys_in front)) (λ direction. ObservesMessage direction item e) → IsKnown e
+-- an entry with a message is as above; a mark concerns no key, and a restart has no bytes
 seen-known Sent front item e long sees = observed-known _ item e (long (λ is. cc, λ is. cc)) sees
 seen-known Received front item e long sees = observed-known _ item e (long (λ is. cc, λ is. cc)) sees
 seen-known Failed front item e long sees = observed-known _ item e (long (λ is. cc, λ is. cc)) sees
@@ -48,6 +50,7 @@ all-known : (format : Format) (last : ℕ) (front : List (Observation KeyParts))
 all-known format last front [] [] order seen = All-nil IsKnown
 all-known format last front (item ∷ items) (e ∷ es) order seen =
     All-cons IsKnown e es (seen-known item.action front item e (λ has. (order.1.1.1 has).0) seen.0) (all-known format item.moment (front ++ e ∷ []) items es order.2 seen.1)
+-- lists of different lengths are no entries and what is observed of them
 all-known format last front [] (e ∷ es) order seen = absurd seen
 all-known format last front (item ∷ items) [] order seen = absurd seen
 
@@ -55,6 +58,7 @@ all-known format last front (item ∷ items) [] order seen = absurd seen
 no-keys : (key : KeyParts) (keys : List KeyParts) → keys ≡ [] → ¬ (list_any (same_key key) keys ≡ true)
 no-keys key keys none some = by (subst (λ ks. list_any (same_key key) ks ≡ true) none some)
   where
+    -- false is not true
     by : ¬ (false ≡ true)
     by same = cc
 
@@ -68,13 +72,14 @@ events-known key (e ∷ es) known = by (list_any (same_key key) e.keys) refl (ev
     its concerns (inl none) = absurd (no-keys key e.keys none concerns)
     its concerns (inr has) = has
 
-    -- each event of the key has its kind, whether or not the first entry concerns the key
+    -- each event of the key has its kind, whether or not the first entry concerns the key, which b says
     by : (b : Bool) → list_any (same_key key) e.keys ≡ b → All HasItsKind (events_for key es) → All HasItsKind (map (λ f. f.event) (if b then e ∷ filter (λ f. list_any (same_key key) f.keys) es else filter (λ f. list_any (same_key key) f.keys) es))
     by true is later = All-cons HasItsKind e.event (events_for key es) (its is (All-head IsKnown e es known)) later
     by false is later = later
 
 -- events that have the kind that their bytes say are of one kind where they have the same bytes
 two-kinds : (a b : MachineEvent) → HasItsKind a → HasItsKind b → a.text ≡ b.text → a.kind ≡ b.kind
+-- neither has bytes, or one has none while the other has some, which are not equal, or both have the same bytes and so say the same
 two-kinds a b (inl silent) (inl quiet) same = silent.1 ∙ sym quiet.1
 two-kinds a b (inl silent) (inr (s, says, kind, long)) same = absurd (omega (arith, long, ap length (sym same ∙ silent.0)))
 two-kinds a b (inr (s, says, kind, long)) (inl quiet) same = absurd (omega (arith, long, ap length (same ∙ quiet.0)))

@@ -1,5 +1,9 @@
 -- What may be sent and what must be sent are not paid by one send, for five of the six machines.
 -- In the lemmas x is the phase or the state before a step and y the state after it, k is the kind of a message, t a moment, c a change of debts and o a debt.
+-- In cases of `Emits` a message that is sent has a row (`row`, `is_row`, `to`), or pays a debt (`left`, `pays`), or changes nothing (`stays`,
+-- `same`), which only the INVITE server by RFC 3261 alone lets it (Stays). In cases of `Steps` a message that is received has a row, or has none and
+-- changes nothing (`none`, `same`), and a restart leaves idle as it is (`idle`) and ends any other phase (`other`).
+-- `Unit {0}` holds anyway, by `tt`.
 use Rattle.std.proofs.Common.{◌≡◌, ◌≤◌, inl, inr, ℕ, Bool, true, false, Some, None, List, [], ◌∷◌, All, filter, refl, sym, subst, ◌∙◌, Decides, bytes_eq}
 use Rattle.std.proofs.Math.Decide.{dec_le}
 use Rattle.std.proofs.lemmas.Slice.Eq.{bytes_eq-Decides}
@@ -29,6 +33,7 @@ use Rattle.consequences.proofs.lemmas.tolerance.Wider.{IsSorted}
 pub same-bytes : (a b : List ℕ) → Dec (a ≡ b)
 same-bytes a b = by (bytes_eq a b) (bytes_eq-Decides a b)
   where
+    -- false is not true
     false-true : ¬ (false ≡ true)
     false-true same = cc
 
@@ -101,6 +106,7 @@ module _ {X : Type 0} (f : Figure X) (p : Times) (firm : AreFirm f p) where
   true-false : (o : Owed) → o.must ≡ true → ¬ (o.must ≡ false)
   true-false o must may = by (sym must ∙ may)
     where
+      -- true is not false
       by : ¬ (true ≡ false)
       by same = cc
 
@@ -137,6 +143,7 @@ client-3261-received p x k e row h = absurd h
 
 -- no row of a message that an INVITE client sends makes owed what only may be sent
 client-sent : (p : Times) (x : client.InviteClientPhase) (k : Kind) (e : MachineEvent) (row : client.InviteClientPhase × Change) → client.Sends p x k e row → IsFirm row.1
+-- in idle and in calling a row makes nothing owed
 client-sent p client.Idle (Request Invite) e row h = rw h tt
 client-sent p client.Idle (Request Ack) e row h = rw h tt
 client-sent p client.Idle (Request Cancel) e row h = rw h tt
@@ -149,14 +156,14 @@ client-sent p (client.Completed reliable request set) (Request Cancel) e row h =
 client-sent p client.Ended (Request Cancel) e row h = rw h tt
 client-sent p x k e row h = absurd h
 
--- no row of a message that the non-INVITE client receives makes owed what only may be sent
+-- no row of a message that the non-INVITE client receives makes owed what only may be sent: none makes anything owed
 plain-received : (p : Times) (x : plain.PlainClientPhase) (k : Kind) (e : MachineEvent) (row : plain.PlainClientPhase × Change) → plain.Receives p x k e row → IsFirm row.1
 plain-received p (plain.Trying w) (Response code) e row (inl h) = rw h.1 tt
 plain-received p (plain.Trying w) (Response code) e row (inr h) = rw h.1 tt
 plain-received p (plain.Proceeding w) (Response code) e row h = rw h.1 tt
 plain-received p x k e row h = absurd h
 
--- no row of a message that the non-INVITE client sends makes owed what only may be sent
+-- no row of a message that the non-INVITE client sends makes owed what only may be sent: none makes anything owed
 plain-sent : (p : Times) (x : plain.PlainClientPhase) (k : Kind) (e : MachineEvent) (row : plain.PlainClientPhase × Change) → plain.Sends p x k e row → IsFirm row.1
 plain-sent p plain.Idle (Request method) e row h = rw h tt
 plain-sent p (plain.Trying w) (Request method) e row h = rw h.1 tt
@@ -213,6 +220,7 @@ soft (o ∷ os) = All-push-front o os (soft os)
 module _ (p : Times) where
   -- debts stay sorted where some are left out
   sorted-left : (x : server.InviteServerPhase) (e : MachineEvent) (owes : List Owed) (test : Owed → Bool) → AreSorted x owes → AreSorted x (filter test owes)
+  -- what is left of no debts is none; of others each still has what all had
   sorted-left server.Idle e owes test sorted = rw sorted refl
   sorted-left (server.Proceeding reliable set last) e owes test sorted = All-filter test IsTold owes sorted
   sorted-left (server.Accepted set) e owes test sorted = All-filter test (λ o. o.must ≡ false) owes sorted
@@ -221,6 +229,7 @@ module _ (p : Times) where
 
   -- debts stay sorted where one is paid
   sorted-without : (P : Owed → Type 0) (x : server.InviteServerPhase) (owes left : List Owed) → IsWithoutFirst P owes left → AreSorted x owes → AreSorted x left
+  -- in idle there is no debt to pay; elsewhere each debt that is left still has what all had
   sorted-without P server.Idle owes left pays sorted = absurd (nothing-to-pay P left (subst (λ os. IsWithoutFirst P os left) sorted pays))
   sorted-without P (server.Proceeding reliable set last) owes left pays sorted = All-without P IsTold owes left pays sorted
   sorted-without P (server.Accepted set) owes left pays sorted = All-without P (λ o. o.must ≡ false) owes left pays sorted
@@ -241,6 +250,7 @@ module _ (p : Times) where
 
   -- the row of a sent message keeps the debts sorted
   sorted-sent : (x : server.InviteServerPhase) (k : Kind) (e : MachineEvent) (row : server.InviteServerPhase × Change) (owes : List Owed) → AreSorted x owes → server.Sends p x k e row → AreSorted row.0 (changed p e.moment row.1 owes)
+  -- a provisional response leaves the debts, and a final one softens them; in accepted and in completed they only may be sent already
   sorted-sent (server.Proceeding reliable set last) (Response code) e row owes sorted (inl h) = rw h.1 sorted
   sorted-sent (server.Proceeding reliable set last) (Response code) e row owes sorted (inr (inl h)) = rw h.1 (soft owes)
   sorted-sent (server.Proceeding reliable set last) (Response code) e row owes sorted (inr (inr h)) = rw h.1 (soft owes)
@@ -321,6 +331,7 @@ module _ (p : Times) where
   -- the row of a received message keeps the debts sorted
   received-3261 : (x : server_3261.InviteServer3261Phase) (k : Kind) (e : MachineEvent) (row : server_3261.InviteServer3261Phase × Change) (owes : List Owed) → AreSorted3261 x owes → server_3261.Receives p x k e row
       → AreSorted3261 row.0 (changed p e.moment row.1 owes)
+  -- after a 2xx nothing is owed, and an INVITE begins anew; else the row is one of the corrected server
   received-3261 server_3261.Passed (Request Invite) e row owes sorted h = rw (h, sorted) (All-nil IsTold)
   received-3261 (server_3261.In x again) k e row owes sorted (after, is_row, to) = rw to (sorted-received x k e after owes sorted is_row)
   received-3261 server_3261.Passed k e row owes sorted h = absurd h

@@ -1,5 +1,9 @@
 -- What the non-INVITE server may send and must send are not paid by one send, where the same bytes are the same message.
 -- In the lemmas x is the phase or the state before a step and y the state after it, and k is the kind of a message.
+-- In cases of `Emits` a message that is sent has a row (`row`, `is_row`, `to`), or pays a debt (`left`, `pays`), or changes nothing (`stays`,
+-- `same`), which only the INVITE server by RFC 3261 alone lets it (Stays). In cases of `Steps` a message that is received has a row, or has none and
+-- changes nothing (`none`, `same`), and a restart leaves idle as it is (`idle`) and ends any other phase (`other`).
+-- `Unit {0}` holds anyway, by `tt`.
 use Rattle.std.proofs.Common.{◌≡◌, inl, inr, ℕ, Bool, true, false, List, [], ◌∷◌, ◌++◌, All, filter, refl, sym, subst, ◌∙◌, arith}
 use Rattle.std.specs.List.{Any}
 use Rattle.std.proofs.lemmas.List.Elements.{All-nil, All-cons, All-head, All-tail, All-filter, All-push, All-weaker}
@@ -59,6 +63,7 @@ yes-must same = cc
 
 -- debts stay sorted after more events
 sorted-later : (es more : List MachineEvent) (x : PlainServerPhase) (owes : List Owed) → AreSorted es x owes → AreSorted (es ++ more) x owes
+-- in idle and in trying nothing is owed; what was said of events before is said after more events too
 sorted-later es more Idle owes sorted = sorted
 sorted-later es more (Trying reliable) owes sorted = sorted
 sorted-later es more (Proceeding reliable last) owes sorted =
@@ -70,6 +75,7 @@ sorted-later es more (Completed reliable final set) owes sorted = (
 
 -- debts stay sorted where some are left out
 sorted-left : (es : List MachineEvent) (x : PlainServerPhase) (owes : List Owed) (test : Owed → Bool) → AreSorted es x owes → AreSorted es x (filter test owes)
+-- what is left of no debts is none; of others each still has what all had
 sorted-left es Idle owes test sorted = rw sorted refl
 sorted-left es (Trying reliable) owes test sorted = rw sorted refl
 sorted-left es (Proceeding reliable last) owes test sorted = (sorted.0, All-filter test (IsTold es) owes sorted.1)
@@ -77,6 +83,7 @@ sorted-left es (Completed reliable final set) owes test sorted = (sorted.0, All-
 
 -- debts stay sorted where one is paid
 sorted-without : (P : Owed → Type 0) (es : List MachineEvent) (x : PlainServerPhase) (owes left : List Owed) → IsWithoutFirst P owes left → AreSorted es x owes → AreSorted es x left
+-- in idle and in trying there is no debt to pay; elsewhere each debt that is left still has what all had
 sorted-without P es Idle owes left pays sorted = absurd (nothing-to-pay P left (subst (λ os. IsWithoutFirst P os left) sorted pays))
 sorted-without P es (Trying reliable) owes left pays sorted = absurd (nothing-to-pay P left (subst (λ os. IsWithoutFirst P os left) sorted pays))
 sorted-without P es (Proceeding reliable last) owes left pays sorted = (sorted.0, All-without P (IsTold es) owes left pays sorted.1)
@@ -99,11 +106,12 @@ module _ (p : Times) where
 
     -- the row of a received message keeps the debts sorted
     received : (x : PlainServerPhase) (k : Kind) (row : PlainServerPhase × Change) (owes : List Owed) → AreSorted es x owes → Receives p x k e row → AreSorted Now row.0 (changed p e.moment row.1 owes)
+    -- the request begins the transaction, in which nothing is owed; in proceeding it asks for the last response, which must be sent again unless it is a 100
     received Idle (Request method) row owes sorted h = rw h sorted
     received (Proceeding reliable last) (Request method) row owes sorted (inl h) =
         let later = sorted-later es (e ∷ []) (Proceeding reliable last) owes sorted in
         rw h.1 (later.0, All-push (IsTold Now) owes _ later.1 (λ must. h.0, λ may. absurd (yes-must may), later.0))
-    -- a 100 need not be sent again, and the final response must
+    -- the last response is a 100, which need not be sent again; in completed the final response must be
     received (Proceeding reliable last) (Request method) row owes sorted (inr h) =
         let later = sorted-later es (e ∷ []) (Proceeding reliable last) owes sorted in
         rw h.1 (later.0, All-push (IsTold Now) owes _ later.1 (λ must. absurd (no-must must), λ may. h.0, later.0))
@@ -139,10 +147,12 @@ module _ (p : Times) where
 
     -- a step keeps the debts sorted
     steps : (a : Action) (x y : Owing PlainServerPhase) → e.action ≡ a → AreSorted es x.phase x.owes → Steps plain_server p a e x y → AreSorted Now y.phase y.owes
+    -- a received message leads along a row, or leaves all as it is; what is sent or refused pays or leads along a row
     steps Received x y was sorted (inl (row, is_row, to)) = rw to (received x.phase e.kind row x.owes sorted is_row)
     steps Received x y was sorted (inr (none, same)) = rw same (sorted-later es (e ∷ []) x.phase x.owes sorted)
     steps Sent x y was sorted h = emits x y (inl was) sorted h
     steps Failed x y was sorted h = emits x y (inr was) sorted h
+    -- a mark is no step, and after a restart nothing is owed
     steps Mark x y was sorted h = absurd h
     steps Restart x y was sorted (inl (idle, to)) = rw to refl
     steps Restart x y was sorted (inr (other, to)) = rw to refl
@@ -172,6 +182,7 @@ module _ (p : Times) where
 
   -- the bytes of a debt tell whether it must be sent, where the debts are sorted
   told : (es : List MachineEvent) (x : PlainServerPhase) (owes : List Owed) → AreOneKind es → AreSorted es x owes → All (λ o. (o.must ≡ true → ¬ (May es x o.message)) × (o.must ≡ false → May es x o.message)) owes
+  -- in idle and in trying nothing is owed; in proceeding this is what sorted means; in completed a message is not both final and provisional
   told es Idle owes one sorted = rw sorted (All-nil (λ o. (o.must ≡ true → ¬ (Unit {0})) × (o.must ≡ false → Unit {0})))
   told es (Trying reliable) owes one sorted = rw sorted (All-nil (λ o. (o.must ≡ true → ¬ (Unit {0})) × (o.must ≡ false → Unit {0})))
   told es (Proceeding reliable last) owes one sorted =

@@ -1,5 +1,6 @@
 -- The figures by a wider tolerance: their rows stay, and their windows open earlier and close later.
 -- In the lemmas x is a phase, k the kind of a message, and h a moment or what is known of a row.
+-- What holds anyway, as a fact of a value that is not there, holds by `tt`.
 use Rattle.std.proofs.Common.{◌≤◌, ◌*◌, ℕ, Bool, true, false, Some, None, IsSomeAnd, IfSome, List, [], ◌∷◌, All, arith, if◌then◌else◌}
 use Rattle.std.proofs.lemmas.List.Elements.{All-nil, All-cons, All-head}
 use Rattle.sip_standard.specs.declared.kind.Kind.{Kind}
@@ -47,6 +48,7 @@ module _ (p : Times) (early late : ℕ) (earlier : p.early ≤ early) (later : p
 
   -- a row of a message that is sent by the times p is one by the wider times q
   client-sent : (x : client.InviteClientPhase) (k : Kind) (e : MachineEvent) (row : client.InviteClientPhase × Change) → client.Sends p x k e row → client.Sends q x k e row
+  -- of the rows of idle and calling only that of the INVITE again, by timer A, speaks of times
   client-sent client.Idle (Request Invite) e row h = h
   client-sent client.Idle (Request Ack) e row h = h
   client-sent client.Idle (Request Cancel) e row h = h
@@ -61,6 +63,7 @@ module _ (p : Times) (early late : ℕ) (earlier : p.early ≤ early) (later : p
 
   -- a window that has opened by the times p has opened by the wider times q
   client-opens : (x : client.InviteClientPhase) (h : ℕ) → IsSomeAnd (client.timer_window p x) (λ w. w.0 ≤ h) → IsSomeAnd (client.timer_window q x) (λ w. w.0 ≤ h)
+  -- each timer that p lets fire q lets fire: B, the wait after a CANCEL, M, and D; other phases have no window
   client-opens (client.Calling w) h opening = opens-earlier w.start (64 * p.t1) h opening
   client-opens (client.Proceeding reliable request (Some first)) h opening = opens-earlier first (64 * p.t1) h opening
   client-opens (client.Accepted set) h opening = opens-earlier set (64 * p.t1) h opening
@@ -73,6 +76,7 @@ module _ (p : Times) (early late : ℕ) (earlier : p.early ≤ early) (later : p
   client-closes (client.Calling w) h closing = closes-later w.start (64 * p.t1) h closing
   client-closes (client.Accepted set) h closing = closes-later set (64 * p.t1) h closing
   client-closes (client.Completed true request set) h closing = closes-later set 0 h closing
+  -- the other phases have no window, or one that does not close
   client-closes (client.Completed false request set) h closing = tt
   client-closes (client.Proceeding reliable request None) h closing = tt
   client-closes (client.Proceeding reliable request (Some first)) h closing = tt
@@ -82,6 +86,7 @@ module _ (p : Times) (early late : ℕ) (earlier : p.early ≤ early) (later : p
   -- what must be sent by the times p need not be sent earlier by the wider times q
   client-sends-by : (x : client.InviteClientPhase) (h : ℕ) → All (λ last. h ≤ last) (client.sends_by p x) → All (λ last. h ≤ last) (client.sends_by q x)
   client-sends-by (client.Calling w) h all = repeats-later w.reliable w.set w.interval h all
+  -- no other phase has to send
   client-sends-by client.Idle h all = all
   client-sends-by client.Ended h all = all
   client-sends-by (client.Proceeding reliable request cancel) h all = all
@@ -91,6 +96,7 @@ module _ (p : Times) (early late : ℕ) (earlier : p.early ≤ early) (later : p
   -- the INVITE client by RFC 6026 is steady: what the times p allow, the wider times q allow
   pub client-steady : IsSteady client.invite_client p q
   client-steady = record {
+    -- the rows of received messages do not speak of times
     received = λ x k e row h. h;
     received_only = λ x k e row h. h;
     sent = client-sent;
@@ -102,6 +108,7 @@ module _ (p : Times) (early late : ℕ) (earlier : p.early ≤ early) (later : p
   -- the INVITE client by RFC 3261 alone is steady: what the times p allow, the wider times q allow
   pub client-3261-steady : IsSteady client_3261.invite_client_3261 p q
   client-3261-steady = record {
+    -- the rows of received messages do not speak of times
     received = λ x k e row h. h;
     received_only = λ x k e row h. h;
     sent = client-sent;
@@ -114,6 +121,7 @@ module _ (p : Times) (early late : ℕ) (earlier : p.early ≤ early) (later : p
 
   -- a row of a message that is sent by the times p is one by the wider times q
   plain-sent : (x : plain.PlainClientPhase) (k : Kind) (e : MachineEvent) (row : plain.PlainClientPhase × Change) → plain.Sends p x k e row → plain.Sends q x k e row
+  -- only the rows of a repeat, by timer E, speak of times
   plain-sent plain.Idle (Request method) e row h = h
   plain-sent (plain.Trying w) (Request method) e row h = (retransmits w.reliable w.request w.set w.interval e h.0, h.1)
   plain-sent (plain.Proceeding w) (Request method) e row h = (retransmits w.reliable w.request w.set w.interval e h.0, h.1)
@@ -121,6 +129,7 @@ module _ (p : Times) (early late : ℕ) (earlier : p.early ≤ early) (later : p
 
   -- a window that has opened by the times p has opened by the wider times q
   plain-opens : (x : plain.PlainClientPhase) (h : ℕ) → IsSomeAnd (plain.timer_window p x) (λ w. w.0 ≤ h) → IsSomeAnd (plain.timer_window q x) (λ w. w.0 ≤ h)
+  -- each timer that p lets fire q lets fire: F, and K; other phases have no window
   plain-opens (plain.Trying w) h opening = opens-earlier w.start (64 * p.t1) h opening
   plain-opens (plain.Proceeding w) h opening = opens-earlier w.start (64 * p.t1) h opening
   plain-opens (plain.Completed reliable set) h opening = opens-earlier set (if reliable then 0 else p.t4) h opening
@@ -131,6 +140,7 @@ module _ (p : Times) (early late : ℕ) (earlier : p.early ≤ early) (later : p
   plain-closes (plain.Trying w) h closing = closes-later w.start (64 * p.t1) h closing
   plain-closes (plain.Proceeding w) h closing = closes-later w.start (64 * p.t1) h closing
   plain-closes (plain.Completed reliable set) h closing = closes-later set (if reliable then 0 else p.t4) h closing
+  -- the other phases have no window
   plain-closes plain.Idle h closing = tt
   plain-closes plain.Ended h closing = tt
 
@@ -138,6 +148,7 @@ module _ (p : Times) (early late : ℕ) (earlier : p.early ≤ early) (later : p
   plain-sends-by : (x : plain.PlainClientPhase) (h : ℕ) → All (λ last. h ≤ last) (plain.sends_by p x) → All (λ last. h ≤ last) (plain.sends_by q x)
   plain-sends-by (plain.Trying w) h all = repeats-later w.reliable w.set w.interval h all
   plain-sends-by (plain.Proceeding w) h all = repeats-later w.reliable w.set w.interval h all
+  -- no other phase has to send
   plain-sends-by plain.Idle h all = all
   plain-sends-by plain.Ended h all = all
   plain-sends-by (plain.Completed reliable set) h all = all
@@ -145,6 +156,7 @@ module _ (p : Times) (early late : ℕ) (earlier : p.early ≤ early) (later : p
   -- the non-INVITE client is steady: what the times p allow, the wider times q allow
   pub plain-client-steady : IsSteady plain.plain_client p q
   plain-client-steady = record {
+    -- the rows of received messages do not speak of times
     received = λ x k e row h. h;
     received_only = λ x k e row h. h;
     sent = plain-sent;
@@ -157,6 +169,7 @@ module _ (p : Times) (early late : ℕ) (earlier : p.early ≤ early) (later : p
 
   -- a row of a message that is sent by the times p is one by the wider times q
   server-sent : (x : server.InviteServerPhase) (k : Kind) (e : MachineEvent) (row : server.InviteServerPhase × Change) → server.Sends p x k e row → server.Sends q x k e row
+  -- only the row of completed, the final response again by timer G, speaks of times
   server-sent (server.Proceeding reliable set last) (Response code) e row h = h
   server-sent (server.Accepted set) (Response code) e row h = h
   server-sent (server.Completed reliable final set repeat interval) (Response code) e row h = (retransmits reliable final repeat interval e h.0, h.1)
@@ -164,6 +177,7 @@ module _ (p : Times) (early late : ℕ) (earlier : p.early ≤ early) (later : p
 
   -- a window that has opened by the times p has opened by the wider times q
   server-opens : (x : server.InviteServerPhase) (h : ℕ) → IsSomeAnd (server.timer_window p x) (λ w. w.0 ≤ h) → IsSomeAnd (server.timer_window q x) (λ w. w.0 ≤ h)
+  -- each timer that p lets fire q lets fire: L, H, and I; other phases have no window
   server-opens (server.Accepted set) h opening = opens-earlier set (64 * p.t1) h opening
   server-opens (server.Completed reliable final set repeat interval) h opening = opens-earlier set (64 * p.t1) h opening
   server-opens (server.Confirmed reliable set) h opening = opens-earlier set (if reliable then 0 else p.t4) h opening
@@ -174,15 +188,18 @@ module _ (p : Times) (early late : ℕ) (earlier : p.early ≤ early) (later : p
   server-closes (server.Accepted set) h closing = closes-later set (64 * p.t1) h closing
   server-closes (server.Completed reliable final set repeat interval) h closing = closes-later set (64 * p.t1) h closing
   server-closes (server.Confirmed reliable set) h closing = closes-later set (if reliable then 0 else p.t4) h closing
+  -- the other phases have no window
   server-closes server.Idle h closing = tt
   server-closes (server.Proceeding reliable set last) h closing = tt
 
   -- what must be sent by the times p need not be sent earlier by the wider times q
   server-sends-by : (x : server.InviteServerPhase) (h : ℕ) → All (λ last. h ≤ last) (server.sends_by p x) → All (λ last. h ≤ last) (server.sends_by q x)
+  -- the first response within 200 ms, and the final response again by timer G
   server-sends-by (server.Proceeding reliable set None) h all =
       All-cons (λ last. h ≤ last) (close_at q set 200) [] (closes-later set 200 h (All-head (λ last. h ≤ last) (close_at p set 200) [] all)) (All-nil (λ last. h ≤ last))
   server-sends-by (server.Proceeding reliable set (Some last)) h all = all
   server-sends-by (server.Completed reliable final set repeat interval) h all = repeats-later reliable repeat interval h all
+  -- no other phase has to send
   server-sends-by server.Idle h all = all
   server-sends-by (server.Accepted set) h all = all
   server-sends-by (server.Confirmed reliable set) h all = all
@@ -190,6 +207,7 @@ module _ (p : Times) (early late : ℕ) (earlier : p.early ≤ early) (later : p
   -- the INVITE server by RFC 6026 is steady: what the times p allow, the wider times q allow
   pub server-steady : IsSteady server.invite_server p q
   server-steady = record {
+    -- the rows of received messages do not speak of times
     received = λ x k e row h. h;
     received_only = λ x k e row h. h;
     sent = server-sent;
@@ -200,6 +218,7 @@ module _ (p : Times) (early late : ℕ) (earlier : p.early ≤ early) (later : p
 
   -- a row of a message that the server by RFC 3261 alone sends by the times p is one by the wider times q
   server-3261-sent : (x : server_3261.InviteServer3261Phase) (k : Kind) (e : MachineEvent) (row : server_3261.InviteServer3261Phase × Change) → server_3261.Sends p x k e row → server_3261.Sends q x k e row
+  -- only the row of completed, the final response again by timer G, speaks of times
   server-3261-sent server_3261.Passed (Response code) e row h = h
   server-3261-sent (server_3261.In (server.Proceeding reliable set last) again) (Response code) e row h = h
   server-3261-sent (server_3261.In (server.Completed reliable final set repeat interval) again) (Response code) e row h =
@@ -224,6 +243,7 @@ module _ (p : Times) (early late : ℕ) (earlier : p.early ≤ early) (later : p
   -- the INVITE server by RFC 3261 alone is steady: what the times p allow, the wider times q allow
   pub server-3261-steady : IsSteady server_3261.invite_server_3261 p q
   server-3261-steady = record {
+    -- the rows of received messages do not speak of times
     received = λ x k e row h. h;
     received_only = λ x k e row h. h;
     sent = server-3261-sent;
@@ -242,6 +262,7 @@ module _ (p : Times) (early late : ℕ) (earlier : p.early ≤ early) (later : p
   -- a window that has not closed by the times p has not closed by the wider times q
   plain-server-closes : (x : plain_server.PlainServerPhase) (h : ℕ) → IfSome (plain_server.timer_window p x) (λ w. IfSome w.1 (λ close. h ≤ close)) → IfSome (plain_server.timer_window q x) (λ w. IfSome w.1 (λ close. h ≤ close))
   plain-server-closes (plain_server.Completed reliable final set) h closing = closes-later set (if reliable then 0 else 64 * p.t1) h closing
+  -- the other phases have no window
   plain-server-closes plain_server.Idle h closing = tt
   plain-server-closes (plain_server.Trying reliable) h closing = tt
   plain-server-closes (plain_server.Proceeding reliable last) h closing = tt
@@ -249,6 +270,7 @@ module _ (p : Times) (early late : ℕ) (earlier : p.early ≤ early) (later : p
   -- the non-INVITE server is steady: what the times p allow, the wider times q allow
   pub plain-server-steady : IsSteady plain_server.plain_server p q
   plain-server-steady = record {
+    -- no row of this server speaks of times, and no phase has to send
     received = λ x k e row h. h;
     received_only = λ x k e row h. h;
     sent = λ x k e row h. h;

@@ -1,6 +1,9 @@
 -- A run has one with a wider tolerance, in the same phase, whose debts are owed for longer, and with perhaps more debts that only may be sent.
 -- In the lemmas os are debts of the run and ns those by the wider tolerance, o and n one of each; x is a phase, k the kind of a message, and h a moment or
 -- what is known of a row.
+-- In cases of `Emits` a message that is sent has a row (`row`, `is_row`, `to`), or pays a debt (`left`, `pays`), or changes nothing (`stays`,
+-- `same`), which only the INVITE server by RFC 3261 alone lets it (Stays). In cases of `Steps` a message that is received has a row, or has none and
+-- changes nothing (`none`, `same`), and a restart leaves idle as it is (`idle`) and ends any other phase (`other`).
 use Rattle.std.proofs.Common.{◌≡◌, ◌≤◌, ◌||◌, inl, inr, ℕ, Bool, true, false, IsSomeAnd, IfSome, List, [], ◌∷◌, ◌++◌, All, Contains, filter, refl, sym, ap, subst, ◌∙◌, arith, if◌then◌else◌}
 use Rattle.std.specs.Prelude.{nat_le}
 use Rattle.std.specs.List.{list_any}
@@ -22,9 +25,11 @@ use Rattle.consequences.proofs.lemmas.run.Running.{left_at}
 
 -- the second list has the debts of the first, with deadlines that are no earlier, and perhaps more that only may be sent
 data Later : List Owed → List Owed → Type 0 where
+  -- both lists are empty
   nothing : Later [] []
   -- o is a debt of the first list, whose others are os, and n one of the second, whose others are ns
   both : (o n : Owed) (os ns : List Owed) → n.message ≡ o.message → n.must ≡ o.must → o.deadline ≤ n.deadline → Later os ns → Later (o ∷ os) (n ∷ ns)
+  -- n is a debt that the second list alone has
   extra : (n : Owed) (os ns : List Owed) → n.must ≡ false → Later os ns → Later os (n ∷ ns)
 
 -- Later stays true where later debts are added after those of both lists
@@ -59,7 +64,7 @@ later-left t _ _ (both o n os ns message must deadline rest) = by (keep_at t o) 
     kept : keep_at t o ≡ true → keep_at t n ≡ true
     kept is = by-must o.must n.must must is
       where
-        -- a debt that must be sent, or whose deadline is not past, is kept by the wider tolerance too
+        -- a and b say whether o and n must be sent: a debt that must be, or whose deadline is not past, is kept by the wider tolerance too
         by-must : (a b : Bool) → b ≡ a → (a || nat_le t o.deadline) ≡ true → (b || nat_le t n.deadline) ≡ true
         by-must true true same is = refl
         by-must true false same is = absurd cc
@@ -70,24 +75,26 @@ later-left t _ _ (both o n os ns message must deadline rest) = by (keep_at t o) 
     may : keep_at t o ≡ false → n.must ≡ false
     may is = must ∙ by-must o.must is
       where
-        -- what is left out need not be sent
+        -- a says whether o must be sent: what is left out need not be
         by-must : (a : Bool) → (a || nat_le t o.deadline) ≡ false → a ≡ false
         by-must true is = is
         by-must false is = refl
 
+    -- true is not false
     true-false : ¬ (true ≡ false)
     true-false same = cc
 
-    -- the second list of what is kept is later than the first, whether or not each of the first debts is kept
+    -- the second list of what is kept is later than the first, whether or not each of the first debts is kept, which a and b say
     by : (a : Bool) → keep_at t o ≡ a → (b : Bool) → keep_at t n ≡ b → Later (filter (keep_at t) os) (filter (keep_at t) ns)
         → Later (if a then o ∷ filter (keep_at t) os else filter (keep_at t) os) (if b then n ∷ filter (keep_at t) ns else filter (keep_at t) ns)
+    -- both debts are kept, or the second alone, which then only may be sent, or neither; the first is not kept alone
     by true is true same later = both o n (filter (keep_at t) os) (filter (keep_at t) ns) message must deadline later
     by true is false same later = absurd (true-false (sym (kept is) ∙ same))
     by false is true same later = extra n (filter (keep_at t) os) (filter (keep_at t) ns) (may is) later
     by false is false same later = later
 later-left t _ _ (extra n os ns may rest) = by (keep_at t n) (later-left t os ns rest)
   where
-    -- the second list of what is kept is later than the first, whether or not the debt that only the second has is kept
+    -- the second list of what is kept is later than the first, whether or not the debt that only the second has is kept, which b says
     by : (b : Bool) → Later (filter (keep_at t) os) (filter (keep_at t) ns) → Later (filter (keep_at t) os) (if b then n ∷ filter (keep_at t) ns else filter (keep_at t) ns)
     by true later = extra n (filter (keep_at t) os) (filter (keep_at t) ns) may later
     by false later = later
@@ -103,6 +110,7 @@ later-due t _ _ (both o n os ns message must deadline rest) due =
 -- n may be sent, and so is never due
 later-due t _ _ (extra n os ns may rest) due = All-cons (λ o. o.must ≡ true → t ≤ o.deadline) n ns (λ is. absurd (true-false (sym is ∙ may))) (later-due t os ns rest due)
   where
+    -- true is not false
     true-false : ¬ (true ≡ false)
     true-false same = cc
 
@@ -116,6 +124,7 @@ later-must _ _ (extra n os ns may rest) = rw (may, later-must os ns rest) refl
 
 -- the second list is the first one without its first element of which P holds
 data Without (P : Owed → Type 0) : List Owed → List Owed → Type 0 where
+  -- P holds of the first element, which is left out; or it does not, and one after it is left out
   here : (o : Owed) (os : List Owed) → P o → Without P (o ∷ os) os
   passes : (o : Owed) (os left : List Owed) → ¬ (P o) → Without P os left → Without P (o ∷ os) (o ∷ left)
 
@@ -153,9 +162,12 @@ module _ (S : List ℕ → Type 0) (t : ℕ) where
 
   -- where the first list pays a debt, the second stays later without paying, if none that the send satisfies must be sent
   stays-extra : (os left ns : List Owed) → Without Pays os left → Later os ns → All (λ n. S n.message → n.must ≡ false) ns → Later left ns
+  -- where there are no debts, none is paid
   stays-extra _ left _ without nothing may = elim without [ ]
+  -- the first debt is paid: its twin in the second list stays there as one more, since it only may be sent
   stays-extra _ _ _ (here o os pays) (both o' n os' ns message must deadline rest) may =
       extra n os ns (All-head (λ n. S n.message → n.must ≡ false) n ns may (subst S (sym message) pays.0)) rest
+  -- a debt that only the second list has stays there, and so does one before the debt that is paid
   stays-extra _ left _ without (extra n os ns is_may rest) may = extra n left ns is_may (stays-extra os left ns without rest (All-tail (λ n. S n.message → n.must ≡ false) n ns may))
   stays-extra _ _ _ (passes o os left never without) (both o' n os' ns message must deadline rest) may =
       both o n left ns message must deadline (stays-extra os left ns without rest (All-tail (λ n. S n.message → n.must ≡ false) n ns may))
@@ -165,6 +177,7 @@ module _ (S : List ℕ → Type 0) (t : ℕ) where
   also-pays : (os left ns : List Owed) → Without Pays os left → Later os ns → All (λ o. t ≤ o.deadline) os → All (λ n. t ≤ n.deadline) ns
       → All (λ n. n.must ≡ false → Dec (S n.message)) ns → ((n : Owed) → Contains ns n → n.must ≡ false → S n.message → All (λ k. S k.message → k.must ≡ false) ns)
       → (others : List Owed) × Without Pays ns others × Later left others
+  -- where there are no debts, none is paid
   also-pays _ left _ without nothing fresh opens tell apart = elim without [ ]
   -- the first debts of both lists are alike, and the send pays the first one
   also-pays _ _ _ (here o os pays) (both o' n os' ns message must deadline rest) fresh opens tell apart =
@@ -221,7 +234,7 @@ fresh-at e x due =
     all-both (λ o. o.must ≡ true → e.moment ≤ o.deadline) (λ o. keep_at e.moment o ≡ true) (λ o. e.moment ≤ o.deadline) (left_at e x) (λ o is_due kept. by o o.must refl is_due kept)
     (All-filter (keep_at e.moment) (λ o. o.must ≡ true → e.moment ≤ o.deadline) x.owes due) (filter_passes (keep_at e.moment) x.owes)
   where
-    -- the deadline of a debt that is kept is not past: one that must be sent is not past, and one that only may be sent is dropped once it is
+    -- the deadline of a debt that is kept is not past: one that must be sent (b says so) is not past, and one that only may be is dropped once it is
     by : (o : Owed) (b : Bool) → o.must ≡ b → (o.must ≡ true → e.moment ≤ o.deadline) → keep_at e.moment o ≡ true → e.moment ≤ o.deadline
     by o true is is_due kept = is_due is
     by o false is is_due kept = leb-true e.moment o.deadline (subst (λ a. (a || nat_le e.moment o.deadline) ≡ true) is kept)

@@ -1,7 +1,7 @@
 use Rattle.std.specs.Prelude.{◌<◌, All, AllPairs}
 use Rattle.ledger_tests.proofs.chance.evens.Given as goal
 
--- each row before the index is below the limit and below the next row, and the rows rise
+-- each row that was pushed is below the limit and below the row at hand, and the rows rise
 abbrev pub invariant-loop-row : goal.invariant-loop-row
 invariant-loop-row l =
     record {

@@ -4,6 +4,7 @@ use Rattle.sip_machine.proofs.texts.TextLaws.{Keeps-grow}
 use Rattle.machine_tests.proofs.messages.forget.Goals as goal
 
 -- the book is as before, or without its newest message
+-- What is asked is that no number `n` of the book is above the highest; `c.requires` says so of the book before.
 pub returns : goal.returns
 returns c n keeps =
     elim c.forget_newest.ensures [

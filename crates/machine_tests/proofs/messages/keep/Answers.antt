@@ -5,6 +5,8 @@ use Rattle.machine_tests.proofs.Errors.{always_err}
 use Rattle.machine_tests.proofs.messages.keep.Goals as goal
 
 -- each number of the book is below the next one
+-- By cases of `add`: the book had the bytes already (`same`), or has them now under the new number (`grown`). A number of the grown book is
+-- an old one (`old`), or that number (`is`).
 pub returns-clause-ok : goal.returns-clause-ok
 returns-clause-ok c = λ n keeps.
     elim c.in_ok-add.ensures.grows [

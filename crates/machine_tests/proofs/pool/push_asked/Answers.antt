@@ -3,6 +3,8 @@ use Rattle.sip_machine.specs.Texts.{Keeps}
 use Rattle.sip_machine.specs.Rules.{Knows}
 use Rattle.machine_tests.proofs.pool.push_asked.Goals as goal
 
+-- In both answers `first` is the state that is pushed, and `fits` says by `first_fits` that it names nothing (`.0`) and is in range (`.1`).
+
 -- the first state names nothing, so the book has what the states name
 pub take_entry-requires-clause-known : goal.take_entry-requires-clause-known
 take_entry-requires-clause-known g c =

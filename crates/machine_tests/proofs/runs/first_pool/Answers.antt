@@ -5,6 +5,8 @@ use Rattle.sip_machine.specs.Texts.{Keeps}
 use Rattle.sip_machine.specs.Rules.{Knows}
 use Rattle.machine_tests.proofs.runs.first_pool.Goals as goal
 
+-- In both answers `first` is the state that is pushed to an empty pool, and `fits` says that it names nothing (`.0`) and is in range (`.1`).
+
 -- the first state names nothing, so every book has what it names
 pub returns-clause-known : goal.returns-clause-known
 returns-clause-known g c = λ texts.

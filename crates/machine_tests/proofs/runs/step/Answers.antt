@@ -4,6 +4,9 @@ use Rattle.sip_machine.specs.Rules.{Knows}
 use Rattle.machine_tests.proofs.Picked.{all_picked}
 use Rattle.machine_tests.proofs.runs.step.Goals as goal
 
+-- `ok` says what the call `successors` has left: the states before it, and after them `ok.0`, those that it gave (`ok.1`, `ok.2`).
+-- `first` stands for a place that is not in a list.
+
 -- after one state more was asked, the book has all that the states name, and all are in range
 pub loop-at-preserved : goal.loop-at-preserved
 loop-at-preserved g c =
@@ -18,7 +21,7 @@ loop-at-preserved g c =
       in_range = All-append g.M.Machine.in_range before ok.0 is.in_range ok.2.in_range;
     })
 
--- the states that are kept are some of those that were found, so the book has all that they name
+-- the states that are kept are some of those that were found, so the book has all that they name: the rows of `given` are places of the pool (`within`)
 pub returns-clause-known : goal.returns-clause-known
 returns-clause-known g c =
     let first = g.M.Machine.first c.args.machine.now in

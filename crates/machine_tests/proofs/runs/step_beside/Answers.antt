@@ -4,6 +4,9 @@ use Rattle.sip_machine.specs.Rules.{Knows}
 use Rattle.machine_tests.proofs.Picked.{all_first_ones}
 use Rattle.machine_tests.proofs.runs.step_beside.Goals as goal
 
+-- `added` are the states that `successors_each` has put after the others, `is` says so, and `covers` tells what holds of each of them. `found` are
+-- all states then, and `first` stands for a place that is not in a list.
+
 -- the book has what the first states name
 pub successors_each-requires-clause-known : goal.successors_each-requires-clause-known
 successors_each-requires-clause-known g c = All-take (Knows g.M.Machine.names c.args.book.now) c.len-count.result c.args.pool.now c.requires.known

@@ -2,7 +2,7 @@ use Rattle.std.specs.Prelude.{◌≡◌, All, length}
 use Rattle.sip_machine.specs.Rules.{Knows}
 use Rattle.machine_tests.proofs.runs.step_each_alone.Given as goal
 
--- there is one state, it is in range, and the book has what it names
+-- before each entry there is one state, it is in range, and the book has what it names
 abbrev pub invariant-loop-moment : goal.invariant-loop-moment
 invariant-loop-moment g l =
     record {

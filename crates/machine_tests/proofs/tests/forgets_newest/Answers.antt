@@ -3,6 +3,8 @@ use Rattle.std.proofs.Common.{inl, inr, arith}
 use Rattle.sip_machine.proofs.texts.TextLaws.{Keeps-grow_cases}
 use Rattle.machine_tests.proofs.tests.forgets_newest.Goals as goal
 
+-- The test keeps the numbers 3 and 5, forgets three times (`c.forget-3` is the last), and then adds 8 and 9.
+
 -- the numbers of the book are at most 3, so the next one is above them
 pub keep-requires-2 : goal.keep-requires-2
 keep-requires-2 g c = λ n keeps. let low : n ≤ 3 = c.in_ok-keep.ensures.ok n keeps in omega (arith, low)
@@ -12,6 +14,8 @@ pub add-requires : goal.add-requires
 add-requires g c = λ n keeps. let low : n ≤ 5 = c.forget-3.ensures n keeps in omega (arith, low)
 
 -- each number of the book is below the one that comes next
+-- Its bytes were kept before (`same`), or 8 is the number of the newest message (`grown`), and each number an old one (`old`) or 8 (`is`).
+-- In either way 9 is above all numbers.
 pub add-requires-2 : goal.add-requires-2
 add-requires-2 g c = λ n keeps.
     elim c.in_ok-add.ensures.grows [

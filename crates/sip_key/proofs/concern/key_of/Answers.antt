@@ -21,6 +21,7 @@ returns c =
     let d = c.args.direction in
     let start = c.start-start.ensures in
     let via = c.top_via-via.ensures in
+    -- `own-is`: a key with the role, the branch, the sent-by and the method of a message is its own key; each line after it shows one of these four parts
     own-is (said_of c.args.message.now) d _ _ _ _ c.in_ok-key.ensures
     (c.role_of-role.ensures ∙ ap (λ s. role_of s d) start)
     (sym (ap (λ (e : Element). cookie_branch e.1.branch) via) ∙ c.in-Some.ensures)

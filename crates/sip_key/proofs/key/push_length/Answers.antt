@@ -8,7 +8,9 @@ unfolding length_bytes
 returns c =
     let old = c.args.text.now.items in
     let count = c.args.count in
+    -- the loop has put a byte of 64 for each 64 of the count
     let turns : c.loop.counter ≡ count / 64 = omega arith in
+    -- then comes one byte for what is left
     c.in_ok-push-2.ensures.items
     ∙ ap (λ text. text ++ count % 64 ∷ []) (c.loop.invariant ∙ ap (λ n. old ++ replicate n 64) turns)
     ∙ append_assoc old (replicate (count / 64) 64) (count % 64 ∷ [])

@@ -4,6 +4,7 @@ use Rattle.sip_listing.proofs.transaction.push_line.Goals as goal
 -- the line is its five pieces, one after another
 pub returns : goal.returns
 returns c = λ ascii.
+    -- each call appends one piece: the word with the number, a blank, the key in words, the word with the count, and the line end
     let h1 = rw c.into.ensures at c.in_ok-push_with_number.ensures in
     let h2 = c.in_ok-push_str.ensures.bytes in
     let h3 = c.in_ok-push_key.ensures ascii in

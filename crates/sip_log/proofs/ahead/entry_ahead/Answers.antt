@@ -1,3 +1,5 @@
+-- `Line-without` says that, with bytes held and fewer than the most entries read, no entry with a message comes where none comes by the front line.
+-- `AtLine-other` and `AtLine-head` say what comes by that line, read as no entry's line or as a head; `held` is what the window holds.
 use Rattle.std.proofs.Common.{◌≡◌, ◌<◌, ◌≤◌, ◌+◌, ◌++◌, [], length, drop, refl, subst, sym, ap, ◌∙◌, arith}
 use Rattle.std.proofs.lemmas.List.{drop-drop, length-drop, take_rest, append-nil}
 use Rattle.sip_standard.specs.declared.log_reason.LogReason.TheVariants as faults
@@ -25,6 +27,7 @@ pub returns-in_err-head : goal.returns-in_err-head
 returns-in_err-head c =
     let held = items c.args.window.now in
     let line = c.in_ok-len.ensures in
+    -- `other` says that the bytes before the line feed are the line of no entry
     let other = rw c.as_slice-held.ensures.value at c.in_err-head.ensures in
     rw c.from_residual-in_err-head.ensures
     (Line-without c.args.format c.args.count c.args.last held (omega (arith, line.within.0)) (omega (arith, c.if-count-ge-MOST_ENTRIES.false))
@@ -37,9 +40,11 @@ returns-in_err-moment c =
     let line = c.in_ok-len.ensures in
     let len = c.in_ok-len.len in
     let head = rw c.as_slice-held.ensures.value at c.in_ok-head.ensures in
+    -- `lacks` says of any head that the line may be read as: by it, where no bytes follow the window's, something comes that is no entry with a message
     let lacks = rw (take_rest held (len + 1)) at (rw c.as_slice-held.ensures.value at c.in_err-moment.ensures.without) in
     let next = lacks refl head.0 head.2 in
     let at : HeadComes c.args.last head.0 (drop (len + 1) held ++ []) next.0 = subst (λ xs. HeadComes c.args.last head.0 xs next.0) (sym (append-nil (drop (len + 1) held))) next.1 in
+    -- what comes by the head comes by the line, and so it comes next
     rw c.from_residual-in_err-moment.ensures
     (Line-without c.args.format c.args.count c.args.last held (omega (arith, line.within.0)) (omega (arith, c.if-count-ge-MOST_ENTRIES.false))
     (next.0, AtLine-head c.args.format c.args.last held [] len line.within.1 line.first head.0 next.0 head.1 at, next.2))
@@ -50,6 +55,7 @@ returns c =
     let held = items c.args.window.now in
     let line = c.in_ok-len.ensures in
     let len = c.in_ok-len.len in
+    -- `head` is what the line is read as, and `found` says that the message stands whole after it
     let head = rw c.as_slice-held.ensures.value at c.in_ok-head.ensures in
     let found = rw (take_rest held (len + 1)) at (rw c.as_slice-held.ensures.value at c.in_ok-moment.ensures) in
     let text = c.in_ok-moment.message.now in
@@ -57,6 +63,7 @@ returns c =
     let size = len + length text + 2 in (
       refl,
       record {
+        -- the message has a byte, and the entry lies within the bytes that are held
         some = λ none. omega (arith, found.some, ap length none);
         within = omega (arith, found.within, length-drop (len + 1) held, line.within.0);
         -- what is left after the entry is what stands after the message and its line feed
@@ -66,6 +73,7 @@ returns c =
             let few : c.args.count < most_entries = omega (arith, c.if-count-ge-MOST_ENTRIES.false) in
             let at : HeadComes c.args.last head.0 (drop (len + 1) held ++ more) (gives i (drop size held ++ more)) =
             subst (λ ys. HeadComes c.args.last head.0 (drop (len + 1) held ++ more) (gives i (ys ++ more))) same (found.comes head.0 head.2 more) in
+            -- what comes by the head comes by the line, and what comes by the line comes next
             ComesNext-entry c.args.format c.args.count c.args.last held more _ some few
             (AtLine-head c.args.format c.args.last held more len line.within.1 line.first head.0 _ head.1 at);
       },

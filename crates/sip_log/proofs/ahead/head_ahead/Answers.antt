@@ -1,3 +1,4 @@
+-- In the proofs h is any head that the line may be read as, and `is` says that the code keeps of it what it was given; `none` says that nothing is answered.
 use Rattle.std.proofs.Common.{◌≤◌, ◌+◌, ◌++◌, drop, refl, subst, sym, ap, ◌∙◌, rules, arith}
 use mathlib.Core.Bool.{true≢false}
 use Rattle.sip_log.specs.Ahead.{item_ahead}
@@ -24,6 +25,7 @@ returns-in_err-message-in-Message-clause-without c = λ none h is.
     let moment = c.in-Message.moment in
     let keeps : KeepsLimits (message action moment c.in-Message.len) = subst (λ x. KeepsLimits (head_of x)) c.in-Message.is (c.if-not-is_within_limits.ensures.0 refl) in
     let order : c.args.last ≤ moment = omega (arith, c.if-moment-last.false, c.moment.ensures ∙ ap (λ x. moment_of (head_of x)) c.in-Message.is) in
+    -- what is missing after the line is told as a fault by `message_ahead`
     Missing-without c.args.last action moment c.in-Message.len c.args.rest.now keeps order (c.in_err-message-in-Message.ensures.none refl) h (sym c.in-Message.is ∙ is)
 
 -- a line of an entry without a message brings that entry
@@ -47,5 +49,6 @@ returns-in_ok-message-in-Message-clause-comes c = λ h is more.
     -- the numbers are those of the line
     let keeps : KeepsLimits (message action moment len) = subst (λ x. KeepsLimits (head_of x)) c.in-Message.is (c.is_within_limits.ensures.0 (search rules)) in
     let order : c.args.last ≤ moment = omega (arith, c.if-moment-last.false, c.moment.ensures ∙ ap (λ x. moment_of (head_of x)) c.in-Message.is) in
+    -- the message has as many bytes as the line says, so what is left is what stands after them and the line feed
     subst (λ n. HeadComes c.args.last h (rest ++ more) (gives (item_ahead action moment text) (drop (n + 1) rest ++ more))) (sym found.long)
     (HeadComes-ahead c.args.last action moment len rest text keeps order (λ ys. found.comes action moment ys) h (sym c.in-Message.is ∙ is) more)

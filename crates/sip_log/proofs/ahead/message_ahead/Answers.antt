@@ -1,3 +1,4 @@
+-- In the proofs an action and a moment are any that the line before the message may tell; `none` says that no message is answered.
 use Rattle.std.proofs.Common.{◌<◌, inl, [], length, refl, subst, arith}
 use Rattle.std.proofs.lemmas.List.{append-nil}
 use Rattle.sip_standard.specs.declared.log_reason.LogReason.TheVariants as faults

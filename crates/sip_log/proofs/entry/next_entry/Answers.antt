@@ -1,3 +1,4 @@
+-- `Says-step` takes what an inner call tells of the bytes that are held and those left, ys, to the whole input: what comes by it is what comes first there.
 use Rattle.std.proofs.Common.{◌<◌, ◌≤◌, length, Ok, Err, None, arith}
 use Rattle.sip_log.specs.inner.Entry.{LineComes, EntryComes}
 use Rattle.sip_standard.specs.LogSays.{most_entries}

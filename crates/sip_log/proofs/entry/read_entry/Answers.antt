@@ -1,3 +1,5 @@
+-- `Says-fault` and `Says-step` take what comes by the bytes that are held and those left, ys, to the whole input: a fault, and what an inner call answers.
+-- `AtLine-..` say what comes by the line at the front: none that ends, one that is too long, one of no entry, or a head.
 use Rattle.std.proofs.Common.{◌≡◌, ◌+◌, ◌<◌, ◌≤◌, inl, inr, [], length, drop, arith, ap}
 use Rattle.sip_standard.specs.declared.log_reason.LogReason.TheVariants as faults
 use Rattle.sip_log.specs.inner.Entry.{LineComes, HeadComes}

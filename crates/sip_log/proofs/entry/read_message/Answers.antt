@@ -1,3 +1,5 @@
+-- `Says-fault` and `Says-value` take what comes by the bytes that are held and those left, ys, to the whole input: a fault, and a value.
+-- `AtMessage-open` and `AtMessage-gives` say what comes by a message, with no line feed after it or with one.
 use Rattle.std.proofs.Common.{◌<◌, ◌+◌, List, ℕ, length, take, drop, get_or, arith, ap, sym, ◌∙◌}
 use Rattle.sip_standard.specs.declared.log_reason.LogReason.TheVariants as faults
 use Rattle.sip_log.specs.Next.{gives}
@@ -28,6 +30,7 @@ returns-clause-says g c =
     let inside : len < length held = omega (arith, hold.some) in
     -- the byte after the message is looked at
     let byte = ap (λ (t : List ℕ). get_or t len 0) c.as_slice-held.ensures.value in
+    -- `text` says that the bytes of the answer are those of the message, which are the first of what is held
     let text = (rw c.requires.empty at c.in_ok-extend_from_slice.ensures.items) ∙ ap (take len) c.as_slice-held.ensures.value in
     rw c.consume.ensures
     (Says-value hold.reads (MessageComes c.args.action c.args.moment len) (drop (len + 1) held)

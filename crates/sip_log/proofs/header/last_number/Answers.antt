@@ -1,3 +1,4 @@
+-- Of the number that was read, .0 is the number, .1 says that it stands after the word, and .2 that the code keeps it.
 use Rattle.std.proofs.Common.{◌≡◌, [], ap, length, subst, sym}
 use Rattle.std.proofs.lemmas.Bool.{eqb-true, eqb-false}
 use Rattle.std.proofs.lemmas.List.{nil_from_length}

@@ -1,3 +1,5 @@
+-- `Says-fault` and `Says-step` take what comes by the bytes that are held and those left, ys, to the whole input: a fault, and what an inner call answers.
+-- `ComesFirst-..` say what comes first in an input, by its first twelve bytes.
 use Rattle.std.proofs.Common.{drop}
 use Rattle.sip_standard.specs.declared.log_reason.LogReason.TheVariants as faults
 use Rattle.sip_log.specs.inner.Header.{HeaderComes, ComesSecond}

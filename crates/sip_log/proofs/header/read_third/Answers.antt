@@ -1,3 +1,5 @@
+-- `Says-value` takes what comes by the bytes that are held and those left, ys, to the whole input.
+-- `ComesThird-..` say where the header ends: at the end of the input, before what is no line of rules, or after one.
 use Rattle.std.proofs.Common.{length, get_or, drop, ap, ◌∙◌, arith}
 use Rattle.std.proofs.lemmas.List.{length-append}
 use Rattle.sip_times.specs.Times.{under}

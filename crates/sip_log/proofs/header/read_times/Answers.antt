@@ -1,3 +1,6 @@
+-- Of a number that was read, .0 is the number, .1 says that it stands after its word, and .2 that the code keeps it, `cut` at 10^15.
+-- Of the tolerances, .0 and .1 are the numbers, .2 says that they stand there, and .3 and .4 that the code keeps them.
+-- `λ i. f (e i)`: by the equation e, f of its left side is equal to f of its right side.
 use Rattle.sip_standard.specs.Times.{Times}
 use Rattle.sip_standard.specs.declared.rules.Rules.TheVariants.{R6026}
 use Rattle.std.proofs.Common.{refl}
@@ -46,10 +49,11 @@ returns c =
     -- the times are those of the line, with the rules of RFC 6026
     let n : Times = record { t1 = t1.0; t2 = t2.0; t4 = t4.0; early = both.0; late = both.1; rules = R6026 } in
     let is : TimesLine format line n = record {
+      -- after each number stands what its reading left
       rest1 = c.in_ok-t1.rest.now;
       rest2 = c.in_ok-t2.rest.now;
-      -- the numbers are those that were read
       rest3 = c.in_ok-t4.rest.now;
+      -- each number is the one that was read
       t1_is = t1.1;
       t2_is = t2.1;
       t4_is = t4.1;
@@ -59,5 +63,6 @@ returns c =
     -- where the times are within their limits they are read, and where they are not, the line tells no times within them
     times-read format line n _ c.with_tolerances.result is
     (λ p other. times-after format line p other t1.0 _ t1.1 t2.0 _ t2.1 t4.0 _ t4.1 both.0 both.1 both.2)
+    -- the times that the code makes have each number as the code keeps it
     (λ i. record { t1 = t1.2 i; t2 = t2.2 i; t4 = t4.2 i; early = both.3 i; late = both.4 i; rules = R6026 })
     c.with_tolerances.ensures

@@ -1,3 +1,4 @@
+-- In the proofs `at` says that the line has the tolerances `early` and `late` as this format spells them.
 use Rattle.std.proofs.Common.{[], subst}
 use Rattle.std.specs.Prelude.{codes}
 use Rattle.sip_log.specs.inner.Header.{NumberAfter, Tolerances}

@@ -23,6 +23,7 @@ returns-then-has_message c =
     let line = c.args.line.now in
     let action = c.in_ok-action.action in
     let blank : get_or line 1 0 ≡ space = omega arith in
+    -- `is.0` is the moment and is.1 the length, and is.2 says that they follow the letter and its blank
     let is = rw (take_rest line 2) at c.in_ok-moment.ensures in (
       message action is.0 is.1,
       HeadLine-message c.args.format line action is.0 is.1 (c.if-has_message.ensures.0 refl) c.in-32.len_at_least c.in_ok-action.ensures.1 blank is.2,
@@ -42,6 +43,7 @@ returns c =
     let line = c.args.line.now in
     let action = c.in_ok-action.action in
     let blank : get_or line 1 0 ≡ space = omega arith in
+    -- `is.0` is the moment, and is.1 says that it follows the letter and its blank
     let is = rw (take_rest line 2) at c.in_ok-moment-2.ensures in (
       plain action is.0,
       HeadLine-plain c.args.format line action is.0 (λ has. true≢false (sym (c.if-has_message.ensures.1 has))) c.in_ok-action.ensures.0 c.in-32.len_at_least c.in_ok-action.ensures.1 blank is.1,

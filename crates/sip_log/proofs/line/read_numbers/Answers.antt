@@ -10,6 +10,7 @@ use Rattle.sip_log.proofs.line.read_numbers.Goals as goal
 -- where the moment is not written as a number is, the line tells no two numbers
 pub returns-then-not-is_plain : goal.returns-then-not-is_plain
 returns-then-not-is_plain c = λ moment len is.
+    -- the digits that were read are the text of the moment, and so pass the test that failed
     let read = c.digits-moment.ensures in
     let parts = digits-front c.args.text.now is.moment_text is.len_text c.digits-moment.result.1 is.whole is.moment_is.digits.1 read.within read.run read.end in
     true≢false (sym (c.if-not-is_plain.ensures.1 (subst IsPlain (sym parts.0) (is.moment_is.digits.0, is.moment_is.plain))))
@@ -19,6 +20,7 @@ pub returns-in_err-rest : goal.returns-in_err-rest
 returns-in_err-rest c =
     rw c.from_residual.ensures
     (λ moment len is.
+    -- the digits that were read are the text of the moment, so a blank stands after them
     let read = c.digits-moment.ensures in
     let parts = digits-front c.args.text.now is.moment_text is.len_text c.digits-moment.result.1 is.whole is.moment_is.digits.1 read.within read.run read.end in
     (rw (take_rest c.args.text.now c.digits-moment.result.1) at c.in_err-rest.ensures) is.len_text parts.1)

@@ -36,5 +36,6 @@ returns-in-Err-clause-err g c =
     -- old is how far the log was read before the call, and new after it; l is how the loop stands
     let old : ReaderState = beside_source l.progress (g.R.Source.left l.source) (g.R.Source.has_failed l.source) in
     let new : ReaderState = beside_source c.next.new.self (g.R.Source.left c.next.new.source) (g.R.Source.has_failed c.next.new.source) in
+    -- the reader stood after these entries, so an error of the call that follows tells the fault of the log after them
     let told = Stands-fault start (map item l.entries.items) old new c.in-Err.error l.invariant.on l.invariant.stands c.in-Err.ensures in
     subst (λ before. FailsAs before new.has_failed (λ fault. IfSome start (λ input. IsFaultOf input fault)) c.in-Err.error) l.invariant.fine told

@@ -29,6 +29,7 @@ returns-in-Err-clause-gap c =
     -- the run that is searched is the last one that begins by the message, or the first
     let chosen : (r ≡ 0) ⊎ (r < begun) = elim (cases_lt 0 begun) [ inl some ↦ inr (search rules) | inr none ↦ inl (search rules) ] in
     let next : begun ≤ r + 1 = search rules in
+    -- each call of the closure tells whether a run begins by the key, and changes nothing (`always_returns_same`)
     let parts = c.partition_point-begun.ensures.partitioned (begins_by texts key)
     (always_returns_same _ _ _ (λ a r g called. search rules)) (partitioned texts runs key c.requires) in
     -- within the run the search parts the lesser messages from the greater ones

@@ -1,3 +1,4 @@
+-- In the answers m is the machine by its figure and its phases, p its times and e the event as the definitions have it.
 use Rattle.std.proofs.Common.{sym}
 use Rattle.std.proofs.lemmas.Result.{IfOk-weaker}
 use Rattle.sip_standard.specs.declared.action.Action.TheVariants.{Sent, Received, Failed, Restart}

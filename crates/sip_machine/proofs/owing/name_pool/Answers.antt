@@ -12,6 +12,7 @@ returns-clause-ok g c =
     let old = c.args.out.now.items in
     let mid = c.name_phases.new.out.items in
     let new = c.names_all.new.numbers.items in
+    -- what the phases name was appended first, and then what is owed
     let first = subst (λ xs. AppendsAll (flat_map (λ x. names x.phase) xs) old mid) (sym c.pool.view_is) c.in_ok-name_phases.ensures.ok in
     subst (λ xs. AppendsAll (flat_map (owing_names names) xs) old new) c.pool.view_is
     (pool-appends names c.pool.inside.phases.items c.pool.inside.dues old mid new c.pool.invariant first c.in_ok-names_all.ensures.ok)

@@ -1,3 +1,4 @@
+-- In the answers m is the machine by its figure and its phases.
 use Rattle.std.specs.Prelude.{◌≡◌, [], ◌∷◌}
 use Rattle.std.proofs.Common.{sym, ◌∙◌, true≢false}
 use Rattle.std.proofs.lemmas.List.Elements.{All-nil}

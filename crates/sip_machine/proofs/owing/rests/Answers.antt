@@ -1,3 +1,4 @@
+-- In the answers m is the machine by its figure and its phases.
 use Rattle.std.proofs.Common.{sym, true≢false, ◌∙◌}
 use Rattle.sip_machine.specs.Texts.{Keeps}
 use Rattle.sip_machine.specs.NumberedEvent.{event_in}

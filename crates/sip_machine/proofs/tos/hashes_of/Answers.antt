@@ -14,6 +14,7 @@ loop-at-preserved c =
     let to = c.index-list-at.result in
     let P = λ (t : To). IsUnder c.note.new.hashes (full_hash t.text) t.number in
     let noted = rw c.hash.ensures at (on_ok c.note.result _ (rw c.is_err.ensures.value at c.if-is_err.false) c.note.ensures.ok) in
+    -- each To before this one stood under its hash, and stands there when one more number is put
     let before : All P (take c.loop-at.at c.args.list.now) = λ k d low.
     let its = get_or (take c.loop-at.at c.args.list.now) k d in
     put-keeps (full_hash to.text) to.number c.loop-at.hashes c.note.new.hashes noted (full_hash its.text) its.number (c.loop-at.invariant k d low) in

@@ -21,6 +21,7 @@ use Rattle.sip_machine.specs.inner.WaitingLaws.{waiting_exact, waiting_apart, wa
 
 -- phases of the code that the test finds equal are the same one
 pub invite_client_exact : (x y : CodePhase) → derived.ghosts.eq x y ≡ true → x ≡ y
+-- of two phases of one name the test compares all data, and of two names it fails
 invite_client_exact code.Idle code.Idle e = refl
 invite_client_exact (code.Calling w) (code.Calling w') e = ap code.Calling (waiting_exact w w' e)
 invite_client_exact (code.Proceeding reliable request cancel) (code.Proceeding reliable' request' cancel') e =
@@ -32,7 +33,7 @@ invite_client_exact x y e = cc
 
 -- phases that stand for the same beside one book are the same
 pub invite_client_apart : AreApart invite_client_seen invite_client_names
--- phases of one name stand for the same exactly if their messages do, which the book tells apart; phases of two names never do
+-- phases of one name stand for the same exactly if their data do, and the book tells their messages apart; phases of two names never do
 invite_client_apart texts code.Idle code.Idle book x_known y_known e = refl
 invite_client_apart texts (code.Calling w) (code.Calling w') book x_known y_known e = ap code.Calling (waiting_apart texts w w' book x_known y_known cc)
 invite_client_apart texts (code.Proceeding reliable request cancel) (code.Proceeding reliable' request' cancel') book x_known y_known e =
@@ -48,15 +49,18 @@ pub invite_client_by_names : StandByNames invite_client_seen invite_client_names
 invite_client_by_names a b (code.Calling w) agree = ap Calling (waiting_by_names a b w agree)
 invite_client_by_names a b (code.Proceeding reliable request cancel) agree = ap (λ text. Proceeding reliable text cancel) (agree request (0, omega arith, refl))
 invite_client_by_names a b (code.Completed reliable request set) agree = ap (λ text. Completed reliable text set) (agree request (0, omega arith, refl))
+-- a phase that names no message stands for the same beside any book
 invite_client_by_names a b x agree = refl
 
 -- the timers of a phase of the code are the same beside each book
 pub invite_client_window_same : SameWindow invite_client invite_client_seen
+-- the definition asks for no bytes of a message, so both sides are the same by it
 invite_client_window_same a b p (code.Proceeding reliable request None) = refl
 invite_client_window_same a b p x = refl
 
 -- until when a phase can be waited in does not depend on the book
 pub invite_client_closes_same : SameCloses invite_client invite_client_seen
+-- the definition asks for no bytes of a message, so both sides are the same by it
 invite_client_closes_same a b p code.Idle = refl
 invite_client_closes_same a b p x = refl
 
@@ -75,6 +79,7 @@ received p (Calling w) (Response code) e y running (inr (inr unsuccessful)) = rw
 received p (Proceeding reliable request cancel) (Response code) e y running (inl success) = rw success.1 (timer_starts p e.moment (64 * p.t1))
 received p (Proceeding reliable request cancel) (Response code) e y running (inr unsuccessful) = rw unsuccessful.1 (timer_d_starts p reliable e.moment)
 received p (Completed reliable request set) (Response code) e y running h = rw h.1 running
+-- no other message has a row
 received p x k e y running h = absurd h
 
 -- the row of a sent message leads to a phase whose timers are not past
@@ -89,6 +94,7 @@ sent p (Calling w) (Request Invite) e y running h =
 sent p (Calling w) (Request Cancel) e y running h = absurd h
 sent p (Proceeding reliable request None) (Request Cancel) e y running h = rw h running
 sent p x (Request Cancel) e y running h = rw h running
+-- no other message has a row
 sent p x k e y running h = absurd h
 
 -- a sent message whose row drops the debts, or that may leave the state as it is, leads to another phase; here there is no such message
@@ -108,6 +114,7 @@ leaves p x k e y h (inr stays) = absurd stays
 pub invite_client_is_figure : IsFigure invite_client
 invite_client_is_figure =
     record {
+      -- idle and ended have no timer
       idle_has_no_end = λ p. refl;
       idle_stays = λ p. refl;
       ended_has_no_end = λ p. refl;
@@ -122,6 +129,7 @@ invite_client_is_figure =
 
 -- the messages that a phase of the code names are those that its words tell
 invite_client_named : TellNames invite_client_seen invite_client_names invite_client_told
+-- both sides are the same by the definitions of the words and of the names
 invite_client_named texts code.Idle = refl
 invite_client_named texts x = refl
 
@@ -129,6 +137,7 @@ invite_client_named texts x = refl
 pub invite_client_is_coded : IsCoded invite_client invite_client_told invite_client_coded
 invite_client_is_coded =
     record {
+      -- each of these is told by a lemma above
       is_figure = invite_client_is_figure;
       apart = invite_client_apart;
       by_names = invite_client_by_names;
@@ -142,6 +151,7 @@ invite_client_is_coded =
       ended_decided = inr (λ same. cc);
       idle_fits = (refl, tt);
       ended_fits = (refl, tt);
+      -- in words idle and ended tell no message
       idle_silent = refl;
       ended_silent = refl;
     }

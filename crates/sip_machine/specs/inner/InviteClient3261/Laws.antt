@@ -28,12 +28,14 @@ received p (Calling w) (Response code) e y running (inr (inr unsuccessful)) = rw
 received p (Proceeding reliable request cancel) (Response code) e y running (inl success) = rw success.1 (All-nil (λ m. e.moment ≤ m))
 received p (Proceeding reliable request cancel) (Response code) e y running (inr unsuccessful) = rw unsuccessful.1 (timer_d_starts p reliable e.moment)
 received p (Completed reliable request set) (Response code) e y running h = rw h.1 running
+-- no other message has a row
 received p x k e y running h = absurd h
 
 -- the INVITE client of RFC 3261 keeps what a figure keeps
 pub invite_client_3261_is_figure : IsFigure invite_client_3261
 invite_client_3261_is_figure =
     record {
+      -- idle and ended have no timer
       idle_has_no_end = invite_client_is_figure.idle_has_no_end;
       idle_stays = invite_client_is_figure.idle_stays;
       ended_has_no_end = invite_client_is_figure.ended_has_no_end;
@@ -50,6 +52,7 @@ invite_client_3261_is_figure =
 pub invite_client_3261_is_coded : IsCoded invite_client_3261 invite_client_told invite_client_3261_coded
 invite_client_3261_is_coded =
     record {
+      -- each of these is told by a lemma above, or by one of the corrected machine
       is_figure = invite_client_3261_is_figure;
       apart = invite_client_is_coded.apart;
       by_names = invite_client_is_coded.by_names;
@@ -62,6 +65,7 @@ invite_client_3261_is_coded =
       ended_decided = invite_client_is_coded.ended_decided;
       idle_fits = invite_client_is_coded.idle_fits;
       ended_fits = invite_client_is_coded.ended_fits;
+      -- in words idle and ended tell no message
       idle_silent = invite_client_is_coded.idle_silent;
       ended_silent = invite_client_is_coded.ended_silent;
     }

@@ -14,4 +14,6 @@ pub returns : goal.returns
 returns c =
     let v = c.args.v in
     let long = c.fits-v.0 in
+    -- `classified`: lanes that are made of one byte each tell a class of bytes if they do so for each of the 256 bytes, which `refl` computes
+    -- here a lane is the byte with the bit 32 set, less 45, and compared with 78
     classified _ is_beyond 32 v _ c.fits-v (omega arith) (from_byte _ 32 78 v long (splatted less _ 32 45 v long (zip2_splat bit_or v 32 32 long))) refl

@@ -17,4 +17,6 @@ swizzle-high c = high_ok c.args.v c.fits-v
 pub returns : goal.returns
 returns c =
     let v = c.args.v in
+    -- `classified`: lanes that are made of one byte each tell a class of bytes if they do so for each of the 256 bytes, which `refl` computes
+    -- here a lane is the kind of the byte with 96 added (`raised`), compared with 128
     classified _ is_control 64 v _ c.fits-v (omega arith) (from_byte _ 64 128 v c.fits-v.0 (raised v c.fits-v)) refl

@@ -9,4 +9,5 @@ use Rattle.sip_masks.proofs.block.equal_to.Goals as goal
 pub returns : goal.returns
 returns c i h =
     let p = λ (x : ℕ). eqb x c.args.byte in
+    -- the mask has a bit for each lane, which says whether its byte is this one
     ap (λ n. test n i) (bitmask_splat w8 eqb c.args.v 32 c.args.byte c.fits-v.0 (omega arith)) ∙ test-mask (map p c.args.v) i ∙ get_or-map p c.args.v i 0 false (omega (arith, c.fits-v.0))

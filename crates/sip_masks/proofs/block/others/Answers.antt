@@ -27,6 +27,7 @@ returns c i h =
     let v = c.args.v in
     let long = c.fits-v.0 in
     let all = kinds v c.fits-v in
+    -- `classified`: lanes that are made of one byte each tell a class of bytes if they do so for each of the 256 bytes, which `refl` computes
     let neither = classified _ is_neither 64 v _ c.fits-v (omega arith) (equal kind 64 0 v long all) refl i h in
     let control = classified _ is_control 64 v _ c.fits-v (omega arith) (from_byte _ 64 128 v long (raised v c.fits-v)) refl i h in
     -- the bit of the OR is the OR of both, and for each of the 256 bytes this is whether it is other, by computing

@@ -1,3 +1,6 @@
+-- The lemmas of the bits are given, after the three masks and the length, what holds of them: each byte is below 256, those of the name are plain,
+-- and bit i of the masks says whether byte i is beyond the bytes of names, a dot, or a hyphen.
+-- `c.NAME.branch` is the test by which a branch was taken that has several: `via-then-A` by A, `via-else-A+then-B` by B, after A failed.
 use Rattle.std.proofs.Common.{◌≡◌, ◌<◌, ◌≤◌, ◌==◌, ℕ, get_or, length, take, sym, ap, ◌∙◌, subst, arith, zero-add}
 use Rattle.std.proofs.lemmas.Bool.{and_parts, eqb-true, eq-eqb, false≢true}
 use Rattle.std.proofs.lemmas.List.{length-take-le}
@@ -80,11 +83,14 @@ returns-then-len-eq0 c = (
       let len = c.args.len in
       -- the name is empty, longer than a window has, or at the end of the text
       elim c.then-len-eq0.branch [
+        -- no ordinary name is empty
         | then-len-eq0-via-then-len-eq0 e ↦
             let none : len ≡ 0 = omega (arith, e.if-len-eq0.true) in
             absurd (not-empty (subst (λ n. OrdinaryName (take n w)) none is.0))
+        -- an ordinary name has at most 32 bytes
         | then-len-eq0-via-else-len-eq0+then-len-gt-LONGEST e ↦
             absurd (omega (arith, e.if-len-gt-LONGEST.true, is.0.1, length-take-le len w (omega (arith, c.requires, prefix_len-le-length is_plain w))))
+        -- the claim is of windows of 32 bytes or more alone
         | then-len-eq0-via-else-len-eq0+else-len-gt-LONGEST+then-window-lt-LONGEST e ↦ absurd (omega (arith, e.if-window-lt-LONGEST.true, is.1))
       ],
 )

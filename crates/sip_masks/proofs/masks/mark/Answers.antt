@@ -10,6 +10,7 @@ use Rattle.sip_masks.proofs.masks.mark.Goals as goal
 last-two : (p : ℕ → Bool) (text words : List ℕ) (k w : ℕ) → p 0 ≡ true → k + 1 < length words → length text < 64 * (k + 1) → 64 * k ≤ length text → BitsTell p text words (64 * k)
     → ((i : ℕ) → i < 64 → test w i ≡ p (get_or text (64 * k + i) 0)) → BitsTell p text (set (set words k w) (k + 1) 18446744073709551615) (64 * words_for (length text))
 last-two p text words k w nul room past there before now i below =
+    -- the word w tells the bytes of word k, and a word of ones the places after it, all of which are past the text
     marks-more p text (set words k w) (k + 1) 18446744073709551615 (omega (arith, room, length-set words k w)) (marks-more p text words k w (omega (arith, room)) before now)
     (λ j h. ones-past p text (64 * (k + 1)) j nul (omega (arith, past)) h) i (omega (arith, below, past, there))
 

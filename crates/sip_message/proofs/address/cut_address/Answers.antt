@@ -15,17 +15,20 @@ returns-then-has_scheme c =
 pub returns-in_err-display : goal.returns-in_err-display
 returns-in_err-display c =
     subst (IsOnlyValue AddressCut cut_parts c.args.text.now) (sym c.from_residual.ensures)
+    -- the text begins with no scheme, and no display name or "<" is read
     (cut-no_display c.args.text.now (λ has. both_ways c.has_scheme.result c.if-has_scheme.false (c.has_scheme.ensures.1 has)) c.in_err-display.ensures)
 
 -- without a ">" after the URI the text is no address
 pub returns-in_err-rest : goal.returns-in_err-rest
 returns-in_err-rest c =
     subst (IsOnlyValue AddressCut cut_parts c.args.text.now) (sym c.from_residual-in_err-rest.ensures)
+    -- the text begins with no scheme, "<" stands there, and no ">" after it
     (cut-open c.args.text.now c.in_ok-display.inner.now _ (λ has. both_ways c.has_scheme.result c.if-has_scheme.false (c.has_scheme.ensures.1 has)) c.in_ok-display.ensures
     (sym (ap option_copied c.in_err-rest.was) ∙ c.cut.ensures.rest))
 
 -- a display name and a URI in angles are cut, and what follows the ">" is left
 pub returns : goal.returns
 returns c =
+    -- what stands after "<" is cut at its first ">"
     cut-named c.args.text.now c.in_ok-display.inner.now c.cut.result.0.now c.in_ok-rest.rest.now _ c.in_ok-display.ensures c.cut.ensures.front
     (sym (ap option_copied c.in_ok-rest.was) ∙ c.cut.ensures.rest)

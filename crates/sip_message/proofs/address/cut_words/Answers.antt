@@ -16,6 +16,7 @@ words-init c = words-first c.args.text.now c.token_len-at.result c.token_len-at.
 pub returns-then-blanks-eq0 : goal.returns-then-blanks-eq0
 returns-then-blanks-eq0 c =
     let text = c.args.text.now in
+    -- the words go up to the place `at`; after them no blank stands, or no token after the blanks
     words-all text _ _ c.words.at c.skip_lws-blanks.result c.token_len-word.result (take_rest text c.words.at) (take_rest _ c.skip_lws-blanks.result) c.words.invariant
     c.skip_lws-blanks.ensures.reads c.token_len-word.ensures.reads
     (elim c.then-blanks-eq0.branch [
@@ -27,6 +28,7 @@ returns-then-blanks-eq0 c =
 pub words-preserved : goal.words-preserved
 words-preserved c =
     let text = c.args.text.now in
+    -- the words go up to the place `at`; after them blanks and a token stand
     words-more text _ _ c.words.at c.skip_lws-blanks.result c.token_len-word.result (take_rest text c.words.at) (take_rest _ c.skip_lws-blanks.result) c.words.invariant
     c.skip_lws-blanks.ensures.within c.token_len-word.ensures.within
     c.skip_lws-blanks.ensures.reads c.if-blanks-eq0.false c.token_len-word.ensures.reads c.if-word-eq0.false

@@ -15,12 +15,14 @@ ends-init c = record { within = omega arith; scanned = scan-nothing c.args.text.
 pub returns-in_err-rest : goal.returns-in_err-rest
 returns-in_err-rest c =
     subst (IsOnlyValue LineFront pair_parts c.args.text.now) (sym c.from_residual.ensures)
+    -- in what is left after the place `at` no LF stands
     (cut-none c.args.text.now c.ends.at c.ends.invariant.scanned
     (sym (ap option_copied c.in_err-rest.was) ∙ c.cut.ensures.rest ∙ ap (behind line_feed) (take_rest c.args.text.now c.ends.at)))
 
 -- the place of the line feed lies within the text
 pub slice_bounds-result-length : goal.slice_bounds-result-length
 slice_bounds-result-length c =
+    -- the code cuts what is left at its first LF, which lies within the text
     let text = c.args.text.now in
     let same = take_rest text c.ends.at in
     let within = lf-within text c.cut.result.0.now c.in_ok-rest.rest.now c.ends.at c.ends.invariant.within
@@ -30,6 +32,7 @@ slice_bounds-result-length c =
 -- where the line feed that was found ends the line, the text is cut there
 pub returns-then-is_line : goal.returns-then-is_line
 returns-then-is_line c =
+    -- what is left is cut at its first LF, and the test says that this ends the line
     let text = c.args.text.now in
     let same = take_rest text c.ends.at in
     line-found text c.cut.result.0.now c.in_ok-rest.rest.now c.ends.at c.ends.invariant.within c.ends.invariant.scanned
@@ -39,6 +42,7 @@ returns-then-is_line c =
 -- the line feed that was found ends no line, so the search goes on after it
 pub ends-preserved : goal.ends-preserved
 ends-preserved c =
+    -- what is left is cut at its first LF, and the test says that this ends no line
     let text = c.args.text.now in
     let same = take_rest text c.ends.at in
     let next = line-on text c.cut.result.0.now c.in_ok-rest.rest.now c.ends.at c.ends.invariant.within c.ends.invariant.scanned

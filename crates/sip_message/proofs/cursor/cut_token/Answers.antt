@@ -14,6 +14,7 @@ returns-then-len-eq0 c (t, r) =
 -- the longest run of token bytes is the one token at the front
 pub returns : goal.returns
 returns c =
+    -- n is the length of the longest token at the front
     let text = c.args.text.now in
     let n = c.token_len-len.result in
     let front = token-cut text n c.token_len-len.ensures.reads c.if-len-eq0.false in

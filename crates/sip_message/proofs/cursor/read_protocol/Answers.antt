@@ -14,36 +14,42 @@ returns-in_err-protocol c =
 -- without a slash after the name the text is no protocol
 pub returns-in_err-past_mark : goal.returns-in_err-past_mark
 returns-in_err-past_mark c =
+    -- the name is read, and then nothing (`go-stop`)
     subst (IsOnlyValue ProtocolFront protocol_parts c.args.text.now) (sym c.from_residual-in_err-past_mark.ensures)
     (go-stop c.in_ok-protocol.ensures (stop c.in_err-past_mark.ensures))
 
 -- without a version the text is no protocol
 pub returns-in_err-version : goal.returns-in_err-version
 returns-in_err-version c =
+    -- the name and the first slash are read, and then nothing
     subst (IsOnlyValue ProtocolFront protocol_parts c.args.text.now) (sym c.from_residual-in_err-version.ensures)
     (go-stop c.in_ok-protocol.ensures (go-stop c.in_ok-past_mark.ensures (stop c.in_err-version.ensures)))
 
 -- without a slash after the version the text is no protocol
 pub returns-in_err-past_mark-2 : goal.returns-in_err-past_mark-2
 returns-in_err-past_mark-2 c =
+    -- the name, the first slash and the version are read, and then nothing
     subst (IsOnlyValue ProtocolFront protocol_parts c.args.text.now) (sym c.from_residual-in_err-past_mark-2.ensures)
     (go-stop c.in_ok-protocol.ensures (go-stop c.in_ok-past_mark.ensures (go-stop c.in_ok-version.ensures (stop c.in_err-past_mark-2.ensures))))
 
 -- without a transport the text is no protocol
 pub returns-in_err-transport : goal.returns-in_err-transport
 returns-in_err-transport c =
+    -- all before the transport is read, and then nothing
     subst (IsOnlyValue ProtocolFront protocol_parts c.args.text.now) (sym c.from_residual-in_err-transport.ensures)
     (go-stop c.in_ok-protocol.ensures (go-stop c.in_ok-past_mark.ensures (go-stop c.in_ok-version.ensures (go-stop c.in_ok-past_mark-2.ensures (stop c.in_err-transport.ensures)))))
 
 -- without a blank after the transport the text is no protocol
 pub returns-then-blanks-eq0 : goal.returns-then-blanks-eq0
 returns-then-blanks-eq0 c =
+    -- each part before the blanks was read, and the longest run of blanks is empty
     go-stop c.in_ok-protocol.ensures (go-stop c.in_ok-past_mark.ensures (go-stop c.in_ok-version.ensures (go-stop c.in_ok-past_mark-2.ensures (go-stop c.in_ok-transport.ensures
     (stop (no-blanks c.in_ok-transport.rest.now (subst (IsLongestFront Blanks c.in_ok-transport.rest.now) c.if-blanks-eq0.true c.skip_lws-blanks.ensures.reads)))))))
 
 -- a name, a slash, a version, a slash, a transport and blanks are a protocol
 pub returns : goal.returns
 returns c =
+    -- each step after the other was read: `go` for each, and `last` for the parts put together
     let rest = c.in_ok-transport.rest.now in
     go c.in_ok-protocol.ensures (go c.in_ok-past_mark.ensures (go c.in_ok-version.ensures (go c.in_ok-past_mark-2.ensures (go c.in_ok-transport.ensures
     (go (subst (ReadAs (BlanksFront rest)) (sym (take_rest rest c.skip_lws-blanks.result)) (longest-blanks_front rest c.skip_lws-blanks.result c.skip_lws-blanks.ensures.reads c.if-blanks-eq0.false)) (last _))))))

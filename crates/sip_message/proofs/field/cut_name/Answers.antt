@@ -15,11 +15,13 @@ returns-in_err-name c = subst (IsOnlyValue HasName named_parts c.args.line.now) 
 -- where no colon follows the name, the line has no name
 pub returns-in_err-rest : goal.returns-in_err-rest
 returns-in_err-rest c =
+    -- after the token and its blanks no colon stands
     subst (IsOnlyValue HasName named_parts c.args.line.now) (sym c.from_residual-in_err-rest.ensures)
     (named-no_colon c.args.line.now c.in_ok-name.name.now c.in_ok-name.rest.now c.in_ok-name.ensures (ap (past colon) (sym c.past_wsp.ensures) ∙ sym c.in_err-rest.ensures))
 
 -- a name before blanks and a colon is the name of the field
 pub returns : goal.returns
 returns c =
+    -- after the token and its blanks a colon stands
     subst (λ n. ReadAs (HasName c.args.line.now) (n, c.in_ok-rest.rest.now)) (sym c.read_name.ensures)
     (named-read c.args.line.now c.in_ok-name.name.now c.in_ok-name.rest.now c.in_ok-rest.rest.now c.in_ok-name.ensures (ap (past colon) (sym c.past_wsp.ensures) ∙ sym c.in_ok-rest.ensures))

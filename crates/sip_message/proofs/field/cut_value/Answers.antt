@@ -14,6 +14,7 @@ returns-then-is-clause-found c = c.loop-at.invariant.found ∙ found-here c.args
 -- a field of another name is passed over
 pub loop-at-preserved : goal.loop-at-preserved
 loop-at-preserved c = record {
+  -- the field at the place of the loop has another name, so nothing that is looked for is passed over
   values = c.loop-at.invariant.values ∙ values-passed c.args.name _ c.loop-at.at _ c.loop-at-test.true (sym c.is.ensures ∙ c.if-is.false);
   found = c.loop-at.invariant.found ∙ found-passed c.args.name _ c.loop-at.at _ c.loop-at-test.true (sym c.is.ensures ∙ c.if-is.false);
 }

@@ -7,6 +7,7 @@ use Rattle.sip_message.proofs.field.cut_value.Given as goal
 -- no field of the name stands between the place from which they are looked for and the index
 abbrev pub invariant-loop-at : goal.invariant-loop-at
 invariant-loop-at l = record {
+  -- the values from both places on are the same, and so are the fields that are found
   values : values l.name (drop l.fn.from (map field_parts l.fields)) ≡ values l.name (drop l.at (map field_parts l.fields));
   found : found_from (l.fn.from + 1) l.name (drop l.fn.from (map field_parts l.fields)) ≡ found_from (l.at + 1) l.name (drop l.at (map field_parts l.fields));
 }

@@ -2,6 +2,7 @@
 -- The first step is a cut of the text (`AddressCut`): `named`, with the URI in "<" and ">", or `plain`, without them. `make d u r` is the cut into the
 -- display name d, the URI u and the rest r. In a row of two steps, `both v one other` is what the first step gives, v, that it gives it, and the next step.
 -- In the lemmas u and w are the URI and what follows it, c and d two cuts, a and b two addresses, ps parameters by their names and values.
+-- `HasScheme` says that a text begins with a token and a colon; `NameFront` is a display name at the front, and `DisplayFront` that, if there is one, and "<".
 use Rattle.std.proofs.Common.{◌≡◌, ℕ, zero, suc, ◌<◌, ◌≤◌, Bool, true, false, ◌||◌, not, nat_eq, nat_lt, List, [], ◌∷◌, ◌++◌, Option, Some, None, IfSome, length, take, drop, get_or, slice_index, refl, sym, ap, ◌∙◌, subst, inl, inr, arith}
 use Rattle.std.specs.Bool.{Decides}
 use Rattle.std.specs.List.{prefix_len}
@@ -39,19 +40,24 @@ use Rattle.sip_message.proofs.lemmas.address.Uri.{uri-scheme, uri-lacks, one-uri
 
 -- all bytes of the longest token at the front of a text are bytes of tokens, also where there is none
 token-all : (text : List ℕ) (n : ℕ) → IsLongestFront Token text n → All is_token_byte (take n text)
+-- there is no token, and so no byte
 token-all text zero longest = tt
+-- the token is not empty, and is all of the first n bytes
 token-all text (suc n) longest = each-token _ (token-cut text (suc n) longest (λ none. absurd (omega (arith, none)))).0
 
 -- where a text begins with a scheme, a colon stands after its longest token
 scheme-behind : (text : List ℕ) (n : ℕ) → IsLongestFront Token text n → HasScheme text → (rest : List ℕ) × (drop n text ≡ colon ∷ rest)
 scheme-behind text n longest (scheme, rest, all, whole) =
+    -- both are the longest run of bytes of tokens at the front, so they are the same, and so is what follows them
     let same = same_front is_token_byte scheme (colon ∷ rest) (take n text) (drop n text) all (token-all text n longest) refl (longest-stops text n longest) (sym whole ∙ sym (take-append-drop n text)) in
+    -- what follows the token is the colon and what the text has after it
     (rest, sym same.1)
 
 -- a text begins with a scheme exactly if a colon stands after its longest token
 pub decides-scheme : (text : List ℕ) (n : ℕ) → IsLongestFront Token text n → n < length text → Decides (nat_eq (get_or text n 0) colon) (HasScheme text)
 decides-scheme text n longest within = (
   -- if: the token and the colon after it are a scheme, up to the rest
+  -- the text is its first n bytes, the colon and the rest
   λ same.
       (take n text, drop (suc n) text, token-all text n longest, sym (take-append-drop n text) ∙ ap (λ t. take n text ++ t) (drop-cons text n 0 within ∙ ap (λ b. b ∷ drop (suc n) text) (eqb-true (get_or text n 0) colon same))),
   -- only if: what stands after the scheme's token is its colon
@@ -65,12 +71,15 @@ decides-scheme text n longest within = (
 -- where the longest token reaches the end of the text, the text begins with no scheme
 pub scheme-short : (text : List ℕ) (n : ℕ) → IsLongestFront Token text n → length text ≤ n → Decides (nat_lt n (length text)) (HasScheme text)
 scheme-short text n longest short = (
+  -- if: the place n would lie within the text, which it does not
   λ less. absurd (omega (arith, ltb-true n (length text) less, short)),
+  -- only if: a colon would stand at the place n
   λ has. absurd (omega (arith, ap length (scheme-behind text n longest has).1, length-drop n text, short)),
 )
 
 -- a text that begins with a byte that is neither of a token nor a colon begins with no scheme
 no_scheme : (b : ℕ) (t : List ℕ) → is_token_byte b ≡ false → nat_eq b colon ≡ false → HasScheme (b ∷ t) → ⊥
+-- an empty scheme has its colon first; another one begins with a byte of a token: b is neither
 no_scheme b t token apart ([], rest, all, whole) = let byte : b ≡ colon = cc in both_ways (nat_eq b colon) apart (eq-eqb b colon byte)
 no_scheme b t token apart (c ∷ s, rest, all, whole) =
     let byte : c ≡ b = cc in
@@ -82,12 +91,15 @@ is_scheme_front b = is_token_byte b || nat_eq b colon
 
 -- a blank does not stand in front of a scheme's colon
 blank-front : (b : ℕ) → is_lws_byte b ≡ true → is_scheme_front b ≡ false
+-- SP, HTAB, CR and LF are tried, by computing
 blank-front = blank_is (λ b. is_scheme_front b ≡ false) refl refl refl refl
 
 -- where "<" follows words after blanks, what follows a word begins with no byte of a token and no colon
 after-word : (more rest inner : List ℕ) → Many (Blanks then Token) more → Behind rest (left_angle ∷ inner) → Fails is_scheme_front (more ++ rest)
 after-word more rest inner many (stops, (k, y, sws, y_is, r_is)) = elim (some-many (Blanks then Token) more many) [
+  -- without further words the blanks k and "<" follow the word
   | inl none ↦ subst (Fails is_scheme_front) (sym (ap (λ t. t ++ rest) none ∙ r_is ∙ ap (λ t. k ++ t) y_is)) (at sws)
+  -- each further word has blanks before it, and they stand at the front
   | inr some ↦
       subst (λ t. Fails is_scheme_front (t ++ rest)) (sym some.4)
       (fails-append is_scheme_front (some.0 ++ some.1) rest (fails-append is_scheme_front some.0 some.1 (fail-then is_scheme_front Blanks Token (fail-blanks is_scheme_front blank-front) some.0 some.2)))
@@ -100,22 +112,28 @@ after-word more rest inner many (stops, (k, y, sws, y_is, r_is)) = elim (some-ma
 
 -- where the front of a scheme ends, a token ends
 fails-token : (u : List ℕ) → Fails is_scheme_front u → Stops is_token_byte u
+-- a text that fails has a first byte, which is neither of a token nor a colon
 fails-token [] fails = absurd fails
 fails-token (b ∷ u) fails = (or_parts (is_token_byte b) (nat_eq b colon) fails).0
 
 -- words that "<" follows after blanks do not begin with a scheme
 words_no_scheme : (w rest inner : List ℕ) → Words w → Behind rest (left_angle ∷ inner) → HasScheme (w ++ rest) → ⊥
 words_no_scheme w rest inner (t, more, token, many, w_is) behind (scheme, r, all, whole) =
+    -- what follows the first word begins with no byte of a token and no colon
     let fails = after-word more rest inner many behind in
+    -- the scheme and the first word, t, are the longest run of bytes of tokens, so a colon would follow that word
     let same = same_front is_token_byte scheme (colon ∷ r) t (more ++ rest) all (each-token t token) refl (fails-token (more ++ rest) fails)
     (sym whole ∙ ap (λ x. x ++ rest) w_is ∙ append_assoc t more rest) in
     both_ways true (subst (Fails is_scheme_front) (sym same.1) fails) refl
 
 -- a text that begins with a scheme does not begin with a display name and "<"
 pub no-display : (text : List ℕ) → HasScheme text → NotRead (DisplayFront text)
+-- "<" stands first, which is neither of a token nor a colon
 no-display text has (None, inner) is = no_scheme left_angle inner refl refl (subst HasScheme is has)
+-- a quoted string begins with its quote, which is neither
 no-display text has (Some name, inner) (rest, inl (q, whole), behind) =
     no_scheme dquote (q.3.0 ++ dquote ∷ rest) refl refl (subst HasScheme (whole ∙ quoted-whole name rest q) has)
+-- the name is words, and "<" follows them
 no-display text has (Some name, inner) (rest, inr (words, no_word, whole), behind) =
     words_no_scheme name rest inner words behind (subst HasScheme whole has)
 
@@ -128,23 +146,29 @@ words-first_byte text (w, r) ((t, more, token, many, w_is), no_word, whole) =
 
 -- a display name is read in one way
 pub one-name : (text : List ℕ) → AtMostOne (NameFront text)
+-- both are quoted strings
 one-name text x y (inl a) (inl b) = one-quoted text x y a b
+-- one is a quoted string, which begins with its quote, and the other words, which begin with a byte of a token
 one-name text x y (inl a) (inr b) = absurd (first-fails is_token_byte (slice_index text 0) dquote refl (quoted-first text x a) (words-first_byte text y b))
 one-name text x y (inr a) (inl b) = absurd (first-fails is_token_byte (slice_index text 0) dquote refl (quoted-first text y b) (words-first_byte text x a))
+-- both are words
 one-name text x y (inr a) (inr b) = one-words text x y a b
 
 -- where a display name is read at the front of a text, the text does not begin with "<"
 name-angle : (text : List ℕ) (x : List ℕ × List ℕ) → NameFront text x → slice_index text 0 ≡ left_angle → ⊥
+-- a quoted string begins with its quote, and words with a byte of a token: neither is "<"
 name-angle text x (inl is) angle = absurd (omega (arith, quoted-first text x is, angle))
 name-angle text x (inr is) angle = first-fails is_token_byte (slice_index text 0) left_angle refl angle (words-first_byte text x is)
 
 -- the display name, if there is one, and "<" at the front of a text are read in one way
 pub one-display : (text : List ℕ) → AtMostOne (DisplayFront text)
 -- i and j are what follows "<" by the two readings; m and n are the names, and r and s what is left after them
+-- none has a display name, so what follows "<" is the same
 one-display text (None, i) (None, j) a b =
     let wholes : left_angle ∷ i ≡ left_angle ∷ j = sym a ∙ b in
     let same : i ≡ j = cc in
     ap (λ x. (None, x)) same
+-- one has no display name, so that "<" stands first, and the other a name, which does not begin with "<"
 one-display text (None, i) (Some n, j) a (s, name, behind) = absurd (name-angle text (n, s) name (ap (λ t. slice_index t 0) a))
 one-display text (Some m, i) (None, j) (r, name, behind) b = absurd (name-angle text (m, r) name (ap (λ t. slice_index t 0) b))
 -- both have a display name, which is the same, and so is what follows it
@@ -161,12 +185,15 @@ display-some text name rest stop inner is behind found =
 
 -- a text that begins with neither "<" nor a display name is not read as one that opens a URI in angles
 pub display-no_name : (text : List ℕ) → past left_angle text ≡ None → NotRead (NameFront text) → NotRead (DisplayFront text)
+-- without a name "<" would stand first; with one, a display name would be read
 display-no_name text missing none (None, inner) is = let found : past left_angle text ≡ Some inner = ap (past left_angle) is in cc
 display-no_name text missing none (Some name, inner) (rest, is, behind) = none (name, rest) is
 
 -- a text that begins with a display name after whose blanks no "<" stands is not read as one that opens a URI in angles
 pub display-no_angle : (text name rest stop : List ℕ) → past left_angle text ≡ None → ReadAs (NameFront text) (name, rest) → IsOnlyBehind rest stop → past left_angle stop ≡ None → NotRead (DisplayFront text)
+-- without a name "<" would stand first
 display-no_angle text name rest stop missing is behind no_angle (None, inner) begins = let found : past left_angle text ≡ Some inner = ap (past left_angle) begins in cc
+-- with a name, it is the one that was read, and "<" would stand after its blanks
 display-no_angle text name rest stop missing is behind no_angle (Some m, inner) (r, name_is, angle) =
     let same : ◌≡◌ {A = List ℕ × List ℕ} (m, r) (name, rest) = is.1 (m, r) name_is in
     let stop_is = behind.1 (left_angle ∷ inner) (subst (λ t. Behind t (left_angle ∷ inner)) (ap (λ x. x.1) same) angle) in
@@ -185,6 +212,7 @@ cut_same c d displays uris rests =
 -- an address is cut in one way
 one-cut : (text : List ℕ) → AtMostOne (AddressCut text)
 one-cut text c d (named i display uri rest) (named j display_too uri_too rest_too) =
+    -- both have the URI in angles: the display name and what follows "<" are the same, and so are the URI before the first ">" and the rest after it
     let same : ◌≡◌ {A = Option (List ℕ) × List ℕ} (c.display, i) (d.display, j) = one-display text (c.display, i) (d.display, j) display display_too in
     let inner = ap (λ x. x.1) same in
     let rests : Some c.rest ≡ Some d.rest = sym rest ∙ ap (behind right_angle) inner ∙ rest_too in
@@ -201,6 +229,7 @@ one-cut text c d (plain has none all stops whole) (plain has_too none_too all_to
 -- a text that begins with a scheme is cut after the bytes that a URI without "<" may hold
 pub cut-plain : (text rest : List ℕ) (n : ℕ) → HasScheme text → n ≡ prefix_len is_unmarked_byte text → rest ≡ drop n text → ReadAs (AddressCut text) (make None (take n text) rest)
 cut-plain text rest n has n_is rest_is =
+    -- `cut` says that the first n bytes may stand in a URI without "<", and that none follows that may
     let cut = prefix-at is_unmarked_byte text n n_is in
     read-one (AddressCut text) (make None (take n text) rest) (one-cut text)
     (plain has refl cut.0 (subst (Stops is_unmarked_byte) (sym rest_is) cut.1) (sym (take-append-drop n text) ∙ ap (λ t. take n text ++ t) (sym rest_is)))
@@ -212,19 +241,23 @@ cut-named text inner uri rest d is uri_is rest_is =
 
 -- a text that neither begins with a scheme nor opens a URI in angles is not cut
 pub cut-no_display : (text : List ℕ) → (HasScheme text → ⊥) → NotRead (DisplayFront text) → NotRead (AddressCut text)
+-- in angles a display name, if any, and "<" would be read; without angles the text would begin with a scheme
 cut-no_display text no_has none c (named inner display uri rest) = none (c.display, inner) display
 cut-no_display text no_has none c (plain has is all stops whole) = no_has has
 
 -- a text that opens a URI in angles, but has no ">" after that, is not cut
 pub cut-open : (text inner : List ℕ) (d : Option (List ℕ)) → (HasScheme text → ⊥) → ReadAs (DisplayFront text) (d, inner) → None ≡ behind right_angle inner → NotRead (AddressCut text)
+-- in angles: what follows "<" is what was read, in which no ">" stands
 cut-open text inner d no_has is missing c (named i display uri rest) =
     let same : ◌≡◌ {A = Option (List ℕ) × List ℕ} (c.display, i) (d, inner) = is.1 (c.display, i) display in
     let found : behind right_angle inner ≡ Some c.rest = ap (λ x. behind right_angle (x.1)) (sym same) ∙ rest in
     cc
+-- without angles the text would begin with a scheme
 cut-open text inner d no_has is missing c (plain has none all stops whole) = no_has has
 
 -- the parameters after an address are what is left after its blanks
 tail-behind : (text params : List ℕ) → TailText text params → Behind text params
+-- no parameters are left only where nothing follows at all; others begin with ";" after the blanks
 tail-behind text [] (is, part) = (refl, ([], [], inl refl, refl, is))
 tail-behind text (b ∷ params) (is, (ps, (opens, whole))) = (stops-byte b params opens, is)
 
@@ -238,6 +271,7 @@ tail-is text params behind some part = read-one (TailText text) params (one-tail
   where
     -- the parameters are not empty, so they are what is left after the blanks
     at : (p : List ℕ) → Behind text p → nat_eq (length p) 0 ≡ false → BehindBlanks p text
+    -- an empty text is excluded; another one is what is left after the blanks
     at [] is full = absurd (both_ways true full refl)
     at (b ∷ p) is full = is.1
 
@@ -261,7 +295,7 @@ tail-no_params text params behind none p is =
 -- where the grammar has a display name, or none, before a URI in angles, the reader cuts it off there
 before-display : (display : Option (List ℕ)) (d text inner : List ℕ) → IfSome display DisplayName → BeforeUri display d → text ≡ d ++ inner → DisplayFront text (display, inner)
 before-display None d text inner fits is whole = whole ∙ ap (λ t. t ++ inner) is
--- the name, blanks and "<" stand at the front
+-- the name, blanks and "<" stand at the front: what follows the name, that the name is read there, and that "<" stands after its blanks
 -- e is the name and t what stands before the URI after it: blanks s and the "<", l
 before-display (Some name) d text inner fits (e, t, e_is, (s, l, sws, l_is, t_is), d_is) whole = (
   s ++ (left_angle ∷ inner),
@@ -286,7 +320,9 @@ before-display (Some name) d text inner fits (e, t, e_is, (s, l, sws, l_is, t_is
 
 -- a display name, or none, that the reader cuts off stands before a URI in angles by the grammar
 display-before : (display : Option (List ℕ)) (text inner : List ℕ) → DisplayFront text (display, inner) → (d : List ℕ) × BeforeUri display d × (text ≡ d ++ inner)
+-- without a display name "<" alone stands before the URI
 display-before None text inner is = (left_angle ∷ [], refl, is)
+-- the name, its blanks and "<" stand before the URI
 display-before (Some name) text inner (rest, is, (stops, (s, y, sws, y_is, rest_is))) = (
   name ++ (s ++ (left_angle ∷ [])),
   (name, s ++ (left_angle ∷ []), refl, (s, left_angle ∷ [], sws, refl, refl), refl),
@@ -306,26 +342,32 @@ display-fits (Some name) text inner (rest, inr words, behind) = inr words.0
 
 -- a blank may not stand in a URI without "<"
 not-plain : (b : ℕ) → is_lws_byte b ≡ true → is_unmarked_byte b ≡ false
+-- SP, HTAB, CR and LF are tried, by computing
 not-plain = blank_is (λ b. is_unmarked_byte b ≡ false) refl refl refl refl
 
 -- bytes that are no blanks and none of `,?;` may stand in a URI without angles
 plain-all : (u : List ℕ) → All (λ b. not (is_lws_byte b)) u → All (λ b. not (is_among ",?;" b)) u → All is_unmarked_byte u
+-- of no bytes nothing is asked
 plain-all [] solid other = tt
 plain-all (b ∷ u) solid other = (and_from (not (is_lws_byte b)) (not (is_among ",?;" b)) solid.0 other.0, plain-all u solid.1 other.1)
 
 -- bytes that may stand in a URI without angles are none of `,?;`
 all-other : (u : List ℕ) → All is_unmarked_byte u → All (λ b. not (is_among ",?;" b)) u
+-- of no bytes nothing is asked
 all-other [] all = tt
 all-other (b ∷ u) all = ((and_parts (not (is_lws_byte b)) (not (is_among ",?;" b)) all.0).1, all-other u all.1)
 
 -- where no byte of a URI without angles follows, that URI stops
 fails-plain : (u : List ℕ) → Fails is_unmarked_byte u → Stops is_unmarked_byte u
+-- a text that fails has a first byte; an empty one does not fail
 fails-plain [] fails = absurd fails
 fails-plain (b ∷ u) fails = fails
 
 -- the parameters after an address, or their blanks, begin with a byte that may not stand in a URI without "<"
 tail-stops : (text params : List ℕ) → TailText text params → Stops is_unmarked_byte text
+-- no parameters are left only where nothing follows
 tail-stops text [] (is, part) = subst (Stops is_unmarked_byte) (sym is) tt
+-- the list of parameters is not empty, since their text is not
 -- k is the blanks and y what follows; p is the first parameter
 tail-stops text (b ∷ params) ((k, y, sws, y_is, whole), ([], (opens, part))) = absurd (omega (arith, ap length part))
 tail-stops text (b ∷ params) ((k, y, sws, y_is, whole), (p ∷ ps, (opens, part))) =
@@ -337,13 +379,16 @@ tail-stops text (b ∷ params) ((k, y, sws, y_is, whole), (p ∷ ps, (opens, par
 
     -- what follows begins with no byte of a URI without "<", whether blanks stand before the ";" or not
     at : Sws k → Fails is_unmarked_byte (k ++ (b ∷ params))
+    -- without blanks the parameters stand first
     at (inl none) = subst (λ t. Fails is_unmarked_byte (t ++ (b ∷ params))) (sym none) begins
+    -- blanks stand first, none of which may stand in the URI
     at (inr blanks) = fails-append is_unmarked_byte k (b ∷ params) (fail-blanks is_unmarked_byte not-plain k blanks)
 
 -- an address of the grammar is what the steps of the reader read
 pub address-steps : (text : List ℕ) (a : AddressParts) → AddressText text a → AddressSteps text (text, a)
 -- d is the display name with what stands before the URI, u the URI, g the ">" and w3 the parameters; w1 to w3 are what follows each part
 address-steps text a (name_addr fits (d, w1, before_is, (u, w2, u_is, (g, w3, g_is, tail, w2_is), w1_is), whole)) =
+    -- the cut is the name before "<", the URI before the first ">", and what follows that; then the URI and the parameters are read in it
     both (make a.display a.uri_text w3)
     (named w1 (before-display a.display d text w1 fits.display before_is whole)
     (sym (ap (before right_angle) inner ∙ before-led right_angle a.uri_text (Some w3) lacks))
@@ -359,6 +404,7 @@ address-steps text a (name_addr fits (d, w1, before_is, (u, w2, u_is, (g, w3, g_
     lacks = uri-lacks a.uri_text a.uri fits.uri
 -- a URI without angles ends before a byte that may not stand in it, and has parameters after it
 address-steps text a (addr_spec fits none plain_is (u, w, u_is, tail, whole)) =
+    -- the text begins with a scheme, no byte of the URI is a blank or one of `,?;`, and what follows begins with none that may stand in it
     both (make a.display a.uri_text w)
     (plain (has.0, has.1 ++ w, has.2, flat ∙ ap (λ t. t ++ w) has.3 ∙ append_assoc has.0 (colon ∷ has.1) w) none
     (plain-all a.uri_text (solid-uri a.uri_text a.uri fits.uri) (each-many (λ b. not (is_among ",?;" b)) _ (each-one (λ b. not (is_among ",?;" b)) (λ b. not (is_among ",?;" b)) (λ b is. is)) a.uri_text plain_is))
@@ -375,6 +421,7 @@ address-steps text a (addr_spec fits none plain_is (u, w, u_is, tail, whole)) =
 
 -- what the steps of the reader read is an address of the grammar
 pub steps-address : (text : List ℕ) (x : List ℕ × AddressParts) → AddressSteps text x → AddressValue text x
+-- in angles: the name, "<", the URI, ">" and the parameters are a name-addr
 steps-address text x (both c (named inner display uri_is rest_is) (both uri is_uri (both params tail is))) =
     subst (AddressValue text) (sym is) (
       name_addr (record { display = display-fits c.display text inner display; uri = is_uri; params = tail.1 })
@@ -389,6 +436,7 @@ steps-address text x (both c (named inner display uri_is rest_is) (both uri is_u
     -- inside the angles stand the URI, ">" and the rest
     inner_is : inner ≡ c.uri ++ (right_angle ∷ c.rest)
     inner_is = cut-whole right_angle inner ∙ ap (λ t. t ++ led right_angle (behind right_angle inner)) (sym uri_is) ∙ ap (λ o. c.uri ++ led right_angle o) rest_is
+-- without angles: the URI and the parameters are an addr-spec
 steps-address text x (both c (plain has none all stops whole) (both uri is_uri (both params tail is))) =
     subst (AddressValue text) (sym is) (
       addr_spec (record { display = subst (λ d. IfSome d DisplayName) (sym none) tt; uri = is_uri; params = tail.1 }) none
@@ -398,7 +446,9 @@ steps-address text x (both c (plain has none all stops whole) (both uri is_uri (
 
 -- an address is read in one way, step by step
 pub one-steps : (text : List ℕ) → AtMostOne (AddressSteps text)
+-- each step is read in one way: the cut, the URI, the parameters
 one-steps text =
+    -- the URI, and the parameters, are read in what the cut has left
     one-seq (AddressCut text) _ (one-cut text) (λ c.
     one-seq (UriText c.uri) _ (one-uri c.uri) (λ uri.
     one-seq (TailText c.rest) _ (one-tail c.rest) (λ params.
@@ -406,10 +456,12 @@ one-steps text =
 
 -- a text is an address of the grammar in one way
 pub one-address : (text : List ℕ) (a b : AddressParts) → AddressText text a → AddressText text b → a ≡ b
+-- both are read by the steps, of one text
 one-address text a b one other = ap (λ x. x.1) (one-steps text (text, a) (text, b) (address-steps text a one) (address-steps text b other))
 
 -- where the steps of the reader read an address alone, it is the only one that the grammar has
 pub read-address : (text : List ℕ) (x : List ℕ × AddressParts) → ReadAs (AddressSteps text) x → ReadAs (AddressValue text) x
+-- an address that the steps read is one of the grammar, and the only one, since the steps read each that the grammar has
 read-address text x is = (steps-address text x is.0, (λ y value. is.1 y (value-steps y value)))
   where
     -- an address of the grammar is one that the steps read
@@ -418,4 +470,5 @@ read-address text x is = (steps-address text x is.0, (λ y value. is.1 y (value-
 
 -- where the steps of the reader read no address, the grammar has none
 pub no-address : (text : List ℕ) → NotRead (AddressSteps text) → NotRead (AddressValue text)
+-- an address of the grammar would be read by the steps
 no-address text none (whole, a) (value, whole_is) = none (text, a) (address-steps text a value)

@@ -1,5 +1,7 @@
 -- A URI is read in one way, begins with a token and a colon, and holds no ">".
 -- In the lemmas p and q are the parts of a URI, and `sip p` those of a SIP or SIPS URI; s is the scheme.
+-- `any-cut` cuts any text as the parts of a SIP URI stand in it; the parts of a SIP URI with this text are those of the cut (`cuts-agree`), and it has no
+-- others (`parts-only`).
 use Rattle.std.proofs.Common.{◌≡◌, ℕ, ◌+◌, ◌⊎◌, Bool, true, false, ◌||◌, nat_eq, nat_le, nat_lt, cond, List, [], ◌∷◌, ◌++◌, Option, Some, None, IfSome, length, drop, refl, sym, ap, ◌∙◌, subst, inl, inr, arith}
 use Rattle.std.specs.Char.{is_ascii_alphabetic, is_ascii_alphanumeric, is_ascii_digit, to_ascii_lowercase}
 use Rattle.std.specs.Int.{is_in_range}
@@ -40,6 +42,7 @@ lower-token b is = at (nat_lt b 65) (nat_lt b 91) refl refl is
   where
     -- the claim holds whether b is below the capital letters, is one, or is above them
     at : (x y : Bool) → nat_lt b 65 ≡ x → nat_lt b 91 ≡ y → is_token_byte (cond x b (cond y (b + 32) b)) ≡ true → is_token_byte b ≡ true
+    -- below the capital letters, and above them, the lower case is the byte itself
     at true y x_is y_is pass = pass
     at false false x_is y_is pass = pass
     -- b is a capital letter, so its lower case is a letter
@@ -57,13 +60,16 @@ folded-token (b ∷ t) all = (lower-token b all.0, folded-token t all.1)
 
 -- the names of the schemes are tokens in lower case
 pub name-token : (secure : Bool) → All is_token_byte (folded (scheme_name secure))
+-- "sips" has four letters and "sip" three: each is tried, by computing
 name-token true = (refl, (refl, (refl, (refl, tt))))
 name-token false = (refl, (refl, (refl, tt)))
 
 -- a byte of a scheme is a byte of a token
 scheme-token : (b : ℕ) → is_scheme_byte b ≡ true → is_token_byte b ≡ true
 scheme-token b is = elim (or_cases (is_ascii_alphanumeric b) (is_among "+-." b) is) [
+  -- letters and digits are bytes of tokens
   | inl alnum ↦ or_left (is_ascii_alphanumeric b) (is_among "-.!%*_+`'~" b) alnum
+  -- 43, 45 and 46 are `+`, `-` and `.`: which of them the byte is, is asked one after another
   | inr one ↦ elim (or_cases (nat_eq 43 b) _ one) [
     | inl e ↦ subst (λ x. is_token_byte x ≡ true) (eqb-true 43 b e) refl
     | inr two ↦ elim (or_cases (nat_eq 45 b) _ two) [
@@ -81,29 +87,35 @@ scheme-token b is = elim (or_cases (is_ascii_alphanumeric b) (is_among "+-." b) 
 pub each-scheme : Each is_token_byte Scheme
 each-scheme =
     each-then is_token_byte _ _
+    -- a scheme is a letter, and then bytes of schemes
     (each-one is_token_byte is_ascii_alphabetic (λ b is. or_left (is_ascii_alphanumeric b) (is_among "-.!%*_+`'~" b) (alphanumeric-alphabetic b is)))
     (each-many is_token_byte _ (each-one is_token_byte is_scheme_byte scheme-token))
 
 -- the text of a URI begins with a scheme and a colon
 abbrev pub uri-scheme : (text : List ℕ) (u : UriParts) → UriText text u → HasScheme text
 uri-scheme text (sip p) (scheme, same, fits, whole) =
+    -- the scheme of a SIP URI is "sip" or "sips" without case
     (scheme, sip_text p, folded-token scheme (subst (All is_token_byte) (sym same) (name-token p.secure)), whole)
+-- any other URI has its own scheme
 uri-scheme text (other scheme rest) (is_scheme, neither, some, whole) = (scheme, rest, each-scheme scheme is_scheme, whole)
 
 -- a text begins with one scheme alone
 scheme-one : (text : List ℕ) (a b : HasScheme text) → (a.0 ≡ b.0) × (a.1 ≡ b.1)
 -- s and t are the schemes, and r and q what follows the colon
 scheme-one text (s, r, s_all, whole) (t, q, t_all, whole_too) =
+    -- both schemes are the longest run of bytes of tokens at the front
     let same = same_front is_token_byte s (colon ∷ r) t (colon ∷ q) s_all t_all refl refl (sym whole ∙ whole_too) in
     let tails : colon ∷ r ≡ colon ∷ q = same.1 in
     (same.0, cc)
 
 -- the byte ">" stands in no host
 angle-foreign : IsForeign right_angle
+-- ">" is in no class of bytes that a host has, and none of its marks
 angle-foreign = record { label = refl; alphanumeric = refl; alphabetic = refl; hexdigit = refl; digit = refl; of_colon = refl; of_dot = refl; of_left = refl; of_right = refl }
 
 -- an optional part with its separator lacks ">"
 lacks-led : (sep : ℕ) (P : List ℕ → Type 0) (o : Option (List ℕ)) → nat_eq sep right_angle ≡ false → AllLack right_angle P → IfSome o P → Lacks right_angle (led sep o)
+-- without the part nothing stands there; with it the separator and the part lack ">"
 lacks-led sep P None apart lack fits = tt
 lacks-led sep P (Some u) apart lack fits = (apart, lack u fits)
 
@@ -126,12 +138,14 @@ lack-parameters = lack-many right_angle _ (lack-then right_angle _ _ (lack-byte 
 -- headers lack ">"
 lack-headers : AllLack right_angle Headers
 lack-headers =
+    -- names and values, with "=" between them, and "&" between two of them
     lack-joined right_angle ampersand Header refl
     (lack-then right_angle _ _ (lack-some right_angle _ (lack-char right_angle is_hnv_unreserved refl))
     (lack-then right_angle _ _ (lack-byte right_angle equals refl) (lack-many right_angle _ (lack-char right_angle is_hnv_unreserved refl))))
 
 -- a userinfo lacks ">"
 userinfo-lacks : (user password : Option (List ℕ)) → IfSome user User → IfSome password Password → Lacks right_angle (userinfo_text user password)
+-- without a user nothing stands there; with one, the user, perhaps ":" and a password, and "@"
 userinfo-lacks None password u p = tt
 userinfo-lacks (Some user) password u p =
     lacks-append right_angle (user ++ led colon password) (at_sign ∷ []) (lacks-append right_angle user (led colon password) (lack-user user u) (lacks-led colon Password password refl lack-password p)) (refl, tt)
@@ -157,6 +171,7 @@ uri-lacks text u is = subst (Lacks right_angle) (sym has.3) (lacks-append right_
 
     -- no ">" stands after the scheme
     rest : (v : UriParts) → (w : UriText text v) → Lacks right_angle ((uri-scheme text v w).1)
+    -- after the scheme stand the SIP URI's parts, or the bytes of another URI
     rest (sip p) w = sip-lacks p w.2
     rest (other scheme more) w = lack-some right_angle _ (lack-char right_angle is_reserved refl) more w.2
 
@@ -167,6 +182,7 @@ decide-port v = at (nat_le 1 (length v)) (nat_le (length v) 5) (list_all is_asci
     -- the claim holds whatever each of the four tests of a port says
     -- a and b say that v has one byte and at most five, c that it has digits alone, and d that its number is a port's
     at : (a b c d : Bool) → nat_le 1 (length v) ≡ a → nat_le (length v) 5 ≡ b → list_all is_ascii_digit v ≡ c → nat_le (digits_value 10 v) 65535 ≡ d → Port v ⊎ (Port v → ⊥)
+    -- a test fails that each port passes
     at false b c d low high all small = inr (λ port. both_ways (nat_le 1 (length v)) low (le-leb 1 (length v) (port-length v port).0))
     at true false c d low high all small = inr (λ port. both_ways (nat_le (length v) 5) high (le-leb (length v) 5 (port-length v port).1))
     at true true false d low high all small = inr (λ port. both_ways (list_all is_ascii_digit v) all (run-list_all is_ascii_digit v (port.0.0, port.0.1, port.0.2)))
@@ -183,12 +199,14 @@ port-cut text = at (before_last colon text) refl
   where
     -- the claim holds whether or not the text has a colon
     at : (o : Option (List ℕ)) → before_last colon text ≡ o → (host : List ℕ) × (port : Option (List ℕ)) × IsPortCut text host port
+    -- without a colon there is no port
     at None is = (text, None, no-port text (λ u some port. none-some_is (sym is ∙ some)))
       where
         -- None is no value
         none-some_is : {u : List ℕ} → None ≡ Some u → ⊥
         none-some_is e = cc
     -- the text after the last colon is a port, or it is no port
+    -- before the last colon stands the host, and after it the port, if that is one
     at (Some u) is = elim (decide-port (behind_last colon text)) [
       | inl port ↦ (u, Some (behind_last colon text), port-there text u (behind_last colon text) is refl port)
       | inr none ↦ (text, None, no-port text (λ v some port. none port))
@@ -200,12 +218,15 @@ info-cut text = at (behind at_sign text) refl
   where
     -- the claim holds whether or not the text has an at sign
     at : (o : Option (List ℕ)) → behind at_sign text ≡ o → (user : Option (List ℕ)) × (password : Option (List ℕ)) × (rest : List ℕ) × IsInfoCut text user password rest
+    -- without "@" there is no user
     at None is = (None, None, text, (is, refl, refl))
+    -- before the first "@" stands the user, and after its first colon the password
     at (Some rest) is = (Some (before colon (before at_sign text)), behind colon (before at_sign text), rest, (is, refl, refl))
 
 -- any text is cut into the parts of a SIP URI, which need not be texts of their productions
 any-cut : (text : List ℕ) → (cut : CutParts) × IsSipCut text cut
 any-cut text =
+    -- `info` is the userinfo with the rest after it, `front` what stands before the "?", and `hostport` what of it stands before the ";"
     let info = info-cut text in
     let front = before question info.2 in
     let hostport = before semicolon front in
@@ -216,6 +237,7 @@ any-cut text =
 -- a SIP URI has its parts in one way
 same-sip : (text : List ℕ) (p q : SipParts) → p.secure ≡ q.secure → SipFits p → SipFits q → text ≡ sip_text p → text ≡ sip_text q → sip p ≡ sip q
 same-sip text p q secure p_fits q_fits p_is q_is =
+    -- `found` is a cut of the text, with which the parts of both agree, and `only` that its host has parts in one way
     let found = any-cut text in
     let agree = cuts-agree text found.0 p found.1 p_fits p_is in
     let only : (y : HostParts) → HostText found.0.host y → y ≡ p.host = λ y is. same-host found.0.host y p.host is (subst (λ t. HostText t p.host) (sym agree.host) p_fits.host) in
@@ -224,14 +246,17 @@ same-sip text p q secure p_fits q_fits p_is q_is =
 
 -- a scheme is "sip" or "sips", and not both
 same-name : (scheme : List ℕ) (a b : Bool) → SameText scheme (scheme_name a) → SameText scheme (scheme_name b) → a ≡ b
+-- both are the same name
 same-name scheme true true same also = refl
 same-name scheme false false same also = refl
+-- "sip" and "sips" differ in length
 same-name scheme true false same also = let names = sym same ∙ also in cc
 same-name scheme false true same also = let names = sym same ∙ also in cc
 
 -- a URI is read in one way
 pub one-uri : (text : List ℕ) → AtMostOne (UriText text)
 one-uri text (sip p) (sip q) a b =
+    -- both are SIP URIs: the scheme and what follows it are the same
     let same = scheme-one text (uri-scheme text (sip p) a) (uri-scheme text (sip q) b) in
     let secure = same-name b.0 p.secure q.secure (subst (λ s. SameText s (scheme_name p.secure)) same.0 a.1) b.1 in
     same-sip (sip_text p) p q secure a.2 b.2 refl same.1

@@ -21,39 +21,49 @@ use Rattle.sip_standard.specs.Says.{IsFirstOf}
 
 -- a field name that passes the test of a known name is that known name
 pub named-known : (k : Known) (n : FieldName) → is_name_of k n ≡ true → n ≡ known k
+-- the test compares the long forms, of which each spells its own name
 named-known k (known j) is = sym (name-known j) ∙ ap name_of (sym ((bytes_eq-Decides (long_name k) (long_name j)).0 is)) ∙ name-known k
+-- no other name passes
 named-known k (other text) is = absurd (both_ways false refl is)
 
 -- where each field is of its row, the values of a name are of the row of the name
 pub row-values : (k : Known) (fs : List Field) → AllByRecursion (λ f. Row f.name f.value) fs → AllByRecursion (Row (known k)) (values k fs)
+-- no fields have no values
 row-values k [] rows = tt
 row-values k (f ∷ fs) rows = at (is_name_of k f.name) refl (row-values k fs rows.1)
   where
     -- the claim holds whether or not the first field has the name
     at : (b : Bool) → is_name_of k f.name ≡ b → AllByRecursion (Row (known k)) (values k fs) → AllByRecursion (Row (known k)) (cond b (f.value ∷ values k fs) (values k fs))
+    -- it has the name, and so its row
     at true is later = (subst (λ n. Row n f.value) (named-known k f.name is) rows.0, later)
+    -- it has not, and so adds no value
     at false is later = later
 
 -- the values of a name are those of the fields of the name that are found
 -- k is the name, fs are the fields, and n is the number of the first one's line
 pub found-values : (n : ℕ) (k : Known) (fs : List Field) → values k fs ≡ map (λ x. x.1) (found_from n k fs)
+-- no fields have no values
 found-values n k [] = refl
 found-values n k (f ∷ fs) = at (is_name_of k f.name) (found-values (n + 1) k fs)
   where
     -- the claim holds whether or not the first field has the name
     at : (b : Bool) → values k fs ≡ map (λ x. x.1) (found_from (n + 1) k fs) → cond b (f.value ∷ values k fs) (values k fs) ≡ map (λ x. x.1) (cond b ((n, f.value) ∷ found_from (n + 1) k fs) (found_from (n + 1) k fs))
+    -- it has the name, and its value comes first; or it has not
     at true later = ap (λ t. f.value ∷ t) later
     at false later = later
 
 -- the value of the first field of a name is the first value of the name
 pub first-value : (k : Known) (fs : List Field) (one : ℕ × List ℕ) → IsFirstFound k fs one → IsFirstOf (values k fs) (one.1)
+-- the first field that is found gives the first value
 first-value k fs one first = (map (λ x. x.1) first.0, found-values 1 k fs ∙ ap (map (λ x. x.1)) first.1)
 
 -- further elements of Via by their parts are further elements with their texts
 pub more-elements : (vias : List ViaParts) (text : List ℕ) → MoreVias vias text → (es : List Element) × MoreElements es text
+-- no further elements have the empty text
 more-elements [] text is = ([], is)
 -- u is the comma and w what follows: x the text of v, and y that of the other elements
 more-elements (v ∷ vias) text (u, w, mark, (x, y, via, more, w_is), text_is) =
+    -- `later` is the elements after the first, with their texts
     let later = more-elements vias y more in
     ((x, v) ∷ later.0, (via, (u, w, mark, (x, y, refl, later.1, w_is), text_is)))
 
@@ -61,13 +71,16 @@ more-elements (v ∷ vias) text (u, w, mark, (x, y, via, more, w_is), text_is) =
 via-elements : (text : List ℕ) → Row (known known_name.Via) text → (e : Element) × (es : List Element) × ElementsText text (e ∷ es)
 -- x is the text of the first element, v, and y that of the others
 via-elements text (v, vias, (x, y, via, more, text_is)) =
+    -- `later` is the elements after the first, with their texts
     let later = more-elements vias y more in
     ((x, v), later.0, (via, (x, y, refl, later.1, text_is)))
 
 -- values of Via, one after another, are elements
 are-elements : (texts : List (List ℕ)) → AllByRecursion (Row (known known_name.Via)) texts → (es : List Element) × AreElements texts es
+-- no values have no elements
 are-elements [] rows = ([], refl)
 are-elements (text ∷ texts) rows =
+    -- `now` is the elements of the first value, and `later` those of the others
     let now = via-elements text rows.0 in
     let later = are-elements texts rows.1 in
     ((now.0 ∷ now.1) ++ later.0, (now.0 ∷ now.1, later.0, now.2, later.1, refl))
@@ -75,17 +88,20 @@ are-elements (text ∷ texts) rows =
 -- one value of Via or more, one after another, are elements, at least one
 first-elements : (text : List ℕ) (texts : List (List ℕ)) → AllByRecursion (Row (known known_name.Via)) (text ∷ texts) → (e : Element) × (es : List Element) × AreElements (text ∷ texts) (e ∷ es)
 first-elements text texts rows =
+    -- `now` is the elements of the first value, and `later` those of the others
     let now = via-elements text rows.0 in
     let later = are-elements texts rows.1 in
     (now.0, now.1 ++ later.0, (now.0 ∷ now.1, later.0, now.2, later.1, refl))
 
 -- where each field is of its row, the first value of a name is of the row of the name
 pub row-of : (k : Known) (fs : List Field) (text : List ℕ) → AllByRecursion (λ f. Row f.name f.value) fs → IsFirstOf (values k fs) text → Row (known k) text
+-- all values are of the row, and so is the first
 row-of k fs text rows is = (subst (AllByRecursion (Row (known k))) is.1 (row-values k fs rows)).0
 
 -- a message has the parts of its named fields
 pub has-parts : (bytes : List ℕ) (m : Message) → MessageText bytes m → (p : Parts) × HasParts m.fields p
 has-parts bytes m text =
+    -- each field is of its row; the first value of each name stands where the demands of a message have it
     let rows = fields-rows text.others m.fields text.are_fields in
     let via = first-value known_name.Via m.fields text.fits.via.0 text.fits.via.1 in
     let from = first-value known_name.From m.fields text.fits.from.0 text.fits.from.1 in

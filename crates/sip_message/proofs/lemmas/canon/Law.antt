@@ -1,5 +1,6 @@
 -- The law of the canonical form.
 -- In the lemmas fs are fields, and n is the number of the first of them; as Bools, x and y are what two tests of a byte say.
+-- A text is inner (`Inner`) where it has neither CR nor LF. `unfolded_field` is a field with its value unfolded, and `message_of` a message with all of them.
 use Rattle.std.proofs.Common.{◌≡◌, ℕ, ◌+◌, ◌≤◌, ◌<◌, Bool, true, false, not, ◌&&◌, List, [], ◌∷◌, ◌++◌, length, take, map, cond, nat_eq, Option, Some, None, refl, sym, ap, ◌∙◌, subst, inl, inr, arith}
 use Rattle.std.specs.Prelude.{is_some, get_or, ◌^◌, codes, decimal, IsTrue, bytes_eq}
 use Rattle.std.specs.Char.{is_ascii_digit}
@@ -90,6 +91,7 @@ name-known known_name.Route = refl
 
 -- a text that spells no known name by a list is kept as it is spelled
 name-other : (xs : List (List ℕ × Known)) (text t : List ℕ) → name_by xs text ≡ other t → text ≡ t
+-- by an empty list each text is kept as it is spelled
 name-other [] text t is = ap text_in is
   where
     -- the text of a name that is no known one
@@ -105,12 +107,14 @@ name-other (x ∷ xs) text t is = at (name-other xs text t) (bytes_eq (folded te
 
     -- the claim holds whether or not the text is the first spelling
     at : (name_by xs text ≡ other t → text ≡ t) → (same : Bool) → cond same (known x.1) (name_by xs text) ≡ other t → text ≡ t
+    -- a known name is not one that is kept as it is spelled; where the first spelling is another, the claim is that of the others
     at later true e = absurd (both_ways false refl (ap is_other e))
     at later false e = later e
 
 -- one byte of a token or more are a token
 token_text : (b : ℕ) (text : List ℕ) → list_all is_token_byte (b ∷ text) ≡ true → Token (b ∷ text)
 token_text b text all =
+    -- the first byte and the others are bytes of tokens
     let parts = and_parts (is_token_byte b) (list_all is_token_byte text) all in
     (b ∷ [], text, (b, parts.0, refl), list_all-run is_token_byte text parts.1, refl)
 
@@ -132,6 +136,7 @@ long-token known_name.Route = token_text _ _ refl
 
 -- the name that a token spells is written as a token, which spells the same name
 name-text : (n : FieldName) (spelled : List ℕ) → Token spelled → n ≡ name_of spelled → Token (name_text n) × (n ≡ name_of (name_text n))
+-- a known name is written in its long form; any other as it is spelled
 name-text (known k) spelled token is = (long-token k, sym (name-known k))
 name-text (other t) spelled token is =
     let same = name-other spellings spelled t (sym is) in
@@ -139,6 +144,7 @@ name-text (other t) spelled token is =
 
 -- a code of three digits is written as it was spelled
 pub code-decimal : (text : List ℕ) (code : ℕ) → CodeText text code → decimal code ≡ text
+-- the decimal of the number that digits write is those digits, since they are few, and do not begin with 0
 code-decimal text code is =
     ap decimal is.code_is
     ∙ decimal-digits_value (numerals_by_value (λ ds. all_ascii_digits ds ≡ true) tells_all_ascii_digits) text digits
@@ -150,6 +156,7 @@ code-decimal text code is =
 
     -- digits, joined, are digits
     each : (us : List (List ℕ)) → AllByRecursion (One is_ascii_digit) us → all_ascii_digits (concat us) ≡ true
+    -- the first text is one digit, and the others are digits
     each [] all = refl
     each (u ∷ us) all = ap (λ t. all_ascii_digits (t ++ concat us)) all.0.2 ∙ and_from _ _ all.0.1 (each us all.1)
 
@@ -173,8 +180,10 @@ code-decimal text code is =
 
 -- the canonical form of a start line is a start line of the same parts
 start-canon : (line : List ℕ) (s : StartLine) → StartText line s → StartText (start_text s) s
+-- a request: the method, SP, the URI, SP and the version, cut one after another
 start-canon line (request method uri) (token, is_uri, whole) =
     (token, is_uri, (method, space ∷ (uri ++ space ∷ codes "SIP/2.0"), refl, (space ∷ [], uri ++ space ∷ codes "SIP/2.0", refl, (uri, space ∷ codes "SIP/2.0", refl, (space ∷ [], codes "SIP/2.0", refl, refl, refl), refl), refl), refl))
+-- a response: the version, SP, the code, SP and the reason, cut one after another
 start-canon line (status code reason) (bytes, whole) =
     -- the version, the code as it was spelled, and the reason stand in the line
     let parts = status_parts line code reason (bytes, whole) in (
@@ -211,6 +220,7 @@ version-inner = (refl, (refl, (refl, (refl, (refl, (refl, (refl, tt)))))))
 
 -- the canonical form of a start line has no CR and no LF, and is not empty
 start-inner : (line : List ℕ) (s : StartLine) → StartText line s → Inner (start_text s) × (start_text s ≡ [] → ⊥)
+-- the method and the URI have no blanks, and so neither CR nor LF; and the line has at least its SP
 start-inner line (request method uri) (token, is_uri, whole) = (
   all_both is_inner_byte method (space ∷ (uri ++ space ∷ codes "SIP/2.0")) (solid-inners method (solid-token method token))
       (refl, all_both is_inner_byte uri (space ∷ codes "SIP/2.0") (solid-inners uri (solid-uri uri is_uri.0 is_uri.1)) (refl, version-inner)),
@@ -227,6 +237,7 @@ start-inner line (status code reason) (bytes, whole) =
 
 -- the canonical form of a field is a line that is the field with its value unfolded
 field-canon : (line : List ℕ) (f : Field) → FieldText line f → FieldText (field_text (unfolded_field f)) (unfolded_field f)
+-- `spelled` says that the written name is a token of this name, and `trimmed` that the unfolded value has no blank at its ends
 field-canon line f is =
     let spelled = name-text f.name is.named.spelled is.named.is_token is.named.name_is in
     let trimmed = closed-unfolded Trimmed closed-trimmed f.value (is.valued.opens, is.valued.ends) in
@@ -250,6 +261,7 @@ field-canon line f is =
 
 -- the canonical form of a field has no CR and no LF, and is not empty
 field-inner : (line : List ℕ) (f : Field) → FieldText line f → Inner (field_text (unfolded_field f)) × (field_text (unfolded_field f) ≡ [] → ⊥)
+-- the name is a token, and the unfolded value has no CR or LF; the colon between them makes the line not empty
 field-inner line f is =
     let spelled = name-text f.name is.named.spelled is.named.is_token is.named.name_is in (
       all_both is_inner_byte (name_text f.name) (colon ∷ space ∷ unfolded f.value) (solid-inners (name_text f.name) (solid-token (name_text f.name) spelled.0)) (refl, (refl, unfolded-inner f.value)),
@@ -269,6 +281,7 @@ field-cut line f is =
 
 -- the canonical forms of fields, one after another, are lines that are the fields with their values unfolded
 fields-canon : (lines : List (List ℕ)) (fs : List Field) → FieldsText lines fs → FieldsText (map field_text (map unfolded_field fs)) (map unfolded_field fs)
+-- no fields have no lines; else the first field is its line, and the others are theirs
 fields-canon [] fs is = subst (λ gs. FieldsText (map field_text (map unfolded_field gs)) (map unfolded_field gs)) (sym is) refl
 fields-canon (line ∷ lines) fs (f, more, is, are, whole) =
     subst (λ gs. FieldsText (map field_text (map unfolded_field gs)) (map unfolded_field gs)) (sym whole)
@@ -276,18 +289,21 @@ fields-canon (line ∷ lines) fs (f, more, is, are, whole) =
 
 -- the canonical forms of fields have no CR and no LF, and none is empty
 fields-inner : (lines : List (List ℕ)) (fs : List Field) → FieldsText lines fs → AreInner (map field_text (map unfolded_field fs))
+-- no fields have no lines; else the first line has no CR and no LF, and neither have the others
 fields-inner [] fs is = subst (λ gs. AreInner (map field_text (map unfolded_field gs))) (sym is) tt
 fields-inner (line ∷ lines) fs (f, more, is, are, whole) =
     subst (λ gs. AreInner (map field_text (map unfolded_field gs))) (sym whole) (field-inner line f is, fields-inner lines more are)
 
 -- no canonical form of a field begins with a blank
 fields-cut : (lines : List (List ℕ)) (fs : List Field) → FieldsText lines fs → AllByRecursion (λ line. ¬ (OpensBlank line)) (map field_text (map unfolded_field fs))
+-- no fields have no lines; else the first line begins with no blank, and neither do the others
 fields-cut [] fs is = subst (λ gs. AllByRecursion (λ line. ¬ (OpensBlank line)) (map field_text (map unfolded_field gs))) (sym is) tt
 fields-cut (line ∷ lines) fs (f, more, is, are, whole) =
     subst (λ gs. AllByRecursion (λ line. ¬ (OpensBlank line)) (map field_text (map unfolded_field gs))) (sym whole) (field-cut line f is, fields-cut lines more are)
 
 -- where lines are fields, each field has a value of its row
 pub fields-rows : (lines : List (List ℕ)) (fs : List Field) → FieldsText lines fs → AllByRecursion (λ f. Row f.name f.value) fs
+-- no fields have no rows; else the first field is of its row, and so are the others
 fields-rows [] fs is = subst (AllByRecursion (λ f. Row f.name f.value)) (sym is) tt
 fields-rows (line ∷ lines) fs (f, more, is, are, whole) =
     subst (AllByRecursion (λ g. Row g.name g.value)) (sym whole) (is.row, fields-rows lines more are)
@@ -403,6 +419,7 @@ body-twice (Some n) rest enough =
 -- where fields and a body meet what a message demands, so do the unfolded fields and the body that is cut to its length
 fits-unfolded : (start : StartLine) (fs : List Field) (rest : List ℕ) → AllByRecursion (λ f. Row f.name f.value) fs → MessageFits start fs rest → MessageFits start (map unfolded_field fs) (cut_body (content_length fs) rest)
 fits-unfolded start fs rest rows fits = record {
+  -- each field that must stand there does so, and none stands twice that may stand once
   via = stands-unfolded known_name.Via fs fits.via;
   from_once = once-unfolded known_name.From fs fits.from_once;
   from = stands-unfolded known_name.From fs fits.from;
@@ -410,7 +427,7 @@ fits-unfolded start fs rest rows fits = record {
   to = stands-unfolded known_name.To fs fits.to;
   call_id_once = once-unfolded known_name.CallId fs fits.call_id_once;
   call_id = stands-unfolded known_name.CallId fs fits.call_id;
-  -- Call-ID and CSeq stand once, and so do their unfolded values
+  -- CSeq stands there, and neither it nor Content-Length twice
   cseq_once = once-unfolded known_name.CSeq fs fits.cseq_once;
   cseq = stands-unfolded known_name.CSeq fs fits.cseq;
   length_once = once-unfolded known_name.ContentLength fs fits.length_once;
@@ -432,6 +449,7 @@ fits-unfolded start fs rest rows fits = record {
     -- the transport is the same without its folds
     stream : IsStream (unfolded fits.via.0.1) → IsStream fits.via.0.1
     stream (t, top, is) =
+        -- `before` is the elements of the folded value, whose first one has the same transport
         let before = via_row in
         (before.0.transport, (before.0, before.1, before.2, refl), subst (λ x. IsTrue (is_stream x)) (same_transport (unfolded fits.via.0.1) t before.0.transport top (unfolded-via fits.via.0.1 before.0.transport (before.0, before.1, before.2, refl))) is)
 
@@ -474,6 +492,7 @@ message-twice (f ∷ fs) =
 -- where bytes spell a message, so does its canonical form
 pub canon-spells : (bytes : List ℕ) (m : Message) → Spells bytes m → Spells (canon m) m
 canon-spells bytes m (s, text, is) =
+    -- the canonical form is the text of the unfolded message, which is itself when it is unfolded again
     subst (λ n. Spells (canon n) n) (sym is)
     (message_of s, canon-text bytes s text, ap (λ fs. record { start = s.start; fields = fs; body = s.body }) (sym (message-twice s.fields)))
 

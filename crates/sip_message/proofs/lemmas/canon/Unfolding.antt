@@ -21,6 +21,7 @@ pub record Unfolding (old text : List ℕ) (from at : ℕ) (out : List ℕ) : Ty
 -- the run up to the place after a byte is the run up to the byte, and the byte
 run-more : (text : List ℕ) (from at : ℕ) → from ≤ at → at < length text → take (at + 1 - from) (drop from text) ≡ take (at - from) (drop from text) ++ get_or text at 0 ∷ []
 run-more text from at low below =
+    -- the run has one byte more, which is the one at the index
     ap (λ n. take n (drop from text)) (omega (arith, low)) ∙ take_more (drop from text) (at - from) 0 (omega (arith, low, below, length-drop from text))
     ∙ ap (λ b. take (at - from) (drop from text) ++ b ∷ []) (get_or-drop from text (at - from) 0 ∙ ap (λ n. get_or text n 0) (omega (arith, low)))
 
@@ -30,6 +31,7 @@ unfold-blank old text out from at below blank u = record {
   done = u.done;
   appended = u.appended;
   within = omega (arith, u.within);
+  -- the byte of the run is taken from the rest, which comes to the same
   rest = ap (λ r. u.done ++ unfolded_from r (drop (at + 1) text)) (run-more text from at u.within below) ∙ ap (λ x. u.done ++ x) (sym step) ∙ u.rest;
 }
   where
@@ -40,12 +42,14 @@ unfold-blank old text out from at below blank u = record {
     -- the blank at the index is one more of the run
     step : unfolded_from run (drop at text) ≡ unfolded_from (run ++ get_or text at 0 ∷ []) (drop (at + 1) text)
     step =
+        -- the rest begins with the byte at the index, which is a blank
         ap (unfolded_from run) (drop_more text at 0 below)
         ∙ ap (λ b. cond b (unfolded_from (run ++ get_or text at 0 ∷ []) (drop (at + 1) text)) (unfolded_run run ++ get_or text at 0 ∷ unfolded_from [] (drop (at + 1) text))) blank
 
 -- where another byte stands at the index, the run, unfolded, and the byte are written
 pub unfold-solid : (old text out mid new : List ℕ) (from at : ℕ) → at < length text → is_lws_byte (get_or text at 0) ≡ false → Unfolding old text from at out → mid ≡ out ++ unfolded_run (take (at - from) (drop from text)) → new ≡ mid ++ get_or text at 0 ∷ [] → Unfolding old text (at + 1) (at + 1) new
 unfold-solid old text out mid new from at below solid u mid_is new_is = record {
+  -- the run, unfolded, and the byte are written after what was written before
   done = u.done ++ (unfolded_run run ++ get_or text at 0 ∷ []);
   appended =
       new_is ∙ ap (λ x. x ++ get_or text at 0 ∷ []) (mid_is ∙ ap (λ x. x ++ unfolded_run run) u.appended ∙ append_assoc old u.done (unfolded_run run))
@@ -69,13 +73,16 @@ unfold-solid old text out mid new from at below solid u mid_is new_is = record {
     -- the run is written, unfolded, and then the byte
     step : unfolded_from run (drop at text) ≡ unfolded_run run ++ get_or text at 0 ∷ unfolded_from [] (drop (at + 1) text)
     step =
+        -- the rest begins with the byte at the index, which is no blank
         ap (unfolded_from run) (drop_more text at 0 below)
         ∙ ap (λ b. cond b (unfolded_from (run ++ get_or text at 0 ∷ []) (drop (at + 1) text)) (unfolded_run run ++ get_or text at 0 ∷ unfolded_from [] (drop (at + 1) text))) solid
 
 -- where memory is refused, some part of the text was appended
 -- `from` and `at` are where the loop began and how far it has come, and r is the result of the call that was refused memory
 pub unfold-part : {A E : Type 0} (old text out new goal : List ℕ) (from at : ℕ) (r : Result A E) → IsErr r → Unfolding old text from at out → (part : List ℕ) × (new ≡ out ++ part) → Appends old new goal r
+-- the result would be a value, though it is an error
 unfold-part old text out new goal from at (Ok a) err u is = absurd (both_ways false refl err)
+-- after what was written, a part of the rest was appended
 unfold-part old text out new goal from at (Err e) err u is = (u.done ++ is.0, is.1 ∙ ap (λ x. x ++ is.0) u.appended ∙ append_assoc old u.done is.0)
 
 -- a part that is appended after a front is, with the front, a part that is appended
@@ -84,10 +91,12 @@ part-more out mid new front mid_is is = (front ++ is.0, is.1 ∙ ap (λ x. x ++ 
 
 -- '0' and a number below ten make a digit
 digit-is : (a : ℕ) → a < 10 → is_ascii_digit (48 + a) ≡ true
+-- 48 is "0" and 57 "9", which is the digit of 9
 digit-is a small = and_from _ _ (le-leb 48 (48 + a) (omega arith)) (le-leb (48 + a) 57 (omega (arith, small)))
 
 -- the three digits of a status code are its decimal
 pub three-digits : (code : ℕ) → 100 ≤ code → code < 700 → ◌≡◌ {A = List ℕ} ((48 + code / 100) ∷ (48 + code / 10 % 10) ∷ (48 + code % 10) ∷ []) (decimal code)
+-- the decimal of a code is how its three digits spell it
 three-digits code low high = sym (code-decimal ((48 + code / 100) ∷ (48 + code / 10 % 10) ∷ (48 + code % 10) ∷ []) code is)
   where
     -- the first digit is below 10
@@ -105,7 +114,9 @@ three-digits code low high = sym (code-decimal ((48 + code / 100) ∷ (48 + code
     -- the three digits are the text of the code
     is : CodeText ((48 + code / 100) ∷ (48 + code / 10 % 10) ∷ (48 + code % 10) ∷ []) code
     is = record {
+      -- each digit is one byte, from "0" to "9"
       digits = (((48 + code / 100) ∷ []) ∷ ((48 + code / 10 % 10) ∷ []) ∷ ((48 + code % 10) ∷ []) ∷ [], ((48 + code / 100, digit-is (code / 100) x, refl), ((48 + code / 10 % 10, digit-is (code / 10 % 10) y, refl), ((48 + code % 10, digit-is (code % 10) z, refl), tt))), refl, omega arith, omega arith);
+      -- the number that the three digits write is the code
       code_is = omega (arith, digit_value_digit (48 + code / 100) (omega arith, omega (arith, x)), digit_value_digit (48 + code / 10 % 10) (omega arith, omega (arith, y)), digit_value_digit (48 + code % 10) (omega arith, omega (arith, z)));
       low = low;
       high = high;

@@ -22,8 +22,11 @@ other-by ((s, k) ∷ more) text n len none = at (nat_eq (length s) n) (bytes_eq 
     -- the claim holds whether or not the spelling has n bytes, and whether or not the text has this spelling
     at : (same equal : Bool) → nat_eq (length s) n ≡ same → bytes_eq (folded text) s ≡ equal → AllByRecursion (λ x. folded text ≡ x.0 → ⊥) (cond same ((s, k) ∷ of_length n more) (of_length n more))
         → (AllByRecursion (λ x. folded text ≡ x.0 → ⊥) (of_length n more) → name_by more text ≡ other text) → cond equal (known k) (name_by more text) ≡ other text
+    -- the spelling has n bytes, and the text is it, which was excluded
     at true true long is none later = absurd (none.0 ((bytes_eq-Decides (folded text) s).0 is))
+    -- the spelling has n bytes, but is another text
     at true false long is none later = later none.1
+    -- the spelling has another length, and is another text
     at false false long is none later = later none
     -- equal texts have one length
     at false true long is none later =

@@ -24,6 +24,7 @@ use Rattle.sip_message.proofs.lemmas.params.Closed.{some-run}
 -- the first n bytes of a text, which are a front of P, are the text of that front
 front-take : (P : List ℕ → Type 0) (text : List ℕ) (n : ℕ) (front : HasFront P text n) → take n text ≡ front.0
 front-take P text n front =
+    -- the front is as long as n, and stands first in the text
     ap (λ m. take m text) front.4 ∙ ap (take (length front.0)) front.3 ∙ take-append_seam front.0 front.1
 
 -- where the longest token at the front of a text is not empty, the text is read as that token and what is left after it
@@ -32,6 +33,7 @@ token-cut text n longest some = at longest.front
   where
     -- after the longest token no byte of a token follows
     stops : (u v : List ℕ) → Token u → text ≡ u ++ v → n ≡ length u → Stops is_token_byte v
+    -- after the token nothing stands, or a byte b
     stops u [] token whole len = tt
     stops u (b ∷ v) token whole len = go (is_token_byte b) refl
       where
@@ -51,6 +53,7 @@ token-cut text n longest some = at longest.front
 
     -- the text is read so, since the longest token is not empty and so stands at the front
     at : (n ≡ 0) ⊎ HasFront Token text n → TokenFront text (take n text, drop n text)
+    -- no token stands at the front; or one does, and is the first n bytes
     at (inl none) = absurd (some none)
     at (inr front) =
         let front_is = front-take Token text n front in
@@ -63,6 +66,7 @@ token-cut text n longest some = at longest.front
 -- where the longest token at the front of a text is empty, no token is read there
 pub no-token : (text : List ℕ) → IsLongestFront Token text 0 → (t r : List ℕ) → TokenFront text (t, r) → ⊥
 no-token text longest t r front =
+    -- `whole` says that the text is t and what follows; so t would be no longer than the longest token, which is empty
     let is = front.2 in
     let whole = is.4 ∙ ap (λ x. x ++ is.1) is.2 in
     let short = longest.longest (length t) (t, is.1, front.0, whole, refl) in
@@ -77,6 +81,7 @@ no-token text longest t r front =
 -- t and u are the token, and r and s what is left, by two readings
 pub same-token : (text : List ℕ) (t r u s : List ℕ) → TokenFront text (t, r) → TokenFront text (u, s) → (t ≡ u) × (r ≡ s)
 same-token text t r u s one other =
+    -- both tokens are the longest run of bytes of tokens at the front
     same_front is_token_byte t r u s (each-token t one.0) (each-token u other.0) one.1 other.1
     (sym (one.2.4 ∙ ap (λ x. x ++ one.2.1) one.2.2 ∙ ap (λ x. t ++ x) one.2.3) ∙ (other.2.4 ∙ ap (λ x. x ++ other.2.1) other.2.2 ∙ ap (λ x. u ++ x) other.2.3))
 
@@ -84,6 +89,7 @@ same-token text t r u s one other =
 pub same-behind : (text r s : List ℕ) → Behind text r → Behind text s → r ≡ s
 -- u and x are the blanks, and v and y what follows them, by the two readings
 same-behind text r s (r_stops, (u, v, u_is, v_is, whole)) (s_stops, (x, y, x_is, y_is, whole_too)) =
+    -- both runs of blanks are as many blanks as stand there, since none follows
     (same_many Blank blank_len u r x s blank-step (many u u_is) (many x x_is)
     (ap (λ t. u ++ t) (sym v_is) ∙ sym whole ∙ whole_too ∙ ap (λ t. x ++ t) y_is) r_stops s_stops).1
   where
@@ -95,6 +101,7 @@ same-behind text r s (r_stops, (u, v, u_is, v_is, whole)) (s_stops, (x, y, x_is,
 -- what is left after the longest run of blanks is the one rest after the blanks
 pub longest-behind : (text : List ℕ) (n : ℕ) → IsLongestFront Blanks text n → IsOnlyBehind text (drop n text)
 longest-behind text n longest =
+    -- `blanks` is the longest run, after which no blank stands, and `front` the text of it
     let blanks = blanks-longest text n longest in
     let front = blanks.0 in
     let rest_is = front-rest (Many Blank) text n front in
@@ -104,6 +111,7 @@ longest-behind text n longest =
 -- where no blank run stands at the front of a text, the text is what is left after its blanks
 pub stops-behind : (text : List ℕ) → StopsBlank text → IsOnlyBehind text text
 stops-behind text stops =
+    -- no blanks stand before the text
     let behind : Behind text text = (stops, ([], text, inl refl, refl, refl)) in
     (behind, (λ other is. same-behind text other text is behind))
 
@@ -113,6 +121,7 @@ stops-byte b text solid = at (is_wsp b) (nat_eq b carriage_return) solid
   where
     -- a byte that is neither SP, HTAB nor CR begins no blank
     at : (x y : Bool) → (x || (y || nat_eq b line_feed)) ≡ false → ◌≡◌ {A = ℕ} (cond x 1 (cond (y && slice_index text 0 == line_feed && is_wsp (slice_index text 1)) 3 0)) 0
+    -- x says that b is SP or HTAB, and y that it is CR; it is neither
     at true y is = absurd (both_ways true is refl)
     at false true is = absurd (both_ways true is refl)
     at false false is = refl
@@ -151,12 +160,14 @@ past-cons mark rest = ap (λ same. cond same (Some rest) None) (eq-eqb mark mark
 -- where another byte stands after the blanks at the front of a text, the mark is not read there
 pub no-mark : (mark : ℕ) (text rest : List ℕ) → is_lws_byte mark ≡ false → IsOnlyBehind text rest → past mark rest ≡ None → (r : List ℕ) → MarkFront mark text r → ⊥
 no-mark mark text rest solid behind missing r front =
+    -- the byte would stand after the blanks, where another one stands
     let parts = mark-parts mark text r solid front in
     none-some parts.0 (sym missing ∙ ap (past mark) (sym (behind.1 (mark ∷ parts.0) parts.1)) ∙ past-cons mark parts.0)
 
 -- where the byte stands after the blanks at the front of a text, its mark is read there, and leaves one text
 pub one-mark : (mark : ℕ) (text rest inner r : List ℕ) → is_lws_byte mark ≡ false → IsOnlyBehind text rest → past mark rest ≡ Some inner → IsOnlyBehind inner r → MarkFront mark text r × ((other : List ℕ) → MarkFront mark text other → other ≡ r)
 one-mark mark text rest inner r solid behind found inside = (
+  -- the mark is read; and by any other reading its byte stands after the same blanks, so that the same is left after it
   parts-mark mark text inner r (subst (Behind text) (past-some mark rest inner found) behind.0) inside.0,
   (λ other front.
       let parts = mark-parts mark text other solid front in
@@ -168,6 +179,7 @@ one-mark mark text rest inner r solid behind found inside = (
 -- what is left after a blank run at the front of a text is one text
 pub same-blanks : (text r s : List ℕ) → BlanksFront text r → BlanksFront text s → r ≡ s
 same-blanks text r s one other =
+    -- a blank run is an optional one
     same-behind text r s (one.0, (one.1.0, one.1.1, inr one.1.2, one.1.3, one.1.4)) (other.0, (other.1.0, other.1.1, inr other.1.2, other.1.3, other.1.4))
 
 -- R holds of this value and of no other
@@ -180,15 +192,18 @@ NotRead {X = X} R = (x : X) → ¬ (R x)
 
 -- where the first of two steps gives nothing, both together give nothing
 pub stop : {X Y : Type 0} {R : X → Type 0} {S : X → Y → Type 0} → NotRead R → NotRead (Seq R S)
+-- y would be given by the first step, which gives nothing
 stop none y (both x r s) = none x r
 
 -- where the first of two steps gives one value, and the second nothing after it, both together give nothing
 pub go-stop : {X Y : Type 0} {R : X → Type 0} {S : X → Y → Type 0} {a : X} → ReadAs R a → NotRead (S a) → NotRead (Seq R S)
+-- the first step gives a, after which the second gives nothing
 go-stop {S = S} one none y (both x r s) = none y (subst (λ z. S z y) (one.1 x r) s)
 
 -- where the first of two steps gives one value, and the second one after it, both together give no other value
 -- R is the first step, which gives a, and S the second, which gives b after it
 go-only : {X Y : Type 0} {R : X → Type 0} {S : X → Y → Type 0} {a : X} {b : Y} → ReadAs R a → ReadAs (S a) b → (y : Y) → Seq R S y → y ≡ b
+-- the first step gives a, and the second after it b
 go-only {S = S} one two y (both x r s) = two.1 y (subst (λ z. S z y) (one.1 x r) s)
 
 -- where the first of two steps gives one value, and the second one after it, both together give that one
@@ -216,6 +231,7 @@ longest-blanks_front text n longest some = at longest.front
   where
     -- the blank run is read, since the longest one is not empty and so stands at the front
     at : (n ≡ 0) ⊎ HasFront Blanks text n → ReadAs (BlanksFront text) (drop n text)
+    -- no blank run stands at the front; or one does, and is read
     at (inl none) = absurd (some none)
     at (inr front) =
         let rest_is = front-rest Blanks text n front in

@@ -54,6 +54,7 @@ one-last c a b a_is b_is = a_is ∙ sym b_is
 
 -- a token at the front of a text is read in one way
 pub one-token : (text : List ℕ) → AtMostOne (TokenFront text)
+-- both tokens are the longest run of bytes of tokens at the front
 one-token text (t, r) (u, s) one other =
     let same = same-token text t r u s one other in
     ap (λ x. (x, r)) same.0 ∙ ap (λ x. (u, x)) same.1
@@ -61,6 +62,7 @@ one-token text (t, r) (u, s) one other =
 -- a mark at the front of a text is read in one way
 pub one-mark : (mark : ℕ) (text : List ℕ) → is_lws_byte mark ≡ false → AtMostOne (MarkFront mark text)
 one-mark mark text solid r s one other =
+    -- by both readings the mark is the first byte after the blanks at the front, and what is left is what follows the blanks after it
     let a = mark-parts mark text r solid one in
     let b = mark-parts mark text s solid other in
     let marks : ◌≡◌ {A = List ℕ} (mark ∷ a.0) (mark ∷ b.0) = same-behind text (mark ∷ a.0) (mark ∷ b.0) a.1 b.1 in
@@ -74,7 +76,9 @@ one-blanks text r s one other = same-blanks text r s one other
 -- [ mark part ] at the front of a text is read in one way where the part is
 pub one-led : (mark : ℕ) (Part : List ℕ → List ℕ × List ℕ → Type 0) (text : List ℕ) → is_lws_byte mark ≡ false → ((t : List ℕ) → AtMostOne (Part t)) → AtMostOne (LedFront mark Part text)
 -- the mark stands at the front for both readings, or for none
+-- by neither reading the mark stands there: all of the text is left
 one-led mark Part text solid one (None, r) (None, s) a b = ap (λ x. (None, x)) (a.1 ∙ sym b.1)
+-- by one reading the mark stands there, and by the other not
 one-led mark Part text solid one (None, r) (Some w, s) a b = absurd (a.0 b.0 b.1)
 one-led mark Part text solid one (Some v, r) (None, s) a b = absurd (b.0 a.0 a.1)
 -- v and w are the parts after the mark, which is the same
@@ -89,15 +93,18 @@ B = is_bare_byte
 
 -- a byte of a token is a bare byte
 pub bare-token : (b : ℕ) → is_token_byte b ≡ true → is_bare_byte b ≡ true
+-- it passes the first of the two tests
 bare-token b is = or_left (is_token_byte b) (nat_eq b colon) is
 
 -- a text of one bare byte is bare
 pub bare-byte : (b : ℕ) → is_bare_byte b ≡ true → Each B (Byte b)
+-- the text is the byte alone
 bare-byte b is u text = subst (All B) (sym text) (is, tt)
 
 -- a byte in a range is in each wider range
 wider : (low high lower higher b : ℕ) → lower ≤ low → high ≤ higher → is_in_range low high b ≡ true → is_in_range lower higher b ≡ true
 wider low high lower higher b l h is =
+    -- the byte is between the inner bounds, and so between the outer ones
     let both = and_parts (nat_le low b) (nat_le b high) is in
     let least = leb-true low b both.0 in
     let most = leb-true b high both.1 in
@@ -118,6 +125,7 @@ token-alpha b is = token-alnum b (alphanumeric-alphabetic b is)
 -- a byte of a label is a byte of a token
 token-label : (b : ℕ) → is_label_byte b ≡ true → is_token_byte b ≡ true
 token-label b is = elim (or_cases (is_ascii_alphanumeric b) (nat_eq b hyphen) is) [
+  -- letters and digits are bytes of tokens, and so is the hyphen
   | inl alnum ↦ token-alnum b alnum
   | inr same ↦ subst (λ x. is_token_byte x ≡ true) (sym (eqb-true b hyphen same)) refl
 ]
@@ -125,6 +133,7 @@ token-label b is = elim (or_cases (is_ascii_alphanumeric b) (nat_eq b hyphen) is
 -- a hexadecimal digit is a bare byte
 bare-hex : (b : ℕ) → is_ascii_hexdigit b ≡ true → is_bare_byte b ≡ true
 bare-hex b is = bare-token b (elim (or_cases (is_in_range 48 57 b || is_in_range 65 70 b) (is_in_range 97 102 b) is) [
+  -- a digit, a great letter, or a small one
   | inl more ↦ elim (or_cases (is_in_range 48 57 b) (is_in_range 65 70 b) more) [
     | inl digit ↦ token-digit b digit
     | inr upper ↦ token-alnum b (or_left (is_in_range 48 57 b || is_in_range 65 90 b) (is_in_range 97 122 b) (or_right (is_in_range 48 57 b) (is_in_range 65 90 b) (wider 65 70 65 90 b (omega arith) (omega arith) upper)))
@@ -143,15 +152,18 @@ token-byte b is u text = subst (All T) (sym text) (is, tt)
 -- all bytes of a hostname are bytes of tokens
 pub each-hostname : Each T Hostname
 each-hostname =
+    -- the labels, each with its dot, and the last label, with a dot after it or none
     each-then T _ _ (each-many T _ (each-then T _ _ (each-or T _ _ alnum (each-then T _ _ alnum (each-then T _ _ labels alnum))) (token-byte dot refl)))
     (each-then T _ _ (each-or T _ _ alpha (each-then T _ _ alpha (each-then T _ _ labels alnum))) (each-optional T _ (token-byte dot refl)))
   where
     -- the byte of a letter or digit is a byte of a token
     alnum : Each T (One is_ascii_alphanumeric)
+    -- each such byte is a byte of a token
     alnum = each-one T is_ascii_alphanumeric token-alnum
 
     -- the byte of a letter is a byte of a token
     alpha : Each T (One is_ascii_alphabetic)
+    -- each such byte is a byte of a token
     alpha = each-one T is_ascii_alphabetic token-alpha
 
     -- the inner bytes of a label are bytes of tokens
@@ -161,6 +173,7 @@ each-hostname =
 -- all bytes of an IPv4 address are bytes of tokens
 pub each-v4 : Each T Ipv4
 each-v4 =
+    -- four groups of digits, with a dot between each two
     each-then T _ _ group (each-then T _ _ (token-byte dot refl) (each-then T _ _ group (each-then T _ _ (token-byte dot refl)
     (each-then T _ _ group (each-then T _ _ (token-byte dot refl) group)))))
   where
@@ -170,12 +183,14 @@ each-v4 =
 
 -- bytes of tokens are bare bytes
 pub bare-all : (u : List ℕ) → All T u → All B u
+-- of no bytes nothing is asked
 bare-all [] all = tt
 bare-all (b ∷ u) all = (bare-token b all.0, bare-all u all.1)
 
 -- all bytes of an IPv6 address are bare: bytes of tokens, or colons
 pub each-v6 : Each B Ipv6
 each-v6 =
+    -- a hexpart, with ":" and an IPv4 address after it or not; or hexseq "::" or "::" alone, and then an IPv4 address
     each-or B _ _ (each-then B _ _ hexpart (each-optional B _ (each-then B _ _ (bare-byte colon refl) v4_bare)))
     (each-then B _ _ (each-or B _ _ (each-then B _ _ hexseq double) double) v4_bare)
   where
@@ -197,6 +212,7 @@ each-v6 =
 
     -- all bytes of a hexpart are bare
     hexpart : Each B Hexpart
+    -- a hexseq; or one, "::" and perhaps another one; or "::" and perhaps a hexseq
     hexpart = each-or B _ _ hexseq (each-or B _ _ (each-then B _ _ hexseq (each-then B _ _ double (each-optional B _ hexseq))) (each-then B _ _ double (each-optional B _ hexseq)))
 
 -- all bytes of a token or of an IPv6 address are bare
@@ -205,6 +221,7 @@ each-bare = each-or B _ _ (λ u is. bare-all u (each-token u is)) each-v6
 
 -- a token or an IPv6 address is not empty
 pub some-bare : (u : List ℕ) → (Token or Ipv6) u → u ≡ [] → ⊥
+-- a token has a byte, and the test of an IPv6 address fails of the empty text
 some-bare u (inl token) none = some-run is_token_byte u token none
 some-bare u (inr address) none = both_ways (is_v6 u) (ap is_v6 none) (v6-is u address)
 
@@ -216,12 +233,14 @@ all-lacks test mark (b ∷ u) fails all = (other_byte test mark b fails all.0, a
 -- a bare value at the front of a text is read in one way
 pub one-bare : (text : List ℕ) → AtMostOne (BareFront text)
 one-bare text (v, r) (w, s) a b =
+    -- both are the longest run of bare bytes at the front
     let same = same_front B v r w s (each-bare v a.0) (each-bare w b.0) a.1 b.1 (sym a.2 ∙ b.2) in
     ap (λ x. (x, r)) same.0 ∙ ap (λ x. (w, x)) same.1
 
 -- where a text is v and r, and also w and s, and r is s, both cuts of the text are the same
 same_pair : (v r w s text : List ℕ) → text ≡ v ++ r → text ≡ w ++ s → r ≡ s → ◌≡◌ {A = List ℕ × List ℕ} (v, r) (w, s)
 same_pair v r w s text v_is w_is rest =
+    -- what is left is of one length, and so is what stands before it
     ap (λ x. (x, r)) (same_by_end v r w s (ap length rest) (sym v_is ∙ w_is)).0 ∙ ap (λ x. (w, x)) rest
 
 -- the contents of a quoted string are pieces of it
@@ -230,12 +249,14 @@ items-contents text many = many-flat (Qdtext or QuotedPair) QuotedItem text each
   where
     -- blanks are pieces, and so is each other content
     each : (u : List ℕ) → (Qdtext or QuotedPair) u → Many QuotedItem u
+    -- a blank run of several bytes, a byte of text, or a backslash with its byte
     each u (inl (inl lws)) = many-map Blank QuotedItem u (λ w blank. inr (inr blank)) (blanks-lws u lws)
     each u (inl (inr byte)) = many-one QuotedItem u (inl byte)
     each u (inr pair) = many-one QuotedItem u (inr (inl pair))
 
 -- a quoted string and what follows it are a quote, the contents, a quote and what follows
 pub quoted-whole : (value rest : List ℕ) → (q : Quoted value) → value ++ rest ≡ dquote ∷ (q.3.0 ++ dquote ∷ rest)
+-- the quote, the contents and the second quote stand in a row
 quoted-whole value rest q =
     ap (λ x. x ++ rest) (q.4 ∙ ap (λ x. x ++ q.1) q.2 ∙ ap (λ x. dquote ∷ x) (q.3.4 ∙ ap (λ x. q.3.0 ++ x) q.3.3))
     ∙ ap (λ x. dquote ∷ x) (append_assoc q.3.0 (dquote ∷ []) rest)
@@ -251,6 +272,7 @@ one-quoted text (v, r) (w, s) (q, v_is) (p, w_is) = same_pair v r w s text v_is 
 
     -- two contents before the closing quote leave the same rest
     rests : (i j : List ℕ) → Many (Qdtext or QuotedPair) i → Many (Qdtext or QuotedPair) j → dquote ∷ (i ++ dquote ∷ r) ≡ dquote ∷ (j ++ dquote ∷ s) → r ≡ s
+    -- pieces of a quoted string are told apart byte by byte, and a quote is none, so both contents end at the same quote
     rests i j is js both_whole =
         let inners : i ++ dquote ∷ r ≡ j ++ dquote ∷ s = cc in
         let tails : dquote ∷ r ≡ dquote ∷ s = (same_many QuotedItem item_len i (dquote ∷ r) j (dquote ∷ s) item-step (items-contents i is) (items-contents j js) inners refl refl).1 in
@@ -267,11 +289,13 @@ one-bracket text (v, r) (w, s) (i, i_lacks, v_is, v_whole) (j, j_lacks, w_is, w_
 
     -- both readings are of the same text
     both_whole : left_bracket ∷ (i ++ right_bracket ∷ r) ≡ left_bracket ∷ (j ++ right_bracket ∷ s)
+    -- both are "[", the inner bytes, "]" and what is left
     both_whole = sym (flat v i r v_is) ∙ sym v_whole ∙ w_whole ∙ flat w j s w_is
 
     -- what follows the first "]" is one rest
     rests : left_bracket ∷ (i ++ right_bracket ∷ r) ≡ left_bracket ∷ (j ++ right_bracket ∷ s) → r ≡ s
     rests same =
+        -- the rest is what follows the first "]", since none stands within the brackets
         let inners : i ++ right_bracket ∷ r ≡ j ++ right_bracket ∷ s = cc in
         let found : Some r ≡ Some s = sym (behind-led right_bracket i (Some r) i_lacks) ∙ ap (behind right_bracket) inners ∙ behind-led right_bracket j (Some s) j_lacks in
         cc
@@ -280,6 +304,7 @@ one-bracket text (v, r) (w, s) (i, i_lacks, v_is, v_whole) (j, j_lacks, w_is, w_
 pub reference-bracket : (text : List ℕ) (x : List ℕ × List ℕ) → ReferenceFront text x → BracketFront text x
 -- o is the "[", `inner` the address, and c the "]"
 reference-bracket text (v, r) ((o, t, o_is, (inner, c, address, c_is, t_is), v_is), whole) =
+    -- what stands in the brackets is an IPv6 address, whose bytes are bare: none is "]"
     (inner, all-lacks B right_bracket inner refl (each-v6 inner address), v_is ∙ ap (λ x. x ++ t) o_is ∙ ap (λ x. left_bracket ∷ x) (t_is ∙ ap (λ x. inner ++ x) c_is), whole)
 
 -- an IPv6 address in brackets at the front of a text is read in one way
@@ -296,6 +321,7 @@ bracket-first text (v, r) (i, lacks, v_is, whole) = ap (λ t. slice_index t 0) (
 
 -- the first byte of a text that is not empty, all bytes of which pass, passes, whatever follows the text
 pub first-all : (test : ℕ → Bool) (u v : List ℕ) → All test u → (u ≡ [] → ⊥) → test (slice_index (u ++ v) 0) ≡ true
+-- the text is not empty, so its first byte is one of its own
 first-all test [] v all some = absurd (some refl)
 first-all test (b ∷ u) v all some = all.0
 

@@ -12,7 +12,9 @@ prefix-cut test (b ∷ text) = at (prefix-cut test text) (test b) refl
   where
     -- the claim holds whether or not b passes the test
     at : All test (take (prefix_len test text) text) × Stops test (drop (prefix_len test text) text) → (x : Bool) → test b ≡ x → All test (take (cond x (1 + prefix_len test text) 0) (b ∷ text)) × Stops test (drop (cond x (1 + prefix_len test text) 0) (b ∷ text))
+    -- b does not pass, so the front is empty
     at more false is = (tt, is)
+    -- b passes, so it is the first of the front
     at more true is =
         let next : 1 + prefix_len test text ≡ suc (prefix_len test text) = omega arith in
         subst (λ n. All test (take n (b ∷ text)) × Stops test (drop n (b ∷ text))) (sym next) ((is, more.0), more.1)
@@ -29,6 +31,7 @@ all-run test (b ∷ u) all = many-cons (One test) (b ∷ []) u (b, all.0, refl) 
 -- bytes that all pass a test are, where there is one, one or more bytes that pass it
 pub all-some : (test : ℕ → Bool) (u : List ℕ) → All test u → (u ≡ [] → ⊥) → OneOrMore (One test) u
 all-some test u all some = elim (some-many (One test) u (all-run test u all)) [
+  -- there is a byte, so there is one that passes
   | inl none ↦ absurd (some none)
   | inr many ↦ many
 ]

@@ -1,5 +1,7 @@
 -- The head ends where the empty line is found, and its lines' ends are whole.
 -- In the lemmas t is a text, and j, k and n are places in it.
+-- `OccursAt t u k` says that the text u stands in t at the place k; `Nowhere P i j` that P holds at no place from i up to j; `NoneBefore P i j k` that it
+-- holds at none before k, which lies between them. `IsPaired t k` says that a LF stands after the byte at k exactly if it is a CR.
 use Rattle.std.proofs.Common.{◌≡◌, ℕ, zero, suc, ◌+◌, ◌-◌, ◌<◌, ◌≤◌, ◌⊎◌, Bool, true, false, nat_lt, nat_eq, not, ◌||◌, ◌&&◌, List, [], ◌∷◌, ◌++◌, length, take, drop, get_or, refl, sym, ap, ap₂, ◌∙◌, subst, inl, inr, arith}
 use Rattle.std.specs.List.{concat, flat_map}
 use Rattle.std.proofs.lemmas.Bool.{both_ways, cases_lt, and_parts, not-true, eqb-true, eq-eqb, ltb-true, ltb-false}
@@ -32,6 +34,7 @@ four (x ∷ y ∷ z ∷ w ∷ t) a b c d long e f g h =
 
 -- where CRLF CRLF occurs at place k, the text is its first k bytes, CRLF CRLF and what follows
 occurs-cut : (t : List ℕ) (k : ℕ) → OccursAt t double_end k → t ≡ take k t ++ (crlf ++ (crlf ++ drop 4 (drop k t)))
+-- the first k bytes and the others are the text, and the others begin with the four bytes
 occurs-cut t k at = sym (take-append-drop k t) ∙ ap (λ x. take k t ++ x) (four (drop k t) 13 10 13 10 (omega (arith, at.fits, length-drop k t)) (byte 0 (omega arith)) (byte 1 (omega arith)) (byte 2 (omega arith)) (byte 3 (omega arith)))
   where
     -- each of the four bytes from place k on is one of CRLF CRLF
@@ -41,6 +44,7 @@ occurs-cut t k at = sym (take-append-drop k t) ∙ ap (λ x. take k t ++ x) (fou
 -- where a text is u, CRLF CRLF and v, CRLF CRLF occurs at the length of u
 cut-occurs : (t u v : List ℕ) → t ≡ u ++ (crlf ++ (crlf ++ v)) → OccursAt t double_end (length u)
 cut-occurs t u v is = record {
+  -- CRLF CRLF lies within the text, and its bytes are those after u
   fits = omega (arith, ap length is, length-append u (crlf ++ (crlf ++ v)));
   reads = λ j below. ap (λ x. get_or x (length u + j) 0) is ∙ get_or-append-add u (crlf ++ (crlf ++ v)) j 0 ∙ get_or_append_left double_end v 0 j below;
 }
@@ -52,6 +56,7 @@ inner_end = line_feed ∷ carriage_return ∷ line_feed ∷ []
 -- where CRLF CRLF occurs at place k, LF CR LF occurs at place k + 1
 double-inner : (t : List ℕ) (k : ℕ) → OccursAt t double_end k → OccursAt t inner_end (k + 1)
 double-inner t k at = record {
+  -- LF CR LF is what CRLF CRLF has from its second byte on
   fits = omega (arith, at.fits);
   reads = λ j below. ap (λ i. get_or t i 0) (omega arith) ∙ at.reads (suc j) (omega (arith, below));
 }
@@ -63,6 +68,7 @@ NoneSoFar t from = (j : ℕ) → j + 1 < from → ¬ (OccursAt t double_end j)
 -- where LF CR LF occurs in a text at place from + k, it occurs in the rest from `from` on at place k
 inner-rest : (t rest : List ℕ) (from k : ℕ) → from ≤ length t → rest ≡ drop from t → OccursAt t inner_end (from + k) → OccursAt rest inner_end k
 inner-rest t rest from k within is at = record {
+  -- the rest begins `from` bytes later than the text, so its places are by so much less
   fits = omega (arith, at.fits, ap length is, length-drop from t, within);
   reads = λ j below. ap (λ r. get_or r (k + j) 0) is ∙ get_or-drop from t (k + j) 0 ∙ ap (λ i. get_or t i 0) (omega arith) ∙ at.reads j below;
 }
@@ -70,6 +76,7 @@ inner-rest t rest from k within is at = record {
 -- where LF CR LF occurs in the rest from `from` on at place k, it occurs in the text at place from + k
 rest-inner : (t rest : List ℕ) (from k : ℕ) → from ≤ length t → rest ≡ drop from t → OccursAt rest inner_end k → OccursAt t inner_end (from + k)
 rest-inner t rest from k within is at = record {
+  -- the rest begins `from` bytes later than the text, so its places are by so much less
   fits = omega (arith, at.fits, ap length is, length-drop from t, within);
   reads = λ j below. ap (λ i. get_or t i 0) (omega arith) ∙ sym (get_or-drop from t (k + j) 0) ∙ sym (ap (λ r. get_or r (k + j) 0) is) ∙ at.reads j below;
 }
@@ -77,6 +84,7 @@ rest-inner t rest from k within is at = record {
 -- where CRLF CRLF does not begin early, each place where it occurs has its LF CR LF in the rest
 double-rest : (t rest : List ℕ) (from j : ℕ) → from ≤ length t → rest ≡ drop from t → NoneSoFar t from → OccursAt t double_end j → (from ≤ j + 1) × OccursAt rest inner_end (j + 1 - from)
 double-rest t rest from j within is none at =
+    -- CRLF CRLF does not begin before the byte that stands before `from`, so its second byte is in the rest
     elim (cases_lt (j + 1) from) [
       | inl low ↦ absurd (none j low at)
       | inr high ↦
@@ -86,12 +94,14 @@ double-rest t rest from j within is none at =
 
 -- where LF CR LF occurs nowhere in the rest, and CRLF CRLF does not begin early, CRLF CRLF occurs nowhere in the text
 pub nowhere-double : (t rest : List ℕ) (from : ℕ) → from ≤ length t → rest ≡ drop from t → NoneSoFar t from → Nowhere (OccursAt rest inner_end) 0 (length rest + 1) → Nowhere (OccursAt t double_end) 0 (length t + 1)
+-- at k + 1, which lies in the rest, LF CR LF would occur
 nowhere-double t rest from within is none nowhere k low high at =
     let there = double-rest t rest from k within is none at in
     nowhere (k + 1 - from) (omega arith) (omega (arith, there.1.fits)) there.1
 
 -- up to the first LF CR LF of the rest, CRLF CRLF begins nowhere in the text
 pub none-before : (t rest : List ℕ) (from k : ℕ) → from ≤ length t → rest ≡ drop from t → NoneSoFar t from → NoneBefore (OccursAt rest inner_end) 0 (length rest + 1) k → NoneSoFar t (from + k)
+-- at j + 1 LF CR LF would occur in the rest, before the first place where it does
 none-before t rest from k within is none first j below at =
     let there = double-rest t rest from j within is none at in
     first.before (j + 1 - from) (omega arith) (omega (arith, below, there.0)) there.1
@@ -114,12 +124,14 @@ first-double t rest from k within is none first at some cr = (
 
     -- each of the four bytes stands where the search found it
     reads : (j : ℕ) → j < 4 → get_or t (from + k - 1 + j) 0 ≡ get_or double_end j 0
+    -- the first byte is the CR, and the others are those of LF CR LF
     reads zero below = ap (λ i. get_or t i 0) (omega arith) ∙ cr
     reads (suc j) below = ap (λ i. get_or t i 0) (omega (arith, some)) ∙ there.reads j (omega (arith, below))
 
 -- where no CR stands before the LF CR LF at a place, CRLF CRLF does not begin there either
 pub none-more : (t : List ℕ) (at : ℕ) → NoneSoFar t at → ((0 < at) × (get_or t (at - 1) 0 ≡ carriage_return) → ⊥) → NoneSoFar t (at + 1)
 none-more t at none other j below double =
+    -- j is before the place, where nothing was found, or is the place before it, where no CR stands
     elim (cases_lt (j + 1) at) [
       | inl low ↦ none j low double
       | inr high ↦ other (omega (arith, below, high), ap (λ i. get_or t i 0) (omega (arith, below, high)) ∙ double.reads zero (omega arith))
@@ -127,10 +139,12 @@ none-more t at none other j below double =
 
 -- where CRLF CRLF occurs nowhere in the bytes, they have no head
 pub no-head : (t : List ℕ) → Nowhere (OccursAt t double_end) 0 (length t + 1) → NotRead (CutSays t)
+-- the front of such a head would have CRLF CRLF after it, which occurs nowhere
 no-head t none (head, body) is = none (length is.front) (omega arith) (omega (arith, (cut-occurs t is.front body is.whole).fits)) (cut-occurs t is.front body is.whole)
 
 -- where CRLF CRLF occurs first at place k, the head ends after its first CRLF, and the body begins after its second
 pub one-head : (t : List ℕ) (k : ℕ) → NoneBefore (OccursAt t double_end) 0 (length t + 1) k → OccursAt t double_end k → ReadAs (CutSays t) (take (k + 2) t, drop (k + 4) t)
+-- the text is cut so, and in one way: another cut has the same head and body
 one-head t k first at = (is, (λ x other. let same = same_head t x.0 x.1 (take (k + 2) t) (drop (k + 4) t) other is in ap (λ h. (h, x.1)) same.0 ∙ ap (λ b. (take (k + 2) t, b)) same.1))
   where
     -- what follows CRLF CRLF
@@ -159,6 +173,7 @@ one-head t k first at = (is, (λ x other. let same = same_head t x.0 x.1 (take (
       where
         -- u is not shorter than k bytes, since no CRLF CRLF begins before the place k
         at_least : (b : Bool) → nat_lt (length u) k ≡ b → length (take k t) ≤ length u
+        -- u would end before the place k, and CRLF CRLF occur there
         at_least true below = absurd (first.before (length u) (omega arith) (omega (arith, ltb-true (length u) k below)) (cut-occurs t u v is))
         at_least false above = omega (arith, len, ltb-false (length u) k above)
 
@@ -197,6 +212,7 @@ CleanPiece = Exactly crlf or One is_inner_byte
 -- a text without a bare line end begins with a byte that is neither CR nor LF, or with CRLF, and its rest has none
 -- b is the first byte and t the rest; v is the text after a CRLF
 clean-first : (b : ℕ) (t : List ℕ) → HasNoBareEnd (b ∷ t) → ((is_inner_byte b ≡ true) × HasNoBareEnd t) ⊎ ((v : List ℕ) × (b ∷ t ≡ crlf ++ v) × HasNoBareEnd v)
+-- without pieces the text would be empty
 clean-first b t ([], all, whole) = absurd (omega (arith, ap length whole))
 -- u is the first piece, which is CRLF or one byte c, and us are the others
 clean-first b t (u ∷ us, (inl is, all), whole) = inr (concat us, whole ∙ ap (λ x. x ++ concat us) is, (us, all, refl))
@@ -214,22 +230,26 @@ Paired a (b ∷ t) = (nat_eq a carriage_return ≡ nat_eq b line_feed) × Paired
 -- a LF stands rightly after the byte at place k + 1 of a and a text where one does after the byte at place k of the text
 pair-on : (a : ℕ) (t : List ℕ) (k : ℕ) → IsPaired t k → IsPaired (a ∷ t) (suc k)
 pair-on a t k paired =
+    -- with a before it each place of the text is one greater
     let next : suc (k + 1) ≡ suc k + 1 = omega arith in
     subst (λ j. nat_eq (get_or (a ∷ t) (suc k) 0) carriage_return ≡ nat_eq (get_or (a ∷ t) j 0) line_feed) next paired
 
 -- a LF stands rightly after the byte at place k of a text where one does after the byte at place k + 1 of a and the text
 pair-back : (a : ℕ) (t : List ℕ) (k : ℕ) → IsPaired (a ∷ t) (suc k) → IsPaired t k
 pair-back a t k paired =
+    -- with a before it each place of the text is one greater
     let next : suc k + 1 ≡ suc (k + 1) = omega arith in
     subst (λ j. nat_eq (get_or (a ∷ t) (suc k) 0) carriage_return ≡ nat_eq (get_or (a ∷ t) j 0) line_feed) next paired
 
 -- where a LF stands rightly at each place of a and a text, it does so byte by byte
 paired-each : (a : ℕ) (t : List ℕ) → ((k : ℕ) → k ≤ length t → IsPaired (a ∷ t) k) → Paired a t
+-- at the first place it does for a and what follows it; at each later place it does for the text without a
 paired-each a [] each = each 0 (omega arith)
 paired-each a (b ∷ t) each = (each 0 (omega arith), paired-each b t (λ k within. pair-back a (b ∷ t) k (each (suc k) (omega (arith, within)))))
 
 -- where a LF stands rightly after a and each byte of a text, it does so at each place
 each-paired : (a : ℕ) (t : List ℕ) → Paired a t → (k : ℕ) → k ≤ length t → IsPaired (a ∷ t) k
+-- at the place 0 it is of a, and at a later one of the text without a
 each-paired a [] paired zero within = paired
 each-paired a [] paired (suc k) within = absurd (omega (arith, within))
 each-paired a (b ∷ t) paired zero within = paired.0
@@ -238,6 +258,7 @@ each-paired a (b ∷ t) paired (suc k) within = pair-on a (b ∷ t) k (each-pair
 -- a byte that is neither CR nor LF is no CR, and is no LF
 inner-parts : (b : ℕ) → is_inner_byte b ≡ true → (nat_eq b carriage_return ≡ false) × (nat_eq b line_feed ≡ false)
 inner-parts b inner =
+    -- neither test passes
     let both = and_parts (not (nat_eq b carriage_return)) (not (nat_eq b line_feed)) inner in
     (not-true _ (both.0), not-true _ (both.1))
 
@@ -247,7 +268,9 @@ parts-inner b no_end no_feed = ap₂ (λ x y. not x && not y) no_end no_feed
 
 -- in a text without a bare line end, after a byte that is no CR, a LF stands after each CR and after no other byte
 clean-paired : (a : ℕ) (t : List ℕ) → nat_eq a carriage_return ≡ false → HasNoBareEnd t → Paired a t
+-- nothing follows a, which is no CR
 clean-paired a [] no_end clean = no_end
+-- b is the last byte, which cannot begin a CRLF
 clean-paired a (b ∷ []) no_end clean = at (clean-first b [] clean)
   where
     -- the claim holds whether the byte stands within a line or begins a CRLF
@@ -261,6 +284,7 @@ clean-paired a (b ∷ c ∷ t) no_end clean = at (clean-first b (c ∷ t) clean)
     at : ((is_inner_byte b ≡ true) × HasNoBareEnd (c ∷ t)) ⊎ ((v : List ℕ) × (b ∷ c ∷ t ≡ crlf ++ v) × HasNoBareEnd v)
         → (nat_eq b carriage_return ≡ false → HasNoBareEnd (c ∷ t) → Paired b (c ∷ t))
         → (nat_eq c carriage_return ≡ false → HasNoBareEnd t → Paired c t) → Paired a (b ∷ c ∷ t)
+    -- b is one within a line: the rest is clean after it
     at (inl (inner, rest)) one two = (no_end ∙ sym (inner-parts b inner).1, one (inner-parts b inner).0 rest)
     -- CR and LF stand there, one after the other
     at (inr (v, same, rest)) one two =
@@ -277,6 +301,7 @@ clean-paired a (b ∷ c ∷ t) no_end clean = at (clean-first b (c ∷ t) clean)
 
 -- a text in which a LF stands after each CR, and after no other byte, has no bare line end
 paired-clean : (a : ℕ) (t : List ℕ) → nat_eq a carriage_return ≡ false → Paired a t → HasNoBareEnd t
+-- the text is empty, has one byte b, or two or more: in each case what it begins with is a piece of a clean text
 paired-clean a [] no_end paired = many-nil CleanPiece
 paired-clean a (b ∷ []) no_end paired =
     many-cons CleanPiece (b ∷ []) [] (inr (b, parts-inner b paired.1 (sym paired.0 ∙ no_end), refl)) (many-nil CleanPiece)
@@ -298,16 +323,19 @@ paired-clean a (b ∷ c ∷ t) no_end paired = at (nat_eq b carriage_return) ref
 
 -- in a text without a bare line end, a LF stands after the byte at each place exactly if the byte is a CR
 pub clean-each : (t : List ℕ) → HasNoBareEnd t → (k : ℕ) → k < length t → IsPaired t k
+-- in a text of no bytes there is no place
 clean-each [] clean k below = absurd (omega (arith, below))
 clean-each (b ∷ t) clean k below = each-paired b t (clean-paired 0 (b ∷ t) refl clean).1 k (omega (arith, below))
 
 -- a test that does not hold fails
 pub is_not : (b : Bool) → (b ≡ true → ⊥) → not b ≡ true
+-- the test would hold
 is_not true none = absurd (none refl)
 is_not false none = refl
 
 -- a text without a bare line end does not begin with a LF
 pub clean-opens : (t : List ℕ) → HasNoBareEnd t → BeginsWithFeed t → ⊥
+-- an empty text has no first byte
 clean-opens [] clean feed = absurd (omega (arith, feed))
 clean-opens (b ∷ t) clean feed = both_ways (nat_eq b line_feed) (sym (clean-paired 0 (b ∷ t) refl clean).0) (eq-eqb b line_feed feed)
 
@@ -329,6 +357,7 @@ lines-front head first others are = (are.folded.0, no_blank others are.cut, are.
 -- the line that is read at the front of a head is its first line, and the rest is the text of the others
 pub first-cut : (head line rest : List ℕ) → ReadAs (LineFront head) (line, rest) → (first : List ℕ) (others : List (List ℕ)) → LinesSay head first others → (first ≡ line) × AreLines rest others
 first-cut head line rest read first others are =
+    -- the first line with its end stands at the front, and so is the one that is read there
     let same = read.1 (first, flat_map with_end others) (lines-front head first others are) in
     (ap (λ x. x.0) same, record { whole = sym (ap (λ x. x.1) same); folded = are.folded.1; cut = are.cut })
 

@@ -1,5 +1,6 @@
 -- A text is cut at its first line end that no blank follows, LF by LF.
 -- In the lemmas u, v and w are parts of a text, l is a line, and m what is left after it.
+-- `Cuts` tells of two cuts of one text which first part is longer, if one is: `first_longer`, `same_length`, `second_longer`.
 use Rattle.std.proofs.Common.{◌≡◌, ℕ, ◌+◌, ◌-◌, ◌≤◌, ◌⊎◌, Bool, true, false, not, cond, take, drop, Some, None, List, [], ◌∷◌, ◌++◌, length, refl, sym, ap, ◌∙◌, subst, inl, inr, arith}
 use Rattle.std.proofs.lemmas.Bool.{both_ways, and_parts, and_from}
 use Rattle.std.proofs.lemmas.Option.{none-some}
@@ -31,8 +32,10 @@ unscanned done rest u v scanned same = at (two_cuts done rest u (crlf ++ v) same
   where
     -- the claim holds whether the CRLF begins in the rest or in what was scanned
     at : Cuts done rest u (crlf ++ v) → OpensBlank v ⊎ ((w : List ℕ) × (u ≡ done ++ w) × (rest ≡ w ++ (crlf ++ v)))
+    -- the CRLF begins where the rest does, or later: then it lies in the rest
     at (same_length front back) = inr ([], sym front ∙ sym (append-nil done), back)
     at (second_longer c z longer back) = inr (c ∷ z, longer, back)
+    -- it begins in what was scanned, whose last byte is then its CR: that was excluded
     at (first_longer c [] longer back) =
         let head : carriage_return ≡ c = cc in
         absurd (scanned.apart u (longer ∙ ap (λ x. u ++ x ∷ []) (sym head)))
@@ -46,6 +49,7 @@ unscanned done rest u v scanned same = at (two_cuts done rest u (crlf ++ v) same
 
 -- a text with a LF in it does not lack it
 no_lf : (u v : List ℕ) → Lacks line_feed (u ++ line_feed ∷ v) → ⊥
+-- the LF is the first byte, or stands after it
 no_lf [] v lacks = both_ways true lacks.0 refl
 no_lf (b ∷ u) v lacks = no_lf u v lacks.1
 
@@ -53,11 +57,13 @@ no_lf (b ∷ u) v lacks = no_lf u v lacks.1
 -- u and v would be the texts before and after the CRLF
 no_crlf : (t u v : List ℕ) → Lacks line_feed t → t ≡ u ++ (crlf ++ v) → ⊥
 no_crlf t u v lacks is =
+    -- the CR would have a LF after it
     no_lf (u ++ carriage_return ∷ []) v (subst (Lacks line_feed) (is ∙ sym (append_assoc u (carriage_return ∷ []) (line_feed ∷ v))) lacks)
 
 -- where no LF stands in the rest, no line is read of the text
 pub scan-none : (done rest : List ℕ) → Scanned done rest → Lacks line_feed rest → NotRead (LineFront (done ++ rest))
 scan-none done rest scanned lacks (line, more) (folded, cut, whole) =
+    -- a CRLF that a blank follows ends no line; another one would lie in the rest, which has no LF
     elim (unscanned done rest line more scanned (whole ∙ append_assoc line crlf more)) [
       | inl begins ↦ cut begins
       | inr found ↦ no_crlf rest found.0 more lacks found.2
@@ -65,6 +71,7 @@ scan-none done rest scanned lacks (line, more) (folded, cut, whole) =
 
 -- a text that begins with a blank and goes on with a CR after u has the blank in u
 begins-left : (u v : List ℕ) → OpensBlank (u ++ carriage_return ∷ v) → OpensBlank u
+-- the CR would be the blank; a text that is not empty has it as its first byte
 begins-left [] v begins = both_ways (is_wsp carriage_return) refl begins
 begins-left (b ∷ u) v begins = begins
 
@@ -75,6 +82,7 @@ scan-line done f more scanned lacks cut = (is, (λ x other. only x.0 x.1 other))
     -- each CRLF within the line has a blank after it
     folded : IsFolded (done ++ f)
     folded u v line_is =
+        -- a CRLF in what was scanned has a blank after it, and one in f would have its LF there, where none stands
         elim (unscanned done (f ++ (crlf ++ more)) u (v ++ (crlf ++ more)) scanned (
         sym (append_assoc done f (crlf ++ more)) ∙ ap (λ t. t ++ (crlf ++ more)) line_is ∙ append_assoc u (crlf ++ v) (crlf ++ more))) [
           | inl begins ↦ begins-left v (line_feed ∷ more) begins
@@ -88,6 +96,7 @@ scan-line done f more scanned lacks cut = (is, (λ x other. only x.0 x.1 other))
     -- each line at the front ends at this CRLF
     only : (l m : List ℕ) → LineFront (done ++ (f ++ (crlf ++ more))) (l, m) → ◌≡◌ {A = List ℕ × List ℕ} (l, m) (done ++ f, more)
     only l m (l_folded, m_cut, whole) =
+        -- two lines at the front, at whose end no blank follows, are the same
         let same = same_first l (done ++ f) m more l_folded folded m_cut cut (sym whole ∙ is.2) in
         ap (λ t. (t, m)) same.0 ∙ ap (λ t. (done ++ f, t)) same.1
 
@@ -98,6 +107,7 @@ scan-more done front more scanned lacks blank = record { apart = apart; folded =
     -- the text up to the LF does not end with CR
     apart : (u : List ℕ) → done ++ (front ++ line_feed ∷ []) ≡ u ++ carriage_return ∷ [] → ⊥
     apart u same =
+        -- the last bytes are LF and CR, which differ
         let ends = same_by_end (done ++ front) (line_feed ∷ []) u (carriage_return ∷ []) refl (append_assoc done front (line_feed ∷ []) ∙ same) in
         let tails : line_feed ∷ [] ≡ carriage_return ∷ [] = ends.1 in
         let heads : line_feed ≡ carriage_return = cc in
@@ -109,14 +119,17 @@ scan-more done front more scanned lacks blank = record { apart = apart; folded =
         -- the front is of the same length as w and CR, so nothing is left; were it shorter, an LF would stand in w; it cannot be longer
         let none : [] ≡ v = cc in
         subst (λ t. OpensBlank (t ++ more)) none (blank w f_is)
+    -- the front goes on after w and CR with a LF, but has none
     within w v (first_longer c z longer back) =
         let head : line_feed ≡ c = cc in
         absurd (no_lf (w ++ carriage_return ∷ []) z (subst (Lacks line_feed) (longer ∙ ap (λ x. (w ++ carriage_return ∷ []) ++ x ∷ z) (sym head)) lacks))
+    -- after the front only the one LF is left
     within w v (second_longer c z longer back) = absurd (omega (arith, ap length back, length-append z (line_feed ∷ v)))
 
     -- each CRLF up to this LF has a blank after it
     folded : (u v : List ℕ) → done ++ (front ++ line_feed ∷ []) ≡ u ++ (crlf ++ v) → OpensBlank (v ++ more)
     folded u v same =
+        -- the CRLF lies in what was scanned, or else ends with this LF
         elim (unscanned done (front ++ line_feed ∷ more) u (v ++ more) scanned (
         ap (λ t. done ++ t) (sym (append_assoc front (line_feed ∷ []) more)) ∙ sym (append_assoc done (front ++ line_feed ∷ []) more) ∙ ap (λ t. t ++ more) same ∙ append_assoc u (crlf ++ v) more)) [
           | inl begins ↦ begins
@@ -128,6 +141,7 @@ scan-more done front more scanned lacks blank = record { apart = apart; folded =
 -- a text that is cut at its first LF is the front, which lacks LF, the LF and the rest
 cut-lf : (t front rest : List ℕ) → front ≡ before line_feed t → Some rest ≡ behind line_feed t → (t ≡ front ++ line_feed ∷ rest) × Lacks line_feed front
 cut-lf t front rest front_is rest_is = (
+  -- the text is what stands before the first LF, and from that LF on
   cut-whole line_feed t ∙ ap (λ x. x ++ led line_feed (behind line_feed t)) (sym front_is) ∙ ap (λ o. front ++ led line_feed o) (sym rest_is),
   subst (Lacks line_feed) (sym front_is) (lacks-before line_feed t),
 )
@@ -145,6 +159,7 @@ cut-none text at scanned none =
 -- a text that ends with CR is some text and a CR
 ends-cr : (text : List ℕ) → ends_cr text ≡ true → (f : List ℕ) × (text ≡ f ++ carriage_return ∷ [])
 ends-cr text is =
+    -- the text up to the CR at its end is there, since the test says that it ends with one
     let found : up_to carriage_return text ≡ Some (take (length text - 1) text) = ap (λ x. cond x (Some (take (length text - 1) text)) None) is in
     (take (length text - 1) text, up_to-some carriage_return text (take (length text - 1) text) found)
 
@@ -160,6 +175,7 @@ cr-ends f = at (ends_cr (f ++ carriage_return ∷ [])) refl
 
 -- a text that opens with a blank passes the test for SP and HTAB
 begins-wsp : (text : List ℕ) → OpensBlank text → begins_wsp text ≡ true
+-- an empty text opens with no blank
 begins-wsp [] begins = absurd begins
 begins-wsp (b ∷ text) begins = begins
 
@@ -211,6 +227,7 @@ line-found text front rest at within scanned front_is rest_is line =
     -- the line is the text up to the CR
     line_is : take at text ++ f.0 ≡ take (at + length front - 1) text
     line_is =
+        -- the first bytes of the text, as many as what was scanned and f have, are these
         sym (take-append_seam (take at text ++ f.0) (crlf ++ rest))
         ∙ ap (take (length (take at text ++ f.0))) (append_assoc (take at text) f.0 (crlf ++ rest) ∙ sym whole)
         ∙ ap (λ n. take n text) (omega (arith, length-append (take at text) f.0, length-take-le at text within, ap length f.1, length-append f.0 (carriage_return ∷ [])))
@@ -218,6 +235,7 @@ line-found text front rest at within scanned front_is rest_is line =
 -- where the next LF does not end a line, the scan goes on after it
 pub line-on : (text front rest : List ℕ) (at : ℕ) → at ≤ length text → Scanned (take at text) (drop at text) → front ≡ before line_feed (drop at text) → Some rest ≡ behind line_feed (drop at text) → is_line front rest ≡ false → (at + length front + 1 ≤ length text) × Scanned (take (at + length front + 1) text) (drop (at + length front + 1) text)
 line-on text front rest at within scanned front_is rest_is line = (
+  -- what was scanned, the front and the LF lie within the text; and they are scanned
   omega (arith, size, ap length whole, length-append (take at text ++ (front ++ line_feed ∷ [])) rest),
   subst (λ d. Scanned d (drop (at + length front + 1) text)) take_is (subst (Scanned (take at text ++ (front ++ line_feed ∷ []))) drop_is
       (scan-more (take at text) front rest (subst (Scanned (take at text)) both.0 scanned) both.1 blank)),
@@ -233,6 +251,7 @@ line-on text front rest at within scanned front_is rest_is line = (
       where
         -- a blank follows, since the LF would else end the line
         go : (x : Bool) → begins_wsp rest ≡ x → OpensBlank rest
+        -- a blank follows by the test; without one, the test of a line's end would pass
         go true e = wsp-begins rest e
         go false e = absurd (both_ways (is_line front rest) line (and_from (ends_cr front) (not (begins_wsp rest)) (ap ends_cr is ∙ cr-ends f) (ap not e)))
 
@@ -243,6 +262,7 @@ line-on text front rest at within scanned front_is rest_is line = (
     -- the text is what was scanned, the front, the LF and the rest
     whole : text ≡ (take at text ++ (front ++ line_feed ∷ [])) ++ rest
     whole =
+        -- what was scanned, and the front with its LF, stand first, and the rest follows
         sym (take-append-drop at text) ∙ ap (λ t. take at text ++ t) (both.0 ∙ sym (append_assoc front (line_feed ∷ []) rest))
         ∙ sym (append_assoc (take at text) (front ++ line_feed ∷ []) rest)
 
@@ -259,6 +279,7 @@ line-on text front rest at within scanned front_is rest_is line = (
 -- at the start nothing is scanned
 pub scan-nothing : (text : List ℕ) → Scanned [] text
 scan-nothing text = record {
+  -- in the empty text stands neither a CR nor a CRLF
   apart = λ u is. absurd (omega (arith, ap length is, length-append u (carriage_return ∷ [])));
   folded = λ u v is. absurd (omega (arith, ap length is, length-append u (crlf ++ v)));
 }
@@ -266,6 +287,7 @@ scan-nothing text = record {
 -- the first LF after the index lies within the text
 pub lf-within : (text front rest : List ℕ) (at : ℕ) → at ≤ length text → front ≡ before line_feed (drop at text) → Some rest ≡ behind line_feed (drop at text) → at + length front + 1 ≤ length text
 lf-within text front rest at within front_is rest_is =
+    -- what was scanned and what is left are the text, and what is left is the front, a LF and the rest
     omega (
       arith,
       ap length (take-append-drop at text),

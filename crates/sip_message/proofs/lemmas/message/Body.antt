@@ -1,4 +1,5 @@
 -- The method and the body: which demand fails, or what the body is.
+-- `BodyOf` is the demands on the method and the body. A demand is passed (`passes`) where it is met, and else the reading is stopped (`stopped`) at its fault.
 use Rattle.std.proofs.Common.{◌≡◌, ℕ, ◌≤◌, ◌<◌, ◌↔◌, Bool, false, List, [], ◌∷◌, length, take, Option, Some, None, refl, sym, ap, ◌∙◌, subst, arith}
 use Rattle.std.specs.Prelude.{bytes_eq, IsTrue, is_some, IfSome}
 use Rattle.std.specs.Borrow.{Bor}
@@ -30,18 +31,22 @@ use Rattle.sip_message.proofs.lemmas.via.Steps.{one-via}
 -- the method of a CSeq fits a request exactly if it is equal to the request's method
 -- the request has the method m and the URI u, the CSeq has the number n and the method k, and r is the answer
 pub method-some : (start : Code) (m u : Bor (List ℕ)) (cseq : List ℕ) (n : ℕ) (k : List ℕ) (r : Bool) → start ≡ variant.Request m u → ReadAs (CSeqValue cseq) (n, k) → r ≡ bytes_eq k m.now → IsTrue r ↔ MethodFits (start_parts start) cseq
+-- of a request the two methods are compared
 method-some start m u cseq n k r is read r_is = subst (λ s. IsTrue r ↔ MethodFits s cseq) (sym (ap start_parts is)) (to, from)
   where
     -- where the answer is yes, the methods are equal
     to : IsTrue r → MethodFits (request m.now u.now) cseq
+    -- the CSeq has the request's method, with its own number
     to so = (n, subst (λ x. CSeqText cseq n x) ((bytes_eq-Decides k m.now).0 (sym r_is ∙ so)) read.0)
 
     -- where the method fits, the answer is yes
     from : MethodFits (request m.now u.now) cseq → IsTrue r
+    -- the CSeq has one method, so the one that fits is k
     from (number, text) = r_is ∙ (bytes_eq-Decides k m.now).1 (sym (ap (λ x. x.1) (read.1 (number, m.now) text)))
 
 -- the first element of a value of Via stands at its front
 vias-front : (text : List ℕ) (v : ViaParts) (vias : List ViaParts) → ViasText text v vias → (x : List ℕ) × (rest : List ℕ) × ViaFront text ((x, v), rest)
+-- `later` is the elements after the first, with their texts
 vias-front text v vias (x, y, via, more, text_is) = let later = more-elements vias y more in (x, y, (via, text_is, ends-more later.0 y later.1))
 
 -- the transport of the top Via is a stream exactly if that of the first element is
@@ -50,14 +55,17 @@ stream-first text e r ((v, vias, is), (rest, front)) r_is = (to, from)
   where
     -- each reading of the text has the same top Via
     top : (w : ViaParts) (others : List ViaParts) → ViasText text w others → e.1 ≡ w
+    -- f is how the first of these elements stands at the front, where one element is read alone
     top w others are = let f = vias-front text w others are in ap (λ x. x.0.1) (one-via text (e, rest) ((f.0, w), f.1) front f.2)
 
     -- where the answer is yes, the top Via has a stream
     to : IsTrue r → IsStream text
+    -- the transport of the top Via is that of e, of which the test says yes
     to so = (v.transport, (v, vias, is, refl), ap (λ x. is_stream x.transport) (sym (top v vias is)) ∙ sym r_is ∙ so)
 
     -- where the text says a stream, the test passes
     from : IsStream text → IsTrue r
+    -- the transport that the text says is that of e
     from (transport, (w, others, are, same), so) = r_is ∙ ap (λ x. is_stream x.transport) (top w others are) ∙ ap is_stream (sym same) ∙ so
 
 -- fields without Content-Length have no length
@@ -72,15 +80,18 @@ length-some fields one more is = ap length_in is
 module _ (start : StartLine) (cseq : ℕ × List ℕ) (via : List ℕ) (len : Option ℕ) (rest : List ℕ) where
   -- where the method does not fit, the reading stops with that fault at the line of CSeq
   pub body-method : (MethodFits start (cseq.1) → ⊥) → BodyOf start cseq via len rest (stops (fault_in_line (cseq.0) reason.MethodMismatch))
+  -- no proof that the method fits is left
   body-method none = stopped _ ((λ _ fits. none fits), refl) refl
 
   -- where a stream has no Content-Length, the reading stops with that fault
   pub body-no_length : MethodFits start (cseq.1) → len ≡ None → IsStream via → BodyOf start cseq via len rest (stops (fault_in_body reason.NoLength))
+  -- the method fits, but there is no length, which a stream asks for
   body-no_length fits none stream = passes tt fits (stopped _ ((λ _ has. both_ways false refl (sym (ap is_some none) ∙ has stream)), refl) refl)
 
   -- where a datagram has no Content-Length, the body is all that follows the head
   pub body-all : MethodFits start (cseq.1) → len ≡ None → (IsStream via → ⊥) → BodyOf start cseq via len rest (gives rest)
   body-all fits none datagram =
+      -- the method fits, nothing is asked of a datagram, and without a length the body is all
       passes tt fits (passes tt (λ stream. absurd (datagram stream)) (passes tt (subst (λ l. IsEnough l rest) (sym none) tt) (passes tt (λ stream. absurd (datagram stream)) (ap (λ l. gives (cut_body l rest)) (sym none)))))
 
   -- What follows is of a message whose Content-Length says n.
@@ -91,21 +102,25 @@ module _ (start : StartLine) (cseq : ℕ × List ℕ) (via : List ℕ) (len : Op
 
     -- where fewer bytes follow the head than Content-Length says, the reading stops with that fault
     pub body-short : MethodFits start (cseq.1) → length rest < n → BodyOf start cseq via len rest (stops (fault_in_body reason.ShortBody))
+    -- the method fits and a length is said, but the bytes are too few
     body-short fits short = passes tt fits (passes tt has (stopped _ ((λ _ enough. let e : n ≤ length rest = subst (λ l. IsEnough l rest) some enough in absurd (omega (arith, e, short))), refl) refl))
 
     -- where more bytes follow the head in a stream than Content-Length says, the reading stops with that fault
     pub body-long : MethodFits start (cseq.1) → n ≤ length rest → (n ≡ length rest → ⊥) → IsStream via → BodyOf start cseq via len rest (stops (fault_in_body reason.LongBody))
     body-long fits enough other stream =
+        -- the method fits, a length is said and the bytes are enough, but in a stream more follow
         passes tt fits (passes tt has (passes tt (subst (λ l. IsEnough l rest) (sym some) enough)
         (stopped _ ((λ _ no_more. let e : length rest ≤ n = subst (λ l. IfSome l (λ k. length rest ≤ k)) some (no_more stream) in other (omega (arith, e, enough))), refl) refl)))
 
     -- where more bytes follow the head in a datagram than Content-Length says, the body is as many as it says
     pub body-cut : MethodFits start (cseq.1) → n ≤ length rest → (IsStream via → ⊥) → BodyOf start cseq via len rest (gives (take n rest))
     body-cut fits enough datagram =
+        -- the method fits, a length is said, the bytes are enough, and in a datagram more may follow
         passes tt fits (passes tt has (passes tt (subst (λ l. IsEnough l rest) (sym some) enough) (passes tt (λ stream. absurd (datagram stream)) (ap (λ l. gives (cut_body l rest)) (sym some)))))
 
     -- where as many bytes follow the head as Content-Length says, the body is all of them
     pub body-whole : MethodFits start (cseq.1) → n ≡ length rest → BodyOf start cseq via len rest (gives rest)
     body-whole fits same =
+        -- the method fits, a length is said, and the bytes are just as many
         passes tt fits (passes tt has (passes tt (subst (λ l. IsEnough l rest) (sym some) (omega (arith, same)))
         (passes tt (λ stream. subst (λ l. IfSome l (λ k. length rest ≤ k)) (sym some) (omega (arith, same))) (ap (λ b. gives b) (sym (ap (λ l. cut_body l rest) some ∙ ap (λ k. take k rest) same ∙ take-length rest))))))

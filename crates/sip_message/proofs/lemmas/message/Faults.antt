@@ -1,5 +1,7 @@
 -- Bytes are read as a message exactly if they are one, and as at most one message or one fault.
 -- In the lemmas f and fs are the first field and the others, z and zs the first element of a list and the others, and n is the number of a line.
+-- `IsOne` says that a reading has one outcome. `NamesOf` is the demands on the named fields, `BodyOf` those on the method and the body, and `LinesOf` and
+-- `HeadOf` are the reading of the lines of a head, and of a head.
 use Rattle.std.proofs.Common.{◌≡◌, ℕ, ◌+◌, List, [], ◌∷◌, Option, refl, sym, ap, ◌∙◌, subst}
 use Rattle.sip_message.specs.declared.name.Known.{Known}
 use Rattle.sip_message.specs.declared.name.Known.TheVariants as known_name
@@ -22,12 +24,15 @@ use Rattle.sip_message.proofs.lemmas.message.Outcome.{IsOne, given, one-gives, o
 -- the reading of a field line has one outcome: the field, or its first fault
 one-field : (n : ℕ) (line : List ℕ) → IsOne (FieldOf n line)
 one-field n line =
+    -- a line has its name and what follows its colon in one way, and its value too
     one-then (one-demand (HasName line) _ (λ x y one other. let same = same_name line x.1 y.1 x.0 y.0 one other in ap (λ m. (m, x.1)) same.0 ∙ ap (λ r. (y.0, r)) same.1)) (λ named.
     one-then (one-demand (IsValue named) _ (λ x y one other. same_value named.1 x y one.0 other.0)) (λ value. one-gives _))
 
 -- the reading of field lines has one outcome
 one-fields : (n : ℕ) (lines : List (List ℕ)) → IsOne (FieldsOf n lines)
+-- no lines have no fields
 one-fields n [] = one-gives []
+-- the first line has one outcome, and so have the others
 one-fields n (line ∷ lines) = one-then (one-field n line) (λ f. one-then (one-fields (n + 1) lines) (λ fs. one-gives (f ∷ fs)))
 
 -- equal lists have the same first element
@@ -43,45 +48,54 @@ same_cons x y xs ys is = ap head is
 -- the reading of the first field of a name has one outcome
 one-present : (name : Known) (fields : List Field) → IsOne (FirstOf (found name fields))
 one-present name fields =
+    -- the first field is the head of the list that is found
     one-demand (IsFirstFound name fields) _ (λ x y one other. same_cons x y one.0 other.0 (sym one.1 ∙ other.1))
 
 -- the reading of the only field of a name has one outcome
 one-once : (name : Known) (fields : List Field) → IsOne (OneOf (found name fields))
+-- that no second one stands there is asked first
 one-once name fields = one-then (one-holds _ _) (λ _. one-present name fields)
 
 -- the reading of the named fields has one outcome
 one-names : (fields : List Field) → IsOne (NamesOf fields)
 one-names fields =
+    -- Via is asked first, then From, To, Call-ID and CSeq, and last that Content-Length does not stand twice
     one-then (one-present known_name.Via fields) (λ via. one-then (one-once known_name.From fields) (λ _. one-then (one-once known_name.To fields) (λ _.
     one-then (one-once known_name.CallId fields) (λ _. one-then (one-once known_name.CSeq fields) (λ cseq. one-then (one-holds _ _) (λ _. one-gives (via, cseq)))))))
 
 -- the reading of the body has one outcome
 one-body : (start : StartLine) (cseq : ℕ × List ℕ) (via : List ℕ) (len : Option ℕ) (rest : List ℕ) → IsOne (BodyOf start cseq via len rest)
 one-body start cseq via len rest =
+    -- four demands come first: on the method, the length, that the body is long enough, and that nothing follows it; then the body is cut
     one-then (one-holds _ _) (λ _. one-then (one-holds _ _) (λ _. one-then (one-holds _ _) (λ _. one-then (one-holds _ _) (λ _. one-gives (cut_body len rest)))))
 
 -- the reading of the lines of a head, and of its body, has one outcome
 one-lines : (rest first : List ℕ) (others : List (List ℕ)) → IsOne (LinesOf rest first others)
 one-lines rest first others =
+    -- the start line, the fields, the demands on the names, and those on the method and the body, each have one outcome
     one-then (one-demand (StartText first) _ (same_start first)) (λ start. one-then (one-fields 1 others) (λ fields. one-then (one-names fields) (λ names.
     one-then (one-body start names.1 names.0.1 (content_length fields) rest) (λ body. one-gives _))))
 
 -- the reading of a head has one outcome
 one-head : (head rest : List ℕ) → IsOne (HeadOf head rest)
 one-head head rest a b one other =
+    -- a head has its lines in one way, so both outcomes are of the same lines
     let lines = same_lines head one.0 other.0 one.1 other.1 one.2 other.2 in
     one-lines rest other.0 other.1 a b (subst (λ ls. LinesOf rest other.0 ls a) lines.1 (subst (λ l. LinesOf rest l one.1 a) lines.0 one.3)) other.3
 
 -- the reading of bytes has one outcome: a message, or its first fault
 pub one-read : (bytes : List ℕ) → IsOne (ReadOf bytes)
 one-read bytes =
+    -- bytes are cut in one way into a head and what follows it
     one-then (one-demand (CutSays bytes) _ (λ x y one other. let same = same_head bytes x.0 x.1 y.0 y.1 one other in ap (λ h. (h, x.1)) same.0 ∙ ap (λ r. (y.0, r)) same.1)) (λ cut.
     one-then (one-holds _ _) (λ _. one-head cut.0 cut.1))
 
 -- lines that are read are fields
 pub read-fields : (n : ℕ) (lines : List (List ℕ)) (fields : List Field) → FieldsOf n lines (gives fields) → FieldsText lines fields
+-- no lines give no fields
 read-fields n [] fields is = given is
 read-fields n (line ∷ lines) fields is =
+    -- `one` is the field of the first line, and `more` are those of the others; `named` is its name and `valued` its value
     let one = given-then is in
     let named = given-then one.1 in
     let valued = given-then named.2 in
@@ -97,8 +111,10 @@ read-fields n (line ∷ lines) fields is =
 
 -- lines that are fields are read as them
 pub fields-read : (n : ℕ) (lines : List (List ℕ)) (fields : List Field) → FieldsText lines fields → FieldsOf n lines (gives fields)
+-- no lines are no fields
 fields-read n [] fields is = ap (λ fs. gives fs) is
 fields-read n (line ∷ lines) fields (f, fs, is, are, whole) =
+    -- the first line is read as its name and its value, and then the others
     passes f (passes (f.name, is.rest) is.named (passes f.value (is.valued, is.row) refl)) (passes fs (fields-read (n + 1) lines fs are) (ap (λ gs. gives gs) whole))
 
 -- where the names and the body are read, what a message demands of its fields and its body holds
@@ -147,6 +163,7 @@ read-fits start fields rest body names is read =
 -- where bytes are read as a message, they are its bytes
 pub read-text : (bytes : List ℕ) (m : Message) → ReadOf bytes (gives m) → MessageText bytes m
 read-text bytes m is =
+    -- `cut` is the head and what follows it, and `lines` are the lines of the head
     let cut = given-then is in
     let bare = given-then cut.2 in
     let lines = bare.2 in
@@ -192,4 +209,5 @@ text-read bytes m text =
 -- bytes spell at most one message
 pub same_message : (bytes : List ℕ) (m n : Message) → Spells bytes m → Spells bytes n → m ≡ n
 same_message bytes m n one other =
+    -- both messages are outcomes of one reading, so they are the same, and so are their unfolded forms
     one.2 ∙ ap message_of (given (one-read bytes (gives one.0) (gives other.0) (text-read bytes one.0 one.1) (text-read bytes other.0 other.1))) ∙ sym other.2

@@ -1,4 +1,5 @@
 -- An ordinary head with all that is asked for, and a body, are a message.
+-- `AskedOf` says that what is kept is what the fields say that are asked for, and `HasBody` that the demands on the method and the body give this body.
 use Rattle.std.proofs.Common.{◌≡◌, ℕ, List, [], ◌∷◌, length, Option, Some, None, option_copied, refl, sym, ap, subst, arith}
 use Rattle.std.specs.Borrow.{Bor}
 use Rattle.sip_message.specs.declared.asked.Asked.{Asked}
@@ -39,15 +40,19 @@ pub record IsWhole (bytes rest : List ℕ) (start : StartLine) (fields : List Fi
 
 -- where one field of a name is found, the demand for the one field of the name gives it
 once-is : (k : Known) (fields : List Field) (one : ℕ × List ℕ) → found k fields ≡ one ∷ [] → OneOf (found k fields) (gives one)
+-- no second field stands there, and the first is this one
 once-is k fields one is = passes tt (omega (arith, ap length is)) ([], is)
 
 -- where something is kept of a name that stands at most once, the name stands at most once
 not-twice : (k : Known) (fields : List Field) (o : Option (List ℕ)) → OnceSays Itself k fields o → IsNotTwice k fields
+-- there is no field of the name
 not-twice k fields None none = omega (arith, ap length none)
+-- there is one
 not-twice k fields (Some x) (one, is, says) = omega (arith, ap length is)
 
 -- where one field of a name is found, its value is the first value of the name
 value-is : (k : Known) (fields : List Field) (text : List ℕ) (one : ℕ × List ℕ) → found k fields ≡ one ∷ [] → text ≡ one.1 → IsFirstOf (values k fields) text
+-- the first field that is found has this value
 value-is k fields text one is same = subst (IsFirstOf (values k fields)) (sym same) (first-value k fields one ([], is))
 
 -- an ordinary head of whose fields all that is asked for is kept, and a body, are a message

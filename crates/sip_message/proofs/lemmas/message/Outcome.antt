@@ -39,18 +39,23 @@ fault_is {X = X} {f = f} is = ap fault is
 
 -- the step that gives x has one outcome
 pub one-gives : {X : Type 0} (x : X) → IsOne (Gives x)
+-- both outcomes are `gives x`
 one-gives x a b a_is b_is = a_is ∙ sym b_is
 
 -- a demand that one value at most meets has one outcome
 -- R is what a value has to meet
 pub one-demand : {X : Type 0} (R : X → Type 0) (fault : Fault) → ((x y : X) → R x → R y → x ≡ y) → IsOne (Demand R fault)
+-- two values meet the demand, and so are the same
 one-demand R fault same (gives x) (gives y) one other = ap (λ z. gives z) (same x y one other)
+-- a value meets it, so it cannot be that none does
 one-demand R fault same (gives x) (stops g) one other = absurd (other.0 x one)
 one-demand R fault same (stops f) (gives y) one other = absurd (one.0 y other)
+-- the demand has one fault
 one-demand R fault same (stops f) (stops g) one other = ap (λ z. stops z) (one.1 ∙ sym other.1)
 
 -- the demand that A holds has one outcome, where it holds and where it does not
 pub one-holds : (A : Type 0) (fault : Fault) → IsOne (Holds A fault)
+-- the demand that A holds gives nothing but its value
 one-holds A fault = one-demand (λ _. A) fault (λ x y _ _. refl)
 
 -- where each of two steps has one outcome, both together have
@@ -68,5 +73,7 @@ one-then first second a b (stopped f s is) (stopped g s_too is_too) =
 
 -- where a step S and then a step T give y together, S gives some x, and T gives y after x
 pub given-then : {X Y : Type 0} {S : Outcome X → Type 0} {T : X → Outcome Y → Type 0} {y : Y} → Then S T (gives y) → (x : X) × S (gives x) × T x (gives y)
+-- the first step gave x, and the second y
 given-then (passes x s t) = (x, s, t)
+-- a step that stopped gave nothing
 given-then (stopped f s is) = absurd (no_value is)

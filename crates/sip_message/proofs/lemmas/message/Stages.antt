@@ -1,5 +1,6 @@
 -- The stages of reading, one after another.
 -- In the lemmas n is the named fields that were found, e the first element of Via, and s the CSeq by its number and method.
+-- `LinesOf`, `NamesOf` and `BodyOf` are the readings of a head's lines, of the named fields and of the body; `KeepsRead` says what a message keeps of them.
 use Rattle.std.proofs.Common.{◌≡◌, ℕ, List, false, refl, sym, ap, subst}
 use Rattle.std.specs.Prelude.{Result, Ok, Err, IsErr, IsErrAnd}
 use Rattle.std.proofs.lemmas.Bool.{both_ways}
@@ -41,28 +42,33 @@ pub record IsBegun (bytes head rest first : List ℕ) (others : List (List ℕ))
 
 -- where the head and its lines are found, what the lines are read as is what the bytes are read as
 pub begun : {bytes head rest first : List ℕ} {others : List (List ℕ)} {out : Outcome Message} → IsBegun bytes head rest first others → LinesOf rest first others out → ReadOf bytes out
+-- the bytes are cut, the head is clean, and has these lines
 begun {head = head} {rest = rest} {first = first} {others = others} b of_lines = passes (head, rest) b.head_is (passes tt b.clean (first, others, b.are_lines, of_lines))
 
 -- where the head is found and has no bare line end, it has a first line and others, as the reader cuts them
 pub begins : {bytes head rest first text : List ℕ} → CutSays bytes (head, rest) → HasNoBareEnd head → ((line : List ℕ) (others : List (List ℕ)) → LinesSay head line others → (line ≡ first) × AreLines text others)
     → (others : List (List ℕ)) × IsBegun bytes head rest first others × AreLines text others
 begins {bytes = bytes} {head = head} {rest = rest} head_is clean cut =
+    -- the head is lines, and its first one is what the reader cut off
     let lines = head-lines bytes head rest head_is in
     let parts = cut lines.0 lines.1 lines.2 in
     (lines.1, record { head_is = head_is; clean = clean; are_lines = subst (λ l. LinesSay head l lines.1) parts.0 lines.2 }, parts.1)
 
 -- where a stage that takes memory fails, and the reading of the bytes stops with each fault of the stage, the bytes are read as its error
 pub settled : {A X : Type 0} (parts : A → X) (S : Outcome X → Type 0) (bytes : List ℕ) (e : ReadError) (r : Result Reading ReadError) → IsErr r → IsErrAnd r (λ x. x ≡ e) → Settles S parts (Err e) → ((fault : Fault) → S (stops fault) → ReadOf bytes (stops fault)) → ReadsTo bytes r
+-- the result would be a value
 settled parts S bytes e (Ok m) err same settles go = absurd (both_ways false refl err)
 settled parts S bytes e (Err x) err same settles go = at x (subst (λ y. Settles S parts (Err y)) (sym same) settles)
   where
     -- the claim holds whether the stage has failed for want of memory or by a fault of the bytes
     at : (y : ReadError) → Settles S parts (Err y) → ReadsTo bytes (Err y)
     at error.Memory is = tt
+    -- memory is missing, of which nothing is said; or the bytes have the fault
     at (error.Fault fault) is = fault-says bytes fault (go fault is)
 
 -- where the reading of the bytes stops with a fault, and the result is that fault, the bytes are read as it
 pub faulted : (bytes : List ℕ) (fault : Fault) (r : Result Reading ReadError) → IsErr r → IsErrAnd r (λ x. x ≡ error.Fault fault) → ReadOf bytes (stops fault) → ReadsTo bytes r
+-- the result would be a value
 faulted bytes fault (Ok m) err same is = absurd (both_ways false refl err)
 faulted bytes fault (Err x) err same is = subst (λ y. ReadsTo bytes (Err y)) (sym same) (fault-says bytes fault is)
 
@@ -80,12 +86,14 @@ pub record Found (bytes rest first : List ℕ) (start : StartLine) (fields : Lis
 -- where each stage gives something, the bytes are the message that is made of it
 pub found-text : {bytes rest first body : List ℕ} {start : StartLine} {fields : List Field} {n : Names} → Found bytes rest first start fields n body → MessageText bytes (record { start = start; fields = fields; body = body })
 found-text {bytes = bytes} {body = body} {start = start} {fields = fields} {n = n} f =
+    -- the start line, the fields, the named fields and the body are what the stages give, one after another
     read-text bytes _ (begun f.is_begun (passes start f.is_start (passes fields f.are_fields (passes (n.via, n.cseq) f.are_names (passes body f.is_body refl)))))
 
 -- a message that was found keeps where its named fields stand
 pub found-keeps : {bytes rest first body : List ℕ} {start : StartLine} {fields : List Field} {n : Names} (e : Element) (s : ℕ × List ℕ) → Found bytes rest first start fields n body → FirstVia (n.via.1) e → CSeqValue (n.cseq.1) s
     → (p : Parts) × KeepsRead (record { start = start; fields = fields; body = body }) p e n.from n.to n.call_id s
 found-keeps {bytes = bytes} {n = n} e s f first said =
+    -- `text` says that the bytes are those of the message, and `parts` are its parts
     let text = found-text f in
     let parts = has-parts bytes _ text in
     let keeps : Keeps _ parts.0 (n.via.1) n.from n.to n.call_id (n.cseq.1) = record {

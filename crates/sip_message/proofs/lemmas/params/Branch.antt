@@ -1,5 +1,7 @@
 -- The branch of parameters, which are read one after another.
 -- In the lemmas ps are parameters, qs those after the first, u their text, and a, b and c are branches, if there are any.
+-- `BranchFront` is the parameters at the front with their branch, and `TailFront` these with their own text too, each with what is left; `BranchOf` is the
+-- branch that one parameter gives.
 use Rattle.std.proofs.Common.{◌≡◌, ◌↔◌, ℕ, ◌-◌, List, [], ◌∷◌, ◌++◌, Option, Some, None, Bor, option_copied, length, take, refl, sym, ap, ◌∙◌, subst, inl, inr}
 use Rattle.std.specs.Option.{option_or}
 use Rattle.sip_message.specs.Via.{IsBranch}
@@ -14,26 +16,35 @@ use Rattle.sip_message.proofs.lemmas.params.Reading.{one-all_params, front-param
 
 -- a parameter has one branch at most
 one-branch_of : (p : Param) (a b : Option (List ℕ)) → BranchOf p a → BranchOf p b → a ≡ b
+-- by neither reading the parameter has a branch
 one-branch_of (name, value) None None x y = refl
+-- it is named branch by one reading, and is not so by the other
 one-branch_of (name, value) None (Some b) x y = absurd (x y.0)
 one-branch_of (name, value) (Some a) None x y = absurd (y x.0)
+-- the branch is the value of the parameter
 one-branch_of (name, value) (Some a) (Some b) x y = sym x.2 ∙ y.2
 
 -- the branch of a parameter and those after it is that of the parameter, or else that of the others
 branch-cons : (p : Param) (ps : List Param) (b : Option (List ℕ)) → IsBranch (p ∷ ps) b → (found : Option (List ℕ)) × BranchOf p found × (later : Option (List ℕ)) × IsBranch ps later × (b ≡ option_or found later)
 -- v is the value of the parameter, whose name is `branch`; ps are the others
+-- the first parameter is the branch that counts
 branch-cons (name, value) ps b (inl (same, v, token, value_is, b_is, later, more)) = (Some v, (same, token, value_is), later, more, b_is)
+-- it is none, so the one that counts is that of the others
 branch-cons (name, value) ps b (inr (differs, more)) = (None, differs, b, more, refl)
 
 -- the branch of a parameter, or else that of the others, is the branch of them together
 pub cons-branch : (p : Param) (ps : List Param) (found later : Option (List ℕ)) → BranchOf p found → IsBranch ps later → IsBranch (p ∷ ps) (option_or found later)
+-- the first parameter is no branch
 cons-branch (name, value) ps None later differs more = inr (differs, more)
+-- the first parameter is a branch
 cons-branch (name, value) ps (Some v) later (same, token, value_is) more = inl (same, v, token, value_is, refl, later, more)
 
 -- parameters have one branch
 pub one-is_branch : (ps : List Param) → AtMostOne (IsBranch ps)
+-- of no parameters none counts
 one-is_branch [] a b a_is b_is = a_is ∙ sym b_is
 one-is_branch (p ∷ ps) a b a_is b_is =
+    -- x and y are the branch of the first parameter and that of the others, by the two readings
     let x = branch-cons p ps a a_is in
     let y = branch-cons p ps b b_is in
     x.4 ∙ ap (λ o. option_or o x.2) (one-branch_of p x.0 y.0 x.1 y.1) ∙ ap (option_or y.0) (one-is_branch ps x.2 y.2 x.3 y.3) ∙ sym y.4
@@ -56,12 +67,15 @@ Decides text rest first = (x : Option (List ℕ) × List ℕ) → BranchFront te
 
 -- the first of three options is the same, whichever two are taken first
 pub or-assoc : (a b c : Option (List ℕ)) → option_or a (option_or b c) ≡ option_or (option_or a b) c
+-- without a first one it is the first of the others; else it is v
 or-assoc None b c = refl
 or-assoc (Some v) b c = refl
 
 -- where a parameter is read of the rest, all parameters of the rest are it and those after it
 behind-one : (rest more left : List ℕ) (p : Param) (ps : List Param) → ReadAs (ParamFront rest) (p, more) → AllParamsFront rest (ps, left) → (qs : List Param) × (ps ≡ p ∷ qs) × AllParamsFront more (qs, left)
+-- all parameters would be none, though one is read
 behind-one rest more left p [] read (is, ends) = absurd (ends (p, more) (subst (λ t. ParamFront t (p, more)) (sym is) read.0))
+-- the first of them is the one that is read
 behind-one rest more left p (q ∷ qs) read ((next, one, later), ends) =
     let same = read.1 (q, next) one in
     (qs, ap (λ x. x.0 ∷ qs) same, (subst (λ t. ParamsFront t qs left) (ap (λ x. x.1) same) later, ends))
@@ -73,6 +87,7 @@ decides-more text rest more p first found read is so x = ((λ whole. to x ((so x
     -- what is read of the rest is read of the text, after the parameters so far
     to : (y : Option (List ℕ) × List ℕ) → After first rest y → After (option_or first found) more y
     to (b, left) (later, (ps, all, branch), b_is) =
+        -- `others` are the parameters after the one that is read, and `cons` the branch of it and of these
         let others = behind-one rest more left p ps read all in
         let cons = branch-cons p others.0 later (subst (λ qs. IsBranch qs later) others.1 branch) in
         (cons.2, (others.0, others.2, cons.3), b_is ∙ ap (option_or first) (cons.4 ∙ ap (λ o. option_or o cons.2) (one-branch_of p cons.0 found cons.1 is)) ∙ or-assoc first found cons.2)
@@ -85,6 +100,7 @@ decides-more text rest more p first found read is so x = ((λ whole. to x ((so x
 -- where a parameter named branch has no token for value, the text has no parameters of a Via
 pub decides-not : (text rest more : List ℕ) (p : Param) (first : Option (List ℕ)) → ReadAs (ParamFront rest) (p, more) → NotRead (BranchOf p) → Decides text rest first → NotRead (BranchFront text)
 decides-not text rest more p first read none so (b, left) is =
+    -- `after` is the branch of the rest with its parameters, of which the first would have a branch
     let after = (so (b, left)).0 is in
     let others = behind-one rest more left p after.1.0 read after.1.1 in
     let cons = branch-cons p others.0 after.0 (subst (λ qs. IsBranch qs after.0) others.1 after.1.2) in
@@ -97,11 +113,13 @@ decides-all text rest first none so =
   where
     -- an option is the same where nothing is found after it
     or-none : (o : Option (List ℕ)) → o ≡ option_or o None
+    -- there is no option; or it has v
     or-none None = refl
     or-none (Some v) = refl
 
 -- to copy the first of two values that is there is to take the first of their copies
 pub copied-or : (a b : Option (Bor (List ℕ))) → option_copied (option_or a b) ≡ option_or (option_copied a) (option_copied b)
+-- without a first value it is the second
 copied-or None b = refl
 copied-or (Some v) b = refl
 
@@ -114,6 +132,7 @@ pub one-tail : (text : List ℕ) → AtMostOne (TailFront text)
 -- p and q are the parameters, b and d their branches, and r and s what is left; u and w are the texts of the parameters
 one-tail text ((p, b), r) ((q, d), s) (is, (u, u_is, behind)) (is_too, (w, w_is, behind_too)) =
     let same : ◌≡◌ {A = Option (List ℕ) × List ℕ} (b, r) (d, s) = one-branch text (b, r) (d, s) is is_too in
+    -- what is left is the same, and so are the texts before it, and what follows their blanks
     let rest : r ≡ s = ap (λ x. x.1) same in
     let fronts : u ≡ w = (same_by_end u r w s (ap length rest) (sym u_is ∙ w_is)).0 in
     let params : p ≡ q = same-behind w p q (subst (λ t. Behind t p) fronts behind) behind_too in
@@ -122,6 +141,7 @@ one-tail text ((p, b), r) ((q, d), s) (is, (u, u_is, behind)) (is_too, (w, w_is,
 -- where parameters are read with a branch, and the text of them is the one rest after its blanks, they are read with that text and that branch
 pub tail-found : (text params : List ℕ) (b : Option (List ℕ)) (rest : List ℕ) → ReadAs (BranchFront text) (b, rest) → IsOnlyBehind (take (length text - length rest) text) params → ReadAs (TailFront text) ((params, b), rest)
 tail-found text params b rest read behind =
+    -- the text of the parameters stands before what is left
     let whole = branch-whole text b rest read.0 in
     read-one (TailFront text) ((params, b), rest) (one-tail text)
     (read.0, (take (length text - length rest) text, whole.1 ∙ ap (λ t. t ++ rest) (sym (front-is text whole.0 rest whole.1)), behind.0))

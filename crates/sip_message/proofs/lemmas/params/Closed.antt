@@ -23,6 +23,7 @@ use Rattle.sip_text.proofs.texts.GroupLemmas.{length-ones}
 
 -- one SP is a blank run
 pub blanks-space : Blanks (space ∷ [])
+-- SP is one piece of a blank run, and no further piece follows
 blanks-space = (space ∷ [], [], lws-space, many-nil Lws, refl)
 
 -- the set of blank runs is closed under making one SP of a blank run
@@ -52,6 +53,7 @@ firm-byte b is u text = subst Firm (sym text) (solid_is b is)
 -- the set of marks is closed under making one SP of a blank run
 pub closed-mark : (b : ℕ) → is_solid b ≡ true → Closed (Mark b)
 closed-mark b is =
+    -- blanks, the byte, and blanks: no run of blanks crosses a seam between them, since the byte is no blank
     closed-then Sws (Byte b then Sws) (seam-right Sws (Byte b then Sws) (opens-then (Byte b) Sws (open-byte b is))) closed-sws
     (closed-then (Byte b) Sws (seam-left (Byte b) Sws (end-firm (Byte b) (firm-byte b is))) (closed-byte b is) closed-sws)
 
@@ -113,12 +115,14 @@ some-double u is none = absurd (omega (arith, ap length is, ap length none))
 
 -- a hexpart is not empty
 some-hexpart : (u : List ℕ) → Hexpart u → u ≡ [] → ⊥
+-- it is a hexseq; one, "::" and perhaps another one; or "::" and perhaps a hexseq
 some-hexpart u (inl seq) = some-hexseq u seq
 some-hexpart u (inr (inl both)) = some-left Hexseq _ some-hexseq u both
 some-hexpart u (inr (inr both)) = some-left (Exactly (colon ∷ colon ∷ [])) _ some-double u both
 
 -- an IPv6 address is not empty
 some-v6 : (u : List ℕ) → Ipv6 u → u ≡ [] → ⊥
+-- an address begins with a hexpart, or ends with an IPv4 address after "::"
 some-v6 u (inl both) = some-left Hexpart _ some-hexpart u both
 some-v6 u (inr both) = some-left _ _ begins u both
   where
@@ -134,6 +138,7 @@ some-v6_reference u = some-left (Byte 91) _ (some-byte 91) u
 -- the set of quoted strings is closed under making one SP of a blank run
 pub closed-quoted : Closed Quoted
 closed-quoted =
+    -- a quote, the contents, and a quote: no run of blanks crosses a seam, since a quote is no blank
     closed-then (Byte dquote) (Many (Qdtext or QuotedPair) then Byte dquote) (seam-left (Byte dquote) (Many (Qdtext or QuotedPair) then Byte dquote) (end-firm (Byte dquote) (firm-byte dquote refl)))
     (closed-byte dquote refl)
     (closed-then (Many (Qdtext or QuotedPair)) (Byte dquote) (seam-right (Many (Qdtext or QuotedPair)) (Byte dquote) (λ u is. subst OpensSolid (sym is) refl)) closed-contents (closed-byte dquote refl))
@@ -141,6 +146,7 @@ closed-quoted =
 -- a quoted string is not empty, and does not end with a blank
 pub firm-quoted : AllFirm Quoted
 firm-quoted =
+    -- a quoted string ends with its quote
     firm-then_right (Byte dquote) (Many (Qdtext or QuotedPair) then Byte dquote)
     (firm-then_right (Many (Qdtext or QuotedPair)) (Byte dquote) (firm-byte dquote refl))
 
@@ -150,6 +156,7 @@ open-quoted u = opens-then (Byte dquote) (Many (Qdtext or QuotedPair) then Byte 
 
 -- a parameter's value is not empty, and does not end with a blank
 firm-value : AllFirm GenValue
+-- a token, a quoted string, an IPv6 address, or one in brackets
 firm-value u (inl token) = firm-token u token
 firm-value u (inr (inl quoted)) = firm-quoted u quoted
 firm-value u (inr (inr (inl v6))) = firm-solid Ipv6 solid-v6 some-v6 u v6
@@ -166,14 +173,17 @@ ParamSet Ok text = (name : List ℕ) × (value : Option (List ℕ)) × Ok name v
 -- the set of texts of a name, "=" and a value of V is closed under making one SP of a blank run where V is
 with_value : (V : List ℕ → Type 0) (name : List ℕ) → All is_solid name → ((u : List ℕ) → V u → OpensSolid u) → Closed V → Closed (Exactly name then Mark equals then V)
 with_value V name solid opens closed =
+    -- the name, "=" and the value: the name ends with no blank, and the value begins with none
     closed-then (Exactly name) (Mark equals then V) (seam-left (Exactly name) (Mark equals then V) (λ u is. subst EndsSolid (sym is) (ends-solid name solid)))
     (closed-solid (Exactly name) (λ u is. subst (All is_solid) (sym is) solid))
     (closed-then (Mark equals) V (seam-right (Mark equals) V opens) (closed-mark equals refl) closed)
 
 -- the set of parameters of which Ok holds is closed under making one SP of a blank run
 pub closed-param : (Ok : List ℕ → Option (List ℕ) → Type 0) → IsDemand Ok → Closed (ParamSet Ok)
+-- without a value the parameter is a name, which has no blanks
 closed-param Ok demand u v b w ends opens blanks (name, None, ok, (token, is)) =
     (name, None, ok, (token, closed-solid (Exactly name) (λ t same. subst (All is_solid) (sym same) (solid-token name token)) u v b w ends opens blanks is))
+-- with a value it is still a parameter, whatever its value is
 closed-param Ok demand u v b w ends opens blanks (name, Some value, ok, (token, kind, whole)) = at kind
   where
     -- where its value has no blanks, the parameter stays one
@@ -186,12 +196,14 @@ closed-param Ok demand u v b w ends opens blanks (name, Some value, ok, (token, 
     at (inr (inr (inl t))) = same (solid-v6 value t)
     at (inr (inr (inr t))) = same (solid-v6_reference value t)
     at (inr (inl quoted)) =
+        -- the blanks lie in the quoted string, or around the "=": what is made of the text is again a name, "=" and a quoted string
         let is = with_value Quoted name (solid-token name token) open-quoted closed-quoted u v b w ends opens blanks
         (whole.0, whole.1, whole.2, (whole.3.0, whole.3.1, whole.3.2, subst Quoted (sym whole.3.3) quoted, whole.3.4), whole.4) in
         (name, Some is.3.1, demand.quoted name value is.3.1 quoted ok, (token, inr (inl is.3.3), (is.0, is.1, is.2, (is.3.0, is.3.1, is.3.2, refl, is.3.4), is.4)))
 
 -- a parameter is not empty, and does not end with a blank
 firm-param : (Ok : List ℕ → Option (List ℕ) → Type 0) → AllFirm (ParamSet Ok)
+-- without a value it ends with its name, else with the value
 firm-param Ok u (name, None, ok, (token, is)) = subst Firm (sym is) (firm-token name token)
 firm-param Ok u (name, Some value, ok, (token, kind, whole)) =
     firm-then_right (Exactly name) (Mark equals then Exactly value)
@@ -203,6 +215,7 @@ ParamsSet Ok = Many (Mark semicolon then ParamSet Ok)
 
 -- parameters do not end with a blank
 pub end-params : (Ok : List ℕ → Option (List ℕ) → Type 0) → AllEnd (ParamsSet Ok)
+-- each parameter is firm, so the last one ends with no blank
 end-params Ok = end-many _ (end-firm _ (firm-then_right (Mark semicolon) (ParamSet Ok) (firm-param Ok)))
 
 -- a parameter does not begin with a blank
@@ -215,6 +228,7 @@ open-param Ok u (name, Some value, ok, (token, kind, (m, t, m_is, rest, whole)))
 -- the set of parameters, of each of which Ok holds, is closed under making one SP of a blank run
 pub closed-params : (Ok : List ℕ → Option (List ℕ) → Type 0) → IsDemand Ok → Closed (ParamsSet Ok)
 closed-params Ok demand =
+    -- each ";" and its parameter end with no blank, so no run of blanks crosses from one to the next
     closed-many (Mark semicolon then ParamSet Ok) (end-firm _ (firm-then_right (Mark semicolon) (ParamSet Ok) (firm-param Ok)))
     (closed-then (Mark semicolon) (ParamSet Ok) (seam-right (Mark semicolon) (ParamSet Ok) (open-param Ok)) (closed-mark semicolon refl) (closed-param Ok demand))
 
@@ -224,6 +238,7 @@ AllOk Ok params = AllByRecursion (λ p. Ok (p.0) (p.1)) params
 
 -- where Ok holds of each parameter of a list, the text of the list is parameters of which Ok holds
 pub params-set : (Ok : List ℕ → Option (List ℕ) → Type 0) (ps : List (List ℕ × Option (List ℕ))) (text : List ℕ) → AllOk Ok ps → ParamsText text ps → ParamsSet Ok text
+-- no parameters have the empty text
 params-set Ok [] text all is = subst (ParamsSet Ok) (sym is) (many-nil _)
 -- p is the first parameter: m is the ";" with its blanks, x its text, and y that of the others; t is x and y
 params-set Ok (p ∷ ps) text all (m, t, mark, (x, y, param, more, t_is), whole) =
@@ -232,6 +247,7 @@ params-set Ok (p ∷ ps) text all (m, t, mark, (x, y, param, more, t_is), whole)
 
 -- texts that are each ";" and a parameter of which Ok holds are the text of a list of such parameters
 pub set-params : (Ok : List ℕ → Option (List ℕ) → Type 0) (us : List (List ℕ)) → AllByRecursion (Mark semicolon then ParamSet Ok) us → (ps : List (List ℕ × Option (List ℕ))) × AllOk Ok ps × ParamsText (concat us) ps
+-- no texts, joined, are the text of no parameters
 set-params Ok [] all = ([], tt, refl)
 -- m is the ";" with its blanks, and x the parameter's text
 set-params Ok (u ∷ us) ((m, x, mark, (name, value, ok, param), u_is), all) =
@@ -245,11 +261,13 @@ TailSet Ok text =
 
 -- blanks before a text, where both together begin with no blank, are none
 pub no_blanks : (u v : List ℕ) → All is_lws_byte u → OpensSolid (u ++ v) → u ≡ []
+-- blanks that are not empty would be the first byte
 no_blanks [] v all opens = refl
 no_blanks (b ∷ u) v all opens = absurd (both_ways (is_lws_byte b) opens all.0)
 
 -- optional blanks and parameters are parameters: the blanks are those of the first mark
 pub tail-set : (Ok : List ℕ → Option (List ℕ) → Type 0) (text : List ℕ) → TailSet Ok text → ParamsSet Ok text
+-- no parameters are left, so the text is empty; or there is a first byte, and so a first parameter
 tail-set Ok text ([], ps, part, all, is) = subst (ParamsSet Ok) (sym is) (many-nil _)
 tail-set Ok text (b ∷ rest, [], part, all, is) = absurd (omega (arith, ap length part.1))
 -- b is the first byte of the parameters; m is the blanks and the ";", t what follows, and c the ";" with the blanks after it
@@ -267,6 +285,7 @@ tail-set Ok text (b ∷ rest, p ∷ ps, (opens, (m, t, (blanks, c, is_blanks, ma
 
 -- parameters are optional blanks, and parameters that begin with no blank
 pub set-tail : (Ok : List ℕ → Option (List ℕ) → Type 0) (text : List ℕ) → ParamsSet Ok text → TailSet Ok text
+-- an empty text has no blanks and no parameters
 set-tail Ok text ([], all, is) = ([], [], (tt, refl), tt, is)
 -- u is the first ";" with its parameter, and us are the others; m is the ";" with its blanks, x the parameter, and c the ";" with the blanks after it
 set-tail Ok text (u ∷ us, ((m, x, (sws, c, is_sws, (byte, after, is_byte, is_after, c_is), m_is), (name, value, ok, param), u_is), all), is) =

@@ -1,5 +1,6 @@
 -- Parameters are read one after another, and what is read is what the grammar has.
 -- In the lemmas ps are the parameters that are read of the text u, and r, rest and more are what is left after them.
+-- `ParamFront` is one parameter at the front of a text, `ParamsFront` some, and `AllParamsFront` all that stand there, each with what is left.
 use Rattle.std.proofs.Common.{◌≡◌, ◌↔◌, IsTrue, ℕ, ◌<◌, ◌≤◌, Bool, true, false, nat_eq, cond, ◌||◌, List, [], ◌∷◌, ◌++◌, Option, Some, None, length, refl, sym, ap, ◌∙◌, subst, inl, inr, arith}
 use Rattle.std.proofs.lemmas.Bool.{both_ways, or_cases, eqb-true, eq-eqb}
 use Rattle.std.proofs.lemmas.Option.{none-some}
@@ -26,6 +27,7 @@ use Rattle.sip_message.proofs.lemmas.front.Led.{Next, next-stops, next-other, ma
 -- a parameter at the front of a text is read in one way
 pub one-param : (text : List ℕ) → AtMostOne (ParamFront text)
 one-param text =
+    -- the ";", the name, and the value after "=", if there is one, are each read in one way
     one-seq (MarkFront semicolon text) _ (one-mark semicolon text refl) (λ inner.
     one-seq (TokenFront inner) _ (one-token inner) (λ name.
     one-seq (LedFront equals ValueFront (name.1)) _ (one-led equals ValueFront (name.1) refl one-value) (λ value.
@@ -33,6 +35,7 @@ one-param text =
 
 -- where a value is read at the front of a text, the value and what is left are the text
 pub value-whole : (text value rest : List ℕ) → ValueFront text (value, rest) → text ≡ value ++ rest
+-- a value is quoted, an IPv6 reference or bare
 value-whole text value rest (inl is) = is.1
 value-whole text value rest (inr (inl is)) = is.1
 value-whole text value rest (inr (inr is)) = is.2
@@ -40,6 +43,7 @@ value-whole text value rest (inr (inr is)) = is.2
 -- what is left after a parameter is shorter than the text
 pub param-shorter : (text : List ℕ) (p : Param) (rest : List ℕ) → ParamFront text (p, rest) → length rest < length text
 param-shorter text p rest (both inner mark (both (name, r) token (both (value, s) led is))) =
+    -- the ";" and the name take at least a byte each, and the value none or more
     let same : rest ≡ s = ap (λ x. x.1) is in
     omega (arith, mark-shorter semicolon text inner refl mark, token-shorter inner name r token, at value led, ap length same)
   where
@@ -51,6 +55,7 @@ param-shorter text p rest (both inner mark (both (name, r) token (both (value, s
 
 -- where parameters are read at the front of a text, and a further one of what is left, all of them are read at the front
 pub params-more : (text : List ℕ) (ps : List Param) (r : List ℕ) (p : Param) (more : List ℕ) → ParamsFront text ps r → ParamFront r (p, more) → ParamsFront text (ps ++ p ∷ []) more
+-- without parameters before it, the further one is read of the text itself
 params-more text [] r p more so is = (more, subst (λ t. ParamFront t (p, more)) so is, refl)
 params-more text (q ∷ ps) r p more (next, one, so) is = (next, one, params-more next ps r p more so is)
 
@@ -58,6 +63,7 @@ params-more text (q ∷ ps) r p more (next, one, so) is = (next, one, params-mor
 -- ps and qs are the parameters, and r and s what is left, by the two readings
 same-params : (ps qs : List Param) (text r s : List ℕ) → ParamsFront text ps r → NotRead (ParamFront r) → ParamsFront text qs s → NotRead (ParamFront s) → (ps ≡ qs) × (r ≡ s)
 -- where one reading has no parameter, the other has none, since none can be read where the first ends
+-- by both readings there is no parameter, so all of the text is left
 same-params [] [] text r s a a_ends b b_ends = (refl, a ∙ sym b)
 same-params [] (q ∷ qs) text r s a a_ends (more, is, b) b_ends = absurd (a_ends (q, more) (subst (λ t. ParamFront t (q, more)) (sym a) is))
 same-params (p ∷ ps) [] text r s (more, is, a) a_ends b b_ends = absurd (b_ends (p, more) (subst (λ t. ParamFront t (p, more)) (sym b) is))
@@ -83,6 +89,7 @@ is_separator b = nat_eq b semicolon || nat_eq b comma
 -- a separator is no byte of a token
 pub separator-token : (b : ℕ) → is_separator b ≡ true → is_token_byte b ≡ false
 separator-token b is = elim (or_cases (nat_eq b semicolon) (nat_eq b comma) is) [
+  -- both separators are tried, by computing
   | inl same ↦ subst (λ x. is_token_byte x ≡ false) (sym (eqb-true b semicolon same)) refl
   | inr same ↦ subst (λ x. is_token_byte x ≡ false) (sym (eqb-true b comma same)) refl
 ]
@@ -90,12 +97,14 @@ separator-token b is = elim (or_cases (nat_eq b semicolon) (nat_eq b comma) is) 
 -- a separator is no bare byte
 separator-bare : (b : ℕ) → is_separator b ≡ true → is_bare_byte b ≡ false
 separator-bare b is = elim (or_cases (nat_eq b semicolon) (nat_eq b comma) is) [
+  -- both separators are tried, by computing
   | inl same ↦ subst (λ x. is_bare_byte x ≡ false) (sym (eqb-true b semicolon same)) refl
   | inr same ↦ subst (λ x. is_bare_byte x ≡ false) (sym (eqb-true b comma same)) refl
 ]
 
 -- a blank is no byte of a bare value
 blank-bare : (b : ℕ) → is_lws_byte b ≡ true → is_bare_byte b ≡ false
+-- SP, HTAB, CR and LF are tried, by computing
 blank-bare = blank_is (λ b. is_bare_byte b ≡ false) refl refl refl refl
 
 -- a token or an IPv6 address does not begin with a blank
@@ -104,16 +113,20 @@ bare-stops v rest kind = at v (some-bare v kind) (each-bare v kind)
   where
     -- a bare byte is no blank
     solid : (b : ℕ) (x : Bool) → is_lws_byte b ≡ x → is_bare_byte b ≡ true → is_lws_byte b ≡ false
+    -- b is no blank
     solid b false is bare = is
+    -- b is a blank, which no bare byte is
     solid b true is bare = absurd (both_ways (is_bare_byte b) (blank-bare b is) bare)
 
     -- a text of bare bytes that is not empty begins with no blank, whatever follows it
     at : (u : List ℕ) → (u ≡ [] → ⊥) → All is_bare_byte u → StopsBlank (u ++ rest)
+    -- the first byte is bare, and so no blank
     at [] some all = absurd (some refl)
     at (b ∷ u) some all = stops-byte b (u ++ rest) (solid b (is_lws_byte b) refl all.0)
 
 -- a parameter's value does not begin with a blank
 value-stops : (v rest : List ℕ) → GenValue v → StopsBlank (v ++ rest)
+-- a token, a quoted string, an IPv6 address, or one in brackets
 value-stops v rest (inl token) = bare-stops v rest (inl token)
 value-stops v rest (inr (inl quoted)) = subst StopsBlank (sym (quoted-whole v rest quoted)) (stops-byte dquote (quoted.3.0 ++ dquote ∷ rest) refl)
 value-stops v rest (inr (inr (inl v6))) = bare-stops v rest (inr v6)
@@ -123,6 +136,7 @@ value-stops v rest (inr (inr (inr reference))) =
 
 -- where nothing or a separator follows a value, the value is read at the front of it and what follows
 value-front : (v rest : List ℕ) → GenValue v → Next is_separator rest → ValueFront (v ++ rest) (v, rest)
+-- a token, a quoted string, an IPv6 address, or one in brackets: a token and an address end where no bare byte follows
 value-front v rest (inl token) next = inr (inr (inl token, next-stops is_separator is_bare_byte rest blank-bare separator-bare next, refl))
 value-front v rest (inr (inl quoted)) next = inl (quoted, refl)
 value-front v rest (inr (inr (inl v6))) next = inr (inr (inr v6, next-stops is_separator is_bare_byte rest blank-bare separator-bare next, refl))
@@ -130,6 +144,7 @@ value-front v rest (inr (inr (inr reference))) next = inr (inl (reference, refl)
 
 -- what is read as a value at the front of a text is a value
 front-value : (text v rest : List ℕ) → ValueFront text (v, rest) → GenValue v
+-- it is quoted, in brackets, a token or an IPv6 address
 front-value text v rest (inl is) = inr (inl is.0)
 front-value text v rest (inr (inl is)) = inr (inr (inr is.0))
 front-value text v rest (inr (inr (inl token, stops, whole))) = inl token
@@ -145,6 +160,7 @@ equals-token b is = subst (λ x. is_token_byte x ≡ false) (sym (eqb-true b equ
 
 -- where nothing or a separator follows a parameter, the parameter is read at the front of it and what follows
 param-front : (m x rest : List ℕ) (p : Param) → Mark semicolon m → ParamText x p → Next is_separator rest → ParamFront ((m ++ x) ++ rest) (p, rest)
+-- a parameter without a value: its name is read, and no "=" stands after it
 param-front m x rest (name, None) mark (token, x_is) next =
     both (name ++ rest) (token-stops name rest token, (m, name ++ rest, mark, refl, append_assoc m x rest ∙ ap (λ t. m ++ (t ++ rest)) x_is))
     (both (name, rest) (token, next-stops is_separator is_token_byte rest blank-token separator-token next, (name, rest, refl, refl, refl))
@@ -164,6 +180,7 @@ param-front m x rest (name, Some value) mark (token, kind, (u, w, u_is, (e, v, e
 
 -- where nothing or a separator follows parameters, a separator or nothing stands at the front of them and what follows
 pub params-next : (ps : List Param) (u rest : List ℕ) → ParamsText u ps → Next is_separator rest → Next is_separator (u ++ rest)
+-- without parameters, what follows stands at the front; else the ";" of the first one does
 params-next [] u rest is next = subst (λ t. Next is_separator (t ++ rest)) (sym is) next
 params-next (p ∷ ps) u rest (m, t, mark, more, whole) next =
     subst (Next is_separator) (sym (ap (λ x. x ++ rest) whole ∙ append_assoc m t rest)) (mark-next is_separator semicolon m (t ++ rest) refl refl mark)
@@ -211,8 +228,10 @@ front-param text p rest (both inner mark (both (name, r) token (both (value, s) 
 
 -- where parameters are read at the front of a text, the text begins with the text of these parameters
 pub front-params : (ps : List Param) (text rest : List ℕ) → ParamsFront text ps rest → (u : List ℕ) × ParamsText u ps × (text ≡ u ++ rest)
+-- no parameters have the empty text
 front-params [] text rest is = ([], refl, sym is)
 front-params (p ∷ ps) text rest (more, is, later) =
+    -- `one` is the text of the first parameter, its ";" before it, and `others` the text of those after it
     let one = front-param text p more is in
     let others = front-params ps more rest later in (
       one.0 ++ (one.1 ++ others.0),
@@ -227,18 +246,22 @@ no-param these text fails next x (both inner mark more) = next-other these semic
 -- where parameters are read at the front of a text, and nothing is left, the text is these parameters
 pub params-yes : (text : List ℕ) (ps : List Param) → ParamsFront text ps [] → ParamsText text ps
 params-yes text ps so =
+    -- nothing is left, so the text is the parameters that stand at its front
     let is = front-params ps text [] so in
     subst (λ t. ParamsText t ps) (sym (is.2 ∙ append-nil is.0)) is.1
 
 -- where a text is parameters, nothing is left after all that are read at its front
 pub params-is : (text : List ℕ) (ps qs : List Param) (rest : List ℕ) → AllParamsFront text (ps, rest) → ParamsText text qs → rest ≡ []
 params-is text ps qs rest all is =
+    -- the parameters qs are read at the front of the text, and nothing is left after them
     let front : ParamsFront text qs [] = subst (λ t. ParamsFront t qs []) (append-nil text) (params-front qs text [] is (inl refl)) in
+    -- of nothing no parameter is read, so these are all that are read, and both readings leave the same
     let none : NotRead (ParamFront []) = no-param (λ _. false) [] refl (inl refl) in
     ap (λ x. x.1) (one-all_params text (ps, rest) (qs, []) all (front, none))
 
 -- a text of parameters that is not empty, and begins with no blank, begins with ";"
 pub params-open : (b : ℕ) (text : List ℕ) (ps : List Param) → ParamsPart (b ∷ text) ps → b ≡ semicolon
+-- without parameters the text would be empty
 params-open b text [] (opens, is) = absurd (omega (arith, ap length is))
 -- m is the ";" with its blanks, of which s are those before it and c is the rest; t is what follows
 params-open b text (p ∷ ps) (opens, (m, t, (s, c, sws, (byte, after, byte_is, after_is, c_is), m_is), more, whole)) = at s (each-sws s sws) flat
@@ -256,6 +279,7 @@ params-open b text (p ∷ ps) (opens, (m, t, (s, c, sws, (byte, after, byte_is, 
 
 -- a text of parameters that begins with no blank and not with ";" is empty
 pub params-closed : (text : List ℕ) (ps : List Param) → past semicolon text ≡ None → ParamsPart text ps → text ≡ []
+-- a text that is not empty begins with ";", and so the test for ";" would have passed
 params-closed [] ps none is = refl
 params-closed (b ∷ text) ps none is =
     absurd (none-some text (sym none ∙ ap (λ same. cond same (Some text) None) (eq-eqb b semicolon (params-open b text ps is))))
@@ -274,6 +298,7 @@ params-some text inner rest found all = (to rest all.0 all.1, from)
   where
     -- where nothing is left after the parameters that are read, the text is these parameters
     to : (r : List ℕ) (ps : List Param) → AllParamsFront text (ps, r) → IsTrue (nat_eq (length r) 0) → AreParams text
+    -- nothing is left; else the length of what is left would not be 0
     to [] ps is none = (ps, (opens-semicolon text inner found, params-yes text ps is.0))
     to (b ∷ r) ps is none = absurd (omega (arith, eqb-true (length (b ∷ r)) 0 none))
 
@@ -287,12 +312,15 @@ params-none text none = (to text, (λ are. ap (λ t. nat_eq (length t) 0) (param
   where
     -- an empty text is no parameters, which is allowed
     to : (t : List ℕ) → IsTrue (nat_eq (length t) 0) → AreParams t
+    -- no parameters have the empty text; of another one the length is not 0
     to [] is = ([], (tt, refl))
     to (b ∷ t) is = absurd (omega (arith, eqb-true (length (b ∷ t)) 0 is))
 
 -- where a part is parameters, the part with blanks before it is these parameters
 pub behind-params : (part : List ℕ) (ps : List Param) (q : List ℕ) → ParamsPart part ps → BehindBlanks part q → ParamsText q ps
+-- the part is empty, so only the blanks of the mark are left, which are none
 behind-params [] ps q is q_is = subst (λ t. ParamsText t ps) (sym q_is) is.1
+-- a part that is not empty has a parameter
 behind-params (b ∷ part) [] q is blanks = absurd (omega (arith, ap length is.1))
 -- m is the ";" with its blanks, of which s are those before it and c is the rest; t is what follows
 behind-params (b ∷ part) (p ∷ ps) q (opens, (m, t, (s, c, sws, mark, m_is), more, whole)) (before, tail, before_is, tail_is, q_is) =
@@ -304,6 +332,7 @@ behind-params (b ∷ part) (p ∷ ps) q (opens, (m, t, (s, c, sws, mark, m_is), 
 
     -- no blank stands before the part
     empty : (u : List ℕ) → All is_lws_byte u → b ∷ part ≡ u ++ (c ++ t) → u ≡ []
+    -- a blank before the mark would be the first byte of the part, which is none
     empty [] all same = refl
     empty (a ∷ u) all same =
         let first : b ≡ a = cc in

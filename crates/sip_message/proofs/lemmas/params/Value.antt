@@ -1,4 +1,6 @@
 -- How a parameter's value, and what else stands at the front of a text, is cut off.
+-- A value at the front of a text is a quoted string (`QuotedFront`), an IPv6 address in brackets (`ReferenceFront`), or bare (`BareFront`); `BracketFront` is
+-- what stands there from "[" to the first "]". `PastRun` says that the rest stands after the longest run of bytes that pass a test.
 use Rattle.std.proofs.Common.{◌≡◌, ℕ, zero, suc, ◌-◌, ◌≤◌, Bool, true, false, nat_eq, cond, List, [], ◌∷◌, ◌++◌, Option, Some, None, length, take, drop, refl, sym, ap, ◌∙◌, subst, inl, inr, arith}
 use Rattle.std.proofs.lemmas.Bool.{both_ways, or_from}
 use Rattle.std.proofs.lemmas.Option.{none-some}
@@ -25,6 +27,7 @@ use Rattle.sip_message.proofs.lemmas.value.Trimmed.{length-none}
 -- where a text is u and r, it is u without its last `length r` bytes
 pub front-is : (text u r : List ℕ) → text ≡ u ++ r → take (length text - length r) text ≡ u
 front-is text u r whole =
+    -- the first bytes of the text, as many as u has, are u
     ap (λ n. take n text) len ∙ ap (take (length u)) whole ∙ take-append_seam u r
   where
     -- the text is longer than r by the length of u
@@ -37,12 +40,14 @@ rest-short text u r whole = omega (arith, ap length whole, length-append u r)
 
 -- where the longest token at the front of a text is empty, the text begins with no byte of a token
 pub no-token-stops : (text : List ℕ) → IsLongestFront Token text 0 → Stops is_token_byte text
+-- an empty text begins with no byte
 no-token-stops [] longest = tt
 no-token-stops (b ∷ text) longest = at (is_token_byte b) refl
   where
     -- the first byte is no byte of a token, since the longest token would else not be empty
     at : (x : Bool) → is_token_byte b ≡ x → is_token_byte b ≡ false
     at false is = is
+    -- else the byte alone would be a token
     at true is = absurd (omega (arith, longest.longest 1 (b ∷ [], text, (b ∷ [], [], (b, is, refl), ([], tt, refl), refl), refl, refl)))
 
 -- where n is the length of the longest token at the front of a text, what is left after n bytes is what stands after its bytes of tokens
@@ -51,9 +56,11 @@ past-token text n longest = at n refl
   where
     -- the claim holds whether or not the token is empty
     at : (m : ℕ) → n ≡ m → PastRun is_token_byte text (drop n text)
+    -- without a token nothing is passed over
     at zero none =
         let empty : IsLongestFront Token text 0 = subst (IsLongestFront Token text) none longest in
         subst (λ k. PastRun is_token_byte text (drop k text)) (sym none) (no-token-stops text empty, ([], tt, refl))
+    -- the token is passed over, all of whose bytes are bytes of tokens
     at (suc m) some =
         let front = token-cut text n longest (λ none. absurd (omega (arith, none, some))) in
         (front.1, (take n text, each-token (take n text) front.0, front.2.4 ∙ ap (λ x. x ++ front.2.1) front.2.2 ∙ ap (λ x. take n text ++ x) front.2.3))
@@ -68,6 +75,7 @@ bare-more text rest more next (s, (run, all, whole)) found (stops, (token, token
   stops,
   (
     run ++ (colon ∷ token),
+    -- the colon is a bare byte, as each byte of a token is
     all_both is_bare_byte run (colon ∷ token) all (refl, bare-all token token_all),
     whole ∙ ap (λ x. run ++ x) (past-some colon rest more found ∙ ap (λ x. colon ∷ x) more_is) ∙ sym (append_assoc run (colon ∷ token) next),
   ),
@@ -75,6 +83,7 @@ bare-more text rest more next (s, (run, all, whole)) found (stops, (token, token
 
 -- a text that begins neither with a byte of a token nor with a colon does not begin with a bare byte
 stops-bare : (rest : List ℕ) → Stops is_token_byte rest → past colon rest ≡ None → Stops is_bare_byte rest
+-- an empty text begins with no byte
 stops-bare [] stops none = tt
 stops-bare (b ∷ rest) stops none = at (nat_eq b colon) refl
   where
@@ -87,23 +96,27 @@ stops-bare (b ∷ rest) stops none = at (nat_eq b colon) refl
 pub bare-token_front : (text token rest : List ℕ) → ReadAs (TokenFront text) (token, rest) → past colon rest ≡ None → ReadAs (BareFront text) (token, rest)
 bare-token_front text token rest ((is, stops, whole), only) none =
     read-one (BareFront text) (token, rest) (one-bare text)
+    -- after the token no bare byte stands: neither a byte of a token nor a colon
     (inl is, stops-bare rest stops none, whole.4 ∙ ap (λ x. x ++ whole.1) whole.2 ∙ ap (λ x. token ++ x) whole.3)
 
 -- where the bare bytes at the front of a text are a token or an IPv6 address, the text is read as that as a bare value
 pub bare-found : (text rest value : List ℕ) → PastRun is_bare_byte text rest → value ≡ take (length text - length rest) text → (Token or Ipv6) value → ReadAs (BareFront text) (value, rest)
 bare-found text rest value (stops, (run, all, whole)) is kind =
+    -- the value is the bare bytes at the front
     let same : value ≡ run = is ∙ front-is text run rest whole in
     read-one (BareFront text) (value, rest) (one-bare text) (kind, stops, whole ∙ ap (λ x. x ++ rest) (sym same))
 
 -- where the bare bytes at the front of a text are neither a token nor an IPv6 address, no bare value is read
 pub bare-missing : (text rest value : List ℕ) → PastRun is_bare_byte text rest → value ≡ take (length text - length rest) text → ((Token or Ipv6) value → ⊥) → NotRead (BareFront text)
 bare-missing text rest value (stops, (run, all, whole)) is other (v, r) (kind, v_stops, v_whole) =
+    -- any value that is read would be the same bare bytes
     let same = same_front is_bare_byte v r run rest (each-bare v kind) all v_stops stops (sym v_whole ∙ whole) in
     other (subst (Token or Ipv6) (same.0 ∙ sym (is ∙ front-is text run rest whole)) kind)
 
 -- a text as long as its longest token is one
 pub token-whole : (text : List ℕ) (n : ℕ) → IsLongestFront Token text n → (text ≡ [] → ⊥) → n ≡ length text → Token text
 token-whole text n longest some all = elim longest.front [
+  -- the longest token is empty, as the text would be; or it is the text
   | inl none ↦ absurd (some (length-none text (omega (arith, none, all))))
   | inr front ↦ front-whole Token text n front all
 ]
@@ -111,6 +124,7 @@ token-whole text n longest some all = elim longest.front [
 -- the longest token at the front of a token is all of it
 pub whole-token : (text : List ℕ) (n : ℕ) → IsLongestFront Token text n → n ≤ length text → Token text → n ≡ length text
 whole-token text n longest within token =
+    -- the text is a token at its own front, so the longest one is as long
     omega (arith, longest.longest (length text) (text, [], token, sym (append-nil text), refl))
 
 -- what stands in brackets at the front of a text is "[", bytes without "]", "]" and what is left
@@ -122,6 +136,7 @@ bracket-whole text (v, r) (i, lacks, v_is, whole) =
 -- where a text begins with "[", and no "]" follows, nothing in brackets is read
 pub no-close : (text inner : List ℕ) → past left_bracket text ≡ Some inner → behind right_bracket inner ≡ None → NotRead (BracketFront text)
 no-close text inner found none x bracket =
+    -- the text would be "[", bytes without "]", "]" and more; but no "]" stands there
     let both : left_bracket ∷ inner ≡ left_bracket ∷ (bracket.0 ++ right_bracket ∷ (x.1)) = sym (past-some left_bracket text inner found) ∙ bracket-whole text x bracket in
     let inner_is : inner ≡ bracket.0 ++ right_bracket ∷ (x.1) = cc in
     none-some (x.1) (sym none ∙ ap (behind right_bracket) inner_is ∙ behind-led right_bracket bracket.0 (Some (x.1)) bracket.1)
@@ -129,12 +144,14 @@ no-close text inner found none x bracket =
 -- where a text begins with "[", and "]" follows, the text is "[", what stands before "]", "]" and the rest
 closed : (text inner rest : List ℕ) → past left_bracket text ≡ Some inner → behind right_bracket inner ≡ Some rest → text ≡ (left_bracket ∷ (before right_bracket inner ++ right_bracket ∷ [])) ++ rest
 closed text inner rest found ends =
+    -- the text is "[" and what follows, which is cut at its first "]"
     past-some left_bracket text inner found
     ∙ ap (λ x. left_bracket ∷ x) (cut-whole right_bracket inner ∙ ap (λ o. before right_bracket inner ++ led right_bracket o) ends ∙ sym (append_assoc (before right_bracket inner) (right_bracket ∷ []) rest))
 
 -- where a text begins with "[", and "]" follows, what stands from the one to the other is read
 pub one-closed : (text inner rest : List ℕ) → past left_bracket text ≡ Some inner → behind right_bracket inner ≡ Some rest → ReadAs (BracketFront text) (take (length text - length rest) text, rest)
 one-closed text inner rest found ends =
+    -- `part` is what stands from "[" to "]"
     let whole = closed text inner rest found ends in
     let part = left_bracket ∷ (before right_bracket inner ++ right_bracket ∷ []) in
     let part_is : take (length text - length rest) text ≡ part = front-is text part rest whole in
@@ -148,7 +165,9 @@ closed-short text inner rest found ends =
 
 -- what stands in brackets, and is a host, is an IPv6 address in brackets
 pub bracket-host : (text part rest : List ℕ) (h : HostParts) → BracketFront text (part, rest) → HostText part h → Bracketed part
+-- an IPv6 address in brackets is one
 bracket-host text part rest (v6 x) bracket is = is.0
+-- a name or an IPv4 address would begin with "[", which is no byte of a token
 bracket-host text part rest (name x) (i, lacks, part_is, whole) is =
     absurd (both_ways (is_token_byte left_bracket) refl (subst (All is_token_byte) part_is (each-hostname part is.0)).0)
 bracket-host text part rest (v4 x) (i, lacks, part_is, whole) is =
@@ -162,6 +181,7 @@ one-host_reference text part rest h bracket host =
 -- where what is read in brackets is no host, no IPv6 address in brackets is read
 pub no-host_reference : (text part rest : List ℕ) → ReadAs (BracketFront text) (part, rest) → ((h : HostParts) → HostText part h → ⊥) → NotRead (ReferenceFront text)
 no-host_reference text part rest bracket none x reference =
+    -- any address in brackets that is read is what was read in brackets, and so would be a host
     let same : x ≡ (part, rest) = bracket.1 x (reference-bracket text x reference) in
     let is : Bracketed part = subst Bracketed (ap (λ y. y.0) same) reference.0 in
     none (v6 part) (is, refl)
@@ -196,6 +216,7 @@ one-quoted_string text inner n found ((u, v, (blanks, q, sws, quoted, u_is), who
 
     -- no blank stands before the quote
     none : (b : List ℕ) → Sws b → dquote ∷ inner ≡ b ++ (q ++ v) → b ≡ []
+    -- a blank would be the quote
     none [] is same = refl
     none (c ∷ b) is same =
         let first : dquote ≡ c = cc in
@@ -215,6 +236,7 @@ value-bare parts text None quoted reference none = at
   where
     -- no value is read: neither a quoted string, nor an address in brackets, nor a bare value
     at : NotRead (ValueFront text)
+    -- it would be quoted, in brackets, or bare
     at x (inl is) = quoted x is
     at x (inr (inl is)) = reference x is
     at x (inr (inr is)) = none x is

@@ -1,6 +1,7 @@
 -- What bytes are read as is what they say by the definitions: the start line, the fields and the body are the same.
 -- In the lemmas v, f and fs are a value, a field and fields as the readers read them, and w, g and gs as the definitions say them; n is the number of a line.
 -- In the lemmas of one field line x and y are two pairs: a name, by the readers and as it is spelled, and what stands after the colon, blanks included.
+-- What ends with `Of` is read by the readers, and what ends with `Says`, `Say` or `Tell` is said by the definitions, as `FieldOf` and `FieldSays`.
 use Rattle.std.proofs.Common.{◌≡◌, ℕ, ◌+◌, ◌≤◌, Bool, true, false, cond, ◌||◌, List, [], ◌∷◌, ◌++◌, length, map, Option, inl, inr, refl, sym, ap, ◌∙◌, subst, arith}
 use Rattle.std.specs.Prelude.{⊤, ◌==◌, codes, bytes_eq, filter, IfSome, is_some}
 use Prim.Native.String.{String}
@@ -139,6 +140,7 @@ same-value n x y same = same-demand Equal (IsValue x) (SaidValue y) (fault_in_li
 -- the reading of a field line is the same by the readers and by the definitions
 same-field : (n : ℕ) (line : List ℕ) → Same (IsField n) (FieldOf n line) (FieldSays n line)
 same-field n line =
+    -- the name is the same, then the value, and so is the field that is made of both
     same-then IsSame (IsField n) _ _ (same-named n line) (λ x y same.
     same-then Equal (IsField n) _ _ (same-value n x y same) (λ v w v_is.
     same-gives (IsField n) _ _ (same.0, refl, refl, sym v_is)))
@@ -154,6 +156,7 @@ same-fields n (line ∷ lines) =
 -- the fields of a name, with the numbers of their lines, are the same as they are kept and as they are said
 -- k is the name, with `key` as its text; fs are the fields that are kept, gs those that are said, and n is the number of the first one's line
 pub all-found : (k : Known) (key : String) → ((token : List ℕ) → is_name_of k (name_of token) ≡ bytes_eq (full_name (folded token)) (codes key)) → (n : ℕ) (fs : List Field) (gs : List SaidField) → AreFields n fs gs → found_from n k fs ≡ all key gs
+-- as many fields are kept as are said, each in its place
 all-found k key same n [] [] are = refl
 all-found k key same n [] (g ∷ gs) are = absurd are
 all-found k key same n (f ∷ fs) [] are = absurd are
@@ -167,8 +170,11 @@ all-found k key same n (f ∷ fs) (g ∷ gs) ((f_is, g_is, line_is, value_is), a
     -- the claim holds whether or not the first field has the name, as the readers see it and as it is said
     at : (b c : Bool) → b ≡ c → found_from (n + 1) k fs ≡ all key gs
         → cond b ((n, f.value) ∷ found_from (n + 1) k fs) (found_from (n + 1) k fs) ≡ map (λ h. (h.line, h.value)) (cond c (g ∷ filter (λ h. bytes_eq h.name (codes key)) gs) (filter (λ h. bytes_eq h.name (codes key)) gs))
+    -- both say that it has the name, and its line and value are the same
     at true true b_is later = ap (λ x. x ∷ found_from (n + 1) k fs) pair ∙ ap (λ z. (g.line, g.value) ∷ z) later
+    -- both say that it has another name
     at false false b_is later = later
+    -- the answers are equal, so they cannot differ
     at true false b_is later = absurd (both_ways true b_is refl)
     at false true b_is later = absurd (both_ways true (sym b_is) refl)
 
@@ -180,6 +186,7 @@ NamesIn v f t i c l =
 
 -- the demands on the named fields are the same by the readers and by the definitions
 same-names : (fs : List Field) (gs : List SaidField) → AreFields 1 fs gs → Same Equal (NamesOf fs) (NamesSay gs)
+-- the fields of each of the six names, with the numbers of their lines, are the same
 same-names fs gs are =
     let v = all-found known_name.Via "via" named-via 1 fs gs are in
     let f = all-found known_name.From "from" named-from 1 fs gs are in
@@ -199,6 +206,7 @@ same-names fs gs are =
 -- a transport that is a stream is TCP or TLS, in any case of its letters
 stream-kind : (t : List ℕ) → is_stream t ≡ true → (AnyCase "tcp" or AnyCase "tls") t
 stream-kind t is = elim (or_cases (bytes_eq (folded t) (codes "tcp")) (bytes_eq (folded t) (codes "tls")) is) [
+  -- the text without case is "tcp", or it is "tls"
   | inl tcp ↦ inl ((bytes_eq-Decides (folded t) (codes "tcp")).0 tcp)
   | inr tls ↦ inr ((bytes_eq-Decides (folded t) (codes "tls")).0 tls)
 ]
@@ -210,12 +218,14 @@ kind-stream t (inr tls) = or_right (bytes_eq (folded t) (codes "tcp")) (bytes_eq
 
 -- where the top Via's transport is a stream by the readers, it is one by the definitions
 stream-said : (via : List ℕ) → IsStream via → StreamSays via
+-- v and vias are the elements by the readers, and `row` is them with their texts
 stream-said via (transport, (v, vias, text, transport_is), stream) =
     let row = via-elements via v vias text in
     (said_via (row.0, v), map said_via row.1, vias-said ((row.0, v) ∷ row.1) via row.2, stream-kind v.transport (subst (λ t. is_stream t ≡ true) transport_is stream))
 
 -- where the top Via's transport is a stream by the definitions, it is one by the readers
 said-stream : (via : List ℕ) → StreamSays via → IsStream via
+-- es are the elements that the readers read of the value
 said-stream via (s, more, said, kind) = let es = said-vias (s ∷ more) via said in at es.0 es.1 es.2
   where
     -- there is an element, and its transport is the top one
@@ -228,17 +238,20 @@ said-stream via (s, more, said, kind) = let es = said-vias (s ∷ more) via said
 
 -- where the method of CSeq fits the start line by the readers, it fits by the definitions
 method-said : (start : StartLine) (cseq : List ℕ) → MethodFits start cseq → MethodSays start cseq
+-- of a request the CSeq has a number n and its method m; of a response nothing is asked
 method-said (request m u) cseq (n, text) = (n, cseq-said cseq n m text)
 method-said (status code why) cseq any = tt
 
 -- what the definitions say of the methods is what the readers ask
 said-method : (start : StartLine) (cseq : List ℕ) → MethodSays start cseq → MethodFits start cseq
+-- of a request the CSeq has a number n and its method m; of a response nothing is asked
 said-method (request m u) cseq (n, says) = (n, said-cseq cseq n m says)
 said-method (status code why) cseq any = tt
 
 -- the demands on the method and the body are the same by the readers and by the definitions
 same-body : (start : StartLine) (cseq : ℕ × List ℕ) (via : List ℕ) (len : Option ℕ) (rest : List ℕ) → Same Equal (BodyOf start cseq via len rest) (BodySays start cseq via len rest)
 same-body start cseq via len rest =
+    -- the method of CSeq, the Content-Length of a stream, that the body is long enough, and that nothing follows it in a stream: each demand is the same
     same-next Equal _ _ (same-holds (MethodFits start cseq.1) (MethodSays start cseq.1) _ (method-said start cseq.1) (said-method start cseq.1)) (λ _.
     same-next Equal _ _ (same-holds (HasLength via len) (StreamSays via → is_some len ≡ true) _ (λ has stream. has (said-stream via stream)) (λ has stream. has (stream-said via stream))) (λ _.
     same-next Equal _ _ (same-self (Holds (IsEnough len rest) (fault_in_body reason.ShortBody))) (λ _.
@@ -252,6 +265,7 @@ IsTold m told = (m.start ≡ told.0) × AreFields 1 m.fields told.1 × (m.body �
 -- what the lines of a head are read as is what they tell
 same-told : (rest first : List ℕ) (others : List (List ℕ)) → Same IsTold (LinesOf rest first others) (LinesTell rest first others)
 same-told rest first others =
+    -- the start line, the fields, the demands on the names, and those on the method and the body: each step is the same
     same-next IsTold _ _ (same-demand Equal (StartText first) (StartSays first) (fault_in_line 0 reason.StartLine) (λ s text. (s, start-said first s text, refl)) (λ s says. (s, said-start first s says, refl))) (λ start.
     same-then (AreFields 1) IsTold _ _ (same-fields 1 others) (λ fs gs are.
     same-next IsTold _ _ (same-names fs gs are) (λ names.
@@ -261,8 +275,10 @@ same-told rest first others =
 -- bytes tell the start line and the fields of the message that they are read as, or its fault
 pub same-read : (bytes : List ℕ) → Same IsTold (ReadOf bytes) (BytesTell bytes)
 same-read bytes =
+    -- the end of the head, and that no line end is bare, are asked in the same way
     same-next IsTold _ _ (same-self (Demand (CutSays bytes) (fault_in_head reason.NoHeadEnd))) (λ cut.
     same-next IsTold _ _ (same-self (Holds (HasNoBareEnd cut.0) (fault_in_head reason.BareLineEnd))) (λ _. record {
+      -- `to` and `back`: with the same head, first line and other lines, what the one reading comes to the other comes to
       to = λ out head. let told = (same-told cut.1 head.0 head.1).to out head.3 in (told.0, (head.0, head.1, head.2, told.1), told.2);
       back = λ out head. let read = (same-told cut.1 head.0 head.1).back out head.3 in (read.0, (head.0, head.1, head.2, read.1), read.2);
     }))

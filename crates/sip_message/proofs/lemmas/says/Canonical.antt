@@ -1,4 +1,6 @@
 -- The canonical form of what bytes tell, and of the message that is kept of them.
+-- A message is kept with the names of its fields as they are known, and told with the names as they are spelled; `canon` is the canonical form of the one,
+-- and `canonical` that of the other.
 use Rattle.std.proofs.Common.{◌≡◌, ◌↔◌, ℕ, Bool, true, false, cond, ◌||◌, List, [], ◌∷◌, ◌++◌, map, flat_map, refl, sym, ap, ap₂, ◌∙◌, subst}
 use Rattle.std.specs.Prelude.{bytes_eq, codes}
 use Prim.Native.String.{String}
@@ -28,19 +30,25 @@ use Rattle.sip_message.proofs.lemmas.says.Told.{text-tells, tells-text}
 
 -- where a name is written as a text, the choice of a known name or of it is written as the long form of the known one or as the text
 one : (b : Bool) (k : Known) (name : FieldName) {text : List ℕ} → name_text name ≡ text → name_text (cond b (known k) name) ≡ cond b (long_name k) text
+-- the test passes, so the known name is written
 one true k name same = refl
+-- the test fails, so the other name is written
 one false k name same = same
 
 -- a choice of a known name by one of two tests is written as the choice by both together
 -- b and c are the two tests, and k is the known name
 two : (b c : Bool) (k : Known) (name : FieldName) {text : List ℕ} → name_text name ≡ text → name_text (cond b (known k) (cond c (known k) name)) ≡ cond (b || c) (long_name k) text
+-- the first test passes
 two true c k name same = refl
+-- the second test passes
 two false true k name same = refl
+-- neither passes, so the other name is written
 two false false k name same = same
 
 -- the name that a token spells is written as the definitions write it
 long-name : (token : List ℕ) → name_text (name_of token) ≡ form.long_name token
 long-name token =
+    -- `has` says whether the token is this text, in any case of its letters
     let has = λ (text : String). bytes_eq (folded token) (codes text) in
     two (has "via") (has "v") known_name.Via _
     (two (has "from") (has "f") known_name.From _
@@ -59,17 +67,20 @@ long-name token =
 -- the canonical text of fields as they are kept is that of the fields as they are told
 same-texts : (gs : List SaidField) → map field_text (map unfolded_field (map field_of gs)) ≡ map form.field_text gs
 same-texts [] = refl
+-- the first field is written by its name in full, a colon, a SP and its value unfolded
 same-texts (g ∷ gs) = ap₂ (λ (t : List ℕ) (ts : List (List ℕ)). t ∷ ts) (ap (λ name. name ++ colon ∷ space ∷ unfolded g.value) (long-name g.spelled)) (same-texts gs)
 
 -- the canonical form of a message as it is kept is that of the message as it is told
 same-form : (m : Message) (gs : List SaidField) → m.fields ≡ map field_of gs → canon (message_of m) ≡ canonical (m.start, gs, m.body)
 same-form m gs are =
+    -- the start line and the body are the same, and so are the texts of the fields
     ap (λ (texts : List (List ℕ)). flat_map with_end (start_text m.start ∷ texts) ++ (crlf ++ m.body))
     (ap (λ (fs : List Field). map field_text (map unfolded_field fs)) are ∙ same-texts gs)
 
 -- the canonical form of a message is that of all bytes that are read as the message
 pub reads-canonical : (r : Reading) → IsFormOf r (canon (message_of r.message))
 reads-canonical r bytes reads =
+    -- the bytes tell the start line, fields, and body of the message
     ((r.message.start, reads.tells.0, r.message.body), reads.tells.1, same-form r.message reads.tells.0 reads.tells.2)
 
 -- the message that is kept of a start line, fields and a body that bytes tell
@@ -83,16 +94,19 @@ shown f = (name_text f.name, f.value)
 -- fields as the readers show them have their names in full and their values
 shown-told : (gs : List SaidField) → map shown (map field_of gs) ≡ map (λ g. (form.long_name g.spelled, g.value)) gs
 shown-told [] = refl
+-- the name of the first field is written in full
 shown-told (g ∷ gs) = ap₂ (λ (name : List ℕ) (more : List (List ℕ × List ℕ)). (name, g.value) ∷ more) (long-name g.spelled) (shown-told gs)
 
 -- fields as the readers show them, without folds, are those in full of the definitions
 shown-in_full : (gs : List SaidField) → map shown (map unfolded_field (map field_of gs)) ≡ in_full gs
 shown-in_full [] = refl
+-- the name of the first field is written in full, and its value is unfolded
 shown-in_full (g ∷ gs) = ap₂ (λ (name : List ℕ) (more : List (List ℕ × List ℕ)). (name, unfolded g.value) ∷ more) (long-name g.spelled) (shown-in_full gs)
 
 -- the canonical form of what bytes tell tells the same, each name in full and each value in one line
 pub canonical-tells : (bytes : List ℕ) (start : StartLine) (gs : List SaidField) (body : List ℕ) → BytesTell bytes (gives (start, gs, body)) → TellsInFull (start, gs, body) (canonical (start, gs, body))
 canonical-tells bytes start gs body tells =
+    -- m is the message that is kept, and `again` what its canonical form tells, which is m unfolded
     let m = kept start gs body in
     let again = text-tells (canon (message_of m)) (message_of m) (canon-text bytes m (tells-text bytes m (gs, tells, refl))) in
     (again.0, subst (λ t. BytesTell t (gives (start, again.0, body))) (same-form m gs refl) again.1, sym (shown-told again.0) ∙ ap (map shown) (sym again.2) ∙ shown-in_full gs)
@@ -104,6 +118,7 @@ line_of f = f.0 ++ (codes ": " ++ f.1)
 -- the lines of fields in full are those of the definitions
 lines-in_full : (gs : List SaidField) → map form.field_text gs ≡ map line_of (in_full gs)
 lines-in_full [] = refl
+-- the line of the first field is its name in full, ": " and its value
 lines-in_full (g ∷ gs) = ap (λ ts. form.field_text g ∷ ts) (lines-in_full gs)
 
 -- two messages that bytes tell have one canonical form exactly if they are the same with each name in full and each value in one line
@@ -115,6 +130,7 @@ same-canonical a b (s, gs, t) (r, hs, u) one other = (to, from)
     -- where the canonical forms are equal, so are the start lines, the fields in full and the bodies
     to : canonical (s, gs, t) ≡ canonical (r, hs, u) → SameInFull (s, gs, t) (r, hs, u)
     to same =
+        -- m and n are the messages that are kept of both
         let m = kept s gs t in
         let n = kept r hs u in
         -- messages with one canonical form have the same parts
@@ -131,11 +147,13 @@ same-canonical a b (s, gs, t) (r, hs, u) one other = (to, from)
     -- messages with the same fields in full have one canonical form
     from : SameInFull (s, gs, t) (r, hs, u) → canonical (s, gs, t) ≡ canonical (r, hs, u)
     from same =
+        -- the lines of the fields in full are the same
         let lines : map form.field_text gs ≡ map form.field_text hs = lines-in_full gs ∙ ap (map line_of) same.fields ∙ sym (lines-in_full hs) in
         λ i. flat_map with_end (start_text (same.start i) ∷ lines i) ++ (crlf ++ same.body i)
 
 -- a status line has a code of three digits
 has-code : (line : List ℕ) (start : StartLine) → StartText line start → HasCode start
+-- a request line has no code
 has-code line (request method uri) is = tt
 has-code line (status code why) is = let parts = status_parts line code why is in (parts.is_code.low, parts.is_code.high)
 

@@ -1,6 +1,7 @@
 -- What bytes say is what their one reading says.
 -- In the lemmas s and t are what bytes say, or a and b with faults among them, r is their reading, and m, gs and p are a message, its fields as they are
 -- said, and its parts.
+-- What bytes tell (`BytesTell`) is a start line, fields and a body, or a fault; what they say (`Says`) is also what the fields say.
 use Rattle.std.proofs.Common.{◌≡◌, ℕ, List, [], ◌∷◌, map, refl, sym, ap, ◌∙◌, subst}
 use Rattle.std.specs.Prelude.{codes, bytes_eq}
 use Rattle.std.specs.List.{join_with_byte}
@@ -41,6 +42,7 @@ use Rattle.sip_message.proofs.lemmas.says.Told.{text-tells, tells-text}
 -- the values of a name in fields as they are kept are its values in the fields as they are said
 -- k is the name, with `key` as its text; fs are the fields as they are kept, and gs those as they are said
 values-said : (k : Known) (key : String) → ((token : List ℕ) → is_name_of k (name_of token) ≡ bytes_eq (full_name (folded token)) (codes key)) → (fs : List Field) (gs : List SaidField) → AreFields 1 fs gs → values k fs ≡ said_values key gs
+-- both lists are the values that are found, without the numbers of their lines
 values-said k key same fs gs are = found-values 1 k fs ∙ ap (map (λ found. found.1)) (all-found k key same 1 fs gs are)
 
 -- a list has one first element
@@ -83,6 +85,7 @@ tell-parts m start gs body p s (start_is, are, body_is) parts tells = at es.0 es
 
     -- the elements are the first Via and the others
     at : (es : List Element) → AreElements (values known_name.Via m.fields) es → s.via ∷ s.others ≡ map said_via es → (q : Parts) × HasParts m.fields q × (s ≡ said_of (record { message = m; parts = q }))
+    -- at least the first Via stands there
     at [] elements vias = let none : ◌≡◌ {A = List SaidVia} (s.via ∷ s.others) [] = vias in cc
     at (e ∷ es) elements vias =
         let all_vias : ◌≡◌ {A = List SaidVia} (s.via ∷ s.others) (said_via e ∷ map said_via es) = vias in
@@ -114,7 +117,9 @@ text-says bytes r text parts = let told = (same-read bytes).to (gives r.message)
   where
     -- bytes that tell a message say it, and bytes that tell a fault do not tell this message
     at : (b : Outcome (StartLine × List SaidField × List ℕ)) → BytesTell bytes b → Alike IsTold (gives r.message) b → Says bytes (gives (said_of r))
+    -- a message is told: its start line, fields and body are y
     at (gives y) tells is_told = passes y tells (said_of r, parts-tell r.message y.0 y.1 y.2 r.parts is_told parts, refl)
+    -- the reading of the message is no fault
     at (stops f) tells is_told = absurd is_told
 
 -- where bytes are the text of a message, and its parts are the only ones, the bytes are read as it
@@ -128,11 +133,13 @@ keeps-reads {m = m} {p = p} k = (k.spelled.0, text-reads k.spelled.0 (record { m
 
 -- bytes that say something have a reading that says it
 pub says-reads : (bytes : List ℕ) (s : Said) → Says bytes (gives s) → (r : Reading) × Reads bytes r × (s ≡ said_of r)
+-- bytes that stop at a fault give no value
 says-reads bytes s (stopped f tells is) = absurd (no_value is)
 says-reads bytes s (passes y tells (t, fields, is)) = let read = (same-read bytes).back (gives y) tells in at read.0 read.1 read.2
   where
     -- bytes that are read as a message have the reading, and bytes that stop with a fault say nothing
     at : (a : Outcome Message) → ReadOf bytes a → Alike IsTold a (gives y) → (r : Reading) × Reads bytes r × (s ≡ said_of r)
+    -- a fault is not alike to a value
     at (stops f) read is_told = absurd is_told
     at (gives m) read is_told =
         -- the message has parts, and these say what was said
@@ -150,27 +157,34 @@ fault-says bytes f read = let told = (same-read bytes).to (stops f) read in at t
   where
     -- bytes that tell the fault say it, and bytes that tell a message do not stop
     at : (b : Outcome (StartLine × List SaidField × List ℕ)) → BytesTell bytes b → Alike IsTold (stops f) b → Says bytes (stops f)
+    -- a message is not alike to a fault
     at (gives y) tells is_told = absurd is_told
+    -- the faults are alike, which is that they are the same
     at (stops g) tells same = stopped g tells (ap (λ z. stops z) same)
 
 -- the fault that bytes say is the one with which their reading stops
 pub says-fault : (bytes : List ℕ) (f : Fault) → Says bytes (stops f) → ReadOf bytes (stops f)
+-- bytes that give a value stop at no fault
 says-fault bytes f (passes y tells (t, fields, is)) = absurd (no_value (sym is))
 says-fault bytes f (stopped g tells is) = let read = (same-read bytes).back (stops g) tells in at read.0 read.1 read.2
   where
     -- bytes whose reading stops have this fault, and bytes that are read as a message say none
     at : (a : Outcome Message) → ReadOf bytes a → Alike IsTold a (stops g) → ReadOf bytes (stops f)
+    -- a message is not alike to a fault
     at (gives m) read is_told = absurd is_told
+    -- the faults are alike, which is that they are the same
     at (stops h) read same = subst (λ z. ReadOf bytes (stops z)) (same ∙ sym (fault_is is)) read
 
 -- bytes that are read as a message say what that message says
 pub said-is : (bytes : List ℕ) (r : Reading) (s : Said) → Reads bytes r → Says bytes (gives s) → s ≡ said_of r
 said-is bytes r s reads says =
+    -- `other` is a reading that says s, and bytes have one reading
     let other = says-reads bytes s says in
     other.2 ∙ ap said_of (same_reading bytes other.0 r other.1 reads)
 
 -- what bytes say is one thing
 pub says-one : (bytes : List ℕ) (a b : Outcome Said) → Says bytes a → Says bytes b → a ≡ b
+-- both say a message: the bytes have one reading, which both say
 says-one bytes (gives s) (gives t) one other =
     let read = says-reads bytes s one in
     ap (λ x. gives x) (read.2 ∙ sym (said-is bytes read.0 t read.1 other))

@@ -32,8 +32,11 @@ Params = List (List ℕ × Option (List ℕ))
 
 -- parameters with blanks before them are parameters: the blanks are those of the first mark
 tail-params : (text part : List ℕ) (ps : Params) → ParamsPart part ps → BehindBlanks part text → ParamsText text ps
+-- the part is empty, and so only blanks would stand there, which are the text of no parameters
 tail-params text [] ps part behind = subst (λ t. ParamsText t ps) (sym behind) part.1
+-- a part that is not empty has a first parameter, p
 tail-params text (b ∷ rest) [] part behind = absurd (omega (arith, ap length part.1))
+-- the blanks before the part are put before its ";"
 tail-params text (b ∷ rest) (p ∷ ps) (opens, (m, t, (blanks, c, is_blanks, mark, m_is), others, whole)) (sws, tail, is_sws, tail_is, text_is) =
     (sws ++ c, t, (sws, c, is_sws, mark, refl), others, text_is ∙ ap (λ x. sws ++ x) (tail_is ∙ flat ∙ ap (λ x. x ++ (c ++ t)) none) ∙ sym (append_assoc sws c t))
   where
@@ -47,8 +50,10 @@ tail-params text (b ∷ rest) (p ∷ ps) (opens, (m, t, (blanks, c, is_blanks, m
 
 -- parameters are blanks, and parameters that begin with no blank
 params-tail : (text : List ℕ) (ps : Params) → ParamsText text ps → (part : List ℕ) × ParamsPart part ps × BehindBlanks part text
+-- of no parameters the part is empty
 params-tail text [] none = ([], (tt, refl), none)
 params-tail text (p ∷ ps) (m, x, (sws, c, is_sws, (byte, after, is_byte, is_after, c_is), m_is), others, whole) =
+    -- the part begins with the ";" of the first parameter, whose blanks stand before the part
     let part : List ℕ = semicolon ∷ (after ++ x) in
     let c_whole : c ≡ semicolon ∷ after = c_is ∙ ap (λ t. t ++ after) is_byte in (
       part,
@@ -59,25 +64,31 @@ params-tail text (p ∷ ps) (m, x, (sws, c, is_sws, (byte, after, is_byte, is_af
 -- a parameter named branch whose value is a token says that branch
 -- x is the text of the parameter, n its name and v its value
 branch-said : (x n v : List ℕ) → SameText n (codes "branch") → Token v → ParamText x (n, Some v) → ParamSays (Some v) x
+-- the name is spelled "branch", in any case, and the value is the token
 branch-said x n v same token (named, kind, (a, b, a_is, (c, d, mark, d_is, b_is), whole)) =
     (a, b, (subst Token (sym a_is) named, ap folded a_is ∙ same), (c, d, mark, (subst Token (sym d_is) token, sym d_is), b_is), whole)
 
 -- a parameter that says a branch has the name `branch`, and the branch as its value
 -- x is the text of the parameter and b the branch; n is its name and v its value
 said-branch : (x b : List ℕ) → ParamSays (Some b) x → (n : List ℕ) × (v : List ℕ) × SameText n (codes "branch") × Token v × ParamText x (n, Some v) × (b ≡ v)
+-- the name a has "=" and the token d after it
 said-branch x b (a, r, (token, any), (c, d, mark, (word, b_is), r_is), whole) =
     (a, d, any, word, (token, inl word, (a, r, refl, (c, d, mark, refl, r_is), whole)), b_is)
 
 -- a parameter of another name says no branch
 other-said : (x n : List ℕ) (value : Option (List ℕ)) → ¬ (SameText n (codes "branch")) → ParamText x (n, value) → ParamSays None x
+-- the parameter has no value
 other-said x n None differs (named, x_is) =
     (x, [], (subst Token (sym x_is) named, (λ same. differs (ap folded (sym x_is) ∙ same))), inl refl, sym (append-nil x))
+-- the parameter has a value
 other-said x n (Some v) differs (named, kind, (a, b, a_is, (c, d, mark, d_is, b_is), whole)) =
     (a, b, (subst Token (sym a_is) named, (λ same. differs (ap folded (sym a_is) ∙ same))), inr (c, d, mark, subst GenValue (sym d_is) kind, b_is), whole)
 
 -- a parameter that says no branch has another name
 said-other : (x : List ℕ) → ParamSays None x → (n : List ℕ) × (value : Option (List ℕ)) × ¬ (SameText n (codes "branch")) × ParamText x (n, value)
+-- nothing follows the name
 said-other x (a, r, (token, none), inl nil, whole) = (a, None, none, (token, whole ∙ ap (λ t. a ++ t) nil ∙ append-nil a))
+-- "=" and a value follow the name
 said-other x (a, r, (token, none), inr (c, d, mark, kind, r_is), whole) = (a, Some d, none, (token, kind, (a, r, refl, (c, d, mark, refl, r_is), whole)))
 
 -- parameters, each after its SEMI, with the branch that each says, if it says one
@@ -86,7 +97,9 @@ SaidParams = EachSays (λ param. profile.Mark ";" then ParamSays param)
 
 -- parameters of which a branch counts say it: it is the first that one of them says
 params-said : (ps : Params) (branch : Option (List ℕ)) (text : List ℕ) → ParamsText text ps → IsBranch ps branch → (os : List (Option (List ℕ))) × SaidParams os text × (branch ≡ first_some os)
+-- of no parameters no branch counts
 params-said [] branch text none branch_is = ([], none, branch_is)
+-- the first parameter is the branch that counts
 params-said ((n, value) ∷ ps) branch text (m, t, mark, (x, y, param, more, t_is), whole) (inl (same, v, token, value_is, branch_is, later, others)) =
     let rest = params-said ps later y more others in (
       Some v ∷ rest.0,
@@ -103,6 +116,7 @@ params-said ((n, value) ∷ ps) branch text (m, t, mark, (x, y, param, more, t_i
 
 -- parameters that say branches are parameters of a Via, and the first branch that one of them says counts
 said-params : (os : List (Option (List ℕ))) (text : List ℕ) → SaidParams os text → (ps : Params) × ParamsText text ps × IsBranch ps (first_some os)
+-- nothing is said of no parameters
 said-params [] text none = ([], none, refl)
 said-params (Some b ∷ os) text (u, y, (m, x, mark, said, u_is), more, whole) =
     -- `one` is the parameter of x, the branch b, and `rest` are those of what follows
@@ -123,17 +137,20 @@ said-params (None ∷ os) text (u, y, (m, x, mark, said, u_is), more, whole) =
 
 -- an optional port with its colon says the port
 port-said : (port : Option (List ℕ)) (text : List ℕ) → IfSome port Port → ColonPort port text → PortSays port text
+-- without a port nothing stands there
 port-said None text fits none = none
 port-said (Some p) text fits (m, t, mark, t_is, whole) = (m, t, mark, (subst Port (sym t_is) fits, sym t_is), whole)
 
 -- a port with its colon of the definitions is one of the readers
 said-port : (port : Option (List ℕ)) (text : List ℕ) → PortSays port text → IfSome port Port × ColonPort port text
+-- without a port nothing stands there
 said-port None text none = (tt, none)
 said-port (Some p) text (m, t, mark, (fits, p_is), whole) = (subst Port (sym p_is) fits, (m, t, mark, sym p_is, whole))
 
 -- an element of Via of the readers says its parts by the definitions
 via-said : (text : List ℕ) (v : ViaParts) → ViaText text v → ViaSays (said_via (text, v)) text
 via-said text v (fits, (a, w1, a_is, (s, w2, slash1, (b, w3, b_is, (r, w4, slash2, (c, w5, c_is, (sp, w6, blanks, (h, w7, h_is, (p, q, port, params, w7_is), w6_is), w5_is), w4_is), w3_is), w2_is), w1_is), whole)) =
+    -- ps is what the parameters say, and `host` that the host of the readers is one of the definitions; w5 is the text of `behind`
     let ps = params-said fits.params.0 v.branch q (tail-params q v.params fits.params.0 fits.params.1 params) fits.params.2 in
     let host : profile.Host h × (host_text v.host ≡ h) = (subst profile.Host (sym h_is) (parts-host (host_text v.host) v.host fits.host), sym h_is) in
     let behind : (profile.Blanks then ((λ t. profile.Host t × (host_text v.host ≡ t)) then (PortSays v.port then SaidParams ps.0))) w5 =
@@ -155,6 +172,7 @@ via-said text v (fits, (a, w1, a_is, (s, w2, slash1, (b, w3, b_is, (r, w4, slash
 -- an element of Via that the definitions say is one of the readers, with the same parts
 said-via : (text : List ℕ) (via : SaidVia) → ViaSays via text → (v : ViaParts) × ViaText text v × (via ≡ said_via (text, v))
 said-via text via (os, branch_is, whole_is, (a, w1, a_is, (s, w2, slash1, (b, w3, b_is, (r, w4, slash2, (c, w5, (c_is, t_is), (sp, w6, blanks, (h, w7, (host, h_is), (p, q, port, params, w7_is), w6_is), w5_is), w4_is), w3_is), w2_is), w1_is), whole)) =
+    -- `tail` is the parameters, `part` their text from the first ";" on, `hosts` the parts of the host, and `ports` the port, as the readers have them
     let tail = said-params os q params in
     let part = params-tail q tail.0 tail.1 in
     let hosts = host-parts h host in
@@ -176,18 +194,22 @@ SaidMore = EachSays (λ v. profile.Mark "," then ViaSays v)
 
 -- further elements of Via of the readers are further ones of the definitions
 more-said : (es : List Element) (text : List ℕ) → MoreElements es text → SaidMore (map said_via es) text
+-- nothing follows the last element
 more-said [] text none = none
+-- the comma and the first element stand before the others
 more-said (e ∷ es) text (via, (m, w, mark, (x, y, x_is, more, w_is), whole)) =
     (m ++ x, y, (m, x, mark, subst (ViaSays (said_via e)) (sym x_is) (via-said e.0 e.1 via), refl), more-said es y more, whole ∙ ap (λ z. m ++ z) w_is ∙ sym (append_assoc m x y))
 
 -- the elements of a value of Via are what the value says
 pub vias-said : (es : List Element) (text : List ℕ) → ElementsText text es → ViasSay (map said_via es) text
+-- a value has one element at least
 vias-said [] text none = none
 vias-said (e ∷ es) text (via, (x, y, x_is, more, whole)) =
     (x, y, subst (ViaSays (said_via e)) (sym x_is) (via-said e.0 e.1 via), more-said es y more, whole)
 
 -- further elements that the definitions say are further elements of the readers
 said-more : (vias : List SaidVia) (text : List ℕ) → SaidMore vias text → (es : List Element) × MoreElements es text × (vias ≡ map said_via es)
+-- nothing follows the last element
 said-more [] text none = ([], none, refl)
 said-more (v ∷ vias) text (u, y, (m, x, mark, said, u_is), more, whole) =
     -- `one` is the element of the first Via, and `rest` are those of the others
@@ -200,8 +222,10 @@ said-more (v ∷ vias) text (u, y, (m, x, mark, said, u_is), more, whole) =
 
 -- the elements that a value of Via says are its elements
 pub said-vias : (vias : List SaidVia) (text : List ℕ) → ViasSay vias text → (es : List Element) × ElementsText text es × (vias ≡ map said_via es)
+-- a value has one element at least
 said-vias [] text none = absurd none
 said-vias (v ∷ vias) text (x, y, said, more, whole) =
+    -- `one` is the element that the first Via says, and `rest` are those of the others
     let one = said-via x v said in
     let rest = said-more vias y more in
     ((x, one.0) ∷ rest.0, (one.1, (x, y, refl, rest.1, whole)), ap (λ z. z ∷ vias) one.2 ∙ ap (λ z. said_via (x, one.0) ∷ z) rest.2)
@@ -213,14 +237,18 @@ map-append (e ∷ es) fs = ap (λ z. said_via e ∷ z) (map-append es fs)
 
 -- the elements of several values of Via are what the values tell, one after another
 pub are-said : (texts : List (List ℕ)) (es : List Element) → AreElements texts es → ViasTell texts (map said_via es)
+-- no values have no elements
 are-said [] es none = ap (map said_via) none
+-- the elements of the first value, `now`, stand before those of the others, `more`
 are-said (text ∷ texts) es (now, more, one, are, whole) =
     (map said_via now, map said_via more, vias-said now text one, are-said texts more are, ap (map said_via) whole ∙ map-append now more)
 
 -- the elements that several values of Via tell are their elements
 pub said-are : (texts : List (List ℕ)) (vias : List SaidVia) → ViasTell texts vias → (es : List Element) × AreElements texts es × (vias ≡ map said_via es)
+-- no values tell no elements
 said-are [] vias none = ([], refl, none)
 said-are (text ∷ texts) vias (now, more, one, are, whole) =
+    -- `first` is the elements of the first value, and `rest` those of the others
     let first = said-vias now text one in
     let rest = said-are texts more are in (
       first.0 ++ rest.0,
@@ -230,24 +258,29 @@ said-are (text ∷ texts) vias (now, more, one, are, whole) =
 
 -- further elements of Via with their texts are further elements by their parts
 more-vias : (es : List Element) (text : List ℕ) → MoreElements es text → (vias : List ViaParts) × MoreVias vias text
+-- nothing follows the last element
 more-vias [] text none = ([], none)
 more-vias (e ∷ es) text (via, (m, w, mark, (x, y, x_is, more, w_is), whole)) =
+    -- `later` is the parts of the elements after the first one
     let later = more-vias es y more in
     (e.1 ∷ later.0, (m, w, mark, (x, y, subst (λ t. ViaText t e.1) (sym x_is) via, later.1, w_is), whole))
 
 -- where a value has elements with their texts, it has them by their parts, and the first is the same
 pub elements-first : (text : List ℕ) (e : Element) (es : List Element) → ElementsText text (e ∷ es) → (vias : List ViaParts) × ViasText text e.1 vias
 elements-first text e es (via, (x, y, x_is, more, whole)) =
+    -- `later` is the parts of the elements after the first one
     let later = more-vias es y more in
     (later.0, (x, y, subst (λ t. ViaText t e.1) (sym x_is) via, later.1, whole))
 
 -- a text of elements is the first element and the further ones
 pub elements-via : (text : List ℕ) (es : List Element) → ElementsText text es → (v : ViaParts) × (vias : List ViaParts) × ViasText text v vias
+-- a value has one element at least
 elements-via text [] none = absurd none
 elements-via text (e ∷ es) are = let row = elements-first text e es are in (e.1, row.0, row.1)
 
 -- a value of Via by the parts of its elements has elements with their texts, and the first has the same parts
 pub via-elements : (text : List ℕ) (v : ViaParts) (vias : List ViaParts) → ViasText text v vias → (x : List ℕ) × (es : List Element) × ElementsText text ((x, v) ∷ es)
 via-elements text v vias (x, y, via, more, whole) =
+    -- `later` is the elements after the first, with their texts
     let later = more-elements vias y more in
     (x, later.0, (via, (x, y, refl, later.1, whole)))

@@ -21,6 +21,7 @@ length-folded (b ∷ text) = omega (arith, length-folded text)
 
 -- a version has seven bytes
 pub length-version : (text : List ℕ) → Version text → length text ≡ 7
+-- its lower case is that of "SIP/2.0"
 length-version text is = omega (arith, ap length is, length-folded text)
 
 -- digits that are pieces of one byte are as many as their bytes
@@ -31,6 +32,7 @@ length-digits (u ∷ us) all = omega (arith, length-digits us all.1, ap length a
 -- a status code has three bytes
 pub length-code : (text : List ℕ) (code : ℕ) → CodeText text code → length text ≡ 3
 length-code text code is =
+    -- a code is three digits, and each digit is one byte
     omega (arith, is.digits.3, is.digits.4, ap length is.digits.2, length-digits is.digits.0 is.digits.1)
 
 -- the line is a method, a SP, a URI, a SP and a version
@@ -73,8 +75,11 @@ slash_is b is = at (nat_lt b 65) (nat_lt b 91) refl refl
   where
     -- the claim holds whether b is below the capital letters, is one, or is above them
     at : (low high : Bool) → nat_lt b 65 ≡ low → nat_lt b 91 ≡ high → b ≡ 47
+    -- below the capital letters the lower case is the byte itself
     at true high low_is high_is = sym (ap (λ x. cond x b (cond (nat_lt b 91) (b + 32) b)) low_is) ∙ is
+    -- above them, too
     at false false low_is high_is = sym (ap (λ x. cond x b (cond (nat_lt b 91) (b + 32) b)) low_is ∙ ap (λ x. cond x (b + 32) b) high_is) ∙ is
+    -- the lower case of a capital letter is above 47
     at false true low_is high_is =
         let sum : b + 32 ≡ 47 = sym (ap (λ x. cond x b (cond (nat_lt b 91) (b + 32) b)) low_is ∙ ap (λ x. cond x (b + 32) b) high_is) ∙ is in
         let small : b ≡ 15 = omega (arith, sum) in
@@ -83,6 +88,7 @@ slash_is b is = at (nat_lt b 65) (nat_lt b 91) refl refl
 -- no text is a token and a SP and then more, and also a version and then more
 -- m is the token with x after the SP, and v the version with y after it
 no_token : (x y m v : List ℕ) → All is_token_byte m → Version v → m ++ space ∷ x ≡ v ++ y → ⊥
+-- a version has seven bytes, not fewer than four
 no_token x y m [] token version same = absurd (omega (arith, ap length version))
 no_token x y m (a ∷ []) token version same = absurd (omega (arith, ap length version))
 no_token x y m (a ∷ b ∷ []) token version same = absurd (omega (arith, ap length version))
@@ -103,6 +109,7 @@ no_token x y (k ∷ l ∷ m ∷ n ∷ more) (a ∷ b ∷ c ∷ d ∷ v) token ve
 -- no line is both a request line and a status line
 no_both : (line method uri reason : List ℕ) (code : ℕ) → StartText line (request method uri) → StartText line (status code reason) → ⊥
 no_both line method uri reason code one other =
+    -- the method is a token with a SP after it, and the version stands at the same front
     let r = request_parts line method uri one in
     let s = status_parts line code reason other in
     no_token _ _ method s.version (each-token method one.0) s.is_version (sym r.whole ∙ s.whole)
@@ -123,6 +130,7 @@ same_start line (request m u) (request n v) one other =
 same_start line (request m u) (status c r) one other = absurd (no_both line m u r c one other)
 same_start line (status c r) (request m u) one other = absurd (no_both line m u r c other one)
 same_start line (status c r) (status d s) one other =
+    -- the versions are of one length, and so they are the same
     let p = status_parts line c r one in
     let q = status_parts line d s other in
     let versions = append_cancel_both p.version _ q.version _ (length-version _ p.is_version ∙ sym (length-version _ q.is_version)) (sym p.whole ∙ q.whole) in

@@ -1,6 +1,7 @@
 -- How a start line is read: of a request line a token and its SP from the front, and the version from the end; of a status line the
 -- version, the code and the reason from the front.
 -- In the lemmas v is a version, t eight bytes that have one, d the digits of a code, and n its number.
+-- `CodeFront` is a status code and its SP at the front of a text, with what is left: the reason.
 use Rattle.std.proofs.Common.{◌≡◌, ℕ, ◌+◌, ◌≤◌, ◌<◌, Bool, true, false, nat_lt, cond, List, [], ◌∷◌, ◌++◌, length, take, drop, Some, None, refl, sym, ap, ◌∙◌, subst, arith}
 use Rattle.std.specs.Prelude.{codes}
 use Rattle.std.specs.List.{AllByRecursion, concat, list_all}
@@ -33,8 +34,11 @@ kept_is b k small is = at (nat_lt b 65) (nat_lt b 91) refl refl
   where
     -- the claim holds whether b is below the capital letters, is one, or is above them
     at : (low high : Bool) → nat_lt b 65 ≡ low → nat_lt b 91 ≡ high → b ≡ k
+    -- below the capital letters the lower case is the byte itself
     at true high low_is high_is = sym (ap (λ x. cond x b (cond (nat_lt b 91) (b + 32) b)) low_is) ∙ is
+    -- above them, too
     at false false low_is high_is = sym (ap (λ x. cond x b (cond (nat_lt b 91) (b + 32) b)) low_is ∙ ap (λ x. cond x (b + 32) b) high_is) ∙ is
+    -- a capital letter has a lower case above k
     at false true low_is high_is =
         let sum : b + 32 ≡ k = sym (ap (λ x. cond x b (cond (nat_lt b 91) (b + 32) b)) low_is ∙ ap (λ x. cond x (b + 32) b) high_is) ∙ is in
         absurd (omega (arith, sum, ltb-false b 65 low_is))
@@ -48,11 +52,13 @@ pub record RequestCut (token rest uri : List ℕ) : Type 0 where
 
 -- the method of a request line is the token that is read at its front
 token-first : (line method uri : List ℕ) (p : RequestParts line method uri) → Token method → TokenFront line (method, space ∷ (uri ++ space ∷ p.version))
+-- a SP follows the method, which is no byte of a token
 token-first line method uri p token = (token, refl, (method, space ∷ (uri ++ space ∷ p.version), refl, refl, p.whole))
 
 -- where a token is read at the front of a request line, it is the method, and the rest is the URI and the version
 request-cut : (line token rest method uri : List ℕ) → ReadAs (TokenFront line) (token, rest) → RequestLine line (method, uri) → (method ≡ token) × RequestCut token rest uri
 request-cut line token rest method uri read is =
+    -- p is the parts of the line; its method is the token at its front, and what follows is what is left
     let p = request_parts line method uri is in
     let same = read.1 (method, space ∷ (uri ++ space ∷ p.version)) (token-first line method uri p is.0) in
     (ap (λ x. x.0) same, record { version = p.version; is_version = p.is_version; is_uri = is.1; whole = sym (ap (λ x. x.1) same) })
@@ -60,17 +66,20 @@ request-cut line token rest method uri read is =
 -- a line without a token at its front is no request line
 pub request-no_token : (line : List ℕ) → NotRead (TokenFront line) → NotRead (RequestLine line)
 request-no_token line none (method, uri) is =
+    -- the method would be such a token
     let p = request_parts line method uri is in none (method, space ∷ (uri ++ space ∷ p.version)) (token-first line method uri p is.0)
 
 -- a line without a SP after its token is no request line
 pub request-no_space : (line token rest : List ℕ) → ReadAs (TokenFront line) (token, rest) → past space rest ≡ None → NotRead (RequestLine line)
 request-no_space line token rest read none (method, uri) is =
+    -- after the token would stand a SP, which `none` excludes
     let r = request-cut line token rest method uri read is in
     none-some (uri ++ space ∷ r.1.version) (sym none ∙ ap (past space) r.1.whole)
 
 -- what follows the token and the SP of a request line is the URI, a SP and a version
 behind-space : (line token rest more method uri : List ℕ) → ReadAs (TokenFront line) (token, rest) → past space rest ≡ Some more → (is : RequestLine line (method, uri)) → (v : List ℕ) × Version v × (more ≡ uri ++ space ∷ v)
 behind-space line token rest more method uri read found is =
+    -- r is what follows the token: SP, the URI, SP and the version
     let r = request-cut line token rest method uri read is in
     let same : ◌≡◌ {A = List ℕ} (space ∷ more) (space ∷ (uri ++ space ∷ r.1.version)) = sym (past-some space rest more found) ∙ r.1.whole in
     let inner : more ≡ uri ++ space ∷ r.1.version = cc in
@@ -79,6 +88,7 @@ behind-space line token rest more method uri read found is =
 -- a line without room for the version is no request line
 pub request-short : (line token rest more : List ℕ) → ReadAs (TokenFront line) (token, rest) → past space rest ≡ Some more → length more < 8 → NotRead (RequestLine line)
 request-short line token rest more read found short (method, uri) is =
+    -- b is the version and where it stands: SP and version have eight bytes
     let b = behind-space line token rest more method uri read found is in
     absurd (omega (arith, short, ap length b.2, length-append uri (space ∷ b.0), length-version b.0 b.1))
 
@@ -91,6 +101,7 @@ at-end more uri v at len version is =
 pub request-no_version : (line token rest more : List ℕ) (at : ℕ) → ReadAs (TokenFront line) (token, rest) → past space rest ≡ Some more → at + 8 ≡ length more → (SameText (drop at more) (codes " SIP/2.0") → ⊥) → NotRead (RequestLine line)
 request-no_version line token rest more at read found len none (method, uri) is =
     let b = behind-space line token rest more method uri read found is in
+    -- the last eight bytes are SP and the version, b.0, which without case are those of " SIP/2.0"
     let e = at-end more uri b.0 at len b.1 b.2 in
     none (ap folded e.1 ∙ ap (λ t. space ∷ t) b.1)
 
@@ -98,11 +109,13 @@ request-no_version line token rest more at read found len none (method, uri) is 
 pub request-no_uri : (line token rest more : List ℕ) (at : ℕ) → ReadAs (TokenFront line) (token, rest) → past space rest ≡ Some more → at + 8 ≡ length more → NotRead (UriText (take at more)) → NotRead (RequestLine line)
 request-no_uri line token rest more at read found len none (method, uri) is =
     let b = behind-space line token rest more method uri read found is in
+    -- what stands before the last eight bytes is the URI
     let e = at-end more uri b.0 at len b.1 b.2 in
     none is.1.0 (subst (λ t. UriText t is.1.0) (sym e.0) is.1.1)
 
 -- eight bytes that are " SIP/2.0" without case are a SP and a version
 space-version : (t : List ℕ) → SameText t (codes " SIP/2.0") → (v : List ℕ) × (t ≡ space ∷ v) × Version v
+-- an empty text has no eight bytes; else the first byte is SP, and the others are the version
 space-version [] same = absurd (omega (arith, ap length same))
 space-version (b ∷ t) same =
     let both : ◌≡◌ {A = List ℕ} (to_ascii_lowercase b ∷ folded t) (space ∷ folded (codes "SIP/2.0")) = same in
@@ -149,6 +162,7 @@ request-read line token rest more at parts read found version uri = (is, only)
 -- three digits, from 100 to 699, are a code
 digits-code : (d : List ℕ) (n : ℕ) → Digits d → length d ≡ 3 → n ≡ digits_value 10 d → 100 ≤ n → n ≤ 699 → CodeText d n
 digits-code d n digits len value low high =
+    -- the three digits are a repetition of exactly three texts of one digit each
     let many = many-some (One is_ascii_digit) d digits in
     let count : length many.0 ≡ 3 = omega (arith, length-digits many.0 many.1, ap length many.2, len) in
     record { digits = (many.0, many.1, many.2, omega (arith, count), omega (arith, count)); code_is = value; low = low; high = omega (arith, high) }
@@ -167,12 +181,14 @@ code-front : (text : List ℕ) (code : ℕ) (reason : List ℕ) → CodeFront te
 -- d is the three digits, s the SP and r the reason
 code-front text code reason (d, t, is, (s, r, s_is, r_is, t_is), whole) =
     let flat : text ≡ d ++ space ∷ reason = whole ∙ ap (λ x. d ++ x) (t_is ∙ ap (λ x. x ++ r) s_is ∙ ap (λ x. space ∷ x) r_is) in
+    -- the first three bytes are the digits, since a code has three
     let same = append_cancel_both (take 3 text) (drop 3 text) d (space ∷ reason) (omega (arith, length-code d code is, ap length flat, length-append d (space ∷ reason), length-take-le 3 text (omega (arith, length-code d code is, ap length flat, length-append d (space ∷ reason))))) (take-append-drop 3 text ∙ flat) in
     (subst (λ x. CodeText x code) (sym same.0) is, same.1)
 
 -- a text of fewer than three bytes has no status code at its front
 pub code-short : (text : List ℕ) → length text < 3 → NotRead (CodeFront text)
 code-short text short (code, reason) is =
+    -- f says that the first three bytes are a code
     let f = code-front text code reason is in absurd (omega (arith, short, length-code (take 3 text) code f.0, length-take 3 text))
 
 -- a text without a SP after its first three bytes has no status code at its front
@@ -211,6 +227,7 @@ code-read text rest n long found digits value high low = (is, only)
     -- the code is read in one way
     only : (x : ℕ × List ℕ) → CodeFront text x → ◌≡◌ {A = ℕ × List ℕ} x (n, rest)
     only (code, reason) other =
+        -- f says that the first three bytes are this code too, and that SP and the reason follow
         let f = code-front text code reason other in
         let both : ◌≡◌ {A = List ℕ} (space ∷ reason) (space ∷ rest) = sym f.1 ∙ past-some space (drop 3 text) rest found in
         let reasons : reason ≡ rest = cc in
@@ -219,10 +236,12 @@ code-read text rest n long found digits value high low = (is, only)
 
 -- eight bytes that are "SIP/2.0 " without case are a version and a SP
 version-space : (t : List ℕ) → SameText t (codes "SIP/2.0 ") → (v : List ℕ) × Version v × (t ≡ v ++ space ∷ [])
+-- the first seven bytes are the version, and the eighth is SP
 version-space t same = (take 7 t, sym (take-map to_ascii_lowercase 7 t) ∙ ap (take 7) same, sym (take-append-drop 7 t) ∙ ap (λ x. take 7 t ++ x) (last (drop 7 t) (sym (drop-map to_ascii_lowercase 7 t) ∙ ap (drop 7) same)))
   where
     -- a text that is SP without case is SP
     last : (u : List ℕ) → folded u ≡ space ∷ [] → u ≡ space ∷ []
+    -- the text has one byte, as its lower case has
     last [] is = absurd (omega (arith, ap length is))
     last (b ∷ c ∷ u) is = absurd (omega (arith, ap length is))
     last (b ∷ []) is =
@@ -232,6 +251,7 @@ version-space t same = (take 7 t, sym (take-map to_ascii_lowercase 7 t) ∙ ap (
 -- a status line is "SIP/2.0 " without case, and then a status code with its SP and a reason phrase
 status-line : (line : List ℕ) (code : ℕ) (reason : List ℕ) → StatusLine line (code, reason) → SameText (take 8 line) (codes "SIP/2.0 ") × CodeFront (drop 8 line) (code, reason) × (8 ≤ length line)
 status-line line code reason is =
+    -- p is the parts of the line, of which the version and its SP have eight bytes
     let p = status_parts line code reason is in
     let size = length-version p.version p.is_version in
     let whole : line ≡ (p.version ++ space ∷ []) ++ (p.digits ++ space ∷ reason) = p.whole ∙ sym (append_assoc p.version (space ∷ []) (p.digits ++ space ∷ reason)) in
@@ -255,6 +275,7 @@ status-no_code line none (code, reason) is = none (code, reason) (status-line li
 -- a line whose reason has a byte that no reason phrase has is no status line
 pub status-no_reason : (line : List ℕ) (n : ℕ) (rest : List ℕ) → ReadAs (CodeFront (drop 8 line)) (n, rest) → list_all is_reason_byte rest ≡ false → NotRead (StatusLine line)
 status-no_reason line n rest read none (code, reason) is =
+    -- the reason of the status line is the rest that was read after the code, and all its bytes are of a reason
     let same = read.1 (code, reason) (status-line line code reason is).1 in
     both_ways (list_all is_reason_byte rest) none (run-list_all is_reason_byte rest (subst (Many (One is_reason_byte)) (ap (λ x. x.1) same) is.0))
 

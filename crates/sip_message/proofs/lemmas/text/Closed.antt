@@ -1,6 +1,7 @@
 -- Sets that stay themselves when a longest run of blanks in a text becomes one SP. A set that is made
 -- of sets is such a set where they are, and where no run of blanks crosses the seams between them.
 -- In the lemmas u and v are what stands before and after a run of blanks, b and c are bytes, and w, z, x and r what follows one.
+-- `Cuts` tells of two cuts of one text which first part is longer, if one is: `first_longer`, `same_length`, `second_longer`.
 use Rattle.std.proofs.Common.{◌≡◌, ℕ, ◌⊎◌, Bool, true, false, not, List, [], ◌∷◌, ◌++◌, cond, refl, sym, ap, ◌∙◌, subst, inl, inr}
 use Rattle.std.specs.List.{AllByRecursion, concat, list_any}
 use Rattle.std.proofs.lemmas.Bool.{both_ways, not-true}
@@ -31,21 +32,25 @@ solid_is b solid = not-true (is_lws_byte b) solid
 -- a set whose texts have no blanks is closed, since there is no run of blanks to replace
 pub closed-solid : (P : List ℕ → Type 0) → Each is_solid P → Closed P
 closed-solid P each u v b w ends opens blanks is =
+    -- the first blank of the run would be one of a text that has none
     absurd (not_both b (all_right is_solid u ((b ∷ w) ++ v) (each _ is)).0 blanks.0)
 
 -- blanks that do not end with a blank are none
 blank_ends : (u : List ℕ) → EndsSolid u → All is_lws_byte u → u ≡ []
+-- blanks that are not empty end with a blank
 blank_ends [] ends all = refl
 blank_ends (b ∷ u) ends all = absurd (ends_blank [] b u ends all)
 
 -- blanks that do not begin with a blank are none
 pub blank_opens : (v : List ℕ) → OpensSolid v → All is_lws_byte v → v ≡ []
+-- blanks that are not empty begin with a blank
 blank_opens [] opens all = refl
 blank_opens (b ∷ v) opens all = absurd (both_ways (is_lws_byte b) opens all.0)
 
 -- a set of blank runs that has one SP is closed
 pub closed-blank : (P : List ℕ → Type 0) → Each is_lws_byte P → P (space ∷ []) → Closed P
 closed-blank P each one u v b w ends opens blanks is =
+    -- all of the text is blanks; u does not end with one, and v begins with none, so both are empty
     let all = each _ is in
     let front = blank_ends u ends (all_left is_lws_byte u ((b ∷ w) ++ v) all) in
     let back = blank_opens v opens (all_right is_lws_byte (b ∷ w) v (all_right is_lws_byte u ((b ∷ w) ++ v) all)) in
@@ -53,6 +58,7 @@ closed-blank P each one u v b w ends opens blanks is =
 
 -- P / Q is closed where P and Q are
 pub closed-or : (P Q : List ℕ → Type 0) → Closed P → Closed Q → Closed (P or Q)
+-- the text is of P, or of Q
 closed-or P Q left right u v b w ends opens blanks (inl is) = inl (left u v b w ends opens blanks is)
 closed-or P Q left right u v b w ends opens blanks (inr is) = inr (right u v b w ends opens blanks is)
 
@@ -100,7 +106,9 @@ closed-then P Q seam left right u v b w ends opens blanks (p, q, is_p, is_q, who
     -- the claim holds whether the run of blanks begins in p, at its end, or in q
     at : Cuts p q u ((b ∷ w) ++ v) → (P then Q) (u ++ space ∷ v)
     at (same_length front rest) =
+        -- the run begins where q does
         (p, space ∷ v, is_p, right [] v b w tt opens blanks (subst Q rest is_q), ap (λ t. t ++ space ∷ v) (sym front))
+    -- the run begins within p
     at (first_longer c z p_is rest) = inner c z p_is (two_cuts (b ∷ w) v (c ∷ z) q rest)
     -- the blanks lie within the text of Q
     at (second_longer c z u_is rest) = (
@@ -118,6 +126,7 @@ Times P (x ∷ xs) = P then Times P xs
 
 -- as many texts of P as a list has elements are any number of texts of P
 times-many : {X : Type 0} (P : List ℕ → Type 0) (xs : List X) (text : List ℕ) → Times P xs text → Many P text
+-- no text of P is the empty text
 times-many P [] text is = subst (Many P) (sym is) (many-nil P)
 times-many P (x ∷ xs) text is =
     subst (Many P) (sym is.4) (many-cons P is.0 is.1 is.2 (times-many P xs is.1 is.3))
@@ -129,17 +138,21 @@ many-times P (u ∷ us) all = (u, concat us, all.0, many-times P us all.1, refl)
 
 -- as many texts of P as a list has elements are a closed set where P is closed, and no text of P ends with a blank
 pub closed-times : {X : Type 0} (P : List ℕ → Type 0) (xs : List X) → ((u : List ℕ) → P u → EndsSolid u) → Closed P → Closed (Times P xs)
+-- the empty text has no blanks
 closed-times P [] ends closed = closed-solid (Exactly []) (λ u is. subst (All is_solid) (sym is) tt)
+-- each text of P ends with no blank, so no run crosses the seam after it
 closed-times P (x ∷ xs) ends closed = closed-then P (Times P xs) (λ p q is_p is_q. inl (ends p is_p)) closed (closed-times P xs ends closed)
 
 -- *P is closed where P is, and no text of P ends with a blank
 pub closed-many : (P : List ℕ → Type 0) → ((u : List ℕ) → P u → EndsSolid u) → Closed P → Closed (Many P)
 closed-many P ends closed u v b w u_ends opens blanks many =
+    -- the text is as many texts of P as it was before
     times-many P many.0 _ (closed-times P many.0 ends closed u v b w u_ends opens blanks
     (subst (Times P many.0) (sym many.2) (many-times P many.0 many.1)))
 
 -- a text of a closed set is of the set when a run of blanks in it is unfolded
 unfolds-run : (P : List ℕ → Type 0) → Closed P → (u run v : List ℕ) → EndsSolid u → All is_lws_byte run → OpensSolid v → P (u ++ (run ++ v)) → P (u ++ (unfolded_run run ++ v))
+-- there is no run
 unfolds-run P closed u [] v ends blanks opens is = is
 unfolds-run P closed u (b ∷ w) v ends blanks opens is = at (list_any is_end_byte (b ∷ w)) refl
   where
@@ -157,6 +170,7 @@ ends-byte (a ∷ c ∷ u) b solid = ends-byte (c ∷ u) b solid
 -- a text of a closed set is of the set when it is unfolded from the end of a front on that does not end with a blank
 unfolds-from : (P : List ℕ → Type 0) → Closed P → (text u run : List ℕ) → EndsSolid u → All is_lws_byte run → P (u ++ (run ++ text)) → P (u ++ unfolded_from run text)
 unfolds-from P closed [] u run ends blanks is =
+    -- the text has ended, and the run is written
     subst P (ap (λ t. u ++ t) (append-nil (unfolded_run run))) (unfolds-run P closed u run [] ends blanks tt is)
 unfolds-from P closed (b ∷ text) u run ends blanks is = at (unfolds-from P closed text) (is_lws_byte b) refl
   where
@@ -169,9 +183,11 @@ unfolds-from P closed (b ∷ text) u run ends blanks is = at (unfolds-from P clo
     -- the claim holds whether or not the next byte is a blank, which makes the run longer
     at : ((x r : List ℕ) → EndsSolid x → All is_lws_byte r → P (x ++ (r ++ text)) → P (x ++ unfolded_from r text)) → (blank : Bool) → is_lws_byte b ≡ blank → P (u ++ cond blank (unfolded_from (run ++ b ∷ []) text) (unfolded_run run ++ b ∷ unfolded_from [] text))
     at later true blank =
+        -- a blank joins the run
         later u (run ++ b ∷ []) ends (all_both is_lws_byte run (b ∷ []) blanks (blank, tt))
         (subst P (ap (λ t. u ++ t) (sym (append_assoc run (b ∷ []) text))) is)
     at later false solid =
+        -- another byte ends the run, which is written before it
         subst P (sym (shape (unfolded_from [] text)))
         (later (u ++ (unfolded_run run ++ b ∷ [])) [] (subst EndsSolid (append_assoc u (unfolded_run run) (b ∷ [])) (ends-byte (u ++ unfolded_run run) b solid)) tt
         (subst P (shape text) (unfolds-run P closed u run (b ∷ text) ends blanks solid is)))

@@ -15,6 +15,7 @@ Each test P = (u : List ℕ) → P u → All test u
 
 -- all bytes of a class pass the test where each byte of the class does
 pub each-one : (test class : ℕ → Bool) → ((b : ℕ) → class b ≡ true → test b ≡ true) → Each test (One class)
+-- the text is one byte, of the class
 each-one test class pass u one = subst (All test) (sym one.2) (pass one.0 one.1, tt)
 
 -- where bytes pass the test, the set of these bytes alone does
@@ -24,6 +25,7 @@ each-exactly test bytes all u is = subst (All test) (sym is) all
 -- all bytes of P Q pass the test where those of P and of Q do
 pub each-then : (test : ℕ → Bool) (P Q : List ℕ → Type 0) → Each test P → Each test Q → Each test (P then Q)
 each-then test P Q left right u both =
+    -- the text is one of P, and then one of Q
     subst (All test) (sym both.4) (all_both test both.0 both.1 (left both.0 both.2) (right both.1 both.3))
 
 -- all bytes of P / Q pass the test where those of P and of Q do
@@ -33,20 +35,24 @@ each-or test P Q left right u (inr one) = right u one
 
 -- all bytes of [ P ] pass the test where those of P do
 pub each-optional : (test : ℕ → Bool) (P : List ℕ → Type 0) → Each test P → Each test (Optional P)
+-- nothing stands there; or a text of P
 each-optional test P each u (inl none) = subst (All test) (sym none) tt
 each-optional test P each u (inr one) = each u one
 
 -- all bytes of texts of P, one after the other, pass the test where those of P do
 each-concat : (test : ℕ → Bool) (P : List ℕ → Type 0) (us : List (List ℕ)) → Each test P → AllByRecursion P us → All test (concat us)
+-- no texts have no bytes; else the first one's and the others' pass
 each-concat test P [] each all = tt
 each-concat test P (u ∷ us) each all = all_both test u (concat us) (each u all.0) (each-concat test P us each all.1)
 
 -- all bytes of *P pass the test where those of P do
 pub each-many : (test : ℕ → Bool) (P : List ℕ → Type 0) → Each test P → Each test (Many P)
+-- the text is texts of P in a row
 each-many test P each u many = subst (All test) (sym many.2) (each-concat test P many.0 each many.1)
 
 -- all bytes of 1*P pass the test where those of P do
 pub each-some : (test : ℕ → Bool) (P : List ℕ → Type 0) → Each test P → Each test (OneOrMore P)
+-- the text is one of P, and then any number
 each-some test P each = each-then test P (Many P) each (each-many test P each)
 
 -- all bytes of <low>*<high>P pass the test where those of P do
@@ -57,12 +63,15 @@ each-between test low high P each u many = subst (All test) (sym many.2) (each-c
 pub blank_is : (P : ℕ → Type 0) → P space → P tab → P carriage_return → P line_feed → (b : ℕ) → is_lws_byte b ≡ true → P b
 blank_is P sp ht cr lf b is =
     elim (or_cases (is_wsp b) _ is) [
+      -- it is SP or HTAB
       | inl wsp ↦ elim (or_cases (nat_eq b space) _ wsp) [
+        -- it is the first of two, or the other one
         | inl e ↦ subst P (sym (eqb-true b space e)) sp
         | inr e ↦ subst P (sym (eqb-true b tab e)) ht
       ]
       -- the byte is CR or LF
       | inr end ↦ elim (or_cases (nat_eq b carriage_return) _ end) [
+        -- it is the first of two, or the other one
         | inl e ↦ subst P (sym (eqb-true b carriage_return e)) cr
         | inr e ↦ subst P (sym (eqb-true b line_feed e)) lf
       ]
@@ -78,16 +87,20 @@ solid_class class sp ht cr lf b is = at (is_lws_byte b) refl
   where
     -- a byte of the class is no blank
     at : (blank : Bool) → is_lws_byte b ≡ blank → not blank ≡ true
+    -- it is none, as it should be
     at false blank = refl
+    -- the class has none of the four
     at true blank = absurd (both_ways (class b) (blank_is (λ c. class c ≡ false) sp ht cr lf b blank) is)
 
 -- a WSP is a byte of a blank run
 pub wsp-blank : (b : ℕ) → is_wsp b ≡ true → is_lws_byte b ≡ true
+-- a WSP passes the first of the tests
 wsp-blank b is = or_left (is_wsp b) _ is
 
 -- all bytes of an LWS are SP, HTAB, CR or LF
 pub each-lws : Each is_lws_byte Lws
 each-lws =
+    -- SP and HTAB with a CRLF after them, or nothing; and then SP and HTAB
     each-then is_lws_byte _ _
     (each-optional is_lws_byte _ (each-then is_lws_byte _ _ (each-many is_lws_byte _ (each-one is_lws_byte is_wsp wsp-blank)) (each-exactly is_lws_byte crlf (refl, (refl, tt)))))
     (each-some is_lws_byte _ (each-one is_lws_byte is_wsp wsp-blank))

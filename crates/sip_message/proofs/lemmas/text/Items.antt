@@ -1,5 +1,6 @@
 -- Repetitions of texts in which blanks may stand: quoted strings, and the values that are not looked into.
 -- In the lemmas b, c and d are bytes, u, w, y and z what follows one in a text, and P is the set of the items.
+-- `Cuts` tells of two cuts of one text which first part is longer, if one is: `first_longer`, `same_length`, `second_longer`.
 use Rattle.std.proofs.Common.{◌≡◌, ℕ, Bool, true, false, not, List, [], ◌∷◌, ◌++◌, length, refl, sym, ap, ◌∙◌, subst, inl, inr, arith}
 use Rattle.std.specs.List.{AllByRecursion, concat}
 use Rattle.std.proofs.lemmas.Bool.{both_ways}
@@ -69,33 +70,40 @@ item_cut P p u c z ends blank p_is item = at (two_cuts item.front item.back u (c
   where
     -- the claim holds whether the blanks begin where the item's own blanks begin, or within these
     at : Cuts item.front item.back u (c ∷ z) → P (u ++ space ∷ []) × All is_lws_byte (c ∷ z)
+    -- at the same place: then u with one SP joins as the item says
     at (same_length front back) =
         (subst (λ t. P (t ++ space ∷ [])) front (item.joins c z back), subst (All is_lws_byte) back item.blank)
     -- the item would be longer by a byte that is a blank and none
     at (first_longer d y longer is) =
         let heads : c ≡ d = cc in
         absurd (not_both d (all_right is_solid u (d ∷ y) (subst (All is_solid) longer item.solid)).0 (subst (λ x. is_lws_byte x ≡ true) heads blank))
+    -- within these: then u would end with a blank
     at (second_longer d y longer is) =
         absurd (ends_blank item.front d y (subst EndsSolid longer ends) (all_left is_lws_byte (d ∷ y) (c ∷ z) (subst (All is_lws_byte) is item.blank)))
 
 -- where a run of blanks begins within an item and goes on into the items after it, what follows the run is items
 -- b and w are the run; c and z are its part in the first item, us are the other items, and v follows the run
 behind_run : (P : List ℕ → Type 0) → ((u : List ℕ) → P u → IsItem P u) → (us : List (List ℕ)) (v : List ℕ) (b : ℕ) (w : List ℕ) (c : ℕ) (z : List ℕ) → OpensSolid v → All is_lws_byte (b ∷ w) → AllByRecursion P us → All is_lws_byte (c ∷ z) → Cuts (b ∷ w) v (c ∷ z) (concat us) → Many P v
+-- the run ends with the first item: the others are what follows it
 behind_run P item us v b w c z opens blanks all run (same_length front back) = (us, all, back)
+-- the run goes on after it: its rest is passed over in the others
 behind_run P item us v b w c z opens blanks all run (first_longer d y longer is) =
     skip P item us (d ∷ y) v all (all_right is_lws_byte (c ∷ z) (d ∷ y) (subst (All is_lws_byte) longer blanks)) opens is
+-- the run would end within the first item, after which v begins with a blank
 behind_run P item us v b w c z opens blanks all run (second_longer d y longer is) =
     absurd (both_ways (is_lws_byte d) (subst OpensSolid is opens) (all_right is_lws_byte (b ∷ w) (d ∷ y) (subst (All is_lws_byte) longer run)).0)
 
 -- items in which a run of blanks is replaced by one SP are items
 -- the items us make the text x, the run, which is b and w, and then v
 items_run : (P : List ℕ → Type 0) → ((u : List ℕ) → P u → IsItem P u) → (us : List (List ℕ)) (x v : List ℕ) (b : ℕ) (w : List ℕ) → EndsSolid x → OpensSolid v → All is_lws_byte (b ∷ w) → AllByRecursion P us → concat us ≡ x ++ ((b ∷ w) ++ v) → Many P (x ++ space ∷ v)
+-- no items are no run
 items_run P item [] x v b w ends opens blanks all is = absurd (omega (arith, ap length is, length-append x ((b ∷ w) ++ v)))
 items_run P item (p ∷ us) x v b w ends opens blanks all is =
     at (λ y y_ends y_is. items_run P item us y v b w y_ends opens blanks all.1 y_is) (two_cuts p (concat us) x ((b ∷ w) ++ v) is)
   where
     -- the claim holds whether the run begins in the first item, at its end, or in the others
     at : ((y : List ℕ) → EndsSolid y → concat us ≡ y ++ ((b ∷ w) ++ v) → Many P (y ++ space ∷ v)) → Cuts p (concat us) x ((b ∷ w) ++ v) → Many P (x ++ space ∷ v)
+    -- the run begins after the first item, with the others
     at later (same_length front back) =
         subst (λ t. Many P (t ++ space ∷ v)) front (many-cons P p (space ∷ v) all.0 (later [] tt back))
     -- the blanks begin after the first item
@@ -120,10 +128,12 @@ lws-space = ([], space ∷ [], inl refl, (space ∷ [], [], (space, refl, refl),
 
 -- an LWS is an item where P has one SP
 item-lws : (P : List ℕ → Type 0) → P (space ∷ []) → (u : List ℕ) → Lws u → IsItem P u
+-- it has nothing but blanks
 item-lws P one u lws = record { front = []; back = u; solid = tt; blank = each-lws u lws; joins = λ b w is. one; whole = refl }
 
 -- a text without blanks is an item
 item-solid : (P : List ℕ → Type 0) (u : List ℕ) → All is_solid u → IsItem P u
+-- it has no blanks, so that nothing is put in their place
 item-solid P u solid = record { front = u; back = []; solid = solid; blank = tt; joins = λ b w is. absurd (omega (arith, ap length is)); whole = sym (append-nil u) }
 
 -- a byte of a class without blanks is an item
@@ -141,6 +151,7 @@ item-pair P one u (p, q, is_p, (b, escaped, q_is), whole) = at (is_lws_byte b) r
 
     -- the claim holds whether or not the second byte is a blank
     at : (blank : Bool) → is_lws_byte b ≡ blank → IsItem P u
+    -- the second byte is a blank
     at true blank = record { front = backslash ∷ []; back = b ∷ []; solid = (refl, tt); blank = (blank, tt); joins = λ c w is. one; whole = text }
     at false blank = item-solid P u (subst (All is_solid) (sym text) (refl, (ap not blank, tt)))
 
@@ -150,6 +161,7 @@ closed-contents = closed-items (Qdtext or QuotedPair) item
   where
     -- each piece of the contents is an item
     item : (u : List ℕ) → (Qdtext or QuotedPair) u → IsItem (Qdtext or QuotedPair) u
+    -- blanks, a byte of text, or a backslash with its byte
     item u (inl (inl lws)) = item-lws (Qdtext or QuotedPair) (inl (inl lws-space)) u lws
     item u (inl (inr one)) = item-one (Qdtext or QuotedPair) is_quoted_byte (solid_class is_quoted_byte refl refl refl refl) u one
     item u (inr pair) = item-pair (Qdtext or QuotedPair) (inr (backslash ∷ [], space ∷ [], refl, (space, refl, refl), refl)) u pair
@@ -160,5 +172,6 @@ closed-other = closed-items (Lws or One is_value_byte) item
   where
     -- each piece of the value is an item
     item : (u : List ℕ) → (Lws or One is_value_byte) u → IsItem (Lws or One is_value_byte) u
+    -- blanks, or a byte of the value
     item u (inl lws) = item-lws (Lws or One is_value_byte) (inl lws-space) u lws
     item u (inr one) = item-one (Lws or One is_value_byte) is_value_byte (solid_class is_value_byte refl refl refl refl) u one

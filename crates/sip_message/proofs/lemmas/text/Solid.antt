@@ -1,4 +1,5 @@
 -- The sets of texts without blanks: tokens, hosts, ports and URIs.
+-- `solid-one class refl refl refl refl` tries SP, HTAB, CR and LF one after another, by computing: none of them is of the class.
 use Rattle.std.proofs.Common.{◌≡◌, ℕ, Bool, true, false, List, [], ◌∷◌, ◌++◌, Option, Some, None, refl, sym, subst}
 use Rattle.std.specs.Char.{is_ascii_alphabetic, is_ascii_alphanumeric, is_ascii_digit, is_ascii_hexdigit, to_ascii_lowercase}
 use Rattle.std.specs.Prelude.{IfSome}
@@ -20,6 +21,7 @@ S = is_solid
 
 -- a class without SP, HTAB, CR and LF has no blanks
 solid-one : (class : ℕ → Bool) → class space ≡ false → class tab ≡ false → class carriage_return ≡ false → class line_feed ≡ false → Each S (One class)
+-- a byte of the class is none of these four, since the class has none of them
 solid-one class sp ht cr lf = each-one S class (solid_class class sp ht cr lf)
 
 -- the set of one byte that is no blank has no blanks
@@ -49,6 +51,7 @@ solid-label_bytes = each-many S _ (solid-one is_label_byte refl refl refl refl)
 -- a hostname has no blanks
 solid-hostname : Each S Hostname
 solid-hostname =
+    -- the labels, each with its dot, 46, and the last label, with a dot after it or none
     each-then S _ _ (each-many S _ (each-then S _ _ (each-or S _ _ solid-alnum (each-then S _ _ solid-alnum (each-then S _ _ solid-label_bytes solid-alnum))) (solid-byte 46 refl)))
     (each-then S _ _ (each-or S _ _ solid-alpha (each-then S _ _ solid-alpha (each-then S _ _ solid-label_bytes solid-alnum))) (each-optional S _ (solid-byte 46 refl)))
 
@@ -59,6 +62,7 @@ solid-group = each-between S 1 3 _ (solid-one is_ascii_digit refl refl refl refl
 -- an IPv4 address has no blanks
 solid-v4 : Each S Ipv4
 solid-v4 =
+    -- four groups of digits, with a dot, 46, between each two
     each-then S _ _ solid-group (each-then S _ _ (solid-byte 46 refl) (each-then S _ _ solid-group (each-then S _ _ (solid-byte 46 refl)
     (each-then S _ _ solid-group (each-then S _ _ (solid-byte 46 refl) solid-group)))))
 
@@ -77,21 +81,25 @@ solid-double = each-exactly S _ (refl, (refl, tt))
 -- a hexpart has no blanks
 solid-hexpart : Each S Hexpart
 solid-hexpart =
+    -- a hexseq; or one, "::" and perhaps another one; or "::" and perhaps a hexseq
     each-or S _ _ solid-hexseq (each-or S _ _ (each-then S _ _ solid-hexseq (each-then S _ _ solid-double (each-optional S _ solid-hexseq)))
     (each-then S _ _ solid-double (each-optional S _ solid-hexseq)))
 
 -- an IPv6 address has no blanks
 pub solid-v6 : Each S Ipv6
 solid-v6 =
+    -- a hexpart, with ":" and an IPv4 address after it or not; or hexseq "::" or "::" alone, and then an IPv4 address
     each-or S _ _ (each-then S _ _ solid-hexpart (each-optional S _ (each-then S _ _ (solid-byte colon refl) solid-v4)))
     (each-then S _ _ (each-or S _ _ (each-then S _ _ solid-hexseq solid-double) solid-double) solid-v4)
 
 -- an IPv6 address in brackets has no blanks
 pub solid-v6_reference : Each S Bracketed
+-- 91 is "[", and 93 is "]"
 solid-v6_reference = each-then S _ _ (solid-byte 91 refl) (each-then S _ _ solid-v6 (solid-byte 93 refl))
 
 -- a host has no blanks
 pub solid-host : (text : List ℕ) (h : HostParts) → HostText text h → All S text
+-- a host is a name, an IPv4 address, or an IPv6 address in brackets
 solid-host text (name t) is = solid-hostname text is.0
 solid-host text (v4 t) is = solid-v4 text is.0
 solid-host text (v6 t) is = solid-v6_reference text is.0
@@ -103,6 +111,7 @@ solid-port u is = each-between S 1 5 _ (solid-one is_ascii_digit refl refl refl 
 -- an escaped byte has no blank
 solid-escaped : Each S Escaped
 solid-escaped =
+    -- 37 is "%": two hexadecimal digits follow it
     each-then S _ _ (solid-byte 37 refl) (each-then S _ _ (solid-one is_ascii_hexdigit refl refl refl refl) (solid-one is_ascii_hexdigit refl refl refl refl))
 
 -- unreserved bytes are no blanks
@@ -111,14 +120,17 @@ solid-unreserved = solid-one is_unreserved refl refl refl refl
 
 -- a user has no blank
 solid-user : Each S User
+-- a user is bytes of its own class, unreserved bytes and escaped ones
 solid-user = each-some S _ (each-or S _ _ (solid-one is_user_unreserved refl refl refl refl) (each-or S _ _ solid-unreserved solid-escaped))
 
 -- a password has no blank
 solid-password : Each S Password
+-- a password is bytes of its own class, unreserved bytes and escaped ones
 solid-password = each-many S _ (each-or S _ _ (solid-one is_password_unreserved refl refl refl refl) (each-or S _ _ solid-unreserved solid-escaped))
 
 -- the parameters of a URI have no blanks
 solid-params : Each S UriParameters
+-- 59 is ";", and 61 is "="
 solid-params = each-many S _ (each-then S _ _ (solid-byte 59 refl) (each-then S _ _ word (each-optional S _ (each-then S _ _ (solid-byte 61 refl) word))))
   where
     -- a word of a parameter has no blanks
@@ -127,6 +139,7 @@ solid-params = each-many S _ (each-then S _ _ (solid-byte 59 refl) (each-then S 
 
 -- the headers of a URI have no blanks
 solid-headers : Each S Headers
+-- 38 is "&"
 solid-headers = each-then S _ _ header (each-many S _ (each-then S _ _ (solid-byte 38 refl) header))
   where
     -- a piece of a header has no blanks
@@ -135,22 +148,27 @@ solid-headers = each-then S _ _ header (each-many S _ (each-then S _ _ (solid-by
 
     -- a header has no blanks
     header : Each S Header
+    -- 61 is "="
     header = each-then S _ _ (each-some S _ char) (each-then S _ _ (solid-byte 61 refl) (each-many S _ char))
 
 -- an optional part with its mark has no blanks where neither the parts nor the mark have any
 solid-led : (mark : ℕ) (P : List ℕ → Type 0) (part : Option (List ℕ)) → is_solid mark ≡ true → Each S P → IfSome part P → All S (led mark part)
+-- without the part nothing stands there; with it, the mark and the part
 solid-led mark P None is each fits = tt
 solid-led mark P (Some part) is each fits = (is, each part fits)
 
 -- a userinfo has no blanks
 solid-userinfo : (user password : Option (List ℕ)) → IfSome user User → IfSome password Password → All S (userinfo_text user password)
+-- without a user nothing stands there
 solid-userinfo None password u p = tt
 solid-userinfo (Some user) password u p =
+    -- the user, perhaps ":" and a password, and "@"
     all_both S (user ++ led colon password) (at_sign ∷ []) (all_both S user (led colon password) (solid-user user u) (solid-led colon Password password refl solid-password p)) (refl, tt)
 
 -- a SIP URI has no blanks
 solid-sip : (p : SipParts) → SipFits p → All S (sip_text p)
 solid-sip p fits =
+    -- the userinfo, the host, the port, the parameters and the headers stand in a row
     all_both S (userinfo_text p.user p.password) (hostport_text p.host p.port ++ p.params ++ led question p.headers) (solid-userinfo p.user p.password fits.user fits.password)
     (all_both S (hostport_text p.host p.port ++ p.params) (led question p.headers)
     (all_both S (hostport_text p.host p.port) p.params (all_both S (host_text p.host) (led colon p.port) (solid-host (host_text p.host) p.host fits.host) (solid-led colon Port p.port refl solid-port fits.port)) (solid-params p.params fits.params))
@@ -160,11 +178,13 @@ solid-sip p fits =
 solid-folded : (text : List ℕ) → All S (folded text) → All S text
 solid-folded [] all = tt
 solid-folded (b ∷ text) all =
+    -- SP, HTAB, CR and LF are their own lower case, so a byte whose lower case is no blank is none of them
     (solid_class (λ c. is_solid (to_ascii_lowercase c)) refl refl refl refl b all.0, solid-folded text all.1)
 
 -- a URI has no blanks
 pub solid-uri : (text : List ℕ) (parts : UriParts) → UriText text parts → All S text
 solid-uri text (sip p) (scheme, same, fits, whole) =
+    -- a SIP or SIPS URI is its scheme, a colon and the text of its parts
     subst (All S) (sym whole) (all_both S scheme (colon ∷ sip_text p) (solid-folded scheme (subst (All S) (sym same) (at p.secure))) (refl, solid-sip p fits))
   where
     -- the scheme has no blanks, whether it is sip or sips
@@ -173,6 +193,7 @@ solid-uri text (sip p) (scheme, same, fits, whole) =
     at false = (refl, (refl, (refl, tt)))
 -- this clause is of a URI of another scheme
 solid-uri text (other scheme rest) (is_scheme, none, some, whole) =
+    -- another URI is its scheme, a colon, and bytes that are reserved, unreserved or escaped
     subst (All S) (sym whole) (all_both S scheme (colon ∷ rest)
     (each-then S _ _ solid-alpha (each-many S _ (solid-one is_scheme_byte refl refl refl refl)) scheme is_scheme)
     (refl, each-some S _ (each-or S _ _ (solid-one is_reserved refl refl refl refl) (each-or S _ _ solid-unreserved solid-escaped)) rest some))

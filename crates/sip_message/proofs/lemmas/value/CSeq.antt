@@ -21,23 +21,28 @@ use Rattle.sip_message.proofs.lemmas.front.Prefix.{prefix-at, all-some}
 
 -- a run of digits has only digits
 each-digits : Each is_ascii_digit Digits
+-- digits are one digit, and then any number
 each-digits = each-then is_ascii_digit _ _ (each-one is_ascii_digit is_ascii_digit (λ b is. is)) (each-many is_ascii_digit _ (each-one is_ascii_digit is_ascii_digit (λ b is. is)))
 
 -- a blank is no digit
 blank-digit : (b : ℕ) → is_lws_byte b ≡ true → is_ascii_digit b ≡ false
+-- SP, HTAB, CR and LF are tried, by computing
 blank-digit = blank_is (λ b. is_ascii_digit b ≡ false) refl refl refl refl
 
 -- where the next byte is no digit, digits stop
 fails_stops : (u : List ℕ) → Fails is_ascii_digit u → Stops is_ascii_digit u
+-- a text that fails has a first byte, which is no digit
 fails_stops [] fails = absurd fails
 fails_stops (b ∷ u) fails = fails
 
 -- blanks and a method begin with no digit
 digits-stop : (method v : List ℕ) → (Blanks then Exactly method) v → Stops is_ascii_digit v
+-- a blank run begins with a blank
 digits-stop method v is = fails_stops v (fail-then is_ascii_digit Blanks (Exactly method) (fail-blanks is_ascii_digit blank-digit) v is)
 
 -- the method of a CSeq is what is left after the blanks that follow its digits
 method-behind : (text v : List ℕ) (number : ℕ) (method : List ℕ) (c : CSeqText text number method) → (Blanks then Exactly method) v → Behind v method
+-- the method begins with no blank, and stands after the blanks
 method-behind text v number method c is = (subst StopsBlank (append-nil method) (token-stops method [] c.is_method), (is.0, is.1, inr is.2, is.3, is.4))
 
 -- a CSeq has one number and one method
@@ -56,15 +61,18 @@ same-cseq text (m, s) (n, t) a b =
 -- n is how many digits the text begins with, and x the number and the method that the CSeq c says
 cseq-parts : (text rest : List ℕ) (n : ℕ) → n ≡ prefix_len is_ascii_digit text → rest ≡ drop n text → (x : ℕ × List ℕ) (c : CSeqText text x.0 x.1) → (c.digits ≡ take n text) × BlanksFront rest (x.1)
 cseq-parts text rest n n_is rest_is x c =
+    -- `cut` says that the first n bytes are digits, and that none follows them
     let cut = prefix-at is_ascii_digit text n n_is in
     let same = same_front is_ascii_digit c.digits c.whole.1 (take n text) (drop n text) (each-digits c.digits c.are_digits) cut.0
     (digits-stop (x.1) c.whole.1 c.whole.3) cut.1
     (ap (λ t. t ++ c.whole.1) (sym c.whole.2) ∙ sym c.whole.4 ∙ sym (take-append-drop n text)) in
+    -- the digits are these n bytes, so what follows them is the blanks and the method
     (same.0, (subst StopsBlank (append-nil (x.1)) (token-stops (x.1) [] c.is_method), subst (Blanks then Exactly (x.1)) (same.1 ∙ sym rest_is) c.whole.3))
 
 -- digits that write a number above 2147483647 are at the front of no CSeq
 pub cseq-large : (text : List ℕ) (n : ℕ) → n ≡ prefix_len is_ascii_digit text → (Digits (take n text) → 2147483647 < digits_value 10 (take n text)) → (x : ℕ × List ℕ) → CSeqValue text x → ⊥
 cseq-large text n n_is large x c =
+    -- `parts` says that the digits of c are the first n bytes; so their number would be too large
     let parts = cseq-parts text (drop n text) n n_is refl x c in
     let above = large (subst Digits parts.0 c.are_digits) in
     absurd (omega (arith, above, c.low, c.number_is, ap (digits_value 10) parts.0))
@@ -72,27 +80,32 @@ cseq-large text n n_is large x c =
 -- a text that does not begin with a digit is no CSeq
 pub cseq-no_digit : (text : List ℕ) (n : ℕ) → n ≡ prefix_len is_ascii_digit text → n ≡ 0 → (x : ℕ × List ℕ) → CSeqValue text x → ⊥
 cseq-no_digit text n n_is none x c =
+    -- the digits would be the first 0 bytes, but are one at least
     some-run is_ascii_digit c.digits c.are_digits ((cseq-parts text (drop n text) n n_is refl x c).0 ∙ ap (λ m. take m text) none)
 
 -- a text without a blank after its digits is no CSeq
 -- n is how many digits the text begins with, b how many blanks follow, and x a number and a method
 pub cseq-no_blank : (text rest : List ℕ) (n b : ℕ) → n ≡ prefix_len is_ascii_digit text → rest ≡ drop n text → IsLongestFront Blanks rest b → b ≡ 0 → (x : ℕ × List ℕ) → CSeqValue text x → ⊥
 cseq-no_blank text rest n b n_is rest_is longest none x c =
+    -- after the digits a blank run would be read, but the longest one there is empty
     no-blanks rest (subst (IsLongestFront Blanks rest) none longest) (x.1) (cseq-parts text rest n n_is rest_is x c).1
 
 -- what stands after the digits and the blanks of a CSeq is a token, its method
 -- n is how many digits the text begins with, b how many blanks follow, and x the number and the method
 pub cseq-method : (text rest method : List ℕ) (n b : ℕ) → n ≡ prefix_len is_ascii_digit text → rest ≡ drop n text → method ≡ drop b rest → IsLongestFront Blanks rest b → (b ≡ 0 → ⊥) → (x : ℕ × List ℕ) → CSeqValue text x → Token method
 cseq-method text rest method n b n_is rest_is method_is longest some x c =
+    -- after the longest run of blanks the method is all that is left
     subst Token ((longest-blanks_front rest b longest some).1 (x.1) (cseq-parts text rest n n_is rest_is x c).1 ∙ sym method_is) c.is_method
 
 -- digits that write a number up to 2147483647, blanks and a token are a CSeq of that number and that method
 pub cseq-is : (text rest method : List ℕ) (n b number : ℕ) → n ≡ prefix_len is_ascii_digit text → n ≤ length text → rest ≡ drop n text → method ≡ drop b rest → (n ≡ 0 → ⊥) → IsLongestFront Blanks rest b → (b ≡ 0 → ⊥) → Token method → number ≡ digits_value 10 (take n text) → number ≤ 2147483647 → CSeqText text number method
 cseq-is text rest method n b number n_is within rest_is method_is some longest blanks token number_is small = record {
   digits = take n text;
+  -- the digits are not none, and all of them are digits
   are_digits = all-some is_ascii_digit (take n text) (prefix-at is_ascii_digit text n n_is).0 (λ none. some (omega (arith, ap length none, length-take-le n text within)));
   number_is = number_is;
   low = omega (arith, small);
   is_method = token;
+  -- the digits, the blanks and the token stand in a row
   whole = (take n text, rest, refl, subst (λ m. (Blanks then Exactly m) rest) (sym method_is) (longest-blanks_front rest b longest blanks).0.1, sym (take-append-drop n text) ∙ ap (λ t. take n text ++ t) (sym rest_is));
 }

@@ -22,19 +22,23 @@ pub record ReadsNumber (text : List ℕ) (at number most : ℕ) : Type 0 where
 -- a text with a byte that is no digit is no digits
 pub digits-at : (text : List ℕ) (k : ℕ) → Digits text → k < length text → is_ascii_digit (get_or text k 0) ≡ false → ⊥
 digits-at text k digits within other =
+    -- the test of all bytes would fail at this one, but passes
     both_ways (list_all is_ascii_digit text) (list_all_at is_ascii_digit text k 0 within other)
     (run-list_all is_ascii_digit text (many-some (One is_ascii_digit) text digits))
 
 -- where the digits before the index write a number, and the byte at the index is a digit, those up to it write ten times the number, plus the digit
 pub number-more : (text : List ℕ) (at number most : ℕ) → at < length text → ReadsNumber text at number most → is_ascii_digit (get_or text at 0) ≡ true → number * 10 + (get_or text at 0 - 48) ≡ digits_value 10 (take (at + 1) text)
 number-more text at number most within reads is =
+    -- `digit` says how the byte of a digit and its value belong together
     let digit = digit-above (get_or text at 0) is in
     omega (arith, digits_value_more 10 text at within, reads.value, digit.2, digit.0)
 
 -- where the digits before the index write a number above `most`, all digits of the text write one above it
 pub number-large : (text : List ℕ) (at number most : ℕ) → number ≡ digits_value 10 (take at text) → most < number → most < digits_value 10 text
+-- the number of all digits is not below that of the first ones
 number-large text at number most is large = omega (arith, is, large, digits_value-take-le 10 text at (omega arith))
 
 -- what decides whether all bytes pass a test decides whether the text is any number of bytes that do
 pub all-decides : (test : ℕ → Bool) (text : List ℕ) (r : Bool) → r ≡ list_all test text → Decides r (Many (One test) text)
+-- if: the test of all bytes passes; only if: each byte passes
 all-decides test text r is = (λ all. list_all-run test text (sym is ∙ all), λ many. is ∙ run-list_all test text many)

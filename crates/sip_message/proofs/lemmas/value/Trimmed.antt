@@ -24,12 +24,14 @@ use Rattle.sip_message.proofs.lemmas.front.Prefix.{prefix-at}
 
 -- a text of no bytes is the empty text
 pub length-none : (u : List ℕ) → length u ≡ 0 → u ≡ []
+-- a text with a byte has a length above 0
 length-none [] none = refl
 length-none (b ∷ u) none = absurd (omega (arith, none))
 
 -- a text is an optional blank run exactly if the longest blank run at its front is all of it
 pub sws-whole : (text : List ℕ) (n : ℕ) → n ≤ length text → IsLongestFront Blanks text n → Decides (nat_eq n (length text)) (Sws text)
 sws-whole text n within longest = (
+  -- if: the longest run is all of the text, or it is empty, and so is the text
   λ same. elim longest.front [
     | inl none ↦ inl (length-none text (sym (eqb-true n (length text) same) ∙ none))
     | inr front ↦ inr (front-whole Blanks text n front (eqb-true n (length text) same))
@@ -54,18 +56,23 @@ sws-append u v left right = blanks-units (u ++ v) (many-append Blank u v (many u
 
 -- where each byte from place n on passes a test, the text without its first n bytes does
 all-from : (test : ℕ → Bool) (text : List ℕ) (n : ℕ) → ((k : ℕ) → n ≤ k → k < length text → test (get_or text k 0) ≡ true) → All test (drop n text)
+-- no bytes are left
 all-from test [] zero each = tt
 all-from test [] (suc n) each = tt
 all-from test (b ∷ text) zero each =
+    -- the first byte passes, and so do the others
     (each 0 (omega arith) (omega arith), all-from test text zero (λ k low high. each (suc k) (omega arith) (omega (arith, high))))
 all-from test (b ∷ text) (suc n) each = all-from test text n (λ k low high. each (suc k) (omega (arith, low)) (omega (arith, high)))
 
 -- a text up to a byte that is no blank does not end with a blank
 ends-take : (text : List ℕ) (n : ℕ) → n ≤ length text → ((k : ℕ) → n ≡ suc k → is_lws_byte (get_or text k 0) ≡ false) → EndsSolid (take n text)
+-- no bytes end with none
 ends-take text zero within solid = tt
 ends-take [] (suc n) within solid = absurd (omega (arith, within))
+-- the last byte of the front is the first of the text
 ends-take (b ∷ text) (suc zero) within solid = solid zero refl
 ends-take (b ∷ []) (suc (suc n)) within solid = absurd (omega (arith, within))
+-- the last byte of the front is a later one
 ends-take (b ∷ c ∷ text) (suc (suc n)) within solid =
     ends-take (c ∷ text) (suc n) (omega (arith, within)) (λ k is. solid (suc k) (ap suc is))
 
@@ -92,6 +99,7 @@ pub record IsTrimmed (text front value back : List ℕ) : Type 0 where
 -- where n is the length of the blank bytes at the front of a text, and e that of the rest up to its last other byte, the reader's cuts trim it
 pub trimmed : (text rest : List ℕ) (n e : ℕ) → n ≡ prefix_len is_lws_byte text → rest ≡ drop n text → e ≤ length rest → ((k : ℕ) → e ≤ k → k < length rest → is_lws_byte (get_or rest k 0) ≡ true) → (0 < e → is_lws_byte (get_or rest (e - 1) 0) ≡ false) → IsTrimmed text (take n text) (take e rest) (drop e rest)
 trimmed text rest n e n_is rest_is within blank solid =
+    -- `cut` says that the first n bytes are blanks, and that none stands after them
     let cut = prefix-at is_lws_byte text n n_is in
     let stops : Stops is_lws_byte rest = subst (Stops is_lws_byte) (sym rest_is) cut.1 in
     -- the rest is cut into the value and the blanks after it
@@ -125,6 +133,7 @@ value-trimmed text front value back w is of = at w of.opens of.ends (of.whole.4 
 
     -- the value stands between two blank runs
     at : (v : List ℕ) → OpensSolid v → EndsSolid v → text ≡ a ++ (v ++ b) → Sws front × Sws back
+    -- the value is empty: all of the text is blanks, and all of it is the front
     at [] opens ends whole =
         let same : front ++ (value ++ back) ≡ a ++ b = sym is.whole ∙ whole in
         let all : All is_lws_byte (front ++ (value ++ back)) = subst (All is_lws_byte) (sym same) (all_both is_lws_byte a b (each-sws a of.whole.2) (each-sws b of.whole.3.3)) in
@@ -147,19 +156,24 @@ value-trimmed text front value back w is of = at w of.opens of.ends (of.whole.4 
 
 -- where b says whether the reader of R read a value, b decides whether R relates a value to the text
 pub read-decides : {A X : Type 0} (R : List ℕ → X → Type 0) (parts : A → X) (text : List ℕ) (r : Option A) (b : Bool) → IsOnlyValue R parts text r → b ≡ is_some r → Decides b ((x : X) × R text x)
+-- nothing was read, so R relates no value to the text
 read-decides R parts text None b none is = (λ yes_b. absurd (both_ways b is yes_b), λ x. absurd (none x.0 x.1))
+-- a value was read
 read-decides R parts text (Some a) b only is = (λ _. (parts a, only.0), λ _. is)
 
 -- a text whose last byte is no blank does not end with a blank
 ends-solid : (b : ℕ) (u : List ℕ) → is_lws_byte (get_or (b ∷ u) (length u) 0) ≡ false → EndsSolid (b ∷ u)
+-- the last byte is the first, or a later one
 ends-solid b [] solid = solid
 ends-solid b (c ∷ u) solid = ends-solid c u solid
 
 -- a text of one SP and a value that begins and ends with no blank has that value
 pub one-space : (value : List ℕ) → is_solid value ≡ true → ValueText (space ∷ value) value
+-- an empty text has no first byte that is no blank
 one-space [] solid = absurd (both_ways false refl solid)
 one-space (b ∷ value) solid =
     let last : ℕ = length (b ∷ value) - 1 in
+    -- `both` says that the first byte is no blank, and that the last one is none
     let both = and_parts (nat_lt 0 (length (b ∷ value)) && not (is_lws_byte b)) (not (is_lws_byte (get_or (b ∷ value) last 0))) solid in
     -- neither the first byte nor the last one is a blank
     let opens : is_lws_byte b ≡ false = not-true (is_lws_byte b) (and_parts (nat_lt 0 (length (b ∷ value))) (not (is_lws_byte b)) (both.0)).1 in
@@ -180,5 +194,6 @@ one-space (b ∷ value) solid =
 -- a text that begins and ends with no blank has itself as its value
 pub no-space : (value : List ℕ) → is_solid value ≡ true → ValueText value value
 no-space value solid =
+    -- without the SP before it the value has the same ends
     let behind = one-space value solid in
     record { opens = behind.opens; ends = behind.ends; whole = ([], value, inl refl, (value, [], refl, inl refl, sym (append-nil value)), refl) }

@@ -40,6 +40,7 @@ BranchOk n value = SameText n (codes "branch") → (v : List ℕ) × Token v × 
 -- no quoted string is a token
 no_token : (u : List ℕ) → Quoted u → Token u → ⊥
 no_token u (d, t, d_is, rest, whole) token =
+    -- its first byte would be a quote, which is no byte of a token
     both_ways (is_token_byte dquote) refl (subst (All is_token_byte) (whole ∙ ap (λ x. x ++ t) d_is) (each-token u token)).0
 
 -- options that hold equal values hold the same value
@@ -55,13 +56,16 @@ some_is {x = x} is = ap (value_or x) is
 branch-demand : IsDemand BranchOk
 branch-demand = record {
   quoted = λ n value other quoted ok same.
+      -- a branch of a quoted string would be a token, which it is not: so the name is no branch, and any value may follow
       let token = ok same in
       absurd (no_token value quoted (subst Token (sym (some_is token.2)) token.1));
 }
 
 -- where a branch counts in parameters, each of them may stand in a Via
 branch-ok : (ps : List (List ℕ × Option (List ℕ))) (branch : Option (List ℕ)) → IsBranch ps branch → AllOk BranchOk ps
+-- of no parameters nothing is asked
 branch-ok [] branch is = tt
+-- the first one is a branch with a token, or no branch: either may stand there
 branch-ok ((n, value) ∷ ps) branch (inl (same, v, token, value_is, branch_is, later, more)) = ((λ _. (v, token, value_is)), branch-ok ps later more)
 branch-ok ((n, value) ∷ ps) branch (inr (differs, more)) = ((λ same. absurd (differs same)), branch-ok ps branch more)
 
@@ -72,11 +76,14 @@ ok-branch ((n, value) ∷ ps) all = at (ok-branch ps all.1) (bytes_eq (folded n)
   where
     -- the claim holds whether or not the first parameter is a branch
     at : ((branch : Option (List ℕ)) × IsBranch ps branch) → (same : Bool) → Decides same (SameText n (codes "branch")) → (branch : Option (List ℕ)) × IsBranch ((n, value) ∷ ps) branch
+    -- the first one is a branch, and so the one that counts
     at more true is = let v = all.0 (is.0 refl) in (Some v.0, inl (is.0 refl, v.0, v.1, v.2, refl, more.0, more.1))
+    -- it is none, so the one that counts is that of the others
     at more false is = (more.0, inr ((λ same. both_ways false refl (is.1 same)), more.1))
 
 -- a host is not empty
 some-host : (t : List ℕ) (h : HostParts) → HostText t h → t ≡ [] → ⊥
+-- a name has a label, an IPv4 address a group of digits, and an IPv6 address its "["
 some-host t (name x) is none = absurd (omega (arith, ap length none, ap length is.0.4, length-append is.0.0 is.0.1, ap length is.0.3.4, length-append is.0.3.0 is.0.3.1, label is.0.3.0 is.0.3.2))
   where
     -- a label has at least one byte
@@ -112,6 +119,7 @@ some-host_set u is none = some-host (host_text is.0) is.0 is.1 (sym is.2 ∙ non
 
 -- an optional port with its colon does not end with a blank
 end-port : AllEnd PortSet
+-- without a port nothing stands there; else the port is last, which has one digit or more
 end-port u (None, fits, is) = subst EndsSolid (sym is) tt
 end-port u (Some port, fits, (m, t, mark, t_is, whole)) =
     end-firm (Mark colon then Exactly port) (firm-then_right (Mark colon) (Exactly port) (λ x is. subst Firm (sym is) (firm-solid Port solid-port (λ y p. some-between _ 1 5 y (omega arith) p.0) port fits)))
@@ -119,14 +127,17 @@ end-port u (Some port, fits, (m, t, mark, t_is, whole)) =
 
 -- the set of optional ports with their colon is closed under making one SP of a blank run
 closed-port : Closed PortSet
+-- without a port the text is empty, and has no blanks
 closed-port u v b w ends opens blanks (None, fits, is) =
     (None, fits, closed-solid (Exactly []) (λ t same. subst (All is_solid) (sym same) tt) u v b w ends opens blanks is)
+-- a colon with its blanks and the port: the port begins with no blank
 closed-port u v b w ends opens blanks (Some port, fits, is) =
     (Some port, fits, closed-then (Mark colon) (Exactly port) (seam-right (Mark colon) (Exactly port) (λ t same. subst OpensSolid (sym same) (opens-solid port (solid-port port fits)))) (closed-mark colon refl) (closed-solid (Exactly port) (λ t same. subst (All is_solid) (sym same) (solid-port port fits))) u v b w ends opens blanks is)
 
 -- the set of texts after the transport of an element is closed under making one SP of a blank run
 closed-after : Closed AfterTransport
 closed-after =
+    -- blanks, a host, a port and parameters: no run of blanks crosses a seam, since a host has none, and no port ends with one
     closed-then Blanks (HostSet then (PortSet then ParamsSet BranchOk)) (seam-right Blanks (HostSet then (PortSet then ParamsSet BranchOk)) (opens-then HostSet (PortSet then ParamsSet BranchOk) (open-solid HostSet solid-host_set some-host_set)))
     closed-blanks
     (closed-then HostSet (PortSet then ParamsSet BranchOk) (seam-left HostSet (PortSet then ParamsSet BranchOk) (end-each HostSet solid-host_set)) (closed-solid HostSet solid-host_set)
@@ -135,6 +146,7 @@ closed-after =
 -- what stands after the transport of an element is not empty, and does not end with a blank
 firm-after : AllFirm AfterTransport
 firm-after =
+    -- the host is not empty, and neither the port nor the parameters end with a blank
     firm-then_right Blanks (HostSet then (PortSet then ParamsSet BranchOk))
     (firm-then_left HostSet (PortSet then ParamsSet BranchOk) (firm-solid HostSet solid-host_set some-host_set)
     (end-then PortSet (ParamsSet BranchOk) end-port (end-params BranchOk)))
@@ -142,12 +154,14 @@ firm-after =
 -- a token, SLASH and a text of Q are a closed set where Q is, and no text of Q begins with a blank
 closed-slash : (Q : List ℕ → Type 0) → ((u : List ℕ) → Q u → OpensSolid u) → Closed Q → Closed (Token then (Mark slash then Q))
 closed-slash Q opens closed =
+    -- a token, a slash with its blanks, and a text of Q: neither end of a seam is a blank
     closed-then Token (Mark slash then Q) (seam-left Token (Mark slash then Q) (end-each Token solid-token)) (closed-solid Token solid-token)
     (closed-then (Mark slash) Q (seam-right (Mark slash) Q opens) (closed-mark slash refl) closed)
 
 -- the set of elements whose transport is of T is closed where no text of T is empty or has blanks
 closed-via_set : (T : List ℕ → Type 0) → Each is_solid T → ((u : List ℕ) → T u → u ≡ [] → ⊥) → Closed (ViaSet T)
 closed-via_set T solid some =
+    -- the protocol and a slash, the version and a slash, the transport, and what follows it
     closed-slash (Token then (Mark slash then (T then AfterTransport))) (opens-then Token (Mark slash then (T then AfterTransport)) open-token)
     (closed-slash (T then AfterTransport) (opens-then T AfterTransport (open-solid T solid some))
     (closed-then T AfterTransport (seam-left T AfterTransport (end-each T solid)) (closed-solid T solid) closed-after))
@@ -155,6 +169,7 @@ closed-via_set T solid some =
 -- an element whose transport is of T is not empty, and does not end with a blank
 firm-via_set : (T : List ℕ → Type 0) → AllFirm (ViaSet T)
 firm-via_set T =
+    -- what stands after the transport is firm, and so is all of it
     firm-then_right Token _ (firm-then_right (Mark slash) _ (firm-then_right Token _ (firm-then_right (Mark slash) _ (firm-then_right T AfterTransport firm-after))))
 
 -- an element of Via with a transport of T is of the set of such elements
@@ -217,6 +232,7 @@ via-set T text v t (fits, (a, w1, a_is, (s, w2, slash1, (b, w3, b_is, (r, w4, sl
 -- an element whose transport is of T has parts, with a transport of T
 set-via : (T : List ℕ → Type 0) (text : List ℕ) → ((u : List ℕ) → T u → Token u) → ViaSet T text → (v : ViaParts) × ViaText text v × T v.transport
 set-via T text token (a, w1, a_is, (s, w2, slash1, (b, w3, b_is, (r, w4, slash2, (c, w5, c_is, (sp, w6, blanks, (h, w7, (host, host_fits, h_is), (p, q, (port, port_fits, port_is), params, w7_is), w6_is), w5_is), w4_is), w3_is), w2_is), w1_is), whole) =
+    -- `tail` is the parameters with their text, and `branch` the one that counts in them
     let tail = set-tail BranchOk q params in
     let branch = ok-branch tail.1 tail.3 in
     -- v has the parts of the element
@@ -231,6 +247,7 @@ set-via T text token (a, w1, a_is, (s, w2, slash1, (b, w3, b_is, (r, w4, slash2,
 
 -- further elements by their parts are elements, each after a comma
 more-set : (vs : List ViaParts) (text : List ℕ) → MoreVias vs text → Many (Mark comma then ViaSet Token) text
+-- no further elements have the empty text
 more-set [] text is = subst (Many (Mark comma then ViaSet Token)) (sym is) (many-nil (Mark comma then ViaSet Token))
 more-set (v ∷ vs) text (m, t, mark, (x, y, via, more, t_is), whole) =
     subst (Many (Mark comma then ViaSet Token)) (sym (whole ∙ ap (λ z. m ++ z) t_is ∙ sym (append_assoc m x y)))
@@ -238,8 +255,10 @@ more-set (v ∷ vs) text (m, t, mark, (x, y, via, more, t_is), whole) =
 
 -- elements, each after a comma, are further elements by their parts
 set-more : (us : List (List ℕ)) → AllByRecursion (Mark comma then ViaSet Token) us → (vs : List ViaParts) × MoreVias vs (concat us)
+-- no texts, joined, are no further elements
 set-more [] all = ([], refl)
 set-more (u ∷ us) ((m, x, mark, via, u_is), all) =
+    -- `more` is the elements after the first, and v the first one
     let more = set-more us all in
     let v = set-via Token x (λ t is. is) via in
     (v.0 ∷ more.0, (m, x ++ concat us, mark, (x, concat us, v.1, more.1, refl), ap (λ z. z ++ concat us) u_is ∙ append_assoc m x (concat us)))
@@ -251,6 +270,7 @@ ViasSet T = ViaSet T then Many (Mark comma then ViaSet Token)
 -- the set of values of Via whose first element has a transport of T is closed where no text of T is empty or has blanks
 closed-vias_set : (T : List ℕ → Type 0) → Each is_solid T → ((u : List ℕ) → T u → u ≡ [] → ⊥) → Closed (ViasSet T)
 closed-vias_set T solid some =
+    -- the first element and the others, each after its comma: no element ends with a blank, and none begins with one
     closed-then (ViaSet T) (Many (Mark comma then ViaSet Token)) (seam-left (ViaSet T) (Many (Mark comma then ViaSet Token)) (end-firm (ViaSet T) (firm-via_set T))) (closed-via_set T solid some)
     (closed-many (Mark comma then ViaSet Token) (end-firm (Mark comma then ViaSet Token) (firm-then_right (Mark comma) (ViaSet Token) (firm-via_set Token)))
     (closed-then (Mark comma) (ViaSet Token) (seam-right (Mark comma) (ViaSet Token) (opens-then Token (Mark slash then (Token then (Mark slash then (Token then AfterTransport)))) open-token)) (closed-mark comma refl)
@@ -265,6 +285,7 @@ unfolded-via text transport (v, vs, (x, y, via, more, whole), is) =
     let after = closed-unfolded (ViasSet (Exactly transport)) (closed-vias_set (Exactly transport)
     (λ u same. subst (All is_solid) (sym same) (solid-token transport token))
     (λ u same none. some-run is_token_byte transport token (sym same ∙ none))) text set in
+    -- `first` is the parts of the first element, with this transport, and `others` those of the others
     let first = set-via (Exactly transport) after.0 (λ u same. subst Token (sym same) token) after.2 in
     let others = set-more after.3.0 after.3.1 in
     (first.0, others.0, (after.0, after.1, first.1, subst (MoreVias others.0) (sym after.3.2) others.1, after.4), sym first.2)

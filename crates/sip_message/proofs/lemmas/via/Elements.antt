@@ -1,6 +1,8 @@
 -- The elements of Via fields, one after another.
 -- Of further elements u is the comma with its blanks, of which s are those before it, and v what follows: w, or x, is the text of the first one, and f what
 -- it is read as.
+-- `AreLeft` is the elements that are left: those in the rest of a value, each after a comma, and those of the values after it. `NextText` says that the next
+-- of them begins a text. `ExactlyOne R` is a value (`the`) with a proof that R holds of it alone, which is hidden (`∥ ∥`), so that no choice is made of it.
 use Rattle.std.proofs.Common.{◌≡◌, ℕ, zero, suc, ◌+◌, ◌<◌, List, [], ◌∷◌, ◌++◌, length, drop, map, cond, slice_index_or, add-one, true, false, Option, None, Some, inl, inr, refl, sym, ap, ◌∙◌, subst, arith}
 use Rattle.std.proofs.Math.Logic.{∥∥₁_elim}
 use Rattle.std.specs.Coded.{Coded, Coded-set}
@@ -26,12 +28,14 @@ use Rattle.sip_message.specs.inner.Views.{name_parts, field_parts}
 
 -- the values of a name from place i on are the value of the field at i, if it has the name, and those after it
 values-suc : (known : Known) (xs : List Code) (i : ℕ) (d : Code) → i < length xs → values known (drop i (map field_parts xs)) ≡ cond (is_name_of known (name_parts (slice_index_or xs i d).name)) ((slice_index_or xs i d).value.now ∷ values known (drop (suc i) (map field_parts xs))) (values known (drop (suc i) (map field_parts xs)))
+-- the place is in the list: at its front, or in the rest
 values-suc known [] i d below = absurd (omega (arith, below))
 values-suc known (x ∷ xs) zero d below = refl
 values-suc known (x ∷ xs) (suc i) d below = values-suc known xs i d (omega (arith, below))
 
 -- the values from index i on are that of the field there, if it has the name, and those after it
 values-at : (known : Known) (xs : List Code) (i : ℕ) (d : Code) → i < length xs → values known (drop i (map field_parts xs)) ≡ cond (is_name_of known (name_parts (slice_index_or xs i d).name)) ((slice_index_or xs i d).value.now ∷ values known (drop (i + 1) (map field_parts xs))) (values known (drop (i + 1) (map field_parts xs)))
+-- the next place, `suc i`, is `i + 1`
 values-at known xs i d below = rw add-one (values-suc known xs i d below)
 
 -- where the field at place i has the name, the values of the name from there on are its value and those after it
@@ -43,6 +47,7 @@ pub values-passed : (known : Known) (xs : List Code) (i : ℕ) (d : Code) → i 
 values-passed known xs i d below is = values-at known xs i d below ∙ cond-false _ _ _ is
 
 -- a value of which R holds is the one value of which it holds
+-- the hidden proof that the value is the only one may be used, since what is shown is an equation of coded values
 pub One-is : {X : Type 0} → Coded X → (R : X → Type 0) (o : ExactlyOne R) (x : X) → R x → the o ≡ x
 unfolding the
 One-is c R o x is = ∥∥₁_elim o.1 (Coded-set c o.0 x) (λ p. sym (p.only x is))
@@ -62,6 +67,7 @@ more-mark e es rest (via, (u, v, mark, (w, x, w_is, more, v_is), whole)) = (v, (
 
 -- no mark stands at the front of the empty text
 pub no_mark-nil : (mark : ℕ) (next : List ℕ) → MarkFront mark [] next → ⊥
+-- the byte b would have to stand in the empty text
 no_mark-nil mark next (stops, (u, v, (s, t, sws, (b, w, b_is, w_is, t_is), u_is), v_is, whole)) =
     absurd (omega (arith, ap length whole, length-append u v, ap length u_is, length-append s t, ap length t_is, length-append b w, ap length b_is))
 
@@ -71,6 +77,7 @@ left-nothing rest values es none left = at left.now left.are_now left.whole
   where
     -- nothing is left of the value, since a comma would follow if an element were left
     at : (now : List Element) → MoreElements now rest → es ≡ now ++ left.more → (rest ≡ []) × AreElements values es
+    -- no element is left; or one is left, before which a comma stands
     at [] is whole = (is, subst (AreElements values) (sym whole) left.are_more)
     at (e ∷ now) is whole = let mark = more-mark e now rest is in absurd (none mark.0 mark.1)
 
@@ -80,6 +87,7 @@ nothing-left rest values es none are = record { now = []; more = es; are_now = n
 
 -- where nothing is left of a value, the elements are those of the others
 pub left-of_nothing : (values : List (List ℕ)) (es : List Element) → AreLeft [] values es → AreElements values es
+-- of the empty text no comma is read, so nothing is left of the value
 left-of_nothing values es left = (left-nothing [] values es (no_mark-nil comma) left).1
 
 -- where a comma stands at the front of what is left of a value, the elements that are left are those of what follows it and of the other values
@@ -88,6 +96,7 @@ left-behind rest text values es mark left = at left.now left.are_now left.whole
   where
     -- the elements of what follows the comma are the first of those that are left, since an element follows a comma
     at : (now : List Element) → MoreElements now rest → es ≡ now ++ left.more → AreElements (text ∷ values) es
+    -- without an element nothing is left, and no comma stands at the front of nothing
     at [] is whole = absurd (no_mark-nil comma text (subst (λ t. MarkFront comma t text) is mark.0))
     at (e ∷ now) is whole =
         let next = more-mark e now rest is in
@@ -95,6 +104,7 @@ left-behind rest text values es mark left = at left.now left.are_now left.whole
 
 -- where a comma stands at the front of what is left of a value, the elements of what follows it and of the other values are those that are left
 behind-left : (rest text : List ℕ) (values : List (List ℕ)) (es : List Element) → MarkFront comma rest text → AreElements (text ∷ values) es → AreLeft rest values es
+-- a text after a comma has one element at least
 behind-left rest text values es (stops, (u, v, mark, v_is, whole)) ([], more, now_text, are, es_is) = absurd now_text
 behind-left rest text values es (stops, (u, v, mark, v_is, whole)) (e ∷ now, more, (via, is), are, es_is) =
     record { now = e ∷ now; more = more; are_now = (via, (u, text, mark, is, whole ∙ ap (λ t. u ++ t) v_is)); are_more = are; whole = es_is }
@@ -107,7 +117,9 @@ next-behind rest text vals mark =
 -- where no comma stands at the front of what is left of a value, the next element begins the next value, and there is none if there is no value
 pub next-cut : (rest : List ℕ) (vals : List (List ℕ)) (behind : ℕ → List (List ℕ)) → NotRead (MarkFront comma rest) → (r : Option (Bor (List ℕ) × ℕ)) → MatchOption r (vals ≡ []) (λ cut. vals ≡ cut.0.now ∷ behind cut.1)
     → MatchOption r ((es : List Element) → AreLeft rest vals es → es ≡ []) (λ next. (es : List Element) → AreLeft rest vals es → NextText rest vals next.0.now (behind next.1))
+-- no value follows, so no element is left
 next-cut rest vals behind none None is = λ es left. subst (λ v. AreElements v es) is (left-nothing rest vals es none left).1
+-- the next value has the elements that are left
 next-cut rest vals behind none (Some cut) is = λ es left. record {
   to = (λ fs l. subst (λ v. AreElements v fs) is (left-nothing rest vals fs none l).1);
   from = (λ fs are. nothing-left rest vals fs (left-nothing rest vals es none left).0 (subst (λ v. AreElements v fs) (sym is) are));
@@ -115,6 +127,7 @@ next-cut rest vals behind none (Some cut) is = λ es left. record {
 
 -- where further elements follow an element, it ends before a comma, or with the text
 pub ends-more : (es : List Element) (rest : List ℕ) → MoreElements es rest → EndsElement rest
+-- without further elements nothing follows; else a comma does
 ends-more [] rest is = inl is
 ends-more (e ∷ es) rest is = let mark = more-mark e es rest is in inr (mark.0, mark.1)
 
@@ -126,8 +139,10 @@ record FirstRead (e : Element) (rest : List ℕ) (more : List (List ℕ)) (es : 
 
 -- where an element is read at the front of a value, it is the first of the elements of this value and the others
 first-read : (text : List ℕ) (e : Element) (rest : List ℕ) (more : List (List ℕ)) (es : List Element) → ReadAs (ViaFront text) (e, rest) → AreElements (text ∷ more) es → FirstRead e rest more es
+-- a value has one element at least
 first-read text e rest more es read ([], later, now_text, are, es_is) = absurd now_text
 first-read text e rest more es read (f ∷ now, later, (via, (u, x, u_is, more_now, text_is)), are, es_is) =
+    -- the first element that the value has is the one that is read at its front
     let same : ◌≡◌ {A = Element × List ℕ} (f, x) (e, rest) = read.1 (f, x) (via, text_is ∙ ap (λ t. t ++ x) u_is, ends-more now x more_now) in
     let one : f ≡ e = ap (λ p. p.0) same in
     let behind : x ≡ rest = ap (λ p. p.1) same in
@@ -140,6 +155,7 @@ read-first text e rest more es front left =
 
 -- a value at whose front no element is read has no elements
 pub no-first : (text : List ℕ) (more : List (List ℕ)) (es : List Element) → NotRead (ViaFront text) → AreElements (text ∷ more) es → ⊥
+-- a value has one element at least
 no-first text more es none ([], later, now_text, are, es_is) = now_text
 no-first text more es none (f ∷ now, later, (via, (u, x, u_is, more_now, text_is)), are, es_is) =
     none (f, x) (via, text_is ∙ ap (λ t. t ++ x) u_is, ends-more now x more_now)
@@ -156,28 +172,33 @@ read-only rest text vals more e behind es next read only = (first.others, first.
     -- any list of elements that are left after the first is the list of the other elements
     same : (ys : List Element) → AreLeft behind more ys → ys ≡ first.others
     same ys left =
+        -- with the first one before them they are elements that are left, and of these there is one list
         let eq : ◌≡◌ {A = List Element} (e ∷ ys) (e ∷ first.others) = only.only (e ∷ ys) (next.from (e ∷ ys) (read-first text e behind more ys read.0 left)) ∙ first.first in
         cc
 
 -- where an element is read at the front of the next text, there is one list of elements that are left after it
 pub One-next : (rest text : List ℕ) (vals more : List (List ℕ)) (e : Element) (behind : List ℕ) → ((es : List Element) → AreLeft rest vals es → NextText rest vals text more) → ReadAs (ViaFront text) (e, behind) → ExactlyOne (AreLeft rest vals) → ExactlyOne (AreLeft behind more)
 One-next rest text vals more e behind next read one =
+    -- the proof that the list is the only one is hidden: it may be used here, since what is shown has one proof at most
     ∥∥₁_elim one.1 (One-prop elements_code (AreLeft behind more)) (λ p. let read_it = read-only rest text vals more e behind one.0 (next one.0 p.is) read p in (read_it.0, ∣ read_it.2 ∣₁))
 
 -- where an element is read at the front of the next text, the elements that are left are it and those that are left after it
 pub One-first : (rest text : List ℕ) (vals more : List (List ℕ)) (e : Element) (behind : List ℕ) → ((es : List Element) → AreLeft rest vals es → NextText rest vals text more) → ReadAs (ViaFront text) (e, behind) → (one : ExactlyOne (AreLeft rest vals)) (then : ExactlyOne (AreLeft behind more)) → the one ≡ e ∷ the then
 unfolding the
 One-first rest text vals more e behind next read one then =
+    -- the hidden proof may be used, since it is an equation of lists: the first element is the one read, and the others are those left after it
     ∥∥₁_elim one.1 (Coded-set elements_code one.0 (e ∷ then.0))
     (λ p. let read_it = read-only rest text vals more e behind one.0 (next one.0 p.is) read p in read_it.1 ∙ ap (λ t. e ∷ t) (sym (One-is elements_code (AreLeft behind more) then read_it.0 read_it.2.is)))
 
 -- where nothing can be left, the list of the elements that are left is empty
+-- the one list can be left, and so is empty; the hidden proof of that may be used for an equation of lists
 pub One-none : (rest : List ℕ) (vals : List (List ℕ)) (one : ExactlyOne (AreLeft rest vals)) → ((es : List Element) → AreLeft rest vals es → es ≡ []) → the one ≡ []
 unfolding the
 One-none rest vals one none = ∥∥₁_elim one.1 (Coded-set elements_code one.0 []) (λ p. none one.0 p.is)
 
 -- where there is one list of the elements that are left, it cannot be that no element is read at the front of the next text
 pub One-read : (rest text : List ℕ) (vals more : List (List ℕ)) → ((es : List Element) → AreLeft rest vals es → NextText rest vals text more) → NotRead (ViaFront text) → ExactlyOne (AreLeft rest vals) → ⊥
+-- the list would have an element that is read at the front; the hidden proof of that may be used, since nothing is left to be shown
 One-read rest text vals more next none one = ∥∥₁_elim one.1 (λ a b. absurd a) (λ p. no-first text more one.0 none ((next one.0 p.is).to one.0 p.is))
 
 -- an iterator whose list is empty yields nothing, and its list stays empty
@@ -195,8 +216,10 @@ yields-nearer a s t b is = record { on = (λ fin. (tt, fin, omega (arith, ap len
 
 -- the first of the elements of a value stands at its front
 pub first-front : (text : List ℕ) (more : List (List ℕ)) (e : Element) (es : List Element) → AreElements (text ∷ more) (e ∷ es) → (rest : List ℕ) × ViaFront text (e, rest)
+-- a value has one element at least
 first-front text more e es ([], later, now_text, are, es_is) = absurd now_text
 first-front text more e es (f ∷ now, later, (via, (u, x, u_is, more_now, text_is)), are, es_is) =
+    -- f is the first element of the value, and so e, which stands at the front
     let whole : ◌≡◌ {A = List Element} (e ∷ es) (f ∷ (now ++ later)) = es_is in
     let same : f ≡ e = cc in
     (x, subst (λ g. ViaFront text (g, x)) same (via, text_is ∙ ap (λ t. t ++ x) u_is, ends-more now x more_now))

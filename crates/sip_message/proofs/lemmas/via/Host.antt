@@ -1,5 +1,6 @@
 -- The host and the port of sent-by, at the front of a text.
 -- A host is a name (`name`), an IPv4 address (`v4`) or an IPv6 address in brackets (`v6`).
+-- `HostCut` is what may be a host at the front of a text, in brackets or as a token, and `HostFront` is a host there, each with what is left.
 use Rattle.std.proofs.Common.{◌≡◌, ℕ, Bool, true, false, nat_eq, ◌||◌, List, [], ◌∷◌, ◌++◌, Option, Some, None, length, slice_index, refl, sym, ap, ◌∙◌, subst, inl, inr, arith}
 use Rattle.std.specs.Prelude.{IfSome}
 use Rattle.std.specs.Char.{is_ascii_digit}
@@ -30,9 +31,12 @@ use Rattle.sip_message.proofs.lemmas.params.Reading.{is_separator, separator-tok
 
 -- what may be a host is cut in one way
 pub one-host_cut : (text : List ℕ) → AtMostOne (HostCut text)
+-- both are in brackets
 one-host_cut text x y (inl a) (inl b) = one-bracket text x y a b
+-- one is in brackets, and begins with "[", and the other a token, which does not
 one-host_cut text x y (inl a) (inr b) = absurd (first-fails is_token_byte (slice_index text 0) left_bracket refl (bracket-first text x a) (token-first text y b))
 one-host_cut text x y (inr a) (inl b) = absurd (first-fails is_token_byte (slice_index text 0) left_bracket refl (bracket-first text y b) (token-first text x a))
+-- both are tokens
 one-host_cut text x y (inr a) (inr b) = one-token text x y a b
 
 -- where something in brackets stands at the front of a text, it is what may be a host there
@@ -65,6 +69,7 @@ one-host text = one-seq (HostCut text) _ (one-host_cut text) (λ cut. one-host_l
 
 -- a port at the front of a text is read in one way
 pub one-port : (text : List ℕ) → AtMostOne (PortFront text)
+-- a port is a token
 one-port text x y a b = one-token text x y a.1 b.1
 
 -- where the token at the front of a text is a port, it is read as the port
@@ -73,29 +78,35 @@ port-found text port rest token is = read-one (PortFront text) (port, rest) (one
 
 -- where the token at the front of a text is no port, no port is read
 pub port-missing : (text port rest : List ℕ) → ReadAs (TokenFront text) (port, rest) → (Port port → ⊥) → NotRead (PortFront text)
+-- the token would be the port
 port-missing text port rest token none x is = none (subst Port (ap (λ y. y.0) (token.1 x is.1)) is.0)
 
 -- bytes of tokens, one or more, are a token
 bytes-token : (u : List ℕ) → All is_token_byte u → (u ≡ [] → ⊥) → Token u
+-- the text has a byte at least
 bytes-token [] all some = absurd (some refl)
 bytes-token (b ∷ u) all some = (b ∷ [], u, (b, all.0, refl), many u all.1, refl)
   where
     -- bytes of tokens are any number of them
     many : (t : List ℕ) → All is_token_byte t → Many (One is_token_byte) t
+    -- none are left; or one, and others after it
     many [] every = many-nil (One is_token_byte)
     many (c ∷ t) every = many-cons (One is_token_byte) (c ∷ []) t (c, every.0, refl) (many t every.1)
 
 -- a hostname is a token
 hostname-token : (u : List ℕ) → Hostname u → Token u
+-- all its bytes are bytes of tokens, and the test of a hostname fails of the empty text
 hostname-token u is = bytes-token u (each-hostname u is) (λ none. both_ways (is_hostname u) (ap is_hostname none) (hostname-is u is))
 
 -- an IPv4 address is a token
 v4-token : (u : List ℕ) → Ipv4 u → Token u
+-- all its bytes are bytes of tokens, and the test of an IPv4 address fails of the empty text
 v4-token u is = bytes-token u (each-v4 u is) (λ none. both_ways (is_v4 u) (ap is_v4 none) (v4-is u is))
 
 -- a port is a token
 port-token : (u : List ℕ) → Port u → Token u
 port-token u is =
+    -- its one to five bytes are digits, which are bytes of tokens
     bytes-token u (each-between is_token_byte 1 5 _ (each-one is_token_byte is_ascii_digit token-digit) u is.0)
     (λ none. omega (arith, ap length none, (port-length u is).0))
 
@@ -106,12 +117,14 @@ is_after_host b = nat_eq b colon || is_separator b
 -- a byte that may follow a host is no byte of a token
 after-token : (b : ℕ) → is_after_host b ≡ true → is_token_byte b ≡ false
 after-token b is = elim (or_cases (nat_eq b colon) (is_separator b) is) [
+  -- a colon, a comma and a semicolon are no bytes of tokens
   | inl same ↦ subst (λ x. is_token_byte x ≡ false) (sym (eqb-true b colon same)) refl
   | inr more ↦ separator-token b more
 ]
 
 -- a separator may follow a host
 pub next-after_host : (text : List ℕ) → Next is_separator text → Next is_after_host text
+-- nothing follows; or a separator, which is one of the bytes that may
 next-after_host text (inl none) = inl none
 next-after_host text (inr (b, inner, is, behind)) = inr (b, inner, or_right (nat_eq b colon) (is_separator b) is, behind)
 
@@ -121,14 +134,18 @@ token-front u rest token stops = (token, stops, (u, rest, refl, refl, refl))
 
 -- where nothing follows a host, or after blanks a byte that may, the host is read at the front of it and what follows
 pub host-front : (h : HostParts) (rest : List ℕ) → HostText (host_text h) h → Next is_after_host rest → HostFront (host_text h ++ rest) (h, rest)
+-- a name and an IPv4 address are tokens, after which no byte of a token stands
 host-front (name x) rest is next = both (x, rest) (inr (token-front x rest (hostname-token x is.0) (next-stops is_after_host is_token_byte rest blank-token after-token next))) (is, refl)
 host-front (v4 x) rest is next = both (x, rest) (inr (token-front x rest (v4-token x is.0) (next-stops is_after_host is_token_byte rest blank-token after-token next))) (is, refl)
+-- an address in brackets ends with its "]"
 host-front (v6 x) rest is next = both (x, rest) (inl (reference-bracket (x ++ rest) (x, rest) (is.0, refl))) (is, refl)
 
 -- a host does not begin with a blank
 pub host-stops : (h : HostParts) (rest : List ℕ) → HostText (host_text h) h → StopsBlank (host_text h ++ rest)
+-- a name and an IPv4 address begin with a byte of a token
 host-stops (name x) rest is = token-stops x rest (hostname-token x is.0)
 host-stops (v4 x) rest is = token-stops x rest (v4-token x is.0)
+-- an address in brackets begins with "["
 host-stops (v6 x) rest is =
     let bracket = reference-bracket (x ++ rest) (x, rest) (is.0, refl) in
     subst (λ t. StopsBlank (t ++ rest)) (sym bracket.2) (stops-byte left_bracket ((bracket.0 ++ right_bracket ∷ []) ++ rest) refl)
@@ -141,17 +158,20 @@ front-host text h rest (both (part, left) cut (is, rest_is)) =
   where
     -- the host that was read is spelled as this part of the text
     same : (k : HostParts) → HostText part k → host_text k ≡ part
+    -- each kind of host is written as its text
     same (name x) fits = fits.1
     same (v4 x) fits = fits.1
     same (v6 x) fits = fits.1
 
     -- the part and what is left are the text
     whole : HostCut text (part, left) → text ≡ part ++ left
+    -- in brackets, or as a token
     whole (inl bracket) = bracket.3
     whole (inr token) = token.2.4 ∙ ap (λ z. z ++ token.2.1) token.2.2 ∙ ap (λ z. part ++ z) token.2.3
 
 -- where nothing follows an optional port, or after blanks a separator, the port is read at the front of it and what follows
 pub port-front : (port : Option (List ℕ)) (p rest : List ℕ) → IfSome port Port → ColonPort port p → Next is_separator rest → LedFront colon PortFront (p ++ rest) (port, rest)
+-- without a port nothing is read: what follows begins with no colon
 port-front None p rest fits p_is next =
     let whole : p ++ rest ≡ rest = ap (λ t. t ++ rest) p_is in
     ((λ inner mark. next-other is_separator colon rest refl refl next inner (subst (λ t. MarkFront colon t inner) whole mark)), sym whole)
@@ -167,7 +187,9 @@ port-front (Some port) p rest fits (m, t, mark, t_is, p_is) next = (
 
 -- where an optional port is read at the front of a text, the text is the port with its colon, and what is left
 pub front-port : (port : Option (List ℕ)) (text rest : List ℕ) → LedFront colon PortFront text (port, rest) → (p : List ℕ) × ColonPort port p × IfSome port Port × (text ≡ p ++ rest)
+-- without a port nothing is taken off the text
 front-port None text rest (none, rest_is) = ([], refl, tt, sym rest_is)
 front-port (Some port) text rest (inner, mark, (fits, token)) =
+    -- after the colon and its blanks, mark.1.0, the port stands, and then what is left
     let token_whole : inner ≡ port ++ rest = token.2.4 ∙ ap (λ z. z ++ token.2.1) token.2.2 ∙ ap (λ z. port ++ z) token.2.3 in
     (mark.1.0 ++ port, (mark.1.0, port, mark.1.2, refl, refl), fits, mark.1.4 ∙ ap (λ z. mark.1.0 ++ z) (mark.1.3 ∙ token_whole) ∙ sym (append_assoc mark.1.0 port rest))

@@ -31,6 +31,7 @@ fail-stops P fail u is = at u (fail u is)
   where
     -- a text that fails the test of a byte of a token begins with no such byte
     at : (v : List ℕ) → Fails is_token_byte v → Stops is_token_byte v
+    -- a text that fails has a first byte, which is no byte of a token
     at [] fails = absurd fails
     at (b ∷ v) fails = fails
 
@@ -40,12 +41,15 @@ token-stops t rest token = at t token
   where
     -- a token begins with no blank, whatever follows it
     at : (u : List ℕ) → Token u → StopsBlank (u ++ rest)
+    -- a token has a byte at least
     at [] is = absurd (some-run is_token_byte [] is refl)
+    -- no byte of a token is a blank
     at (b ∷ u) is = stops-byte b (u ++ rest) (solid_is b (solid-token (b ∷ u) is).0)
 
 -- sent-protocol LWS of the grammar is read by the steps
 pub protocol-steps : (text : List ℕ) (p : ProtocolParts) → IsProtocol text p → ProtocolFront text p
 protocol-steps text p is =
+    -- `one` to `five` are the text from the protocol on, from the first slash, the version, the second slash, and the transport on
     let one = is.whole in
     let two = one.3 in
     let three = two.3 in
@@ -62,16 +66,19 @@ protocol-steps text p is =
 -- where a token is read at the front of a text, and what is left is of Q, the text is the token and a text of Q
 -- x is the text, u the token and y what is left
 token-then : (x u y : List ℕ) (Q : List ℕ → Type 0) → TokenFront x (u, y) → Q y → (Exactly u then Q) x
+-- the token stands first, and then what is left
 token-then x u y Q is rest = (u, y, refl, rest, is.2.4 ∙ ap (λ z. z ++ is.2.1) is.2.2 ∙ ap (λ z. u ++ z) is.2.3)
 
 -- a slash before a text of Q is a slash and then Q
 mark-then : (x y : List ℕ) (Q : List ℕ → Type 0) → MarkFront slash x y → Q y → (Mark slash then Q) x
+-- the mark with its blanks stands first, and then what is left
 mark-then x y Q is rest = (is.1.0, y, is.1.2, rest, is.1.4 ∙ ap (λ z. is.1.0 ++ z) is.1.3)
 
 -- what the steps read is sent-protocol LWS of the grammar
 pub steps-protocol : (text : List ℕ) (p : ProtocolParts) → ProtocolFront text p → IsProtocol text p
 -- a, b and d are the protocol, the version and the transport, q, s and w what is left after each, and r and t what is left after the slashes
 steps-protocol text p (both (a, q) first (both r slash1 (both (b, s) second (both t slash2 (both (d, w) third (both rest blanks is)))))) =
+    -- the first slash follows the protocol, the version follows it, and so on up to the blanks after the transport
     subst (IsProtocol text) (sym is) (record {
       protocol = first.0;
       version = second.0;

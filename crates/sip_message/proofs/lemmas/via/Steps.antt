@@ -2,6 +2,8 @@
 -- Of an element of Via a, b and c are its protocol, version and transport, s and r the slashes, sp the blanks, h the host, p the port and q the parameters,
 -- and w1 to w7 what follows each; r1 to r3 are what is left after the host, the port and the parameters; of parameters m is the ";" with its blanks and t
 -- what follows.
+-- `ViaSteps` is an element read step by step: sent-protocol (`ProtocolFront`), the host, the port after ":", and the parameters (`TailFront`), each with what
+-- is left. `ViaFront` is an element of the grammar at the front of a text.
 use Rattle.std.proofs.Common.{◌≡◌, ℕ, ◌-◌, ◌≤◌, nat_eq, List, [], ◌∷◌, ◌++◌, Option, Some, None, length, take, refl, sym, ap, ◌∙◌, subst, inl, arith}
 use Rattle.std.proofs.lemmas.List.{append_assoc}
 use Rattle.sip_standard.specs.Text.{Exactly, ◌then◌}
@@ -30,6 +32,7 @@ use Rattle.sip_message.proofs.lemmas.via.Host.{one-host, one-port, host-front, h
 -- sent-protocol is read in one way
 pub one-protocol : (text : List ℕ) → AtMostOne (ProtocolFront text)
 one-protocol text =
+    -- the protocol, a slash, the version, a slash, the transport and blanks are each read in one way
     one-seq (TokenFront text) _ (one-token text) (λ protocol.
     one-seq (MarkFront slash (protocol.1)) _ (one-mark slash (protocol.1) refl) (λ behind_protocol.
     one-seq (TokenFront behind_protocol) _ (one-token behind_protocol) (λ version.
@@ -41,6 +44,7 @@ one-protocol text =
 -- the parts of an element are read in at most one way
 pub one-via_steps : (text : List ℕ) → AtMostOne (ViaSteps text)
 one-via_steps text =
+    -- sent-protocol, the host, the port after ":", if there is one, and the parameters are each read in one way; then the element ends
     one-seq (ProtocolFront text) _ (one-protocol text) (λ sent.
     one-seq (HostFront sent.rest) _ (one-host sent.rest) (λ host.
     one-seq (LedFront colon PortFront (host.1)) _ (one-led colon PortFront (host.1) refl one-port) (λ port.
@@ -56,11 +60,13 @@ under x u y z rest is y_is = is ∙ ap (λ t. u ++ t) y_is ∙ sym (append_assoc
 
 -- the parameters are what is left of the text after its blanks
 behind-part : (part q : List ℕ) → OpensSolid part → BehindBlanks part q → Behind q part
+-- of no parameters nothing is left; else the part begins with no blank
 behind-part [] q opens q_is = subst (λ t. Behind t []) (sym q_is) (refl, ([], [], inl refl, refl, refl))
 behind-part (b ∷ part) q opens blanks = (stops-byte b part opens, blanks)
 
 -- what is left of parameters after their blanks is the parameters from their first ";" on
 part-behind : (ps : List Param) (q part : List ℕ) → ParamsText q ps → Behind q part → ParamsPart part ps × BehindBlanks part q
+-- without parameters the text is empty, and so is what is left after its blanks
 part-behind [] q part q_is (stops, (u, v, sws, v_is, whole)) = at part (none u v (sym whole ∙ q_is)) v_is
   where
     -- where two texts together are empty, the second is
@@ -72,6 +78,7 @@ part-behind [] q part q_is (stops, (u, v, sws, v_is, whole)) = at part (none u v
     at : (p : List ℕ) → v ≡ [] → v ≡ p → ParamsPart p [] × BehindBlanks p q
     at [] empty is = ((tt, refl), q_is)
     at (b ∷ p) empty is = absurd (omega (arith, ap length is, ap length empty))
+-- the first parameter begins with ";", before which its blanks stand; so the part begins there
 part-behind (p ∷ ps) q part (m, t, (s, c, sws, (byte, after, byte_is, after_is, c_is), m_is), more, whole) behind =
     subst (λ x. ParamsPart x (p ∷ ps) × BehindBlanks x q) (sym part_is)
     ((refl, (semicolon ∷ after, t, ([], semicolon ∷ after, inl refl, (semicolon ∷ [], after, refl, after_is, refl), refl), more, refl)), (s, semicolon ∷ (after ++ t), sws, refl, flat))
@@ -86,6 +93,7 @@ part-behind (p ∷ ps) q part (m, t, (s, c, sws, (byte, after, byte_is, after_is
 
 -- where a separator or nothing follows an optional port, a byte that may follow a host, or nothing, stands at the front of it and what follows
 port-next : (port : Option (List ℕ)) (p rest : List ℕ) → ColonPort port p → Next is_separator rest → Next is_after_host (p ++ rest)
+-- without a port, what follows it stands there; with one, its colon
 port-next None p rest p_is next = subst (λ t. Next is_after_host (t ++ rest)) (sym p_is) (next-after_host rest next)
 port-next (Some port) p rest (m, t, mark, t_is, p_is) next =
     subst (Next is_after_host) (sym (onto p m t rest p_is)) (mark-next is_after_host colon m (t ++ rest) refl refl mark)
@@ -143,19 +151,23 @@ protocol-before : (a b c text rest w r : List ℕ) → rest ≡ w ++ r → Proto
 -- each part and mark is put in front again, with w in place of what followed
 protocol-before a b c text rest w r rest_is (a0, w1, a_is, (s, w2, slash1, (b0, w3, b_is, (r0, w4, slash2, (c0, w5, c_is, (sp, w6, blanks, w6_is, w5_is), w4_is), w3_is), w2_is), w1_is), whole_is) = (
   a0 ++ (s ++ (b0 ++ (r0 ++ (c0 ++ (sp ++ w))))),
+  -- r is carried through all parts, from the last to the first
   under text a0 w1 _ r whole_is (under w1 s w2 _ r w1_is (under w2 b0 w3 _ r w2_is (under w3 r0 w4 _ r w3_is (under w4 c0 w5 _ r w4_is (under w5 sp w6 w r w5_is (w6_is ∙ rest_is)))))),
+  -- of each Q that w is of, the front is the same parts with a text of Q at their end
   (λ Q is. (a0, s ++ (b0 ++ (r0 ++ (c0 ++ (sp ++ w)))), a_is, (s, b0 ++ (r0 ++ (c0 ++ (sp ++ w))), slash1, (b0, r0 ++ (c0 ++ (sp ++ w)), b_is, (r0, c0 ++ (sp ++ w), slash2, (c0, sp ++ w, c_is, (sp, w, blanks, is, refl), refl), refl), refl), refl), refl)),
 )
 
 -- what the steps read is an element of Via of the grammar
 pub steps-via : (text : List ℕ) (v : ViaParts) (rest : List ℕ) → ViaSteps text (v, rest) → (whole : List ℕ) × ViaFront text ((whole, v), rest)
 steps-via text v rest (both sent protocol (both (h, r1) host (both (port, r2) led (both ((params, branch), r3) (is_branch, (x, x_is, behind)) (ends, v_is))))) =
+    -- `begun` is the front of the text up to the end of the element
     subst (λ y. (whole : List ℕ) × ViaFront text ((whole, y.0), y.1)) (sym v_is) (
       begun.0,
       -- the parts fit, and stand in the order of the text
       (
         (
           record { protocol = spelled.protocol; version = spelled.version; transport = spelled.transport; host = hosted.0; port = ported.2; params = (is_branch.0, parts.0, is_branch.2) },
+          -- after sent-protocol stand the host, the port and the parameters
           begun.2 (Exactly (host_text h) then ColonPort port then BehindBlanks params) (host_text h, ported.0 ++ x, refl, (ported.0, x, ported.1, parts.1, refl), refl),
         ),
         begun.1,
@@ -183,6 +195,7 @@ steps-via text v rest (both sent protocol (both (h, r1) host (both (port, r2) le
     parts : ParamsPart params is_branch.0 × BehindBlanks params x
     parts =
         part-behind is_branch.0 x params
+        -- the parameters that are read, and the text x of the part, both end where r3 begins, so they are the same text
         (subst (λ t. ParamsText t is_branch.0) (same_by_end texts.0 r3 x r3 refl (sym texts.2 ∙ x_is)).0 texts.1) behind
 
     -- what follows the transport is the host, the port, the parameters and what is left
@@ -197,6 +210,7 @@ steps-via text v rest (both sent protocol (both (h, r1) host (both (port, r2) le
 pub one-via : (text : List ℕ) → AtMostOne (ViaFront text)
 -- w and x are the texts of the element, v and y its parts, and r and s what is left, by the two readings
 one-via text ((w, v), r) ((x, y), s) a b =
+    -- the parts and the rest are what the steps read, so they are the same by both readings; and so are the texts before the rest
     let same : ◌≡◌ {A = ViaParts × List ℕ} (v, r) (y, s) = one-via_steps text (v, r) (y, s) (via-steps text (w, v) r a) (via-steps text (x, y) s b) in
     let rest : r ≡ s = ap (λ z. z.1) same in
     let wholes : w ≡ x = (same_by_end w r x s (ap length rest) (sym a.1 ∙ b.1)).0 in
@@ -209,6 +223,7 @@ via-missing text none (e, rest) is = none (e.1, rest) (via-steps text e rest is)
 -- what the steps read is the one element of Via at the front
 pub via-found : (text : List ℕ) (v : ViaParts) (rest : List ℕ) → ViaSteps text (v, rest) → ReadAs (ViaFront text) ((take (length text - length rest) text, v), rest)
 via-found text v rest steps =
+    -- `is` is the text of the element, and that it stands at the front
     let is = steps-via text v rest steps in
     read-one (ViaFront text) ((take (length text - length rest) text, v), rest) (one-via text)
     (subst (λ w. ViaFront text ((w, v), rest)) (sym (front-is text is.0 rest is.1.1)) is.1)
@@ -225,4 +240,5 @@ parts_of sent host port tail =
 -- where the parts of an element are read one after another, and it ends after them, the steps read it
 pub via-steps_of : (text : List ℕ) (sent : ProtocolParts) (host : HostParts × List ℕ) (port : Option (List ℕ) × List ℕ) (tail : (List ℕ × Option (List ℕ)) × List ℕ) → ProtocolFront text sent → HostFront sent.rest host → LedFront colon PortFront (host.1) port → TailFront (port.1) tail → EndsElement (tail.1) → ViaSteps text (parts_of sent host port tail, tail.1)
 via-steps_of text sent host port tail is_sent is_host is_port is_tail ends =
+    -- sent-protocol, the host, the port and the parameters, one after another, and that the element ends after them
     both sent is_sent (both host is_host (both port is_port (both tail is_tail (ends, refl))))

@@ -11,6 +11,7 @@ halved_name-requires-clause-first c =
 -- the second number is that of the bytes after these
 pub halved_name-requires-clause-second : goal.halved_name-requires-clause-second
 halved_name-requires-clause-second c =
+    -- the name is its first eight bytes and the `len - 8` bytes after them
     let whole : 8 + (c.args.len - 8) ≡ c.args.len = omega (arith, c.if-len-le8.false) in
     let is : c.number_of-second.result ≡ number_of (take (c.args.len - 8) (drop 8 c.args.window.now)) =
     c.number_of-second.ensures ∙ ap (λ t. number_of (take (c.args.len - 8) t)) (take_rest c.args.window.now 8) in

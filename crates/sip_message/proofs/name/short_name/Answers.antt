@@ -39,5 +39,6 @@ returns-then-number-eq-ROUTE c = short-known c.args.text.now ROUTE known_name.Ro
 -- the number is that of no known name, so the name is another one
 pub returns-else-number-eq-ROUTE : goal.returns-else-number-eq-ROUTE
 returns-else-number-eq-ROUTE c =
+    -- the number differs from that of each of the eight names of 2 to 8 bytes
     short-other c.args.text.now c.type_inv.text c.requires.length.0 c.requires.length.1
     ((λ is. c.if-number-eq-VIA.false (c.requires.number ∙ is)), ((λ is. c.if-number-eq-FROM.false (c.requires.number ∙ is)), ((λ is. c.if-number-eq-TO.false (c.requires.number ∙ is)), ((λ is. c.if-number-eq-CALL_ID.false (c.requires.number ∙ is)), ((λ is. c.if-number-eq-CSEQ.false (c.requires.number ∙ is)), ((λ is. c.if-number-eq-CONTACT.false (c.requires.number ∙ is)), ((λ is. c.if-number-eq-SUBJECT.false (c.requires.number ∙ is)), ((λ is. c.if-number-eq-ROUTE.false (c.requires.number ∙ is)), tt))))))))

@@ -20,6 +20,7 @@ returns-then-not-begins_with_fold c =
 -- after one fold more, the bytes up to here are items of a value
 pub folds-preserved : goal.folds-preserved
 folds-preserved c =
+    -- k plain bytes stand at `at`, which the loop reached, and a fold follows them
     let text = c.args.text.now in
     let at = c.folds.at in
     let k = c.plain_len-at.result in

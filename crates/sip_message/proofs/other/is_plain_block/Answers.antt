@@ -8,6 +8,7 @@ use Rattle.sip_message.proofs.other.is_plain_block.Goals as goal
 -- the bytes are plain where no lane has a control other than HTAB
 pub returns : goal.returns
 returns c none =
+    -- v is the 16 bytes from the place `at` on, which are compared with 32, SP, with 9, HTAB, and with 127, DEL
     let v = chunk c.args.at 16 c.args.text.now in
     let long = length-chunk c.args.at 16 c.args.text.now c.requires in
     all_pass is_plain_byte c.args.text.now c.args.at 16 _ c.requires (omega arith) c.type_inv.text none _

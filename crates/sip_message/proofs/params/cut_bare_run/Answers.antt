@@ -11,5 +11,6 @@ returns-then-is_bare c =
 -- where the run of bare bytes is neither, no bare value is read, and nothing shorter is one
 pub returns-else-is_bare : goal.returns-else-is_bare
 returns-else-is_bare c =
+    -- a bare value would be the whole run, which is neither
     bare-missing c.args.text.now c.past_bare-rest.result.now _ c.past_bare-rest.ensures refl
     (λ kind. both_ways c.is_bare.result c.if-is_bare.false (c.is_bare.ensures.1 kind))

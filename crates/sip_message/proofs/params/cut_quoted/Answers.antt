@@ -10,12 +10,14 @@ use Rattle.sip_message.proofs.params.cut_quoted.Goals as goal
 -- where no quoted string stands at the front, none is read
 pub returns-in_err-len : goal.returns-in_err-len
 returns-in_err-len c =
+    -- the reader of quoted strings finds none at the front
     subst (IsOnlyValue QuotedFront pair_parts c.args.text.now) (sym c.from_residual-in_err-len.ensures)
     (no-quoted c.args.text.now c.in_err-len.ensures.reads)
 
 -- the quoted string is cut off, and what follows it is left
 pub returns : goal.returns
 returns c =
+    -- n is the length of the quoted string at the front
     let text = c.args.text.now in
     let n = c.in_ok-len.len in
     subst (λ t. ReadAs (QuotedFront text) (take n text, t)) (sym (take_rest text n))

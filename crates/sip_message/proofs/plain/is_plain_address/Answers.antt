@@ -8,6 +8,7 @@ use Rattle.sip_message.proofs.plain.is_plain_address.Goals as goal
 -- a display name, `<`, a URI, `>` and parameters up to the end are an address
 pub returns : goal.returns
 returns c = λ so.
+    -- m is the text: the URI begins at `inner`, ">" stands at `close`, and the parameters go from `params` to the end
     let m = c.args.masks.now in
     let end = c.args.end in
     let inner = c.in-Some.inner in

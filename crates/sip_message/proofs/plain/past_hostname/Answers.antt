@@ -10,6 +10,7 @@ overflow_add-result c = omega (arith, run-ends c.args.masks.now c.args.at c.args
 -- the name is a run of plain bytes, so it ends before the line does
 pub returns : goal.returns
 returns c =
+    -- the name has `len` bytes from the place `at` on
     let m = c.args.masks.now in
     let at = c.args.at in
     let len = c.in_ok-len.len in

@@ -22,6 +22,7 @@ returns-in-Some c =
 -- a host without a colon after it has no port
 pub returns-in-None : goal.returns-in-None
 returns-in-None c =
+    -- `found` says that a host lies there, and `host` is its parts with that
     let found = c.in_ok-host.ensures in
     let host = found.2 in
     stands-as (λ u. HostText u host.0) HostPort c.args.masks.now c.args.at c.args.end c.in_ok-host.host (hostport-none host.0) (found.0, found.1, host.1)

@@ -7,6 +7,7 @@ use Rattle.sip_message.proofs.plain.past_param.Goals as goal
 -- what was passed is a parameter without a value
 pub returns-in_default-clause-param : goal.returns-in_default-clause-param
 returns-in_default-clause-param c =
+    -- m is the text, with the name from `start` to `behind`
     let m = c.args.masks.now in
     let start = c.in_ok-start.start in
     let behind = c.in_ok-behind.behind in
@@ -30,5 +31,6 @@ returns-clause-param c =
 -- the value is a run of plain bytes, so it is a token
 pub returns-clause-value : goal.returns-clause-value
 returns-clause-value c =
+    -- the value goes from `first` to `to`
     let m = c.args.masks.now in
     subst (λ t. Token (segment c.in-Some.first c.in_ok-to.to t)) (sym c.text-2.ensures) (run-token (segment c.in-Some.first c.in_ok-to.to m) c.in_ok-to.ensures.2)

@@ -12,6 +12,7 @@ words-init c = stands-as PlainRun Words c.args.masks.now c.args.at c.args.end c.
 -- words, a SP and one run of plain bytes more are words
 pub words-preserved : goal.words-preserved
 words-preserved c =
+    -- m is the text: the words go up to `to`, a SP stands there, and a run of plain bytes from `word` to `next`
     let m = c.args.masks.now in
     stands-as (Words then Byte space then PlainRun) Words m c.args.at c.args.end c.in-Some-past_run.next words-more
     (then-stands Words (Byte space then PlainRun) m c.args.at c.args.end c.words.to c.in-Some-past_run.next c.words.invariant

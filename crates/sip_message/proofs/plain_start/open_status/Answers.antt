@@ -10,6 +10,7 @@ use Rattle.sip_message.proofs.plain_start.open_status.Goals as goal
 -- a line with the protocol, a code and a reason is a status line
 pub returns : goal.returns
 returns c =
+    -- the version and its SP, the code and the reason were each read or tested
     let line = c.args.line.now in
     let code = c.in_ok-code.code in
     let reason = c.in_ok-code.reason.now in

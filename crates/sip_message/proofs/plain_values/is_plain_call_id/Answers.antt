@@ -10,6 +10,7 @@ use Rattle.sip_message.proofs.plain_values.is_plain_call_id.Goals as goal
 -- one word that goes up to the end, without an "@", is a Call-ID
 pub returns-then-word-end : goal.returns-then-word-end
 returns-then-word-end c = λ _.
+    -- m is the text, and the word is a run of plain bytes
     let m = c.args.masks.now in
     let run = subst (LiesWithin PlainRun m c.args.at c.args.end) c.if-word-end.true c.in-Some.ensures in
     call_id-one (segment c.args.at c.args.end m) run.2

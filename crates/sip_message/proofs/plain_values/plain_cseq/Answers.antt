@@ -8,6 +8,7 @@ use Rattle.sip_message.proofs.plain_values.plain_cseq.Goals as goal
 -- a plain number, one blank and a token up to the end are a CSeq
 pub returns : goal.returns
 returns c =
+    -- m is the text: the digits go from `at` to `digits`, a SP stands there, and the method begins at `method`
     let m = c.args.masks.now in
     let at = c.args.at in
     let end = c.args.end in

@@ -6,6 +6,7 @@ use Rattle.sip_message.proofs.plain_values.short_number.Goals as goal
 -- with one digit more the number is ten times as large, plus the digit
 pub loop-byte-preserved : goal.loop-byte-preserved
 loop-byte-preserved c =
+    -- the byte at `at` is a digit, and the number before it has at most eight digits
     let text = c.args.text.now in
     let at = c.loop-byte.byte-index in
     subst (λ d. ReadsShort text (at + 1) (c.loop-byte.number * 10 + d)) (sym c.from.ensures)
@@ -14,5 +15,6 @@ loop-byte-preserved c =
 -- at the end of the text its digits write the number
 pub returns : goal.returns
 returns c =
+    -- `full`: the text is not empty
     let full : length c.args.text.now ≢ 0 = eqb-false (length c.args.text.now) 0 (sym c.is_empty.ensures ∙ c.if-is_empty.false) in
     short-end c.args.text.now c.loop-byte.byte-index c.loop-byte.number (omega (arith, full)) c.loop-byte-test.false c.loop-byte.invariant

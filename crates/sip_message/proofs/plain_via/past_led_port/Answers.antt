@@ -9,6 +9,7 @@ use Rattle.sip_message.proofs.plain_via.past_led_port.Goals as goal
 -- a colon and a port after it are an optional port with its colon
 pub returns : goal.returns
 returns c =
+    -- m is the text: a colon stands before `port`, and the port goes from there to `to`
     let m = c.args.masks.now in
     let port = c.in-Some.port in
     let to = c.in_ok-to.to in

@@ -10,6 +10,7 @@ use Rattle.sip_message.proofs.plain_via.plain_branch.Goals as goal
 -- after one parameter more, the branch is the first one of the parameters that were read
 pub params-preserved : goal.params-preserved
 params-preserved c =
+    -- p is the parameter that was passed; the branch was `old` before it, and p has the branch `found`, if any
     let m = c.args.masks.now in
     let p : Param = (c.in-Some.name.now, option_copied c.in-Some.value) in
     let old = option_copied c.params.branch in
@@ -25,6 +26,7 @@ params-preserved c =
 -- at the end of the loop the branch is that of all parameters
 pub returns : goal.returns
 returns c =
+    -- all of the text up to its end was passed, and no parameters are left
     let m = c.args.masks.now in
     let from = c.params.from in
     let end : c.args.end ≡ from = omega (arith, c.params.invariant.0, c.params-test.false) in

@@ -7,6 +7,7 @@ use Rattle.sip_message.proofs.plain_via.plain_branch.Given as goal
 -- where the bytes from `from` on are parameters of a Via, those from `at` on are, and the branch that was found counts before theirs
 abbrev pub invariant-params : goal.invariant-params
 invariant-params l =
+    -- the place is not after the end; and `later`, the branch of what is left, counts only where none was found
     (l.from ≤ l.end)
     × ((later : Option (List ℕ)) → ViaParams (segment l.from l.end l.masks) later → ViaParams (segment l.at l.end l.masks) (option_or (option_copied l.branch) later))
 

@@ -27,5 +27,6 @@ returns c =
     -- the parts lie one after the other
     let via = via-plain m at end name first version second transport sent_by behind params host port branch c.in_ok-name.ensures c.in_ok-first.ensures c.in_ok-version.ensures
     c.in_ok-second.ensures c.in_ok-transport.ensures c.in_ok-sent_by.ensures c.in_ok-host.ensures c.in_ok-port.ensures c.in_ok-branch.ensures in
+    -- the code holds the parts as segments of its own text, which is m
     subst (λ t. FirstVia (segment at end m) (segment at end t, record { protocol = segment at name t; version = segment first version t; transport = segment second transport t; host = host; port = port; params = segment params end t; branch = branch })) (sym c.text-text.ensures)
     (via-first (segment at end m) _ via)

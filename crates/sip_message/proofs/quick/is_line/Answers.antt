@@ -5,6 +5,7 @@ use Rattle.sip_message.proofs.quick.is_line.Goals as goal
 -- a CR stands at the control, and a byte more after it
 pub returns-clause-ends : goal.returns-clause-ends
 returns-clause-ends c = λ _.
+    -- the code compares the byte at `end` with 13, which is CR
     let end = c.args.end in
     let same = c.text-text.ensures in
     (omega (arith, c.if-left-lt2.false, ap length same), subst (λ t. get_or t end 0 ≡ 13) same (omega (arith, c.if-text-end-ne13.false)))
@@ -12,6 +13,7 @@ returns-clause-ends c = λ _.
 -- where CR and LF stand at the next control, the line ends there
 pub returns-clause-line : goal.returns-clause-line
 returns-clause-line c = λ _.
+    -- m is the text; CR is 13, and LF is 10
     let m = c.args.masks.now in
     let end = c.args.end in
     let same = c.text-text.ensures in

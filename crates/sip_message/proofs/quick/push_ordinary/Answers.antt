@@ -35,6 +35,7 @@ value_place-requires c =
 -- a run of plain bytes is a token
 pub quick_name-name-requires-clause-token : goal.quick_name-name-requires-clause-token
 quick_name-name-requires-clause-token c =
+    -- n is how many plain bytes stand from the place `at` on, which are at least one
     let n = c.run_at-len.result in
     let behind = take_rest c.text-text.result.now c.args.at ∙ ap (drop c.args.at) c.text-text.ensures in
     subst (λ t. Token (take n t)) (sym behind) (plain-run (drop c.args.at c.args.masks.now) n c.run_at-len.ensures (omega (arith, c.if-len-eq0.false)))
@@ -55,6 +56,7 @@ is_value_at-requires-clause-clear c =
 -- a plain name, a colon and a value that its row allows are the field that was pushed
 pub returns : goal.returns
 returns c = λ _.
+    -- m is the text, in which the field's name has n bytes from the place `at` on, its value goes from `from` on, and its line ends at `end`
     let m = c.args.masks.now in
     let n = c.run_at-len.result in
     let end = c.args.end in

@@ -9,6 +9,7 @@ use Rattle.sip_message.proofs.quick.value_place.Goals as goal
 -- a colon, one blank and a text without a blank at its ends are a value
 pub returns-then-is_solid_at-clause-value : goal.returns-then-is_solid_at-clause-value
 returns-then-is_solid_at-clause-value c =
+    -- the value's line ends at `end`
     let text = c.args.text.now in
     let at = c.args.at in
     let end = c.args.end in

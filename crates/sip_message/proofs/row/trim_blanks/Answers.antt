@@ -10,6 +10,7 @@ use Rattle.sip_message.proofs.row.trim_blanks.Goals.{else-is_sws-via-then-is_sws
 -- where the bytes at both ends are blank runs, what is left between them is the value
 pub returns-then-is_sws-2 : goal.returns-then-is_sws-2
 returns-then-is_sws-2 c =
+    -- `cut` says that the text is cut into blank bytes, what is left, and blank bytes
     let text = c.args.text.now in
     let cut = trimmed text _ c.blank_len-front.result c.solid_len-end.result c.blank_len-front.ensures.run (take_rest text c.blank_len-front.result)
     c.solid_len-end.ensures.within c.solid_len-end.ensures.blank c.solid_len-end.ensures.solid in
@@ -20,6 +21,7 @@ returns-then-is_sws-2 c =
 -- where the bytes at one end are no blank run, the text has no value
 pub returns-else-is_sws : goal.returns-else-is_sws
 returns-else-is_sws c = λ w is.
+    -- `cut` says that the text is cut into blank bytes, what is left, and blank bytes; with a value these would be blank runs
     let text = c.args.text.now in
     let cut = trimmed text _ c.blank_len-front.result c.solid_len-end.result c.blank_len-front.ensures.run (take_rest text c.blank_len-front.result)
     c.solid_len-end.ensures.within c.solid_len-end.ensures.blank c.solid_len-end.ensures.solid in

@@ -38,6 +38,7 @@ pub returns-else-is_stream-2 : goal.returns-else-is_stream-2
 returns-else-is_stream-2 c = (
   c.in_ok-len.ensures.1,
   λ v cseq first said.
+      -- len is what Content-Length says: enough bytes follow, and the first element of Via has no stream
       let len = option_map (digits_value 10) (option_copied c.args.content_length) in
       body-cut (start_parts c.args.start.now) cseq (v.1) len c.args.rest.now c.in_ok-len.len (ap (λ o. option_map (digits_value 10) (option_copied o)) c.in-Some.is ∙ ap (λ n. Some n) (sym c.in_ok-len.ensures.0)) ((c.if-not-fits_method.ensures (cseq.1) said).0 refl)
       c.in_ok-len.ensures.1 (λ stream. both_ways false refl ((stream-first (v.1) (element c.args.via.now) _ first c.if-is_stream-2.ensures).1 stream)),

@@ -14,6 +14,7 @@ returns-in_err-at c = subst (IsOnlyValue CutSays pair_parts c.args.bytes.now) (s
 -- the head ends before the empty line
 pub returns : goal.returns
 returns c =
+    -- CRLF CRLF stands at the place `at`: the head has its first CRLF, and the body begins after its second
     let text = c.args.bytes.now in
     let at = c.in_ok-at.at in
     subst (λ b. ReadAs (CutSays text) (take (at + 2) text, b)) (sym (take_rest text (at + 4))) (one-head text at c.in_ok-at.ensures.0 c.in_ok-at.ensures.1)

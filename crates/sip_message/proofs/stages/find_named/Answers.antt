@@ -11,6 +11,7 @@ use Rattle.sip_message.proofs.stages.find_named.Goals as goal
 -- where no Via stands in the head, this is the fault
 pub returns-in_err-via-clause-names : goal.returns-in_err-via-clause-names
 returns-in_err-via-clause-names c =
+    -- nothing was asked before Via
     let fault = c.in_err-via.field-0.0 in
     stops-there names_parts (NamesOf (slice_fields c.args.fields)) c.from_residual.result fault c.from_residual.ensures.0 c.from_residual.ensures.1
     (stopped fault c.in_err-via.ensures.present refl)
@@ -18,6 +19,7 @@ returns-in_err-via-clause-names c =
 -- where From is missing or stands twice, this is the fault
 pub returns-in_err-from-clause-names : goal.returns-in_err-from-clause-names
 returns-in_err-from-clause-names c =
+    -- Via was found
     let fault = c.in_err-from.field-0.0 in
     stops-there names_parts (NamesOf (slice_fields c.args.fields)) c.from_residual-in_err-from.result fault c.from_residual-in_err-from.ensures.0 c.from_residual-in_err-from.ensures.1
     (passes _ c.in_ok-via.ensures.present (stopped fault c.in_err-from.ensures refl))
@@ -25,6 +27,7 @@ returns-in_err-from-clause-names c =
 -- where To is missing or stands twice, this is the fault
 pub returns-in_err-to-clause-names : goal.returns-in_err-to-clause-names
 returns-in_err-to-clause-names c =
+    -- Via and From were found
     let fault = c.in_err-to.field-0.0 in
     stops-there names_parts (NamesOf (slice_fields c.args.fields)) c.from_residual-in_err-to.result fault c.from_residual-in_err-to.ensures.0 c.from_residual-in_err-to.ensures.1
     (passes _ c.in_ok-via.ensures.present (passes _ c.in_ok-from.ensures (stopped fault c.in_err-to.ensures refl)))
@@ -32,6 +35,7 @@ returns-in_err-to-clause-names c =
 -- where Call-ID is missing or stands twice, this is the fault
 pub returns-in_err-call_id-clause-names : goal.returns-in_err-call_id-clause-names
 returns-in_err-call_id-clause-names c =
+    -- Via, From and To were found
     let fault = c.in_err-call_id.field-0.0 in
     stops-there names_parts (NamesOf (slice_fields c.args.fields)) c.from_residual-in_err-call_id.result fault c.from_residual-in_err-call_id.ensures.0 c.from_residual-in_err-call_id.ensures.1
     (passes _ c.in_ok-via.ensures.present (passes _ c.in_ok-from.ensures (passes _ c.in_ok-to.ensures (stopped fault c.in_err-call_id.ensures refl))))
@@ -39,6 +43,7 @@ returns-in_err-call_id-clause-names c =
 -- where CSeq is missing or stands twice, this is the fault
 pub returns-in_err-cseq-clause-names : goal.returns-in_err-cseq-clause-names
 returns-in_err-cseq-clause-names c =
+    -- Via, From, To and Call-ID were found
     let fault = c.in_err-cseq.field-0.0 in
     stops-there names_parts (NamesOf (slice_fields c.args.fields)) c.from_residual-in_err-cseq.result fault c.from_residual-in_err-cseq.ensures.0 c.from_residual-in_err-cseq.ensures.1
     (passes _ c.in_ok-via.ensures.present (passes _ c.in_ok-from.ensures (passes _ c.in_ok-to.ensures (passes _ c.in_ok-call_id.ensures (stopped fault c.in_err-cseq.ensures refl)))))
@@ -46,6 +51,7 @@ returns-in_err-cseq-clause-names c =
 -- where Content-Length stands twice, this is the fault
 pub returns-in_err-check_not_twice-clause-names : goal.returns-in_err-check_not_twice-clause-names
 returns-in_err-check_not_twice-clause-names c =
+    -- Via, From, To, Call-ID and CSeq were found
     let fault = c.in_err-check_not_twice.field-0.0 in
     stops-there names_parts (NamesOf (slice_fields c.args.fields)) c.from_residual-in_err-check_not_twice.result fault c.from_residual-in_err-check_not_twice.ensures.0 c.from_residual-in_err-check_not_twice.ensures.1
     (passes _ c.in_ok-via.ensures.present (passes _ c.in_ok-from.ensures (passes _ c.in_ok-to.ensures (passes _ c.in_ok-call_id.ensures (passes _ c.in_ok-cseq.ensures (stopped fault c.in_err-check_not_twice.ensures refl))))))
@@ -57,6 +63,7 @@ returns-clause-names c = passes _ c.in_ok-via.ensures.present (passes _ c.in_ok-
 -- what was found by name are the first Via and the one From, To, Call-ID and CSeq
 pub returns-clause-stand : goal.returns-clause-stand
 returns-clause-stand c =
+    -- each first field has the first value of its name
     let fields = slice_fields c.args.fields in
     record {
       via = first-value known_name.Via fields _ c.in_ok-via.ensures.present;

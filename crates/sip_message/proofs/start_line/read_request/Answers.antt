@@ -17,18 +17,21 @@ returns-in_err-method c = subst (IsOnlyValue RequestLine pair_parts c.args.line.
 -- where no SP follows the method, the line is no request line
 pub returns-in_err-rest : goal.returns-in_err-rest
 returns-in_err-rest c =
+    -- the method was read, but no SP stands after it
     subst (IsOnlyValue RequestLine pair_parts c.args.line.now) (sym c.from_residual-in_err-rest.ensures)
     (request-no_space c.args.line.now c.in_ok-method.method.now c.in_ok-method.rest.now c.in_ok-method.ensures (sym c.in_err-rest.ensures))
 
 -- a line that is too short for the version is no request line
 pub returns-in_err-at : goal.returns-in_err-at
 returns-in_err-at c =
+    -- the method and a SP were read, but fewer than eight bytes follow
     subst (IsOnlyValue RequestLine pair_parts c.args.line.now) (sym c.from_residual-in_err-at.ensures)
     (request-short c.args.line.now c.in_ok-method.method.now c.in_ok-method.rest.now c.in_ok-rest.rest.now c.in_ok-method.ensures (sym c.in_ok-rest.ensures) (omega (arith, c.in_err-at.ensures)))
 
 -- where the line does not end with SP and SIP/2.0, it is no request line
 pub returns-then-not-same_text : goal.returns-then-not-same_text
 returns-then-not-same_text c =
+    -- the place `at` is eight bytes before the end, and what stands from there on is not the version
     let more = c.in_ok-rest.rest.now in
     request-no_version c.args.line.now c.in_ok-method.method.now c.in_ok-method.rest.now more c.in_ok-at.at c.in_ok-method.ensures (sym c.in_ok-rest.ensures) (omega (arith, c.in_ok-at.ensures.0, c.in_ok-at.ensures.1))
     (λ same. both_ways false refl (c.if-not-same_text.ensures.1 (subst (λ t. SameText t (codes " SIP/2.0")) (sym c.split_at.ensures.back) same)))
@@ -36,6 +39,7 @@ returns-then-not-same_text c =
 -- where what stands before the version is no URI, the line is no request line
 pub returns-in_err-read_uri : goal.returns-in_err-read_uri
 returns-in_err-read_uri c =
+    -- the place `at` is eight bytes before the end, and what stands before it is no URI
     let more = c.in_ok-rest.rest.now in
     subst (IsOnlyValue RequestLine pair_parts c.args.line.now) (sym c.from_residual-in_err-read_uri.ensures)
     (request-no_uri c.args.line.now c.in_ok-method.method.now c.in_ok-method.rest.now more c.in_ok-at.at c.in_ok-method.ensures (sym c.in_ok-rest.ensures) (omega (arith, c.in_ok-at.ensures.0, c.in_ok-at.ensures.1))

@@ -6,11 +6,13 @@ use Rattle.sip_message.proofs.values.digits_len.Goals as goal
 -- the run ends before a byte that is no digit
 pub returns-then-not-is_ascii_digit-clause-run : goal.returns-then-not-is_ascii_digit-clause-run
 returns-then-not-is_ascii_digit-clause-run c =
+    -- `prefix_len_is`: the run is as long as the loop came, since each byte before passes, and the one there does not
     sym (prefix_len_is is_ascii_digit c.args.text.now c.loop-at.at 0 (omega arith) c.loop-at.invariant
     (λ _. sym c.is_ascii_digit.ensures.value ∙ c.if-not-is_ascii_digit.true))
 
 -- all bytes are digits
 pub returns-clause-run : goal.returns-clause-run
 returns-clause-run c =
+    -- `prefix_len_is`: the run is as long as the text, since each byte passes
     sym (prefix_len_is is_ascii_digit c.args.text.now (length c.args.text.now) 0 (omega arith)
     (λ k h. c.loop-at.invariant k (omega arith)) (λ h. absurd (omega arith)))

@@ -6,6 +6,7 @@ use Rattle.sip_message.proofs.values.is_call_id.Goals as goal
 -- an `@` follows the first word, so the second one decides
 pub returns-then-is_word : goal.returns-then-is_word
 returns-then-is_word c =
+    -- both words are tested
     decides-call_id c.args.text.now c.cut.result.0.now (Some c.in-Some.other.now) c.is_word-then-is_word.result
     c.cut.ensures.front (ap option_copied (sym c.in-Some.is) ∙ c.cut.ensures.rest)
     (both-when c.is_word.result c.is_word-then-is_word.result c.if-is_word.true c.is_word.ensures c.is_word-then-is_word.ensures)
@@ -13,6 +14,7 @@ returns-then-is_word c =
 -- where what stands before "@" is no word, the text is no Call-ID
 pub returns-else-is_word : goal.returns-else-is_word
 returns-else-is_word c =
+    -- the first word fails, so the second one is not tested
     decides-call_id c.args.text.now c.cut.result.0.now (Some c.in-Some.other.now) c.is_word.result
     c.cut.ensures.front (ap option_copied (sym c.in-Some.is) ∙ c.cut.ensures.rest)
     (both-unless c.is_word.result c.if-is_word.false c.is_word.ensures)
@@ -20,6 +22,7 @@ returns-else-is_word c =
 -- no `@` stands in the text, so the one word decides
 pub returns-in-None : goal.returns-in-None
 returns-in-None c =
+    -- without "@" there is one word
     decides-call_id c.args.text.now c.cut.result.0.now None c.is_word-in-None.result
     c.cut.ensures.front (ap option_copied (sym c.in-None.is) ∙ c.cut.ensures.rest)
     (first-alone _ c.is_word-in-None.ensures)

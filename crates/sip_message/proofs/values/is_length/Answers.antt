@@ -8,5 +8,6 @@ use Rattle.sip_message.proofs.values.is_length.Goals as goal
 -- a text of digits that is not empty has one or more
 pub returns-then-not-is_empty : goal.returns-then-not-is_empty
 returns-then-not-is_empty c =
+    -- all bytes are tested, and there is one at least
     some-decides (One is_ascii_digit) c.args.text.now c.are_digits.result (sym c.is_empty.ensures ∙ c.if-not-is_empty.true)
     (all-decides is_ascii_digit c.args.text.now c.are_digits.result c.are_digits.ensures)

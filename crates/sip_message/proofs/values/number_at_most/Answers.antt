@@ -6,6 +6,7 @@ use Rattle.sip_message.proofs.values.number_at_most.Goals.{then-digit-most-via-t
 -- a byte that is no digit cannot stand in a text of digits
 pub returns-then-not-is_ascii_digit : goal.returns-then-not-is_ascii_digit
 returns-then-not-is_ascii_digit c = λ digits.
+    -- the byte at the index of the loop is no digit
     absurd (digits-at c.args.text.now c.loop-byte.byte-index digits c.loop-byte-test.true (sym c.is_ascii_digit.ensures.value ∙ c.if-not-is_ascii_digit.true))
 
 -- where one digit more leads above the greatest number, so does the whole text
@@ -26,5 +27,6 @@ returns-then-digit-most c = λ digits.
 -- after one digit more, the number is that of the digits up to it, and not above the greatest one
 pub loop-byte-preserved : goal.loop-byte-preserved
 loop-byte-preserved c =
+    -- the byte at the index of the loop is a digit, and the number with it was tested
     let more = number-more c.args.text.now c.loop-byte.byte-index c.loop-byte.number c.args.most c.loop-byte-test.true c.loop-byte.invariant (sym c.is_ascii_digit.ensures.value ∙ c.if-not-is_ascii_digit.false) in
     record { value = ap (λ d. c.loop-byte.number * 10 + d) c.from-digit.ensures ∙ more; small = omega arith }

@@ -11,17 +11,20 @@ use Rattle.sip_message.proofs.values.read_cseq.Goals.{then-len-eq0-via-then-len-
 -- where the number is too great, the text is no CSeq
 pub returns-in_err-number : goal.returns-in_err-number
 returns-in_err-number c =
+    -- the digits at the front write a number that is too great
     subst (IsOnlyValue CSeqValue cseq_parts c.args.text.now) (sym c.from_residual.ensures)
     (cseq-large c.args.text.now c.digits_len-len.result c.digits_len-len.ensures.run c.in_err-number.ensures)
 
 -- without a digit at the front, a blank after the digits or a method after the blank, the text is no CSeq
 pub returns-then-len-eq0 : goal.returns-then-len-eq0
 returns-then-len-eq0 c = λ x is.
+    -- n is how many digits stand at the front
     let text = c.args.text.now in
     let n = c.digits_len-len.result in
     let run = c.digits_len-len.ensures.run in
     let rest_is = take_rest text n in
     elim c.then-len-eq0.branch [
+      -- no digit stands at the front
       | then-len-eq0-via-then-len-eq0 w ↦ cseq-no_digit text n run w.if-len-eq0.true x is
       -- no blank follows the digits
       | then-len-eq0-via-else-len-eq0+then-blanks-eq0 w ↦
@@ -35,6 +38,7 @@ returns-then-len-eq0 c = λ x is.
 -- digits, blanks and a method are the one CSeq of the text
 pub returns : goal.returns
 returns c =
+    -- n is how many digits stand at the front, and `is` says that the text is a CSeq
     let text = c.args.text.now in
     let n = c.digits_len-len.result in
     let is = cseq-is text _ _ n c.skip_lws-blanks.result c.in_ok-number.number c.digits_len-len.ensures.run c.digits_len-len.ensures.within (take_rest text n) (take_rest _ c.skip_lws-blanks.result)

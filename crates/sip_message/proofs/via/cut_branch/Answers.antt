@@ -9,6 +9,7 @@ use Rattle.sip_message.proofs.via.cut_branch.Goals as goal
 -- with one parameter more the first branch is still the one that was found
 pub params-preserved : goal.params-preserved
 params-preserved c =
+    -- p is the parameter that was read
     let p : Param = (c.in-Some.name.now, option_copied c.in-Some.value) in
     subst (Decides c.args.text.now c.in-Some.more.now) (sym (ap option_copied c.or-branch.ensures ∙ copied-or c.params.branch c.in_ok-branch_of.field-0))
     (decides-more c.args.text.now c.params.rest.now c.in-Some.more.now p (option_copied c.params.branch) (option_copied c.in_ok-branch_of.field-0)
@@ -17,6 +18,7 @@ params-preserved c =
 -- where a parameter named `branch` has no token as its value, the text has no branch
 pub returns-in_err-branch_of : goal.returns-in_err-branch_of
 returns-in_err-branch_of c =
+    -- the parameter that was read is named branch, and its value is no token
     subst (IsOnlyValue BranchFront led_parts c.args.text.now) (sym c.from_residual.ensures)
     (decides-not c.args.text.now c.params.rest.now c.in-Some.more.now (c.in-Some.name.now, option_copied c.in-Some.value) (option_copied c.params.branch)
     c.in-Some.ensures c.in_err-branch_of.ensures c.params.invariant)

@@ -14,6 +14,7 @@ returns-in_err-first c =
 -- where further elements follow, the first one is the top Via
 pub returns-then-are_more_vias : goal.returns-then-are_more_vias
 returns-then-are_more_vias c =
+    -- `more` is what is left after the first element, and the test says that it is further elements
     let text = c.args.text.now in
     let more = c.in_ok-first.rest.now in
     let first = element c.in_ok-first.first in
@@ -22,5 +23,6 @@ returns-then-are_more_vias c =
 -- where what follows the first element is not further elements, the text is no elements of Via
 pub returns-else-are_more_vias : goal.returns-else-are_more_vias
 returns-else-are_more_vias c = λ e is.
+    -- the test says that what is left is no further elements, though the text would be elements
     both_ways c.are_more_vias.result c.if-are_more_vias.false
     (c.are_more_vias.ensures.1 ((vias-behind c.args.text.now c.in_ok-first.rest.now (element c.in_ok-first.first) c.in_ok-first.ensures).0 is.0))

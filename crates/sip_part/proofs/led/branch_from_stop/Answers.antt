@@ -14,4 +14,5 @@ pub returns : goal.returns
 returns c =
     let text = c.args.text.now in
     let first = c.in_ok-at.ensures in
+    -- the text from the place on is the text from its first stop on
     c.branch_in.ensures ∙ ap branch_in (take_rest text c.in_ok-at.at ∙ sym (stop_first c.in_ok-at.at text first.0.high first.0.before first.1))

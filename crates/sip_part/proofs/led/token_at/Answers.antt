@@ -1,3 +1,4 @@
+-- In both proofs `same` says that the length that was measured is that of the longest run of bytes of a token.
 use Rattle.std.proofs.Common.{◌∙◌, sym}
 use Rattle.sip_text.specs.Bytes.{is_token_byte}
 use Rattle.sip_text.proofs.texts.RunLemmas.{longest-run, longest-same}

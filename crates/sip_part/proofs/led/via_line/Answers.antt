@@ -1,3 +1,4 @@
+-- `rest` is what is left before this turn of the loop, `end` the place of its first LF, `left` what stands after it, and `opens` what the test says.
 use Rattle.std.proofs.Common.{◌∙◌, ◌+◌, Some, drop, length, if◌then◌else◌, sym, ap, arith}
 use Rattle.std.specs.Option.{option_copied}
 use Rattle.std.proofs.lemmas.List.{take_rest, length-drop}
@@ -17,6 +18,7 @@ returns-then-opens_via c =
     let end = c.in_ok-end.end in
     let left = drop (end + 1) rest in
     let opens = sym (ap opens_via (take_rest rest (end + 1))) ∙ sym c.opens_via.ensures ∙ c.if-opens_via.true in
+    -- what is left after this line end is the first line that begins as a Via does
     ap Some (take_rest rest (end + 1)) ∙ sym (c.lines.invariant.0 ∙ next_line end rest first.0.high first.0.before first.1 ∙ ap (λ is. if is then Some left else via_line left) opens)
 
 -- the line that begins here is no Via, so the search goes on with the next one
@@ -27,6 +29,7 @@ lines-preserved c =
     let end = c.in_ok-end.end in
     let left = drop (end + 1) rest in
     let opens = sym (ap opens_via (take_rest rest (end + 1))) ∙ sym c.opens_via.ensures ∙ c.if-opens_via.false in (
+      -- the search in the whole text is that after this line end, and less is left than before
       c.lines.invariant.0 ∙ next_line end rest first.0.high first.0.before first.1 ∙ ap (λ is. if is then Some left else via_line left) opens ∙ ap via_line (sym (take_rest rest (end + 1))),
       omega (arith, ap length (take_rest rest (end + 1)), length-drop (end + 1) rest, c.lines.invariant.1),
     )

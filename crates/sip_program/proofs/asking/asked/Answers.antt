@@ -4,7 +4,10 @@ use Rattle.sip_program.proofs.AskedLemmas.{two-words, three-words, not-long, not
 use Rattle.sip_program.proofs.asking.asked.Goals.{in_default-via-then-words-lt2, in_default-via-in-len2-2+else-eq-2, in_default-via-in-len3+else-eq-3, in_default-via-else-words-lt2+else-words-lt3+else-words-lt4}
 use Rattle.sip_program.proofs.asking.asked.Goals as goal
 
--- two words ask for a file
+-- In each answer `len_at_least` and `len_below` say how many words there are, the items are these words in their order, and `same_text` makes of a
+-- test that passed that the first word is the one that is named.
+
+-- two words, `check` and a file, ask for the verdict on the file
 pub returns-in-len2 : goal.returns-in-len2
 returns-in-len2 c = (
   two-words string_bytes c.args.words.now c.word-item.result c.file-item.result _ _
@@ -13,7 +16,7 @@ returns-in-len2 c = (
   tt,
 )
 
--- two words, `check` or `show` and a file, ask for that of the file
+-- two words, `show` and a file, ask for the file to be shown
 pub returns-in-len2-2 : goal.returns-in-len2-2
 returns-in-len2-2 c = (
   two-words string_bytes c.args.words.now c.word-item-then-words-lt3.result c.file-item-then-words-lt3.result _ _
@@ -23,6 +26,7 @@ returns-in-len2-2 c = (
 )
 
 -- three words, `states`, a file and a number, ask for the listing at that entry
+-- The last parts say that the third word spells the entry's number, which `entry_number` has read, and that it is within the limits.
 pub returns-in_ok-entry-in-len3 : goal.returns-in_ok-entry-in-len3
 returns-in_ok-entry-in-len3 c = (
   three-words string_bytes c.args.words.now c.word-item-then-words-lt4.result c.file-item-then-words-lt4.result c.entry-item.result _ _ _
@@ -33,6 +37,7 @@ returns-in_ok-entry-in-len3 c = (
 )
 
 -- words in none of these forms ask for nothing
+-- The ways are: one word (`lt2`); two words, or three, whose first one is not the one that is named (`else-eq-2`, `else-eq-3`); and more than three.
 pub returns-in_default : goal.returns-in_default
 returns-in_default c = λ asked meant same.
     elim c.in_default.branch [

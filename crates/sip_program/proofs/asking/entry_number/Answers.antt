@@ -4,6 +4,8 @@ use Rattle.std.proofs.lemmas.Fmt.{parse-decimal}
 use Rattle.sip_program.proofs.asking.entry_number.Goals.{then-number-lt-LEAST-via-then-number-lt-LEAST, then-number-lt-LEAST-via-else-number-lt-LEAST+then-number-gt-MOST, then-number-lt-LEAST-via-else-number-lt-LEAST+else-number-gt-MOST+then-ne}
 use Rattle.sip_program.proofs.asking.entry_number.Goals as goal
 
+-- In both answers `entry` is a number that the word is said to be the plain spelling of (`same`), within the limits (`is`), and that is refuted.
+
 -- the word is no number of 64 bits
 pub returns-in_default : goal.returns-in_default
 returns-in_default c = λ entry is same.

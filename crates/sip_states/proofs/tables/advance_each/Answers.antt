@@ -6,7 +6,7 @@ use Rattle.sip_states.proofs.keyed.TablesLemmas.{values_of-set_value_at}
 use Rattle.sip_states.proofs.due.AdvanceLemmas.{advances_more, advances_failed, still_early, fresh_next, take_among, always_err}
 use Rattle.sip_states.proofs.tables.advance_each.Goals as goal
 
--- the set at the index was not waited yet, and is not later than the moment
+-- the set at the index has not waited yet, and is not later than the moment
 pub advance-requires : goal.advance-requires
 advance-requires g c =
     let indices = c.args.indices.now in

@@ -22,7 +22,7 @@ returns-in-Occupied-clause-ok g c =
     let lent : (c.entry.follows.lender c.in-Occupied.entry.map.now).entries ≡ old = ap (λ m. m.entries) link ∙ same in
     inl (subst (λ i. slice_get (keys_of old) i ≡ Some c.args.key) (sym is) place.0, subst (λ i. i < length old) (sym is) place.1, search (rules, lent))
 
--- a key that was not there stands at the end, with the set that it starts with
+-- a key that was not there stands at the end, with the set that it starts with; `unfolding` names the definitions that the proof looks into
 pub returns-in-Ok-clause-ok : goal.returns-in-Ok-clause-ok
 unfolding entry_index entry_value
 returns-in-Ok-clause-ok g c =

@@ -10,7 +10,9 @@ returns-then-not-names_forget c =
     let other : begin_with (codes "--forget") (map string_bytes c.args.words.now) ≡ false = search rules in
     without_forget (map string_bytes c.args.words.now) c.rest_of.result other c.rest_of.ensures
 
--- the word after `--forget` is no number
+-- In the next answers `names` says that the words begin with `--forget` and one word more, and `split` what they are then: these two, and others.
+
+-- the word after `--forget` is no number below 2^32 (`in_err-age`), so the words ask for nothing
 pub returns-in_err-age : goal.returns-in_err-age
 returns-in_err-age c =
     let words = c.args.words.now in
@@ -18,7 +20,7 @@ returns-in_err-age c =
     let split = split_first string_bytes (codes "--forget") words c.index-words-1.result names c.index-words-1.is in
     rw c.from_residual.ensures (no_forget (map string_bytes words) _ _ split (λ age low is. c.in_err-age.ensures age low (c.as_str.ensures.value ∙ is)))
 
--- the words are `--forget`, an age, and what the others ask for
+-- the words are `--forget`, an age, and what the others ask for: those after the first two (`take_rest`), of which the second call of `rest_of` tells
 pub returns : goal.returns
 returns c =
     let words = c.args.words.now in

@@ -4,6 +4,9 @@ use Rattle.std.proofs.lemmas.Slice.Eq.{bytes_eq-Decides}
 use Rattle.std.proofs.lemmas.Fmt.{parse-decimal}
 use Rattle.sip_survey_program.proofs.part_word.number_of.Goals as goal
 
+-- In both answers `number` is a number that the word is said to spell plainly (`same`), and `read` says that `parse` reads such a word as this
+-- number. That cannot be: `parse` has answered an error, or the number is spelled otherwise.
+
 -- the word is no number of 32 bits
 pub returns-in_default : goal.returns-in_default
 returns-in_default c = λ number few same.

@@ -5,6 +5,8 @@ use Rattle.sip_part.specs.Part.{PartOf}
 use Rattle.sip_survey_program.specs.PartWords.{IsPartBetween}
 use Rattle.sip_survey_program.proofs.part_word.part_between.Goals as goal
 
+-- In the answers `part` is a part that the two words are said to name: `is` says that it is one, `one` and `two` that its numbers are the words.
+
 -- what stands before the slash is no number
 pub returns-in_err-number : goal.returns-in_err-number
 returns-in_err-number c = rw c.from_residual.ensures (λ part is one two. c.in_err-number.ensures part.number (omega (arith, is)) one)

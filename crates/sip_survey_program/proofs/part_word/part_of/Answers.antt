@@ -12,12 +12,17 @@ without word none part is same =
     has_slash part.number part.count (omega (arith, is)) (subst (λ w. position_or_len is_slash w ≡ length w) same none)
 
 -- where the word has a slash, the part between its two numbers is the part of the word
+-- `a` and `b` are what stands before the slash and after it, and `r` is the part that these two name, if they name one
 whole : (word a b : List ℕ) (r : Option PartOf) → position_or_len is_slash word < length word → a ≡ before_first is_slash word → b ≡ after_first is_slash word → IsPartBetween a b r → IsPartFor word r
 whole word a b (Some part) within front rest (is, one, two) =
     (is, split_slash word within ∙ ap (λ t. t ++ 47 ∷ after_first is_slash word) (sym front ∙ one) ∙ ap (λ t. decimal part.number ++ 47 ∷ t) (sym rest ∙ two))
+-- the word of a part would have the part's numbers before and after its first slash, and these name no part
 whole word a b None within front rest none = λ part is same.
     none part is (front ∙ ap (before_first is_slash) same ∙ number_before part.number part.count (omega (arith, is)))
     (rest ∙ ap (after_first is_slash) same ∙ number_after part.number part.count (omega (arith, is)))
+
+-- A slash is one byte, so that the clause `byte` of `split_once` tells of it. Its first argument is that it is below 128, and its second that the
+-- search is for this byte. What it tells: without a slash the first one is found at the end of the word (`position_or_len`), and else within.
 
 -- a word without a slash is that of no part
 pub returns-in_err-number : goal.returns-in_err-number

@@ -5,6 +5,7 @@ use Rattle.sip_survey_program.proofs.running.answer.Goals.{in-File+in_ok-map_err
 use Rattle.sip_survey_program.proofs.running.answer.Goals as goal
 
 -- the log comes from the file or from the input, and its survey is written
+-- `same` says that the log that is left to be read is the one that is asked for: the file was opened (`in-File`), or the input stays (`in_default`)
 pub returns-clause-answer : goal.returns-clause-answer
 returns-clause-answer g c =
     let input = log_for c.args.asked.log (g.S.Source.left c.args.system.now) (g.S.System.file c.args.system.now) in

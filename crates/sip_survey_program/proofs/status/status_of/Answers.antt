@@ -3,6 +3,8 @@ use Rattle.sip_survey_program.specs.Status.{status_of}
 use Rattle.sip_survey_program.proofs.StatusLemmas.{undecided-alone, more-than-undecided}
 use Rattle.sip_survey_program.proofs.status.status_of.Goals as goal
 
+-- In both answers the log was read to its end (`c.in-Clean`), and `sums` says that the summary counts what was found.
+
 -- all that is found is of transactions that are followed no further, so the status is 3
 pub returns-then-summary : goal.returns-then-summary
 returns-then-summary c = λ found sums.

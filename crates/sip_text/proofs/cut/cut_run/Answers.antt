@@ -1,3 +1,4 @@
+-- `run-end`, `run-mark`, `run-other`: what a cut gives where the longest run of the class is the whole text, has the mark after it, or has neither.
 use Rattle.std.proofs.Common.{ap, ◌∙◌}
 use Rattle.std.proofs.lemmas.List.{take_rest}
 use Rattle.sip_text.specs.inner.Class.{is_in}

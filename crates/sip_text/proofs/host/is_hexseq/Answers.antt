@@ -1,3 +1,4 @@
+-- `parts-fail`, `parts-more`, `parts-last`: the parts between colons, where the first one fails its test, passes before others, or passes as the last.
 use Rattle.std.proofs.Common.{option_copied, sym, ap, ◌∙◌}
 use Rattle.std.proofs.lemmas.Bool.{and_from, and_left, and_right}
 use Rattle.sip_text.specs.Bytes.{colon}

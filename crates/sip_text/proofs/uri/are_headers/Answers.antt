@@ -1,3 +1,4 @@
+-- `each-past`: where the first part is a header, all parts of the text are headers exactly if those of the rest are (`.0`), and the rest is shorter (`.1`)
 use Rattle.std.proofs.Common.{sym, ap, ◌∙◌, refl, option_copied}
 use Rattle.std.proofs.lemmas.Bool.{both_ways, false≢true}
 use Rattle.sip_text.specs.Bytes.{ampersand}
@@ -10,6 +11,7 @@ pub returns-then-not-is_header : goal.returns-then-not-is_header
 returns-then-not-is_header c = (
   λ is. absurd (false≢true is),
   λ headers.
+      -- of headers each part is a header, and so is this one, which the test refused
       let each = c.headers.invariant.1 (headers-each c.args.text.now headers) in
       absurd (both_ways c.is_header.result c.if-not-is_header.true
       (c.is_header.ensures.1 (each-first ampersand Header c.headers.rest.now _ c.cut.ensures.front each))),

@@ -1,3 +1,4 @@
+-- `each-past`: where the first part is a parameter, all parts of the text are exactly if those of the rest are (`.0`), and the rest is shorter (`.1`)
 use Rattle.std.proofs.Common.{sym, ap, ◌∙◌, refl, option_copied}
 use Rattle.std.proofs.lemmas.Bool.{both_ways, false≢true}
 use Rattle.sip_text.specs.Bytes.{semicolon}
@@ -10,6 +11,7 @@ pub returns-then-not-is_param : goal.returns-then-not-is_param
 returns-then-not-is_param c = (
   λ is. absurd (false≢true is),
   λ params.
+      -- of parameters each part is a parameter, and so is this one, which the test refused
       let each = c.params.invariant.1 (joined-each c.args.text.now params) in
       absurd (both_ways c.is_param.result c.if-not-is_param.true
       (c.is_param.ensures.1 (each-first semicolon UriParameter c.params.rest.now _ c.cut.ensures.front each))),

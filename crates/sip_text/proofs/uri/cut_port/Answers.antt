@@ -1,3 +1,4 @@
+-- `c.in_default.branch` is the way to the case of all others: a host was cut off, but what follows it is no port (`via-in-Some+else-is_port`), or none was.
 use Rattle.std.proofs.Common.{sym, ap, ◌∙◌, option_copied, subst}
 use Rattle.std.proofs.lemmas.Bool.{both_ways}
 use Rattle.sip_standard.specs.Profile.{Port}
@@ -21,6 +22,7 @@ returns-in_default c =
       | in_default-via-in-Some+else-is_port w ↦
           both_ways w.is_port.result w.if-is_port.false
           (w.is_port.ensures.1 (subst Port (sym c.cut_last.ensures.rest) port))
+      -- no colon stands in the text, though u would be what stands before its last one
       | in_default-via-in_default w ↦
           let none = ap option_copied (sym w.in_default.is) ∙ c.cut_last.ensures.front ∙ there in
           cc

@@ -19,6 +19,7 @@ chars-preserved c =
 -- where no escaped byte follows the run, the text passes exactly if it ends there
 pub returns-in-None : goal.returns-in-None
 returns-in-None c =
+    -- `run` says that the longest run of bytes of the class was passed, and `stop` that with no escape after it the rest passes exactly if it ends there
     let run = run-slice (is_in c.args.class) c.chars.rest.now c.run_len.result c.run_len.ensures.run in
     let stop = chars-stop c.args.class c.chars.rest.now _ c.requires run (sym c.in-None.ensures) in (
       λ empty. c.chars.invariant.0 (stop.0 (sym c.is_empty.ensures ∙ empty)),

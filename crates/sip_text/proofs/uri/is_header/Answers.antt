@@ -1,3 +1,5 @@
+-- `decides-header`: what decides the name and the value, cut at the first `=`, decides the header. `both-when`: where the first of two holds, the test of
+-- the second decides both. `both-unless`: where the first fails, its own test does. `neither`: where the second cannot hold, false does.
 use Rattle.std.proofs.Common.{Some, None, sym, ap, ◌∙◌, option_copied}
 use Rattle.sip_text.specs.inner.Class.{is_hnv_unreserved}
 use Rattle.sip_text.proofs.uris.UriCharLemmas.{decides-some, decides-many}

@@ -1,3 +1,5 @@
+-- `decides-param`: what decides the name and the value, cut at the first `=`, decides the parameter. `both-when`: where the first of two holds, the test of
+-- the second decides both. `both-unless`: where the first fails, its own test does. `first-alone`: where there is no second, the first does.
 use Rattle.std.proofs.Common.{Some, None, sym, ap, ◌∙◌, option_copied}
 use Rattle.sip_text.specs.inner.Class.{is_param_unreserved}
 use Rattle.sip_text.proofs.uris.UriCharLemmas.{decides-some}

@@ -1,3 +1,4 @@
+-- `c.NAME.branch` is the test by which a branch was taken that has several: `via-then-A` by A, `via-else-A+then-B` by B, after A failed.
 use Rattle.std.proofs.Common.{sym, subst}
 use Rattle.std.proofs.lemmas.Bool.{both_ways}
 use Rattle.sip_text.specs.Parts.{IsOnlyValue}
@@ -17,8 +18,11 @@ returns-in_err-host c =
 -- where the user or what follows the host does not fit, the text is no SIP URI after its scheme
 pub returns-then-not-userinfo_fits : goal.returns-then-not-userinfo_fits
 returns-then-not-userinfo_fits c = λ x is.
+    -- x is a reading of the text; its userinfo and what follows its host fit, as they were cut
     let fits = info-fits c.args.secure c.args.text.now (cut_parts c.cut_sip-cuts.result) x c.cut_sip-cuts.ensures is in
+    -- one of the two tests failed, though by `fits` it passes
     elim c.then-not-userinfo_fits.branch [
+      -- the user was refused, or else what follows the host
       | then-not-userinfo_fits-via-then-not-userinfo_fits w ↦
           both_ways c.userinfo_fits.result w.if-not-userinfo_fits.true (c.userinfo_fits.ensures.1 fits.0)
       | then-not-userinfo_fits-via-else-not-userinfo_fits+then-not-tail_fits w ↦

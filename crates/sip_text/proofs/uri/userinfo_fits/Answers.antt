@@ -11,6 +11,7 @@ use Rattle.sip_text.proofs.uri.userinfo_fits.Goals as goal
 -- the user fits, so the answer is whether the password does
 pub returns-then-is_none_or : goal.returns-then-is_none_or
 returns-then-is_none_or c =
+    -- `user` and `password`: each test tells whether its part, if there is one, is characters of its class
     let user : Decides c.is_none_or.result (IfSome (option_copied c.args.cuts.now.user) (OneOrMore (ClassChar class.User))) = search rules in
     let password : Decides c.is_none_or-then-is_none_or.result (IfSome (option_copied c.args.cuts.now.password) (Many (ClassChar class.Password))) = search rules in
     both-when c.is_none_or.result c.is_none_or-then-is_none_or.result c.if-is_none_or.true

@@ -1,3 +1,4 @@
+-- `mid` is what stands after the entry was taken, before the sweep, and `new` what stands after the sweep; `swept` is what the sweep promises.
 use Rattle.std.proofs.Common.{◌≤◌, ◌+◌, ◌++◌, ◌∷◌, [], ◌∙◌, All, Contains, length, slice_get, sym, ap, subst, arith}
 use Rattle.sip_verdict.proofs.sweeps.FollowedLemmas.{swept_take}
 use Rattle.sip_verdict.proofs.keys.Keys.{newest_moment-push}
@@ -11,7 +12,9 @@ returns-then-not-is_slow-clause-found g c = λ es surveyed counts late.
     let s = c.args.standing.now in
     let mid = c.find.new.standing in
     let left = c.args.left.now in
+    -- few messages are kept still: the test says that no sweep is due
     let few : length mid.book ≤ left + left + 64 = omega (arith, c.kept.ensures.kept, c.if-kept-left.true) in
+    -- e is what is observed of the entry, `here` what is found at it, and `tracks` says that the tables follow it too
     let (e, here, seen, now, found, added, tracks) = c.in_ok-find.ensures.found es surveyed.tracks counts late in
     (e, here, seen, found, added, surveyed_kept s.book mid.book s.tables mid.tables c.args.troubled.now.deaf.items c.find.new.troubled.deaf.items left es e c.in_ok-find.ensures.times surveyed few tracks)
 
@@ -26,6 +29,7 @@ returns-clause-may g c =
     let new = c.sweep.new.self in
     let e = c.args.entry.now in
     let swept = c.in_ok-sweep.ensures in
+    -- what the sweep leaves may take the next entry, as what stood before it could
     swept_take mid.book new.book mid.tables new.tables (e.number + 1) e.moment c.in_ok-find.ensures.may swept.may swept.recorded (within_keeps mid.book new.book swept.fewer) swept.keys
 
 -- after the sweep there are at most two keys more, as after the entry
@@ -37,6 +41,7 @@ pub returns-clause-left : goal.returns-clause-left
 returns-clause-left g c =
     let may = c.in_ok-find.ensures.may in
     let fewer = within_keeps c.find.new.standing.book c.sweep.new.self.book c.in_ok-sweep.ensures.fewer in
+    -- each number that the book keeps is at most that of the entry
     let high = c.kept-2.ensures.few (c.args.entry.now.number + 1) (λ n keeps. may.numbered n (fewer n keeps)) in
     omega (arith, high, c.requires.count)
 
@@ -65,6 +70,7 @@ returns-clause-found g c = λ es surveyed counts late.
       seen,
       found,
       added,
+      -- what is left follows the entry too, with as many messages as are still named
       surveyed_swept new.book mid.tables new.tables c.find.new.troubled.deaf.items c.kept-2.result (es ++ e ∷ []) swept.times c.kept-2.ensures.kept
           (swept.surveyed (es ++ e ∷ []) c.find.new.troubled.deaf.items tracks (newest_moment-push es e ∙ now) h.watched.long),
     )

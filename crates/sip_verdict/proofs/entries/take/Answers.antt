@@ -1,3 +1,6 @@
+-- s is what stands before the entry, and e the entry; of histories, e is what is observed of it, and `told` says that they were right before it.
+-- The entry is one that no transaction hears (Unheard), has a fault, is a restart, or is heard by some; `passed` is what the passing promises.
+-- Of what is kept of a heard message, .4 says that the book is as before, or has the message too.
 use Rattle.std.proofs.Common.{◌+◌, None, [], ◌||◌, length, ap, inl, refl, sym, ◌∙◌, subst, arith}
 use Rattle.std.proofs.lemmas.Option.{same_Some}
 use Rattle.sip_machine.specs.Texts.{Keeps}
@@ -25,6 +28,7 @@ pass_each-requires-in-Heard-clause-may g c =
 pub pass_each-requires-in-Heard-clause-hear : goal.pass_each-requires-in-Heard-clause-hear
 pass_each-requires-in-Heard-clause-hear g c =
     let e = c.args.entry.now in
+    -- the event fits the book (.0), is at the entry's moment (.1), concerns keys that all differ (.2), and is not one for all keys (.3)
     let is_heard = rw c.in-Heard.is at c.in_ok-told.ensures.heard in
     λ h is. subst (MayHear c.observe.new.book c.touch_each.new.tables e.moment) (ap (λ b. b.now) (same_Some _ h is))
     (may_hear c.observe.new.book e.moment c.in-Heard.event c.in-Heard.concerned c.in_ok-concerned-in-Heard.concerned c.args.standing.now.tables c.touch_each.new.tables c.in_ok-concerned-in-Heard.ensures.touched
@@ -58,6 +62,7 @@ drop_unnamed-requires-clause-others g c some n set among at =
     let e = c.args.entry.now in
     let numbers = each c.in_ok-concerned-in-Heard.concerned in
     let may = touches_may s.book e.moment (each c.in-Heard.concerned) numbers s.tables c.touch_each.new.tables c.requires.may.passes c.in_ok-concerned-in-Heard.ensures.touched in
+    -- such a set is as before the entry, and the book had all that it names, and not this message
     known_unnamed s.book e.number c.requires.may.numbered set (c.in_ok-pass_each-in-Heard.ensures.others s.book n set may (ap (λ b. b || is_among numbers (n + 1)) some ∙ among) at)
 
 -- an entry that no transaction hears leaves the histories right
@@ -78,6 +83,7 @@ returns-in_ok-pass_each-in-Restart-clause-histories g c = λ es e told keys coun
     let b = c.args.histories.now in
     let number = c.args.entry.now.number in
     let (f, f_seen, is) = (rw c.in-Restart.is at c.in_ok-told.ensures.observed) es in
+    -- the restart becomes the last entry of each transaction, by one number for all
     restart_histories es e b (record { each = b.each; restart = number }) number
     (ap (λ o. o.keys) (observes_one es (item c.args.entry.now) e f seen f_seen ∙ is)) counts refl refl told
 
@@ -91,6 +97,7 @@ returns-in_ok-pass_each-in-Heard-clause-histories g c = λ es e told t_keys coun
     -- f is what is observed of the entry, which is the same as e
     let (f, f_seen, f_is) = (rw c.in-Heard.is at c.in_ok-told.ensures.observed) es in
     let is = observes_one es (item entry) e f seen f_seen ∙ f_is in
+    -- each key that the message concerns has its history, which was written on or begun
     heard_histories es e c.args.histories.now c.note_each.new.self entry.number entry.bytes.items s.tables c.touch_each.new.tables (each c.in-Heard.concerned) (each c.in_ok-concerned-in-Heard.concerned)
     told t_keys c.requires.may.passes.long counts c.in_ok-concerned-in-Heard.ensures.touched c.known-in-Heard.ensures.unique noted.noted c.note_each.ensures.restart (ap (λ o. o.keys) is)
     (message_says es (item entry) e kept.0 seen) (ap (λ o. o.event.text) is ∙ kept.3)
@@ -101,6 +108,7 @@ returns-in_ok-pass_each-in-Unheard-clause-may g c =
     let s = c.args.standing.now in
     let e = c.args.entry.now in
     let passed = c.in_ok-pass_each-in-Unheard.ensures in
+    -- no message came into the book and no key into the tables, so that every number stands as after the entry
     may_next None s.book c.observe.new.book c.observe.new.book s.tables s.tables c.pass_each.new.tables e.number e.moment e.bytes.items c.requires.may
     (inl (rw c.in-Unheard.is at c.in_ok-told.ensures.kept)) (omega arith) passed.keys refl passed.may passed.watched.recorded
 
@@ -118,6 +126,7 @@ returns-in_ok-pass_each-in-Fault-clause-may g c =
     let s = c.args.standing.now in
     let e = c.args.entry.now in
     let passed = c.in_ok-pass_each-in-Fault.ensures in
+    -- no message came into the book and no key into the tables, so that every number stands as after the entry
     may_next None s.book c.observe.new.book c.observe.new.book s.tables s.tables c.pass_each-in-Fault.new.tables e.number e.moment e.bytes.items c.requires.may
     (inl (rw c.in-Fault.is at c.in_ok-told.ensures.kept)) (omega arith) passed.keys refl passed.may passed.watched.recorded
 
@@ -135,6 +144,7 @@ returns-in_ok-pass_each-in-Restart-clause-may g c =
     let s = c.args.standing.now in
     let e = c.args.entry.now in
     let passed = c.in_ok-pass_each-in-Restart.ensures in
+    -- no message came into the book and no key into the tables, so that every number stands as after the entry
     may_next None s.book c.observe.new.book c.observe.new.book s.tables s.tables c.pass_each-in-Restart.new.tables e.number e.moment e.bytes.items c.requires.may
     (inl (rw c.in-Restart.is at c.in_ok-told.ensures.kept).0) (omega arith) passed.keys refl passed.may passed.watched.recorded
 
@@ -145,6 +155,7 @@ returns-in_ok-pass_each-in-Restart-clause-taken g c = λ es fresh tracks late.
     let s = c.args.standing.now in
     let e = c.args.entry.now in
     let same = (rw c.in-Restart.is at c.in_ok-told.ensures.kept).0 in
+    -- no number of the book is 0, under which the event of a restart would have its message; and a restart has none
     restart_taken s.book c.observe.new.book e.number e.bytes.items (inl same) (item e) e.moment refl s.tables c.pass_each-in-Restart.new.tables c.args.troubled.now c.pass_each-in-Restart.new.troubled
     c.requires.watched.long c.requires.may.passes.long fresh c.in_ok-pass_each-in-Restart.ensures.keys c.restart-event.result c.restart-event.ensures (λ n keeps. c.requires.may.some n (subst (λ b. Keeps b n) same keeps)) (rw c.in-Restart.is at c.in_ok-told.ensures.observed) c.in_ok-pass_each-in-Restart.ensures.passed es tracks late
 

@@ -1,3 +1,5 @@
+-- `old` is what stands before, s after all sets have waited, `mid` without what the flags drop, and `new` after the sweep.
+-- `long` says that there is a flag for each transaction, and `apart` that the keys all differ.
 use Rattle.std.proofs.Common.{◌≡◌, ◌≤◌, ◌+◌, ◌∙◌, Bool, List, All, Contains, length, slice_get, sym, ap, subst, refl, arith, []}
 use Rattle.sip_states.specs.Kept.{kept_of, kept_tables}
 use Rattle.sip_states.specs.Tables.{Tabled}
@@ -78,6 +80,7 @@ returns-clause-left g c =
     let old = c.args.standing.now in
     let s = c.wait.new.self in
     let fewer = subst (λ b. All (Contains b) c.sweep.new.self.book) c.in_ok-wait.ensures.book c.in_ok-sweep.ensures.fewer in
+    -- each number that the book keeps is at most that of the newest entry
     let high = c.kept.ensures.few (c.args.newest.number + 1) (λ n keeps. c.requires.may.numbered n (within_keeps old.book c.sweep.new.self.book fewer n keeps)) in
     omega (arith, high, c.requires.count)
 
@@ -110,6 +113,7 @@ returns-clause-forgets g c = λ es surveyed told newest.
     let now = c.keep-2.new.self.deaf.items in
     let tracks = subst (TablesSurvey s.book left mid) (sym c.keep-2.ensures.deaf) (subst (λ u. TablesSurvey s.book left u (kept_of flags deaf)) (sym c.in_ok-keep.ensures.ok) (survey_kept flags t long apart s.book es deaf tracks_on)) in
     let watched = subst (λ u. AreWatched [] u c.keep-2.new.self) (sym c.in_ok-keep.ensures.ok) (watched_kept flags t long apart troubled c.keep-2.new.self c.keep-2.ensures.deaf waited) in
+    -- after the sweep the tables follow what is remembered, and the book has as many messages as are still named
     let both = swept.surveyed left now tracks (newest_kept kept es ∙ newest) watched.long in
     -- the times are the same, and what was forgotten is over
     let times = ap (λ (u : Tabled). u.times) c.in_ok-keep.ensures.ok ∙ c.in_ok-wait.ensures.times in (

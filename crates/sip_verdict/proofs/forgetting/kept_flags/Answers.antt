@@ -7,6 +7,7 @@ use Rattle.sip_verdict.proofs.forgetting.kept_flags.Goals as goal
 -- one flag more is right: it says whether the next transaction is kept
 pub loop-index-preserved : goal.loop-index-preserved
 loop-index-preserved g c =
+    -- t are the tables, b the histories, `flags` those so far, and `past` says whether the next transaction is quiet and has no entry after `until`
     let t = c.args.tables.now in
     let b = c.args.histories.now in
     let inv = c.loop-index.invariant in

@@ -1,7 +1,7 @@
 use Rattle.sip_verdict.proofs.surveys.forgetting.Never.{never_part, never_whole}
 use Rattle.sip_verdict.proofs.forgetting_laws.a_survey_may_forget_nothing.Goals as goal
 
--- a survey of the whole log that forgets nothing is one that a survey which may forget may give
+-- what a survey of the whole log gives that forgets nothing is what a survey may give that may forget
 pub returns-clause-whole : goal.returns-clause-whole
 returns-clause-whole c = never_whole
 

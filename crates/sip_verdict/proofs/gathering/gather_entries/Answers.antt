@@ -1,3 +1,4 @@
+-- l is how the loop stands, `old` and `new` how far the log was read before the next entry and after it, and `start` the input.
 use Rattle.std.proofs.Common.{◌∙◌, None, refl, sym, subst, rules, arith}
 use Rattle.std.proofs.lemmas.Option.{same_Some}
 use Rattle.sip_log.specs.Reading as log
@@ -9,6 +10,7 @@ use Rattle.sip_verdict.proofs.gathering.gather_entries.Goals as goal
 -- no entry was read yet
 pub loop-found-init : goal.loop-found-init
 loop-found-init g c = record {
+  -- no read has failed since, survey and log stand at the same place, and nothing is found yet
   fine = refl;
   at = c.requires.at;
   counts_are = sym c.requires.first;
@@ -27,6 +29,7 @@ entry-requires g c = λ goes_on.
     let order = moves.1.order in
     let room = l.invariant.at.room in
     let low = moves.4 in
+    -- all of this follows by arithmetic from how the reader has moved on
     record { next = omega (arith, number, counts); order = omega (arith, newest, order); limit = moves.1.moment_high; room = (omega (arith, counts, low), omega (arith, room, low)) }
 
 -- after one entry more the findings are those of all entries that were read, and the survey stands after these
@@ -42,6 +45,7 @@ loop-found-preserved g c =
       fine = c.in_ok-entry.ensures.ok ∙ l.invariant.fine;
       at = record {
         on = moves.0;
+        -- the survey has not failed, since it took the entry
         goes_on = search rules;
         -- the count, the newest moment and the room are those after the entry
         counts = taken.newest.0 ∙ sym moves.2;
@@ -64,6 +68,7 @@ returns-in-End-clause-survey g c start reads =
     let old : log.ReaderState = beside_source l.progress (g.R.Source.left l.reader) (g.R.Source.has_failed l.reader) in
     let read = l.invariant.told start reads in
     let logs = (rw c.in-End.is at c.in_ok-entry.ensures.gives) start l.survey.tables.times read.items read.read in
+    -- the end that is told counts the entries and transactions that were taken
     gathered_end None start old l.survey l.found.items read c.unwrap.result (same_Some _ _ (sym c.unwrap.ensures ∙ c.end.ensures.clean read.es read.follows)) logs
 
 -- where the next entry cannot be read, the findings are those of the entries before it

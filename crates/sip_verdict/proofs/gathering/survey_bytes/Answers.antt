@@ -13,10 +13,12 @@ use Rattle.sip_verdict.proofs.gathering.survey_bytes.Goals as goal
 -- after the header nothing was read; from there on the loop finds what the whole log has
 pub returns-in-Ok-clause-survey : goal.returns-in-Ok-clause-survey
 returns-in-Ok-clause-survey g c =
+    -- `start` is the input, `state` how far it was read, `read` says that its header was read, and `times` that the survey has the header's times
     let start = Some c.args.bytes.now in
     let state : ProgressState → log.ReaderState = λ place. beside_source place (Some c.read_header.new.reader.now) false in
     let read = rw c.in-Ok.is at c.in_ok-params.ensures.reads in
     let times : c.new-survey.result.tables.times ≡ c.in-Ok.params = search rules in
+    -- what the loop promises holds of this input, of which nothing but the header was read when it began
     IfOk-weaker c.gather_entries.result _ _
     (λ done holds. holds start (subst (λ place. SurveysRead None c.new-survey.result [] start (state place)) (search rules) (surveys_none None c.new-survey.result c.in-Ok.params start (state c.in-Ok.progress) times c.new-survey.ensures.stands read))) c.gather_entries.ensures.survey
 

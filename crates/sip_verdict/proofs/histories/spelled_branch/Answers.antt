@@ -1,3 +1,4 @@
+-- The branch is copied: a copied byte is equal to its byte, and so the copy is the branch.
 use Rattle.std.proofs.Common.{◌∙◌, None, Some, sym, ap, subst}
 use Rattle.std.specs.Option.{option_copied}
 use Rattle.sip_message.specs.Elements.{Element}

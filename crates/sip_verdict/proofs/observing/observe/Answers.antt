@@ -12,10 +12,10 @@ returns-in_default-clause-observed c es =
     let stays = sym c.direction_of.ensures ∙ c.in_default.is in
     (silent_observation i.action i.moment (keys_in es), observes_silent es i stays, rw c.told_without_message.ensures (silent_observed c.args.book.now es i stays))
 
--- what is heard of it is its moment and its action
+-- an entry without a message tells no event of its own, so that nothing is asked of the book
 pub returns-in_default-clause-heard : goal.returns-in_default-clause-heard
 returns-in_default-clause-heard c = rw c.told_without_message.ensures (silent_heard c.args.book.now c.args.entry.now.moment c.args.entry.now.action)
 
--- an entry that concerns nothing leaves the book as it was
+-- an entry without a message leaves the book as it was
 pub returns-in_default-clause-kept : goal.returns-in_default-clause-kept
 returns-in_default-clause-kept c = rw c.told_without_message.ensures (silent_kept c.args.book.now c.args.book.now c.args.entry.now (sym c.direction_of.ensures ∙ c.in_default.is) refl)

@@ -13,6 +13,7 @@ returns-in-None-clause-observed c es =
       keyless_observation i (said_of c.in-Ok.message),
       observes es i _ c.args.direction c.requires.direction
           (observes_none i c.args.direction c.as_slice.result.now c.in-Ok.message c.as_slice.ensures.value c.in-Ok.ensures keys.0 keys.1),
+      -- it has no fault, its event is at the moment of the entry, and it has no key
       (refl, refl, refl),
     )
 
@@ -24,6 +25,7 @@ returns-in-Err-Fault-clause-observed c es =
       _,
       observes es i _ c.args.direction c.requires.direction
           (observes_fault i c.args.direction c.as_slice.result.now _ c.as_slice.ensures.value (rw c.in-Err-Fault.field-0-is at c.in-Err-Fault.ensures)),
+      -- what is told is just the fault
       refl,
     )
 
@@ -34,6 +36,7 @@ returns-in-Err-NoCookie-clause-observed c es =
       _,
       observes es i _ c.args.direction c.requires.direction
           (observes_no_cookie i c.args.direction c.as_slice.result.now c.in-Ok.message c.as_slice.ensures.value c.in-Ok.ensures (rw c.in-Err-NoCookie.field-0-is at c.in-Err-NoCookie.ensures)),
+      -- what is told is just this fault
       refl,
     )
 
@@ -59,6 +62,7 @@ returns-clause-observed c es =
       observes es i _ c.args.direction c.requires.direction
           (observes_heard i c.args.direction c.as_slice.result.now c.in-Ok.message c.add.new.self c.of-event.result c.in_ok-number.number (each c.in-Ok-keys_of.concerned)
           c.as_slice.ensures.value c.in-Ok.ensures c.in-Ok-keys_of.ensures.0 c.in-Ok-keys_of.ensures.1 c.of-event.ensures (c.in_ok-number.ensures.ok.1 ∙ c.as_slice-2.ensures.value)),
+      -- what is told is just the event with its keys
       refl,
     )
 
@@ -74,6 +78,7 @@ returns-clause-kept c =
     let i = item c.args.entry.now in
     let seen = returns-clause-observed c [] in
     let kept = event_kept i c.in-Ok.message c.add.new.self c.of-event.result c.in_ok-number.number _ c.of-event.ensures c.in_ok-number.ensures.ok.0 (c.in_ok-number.ensures.ok.1 ∙ c.as_slice-2.ensures.value) in
+    -- `some`: the message concerns some key, since the keys that are seen of it are those that it concerns, and these are not none
     let some = concerns_some i (each c.in-Ok-keys_of.concerned) seen.0 seen.1 (ap (λ o. o.keys) seen.2) (each_some c.in-Ok-keys_of.concerned c.in-Ok-keys_of.ensures.3 c.in_default.not-None) in
     -- the entry was sent, received or failed, and concerns some key
     rw c.keep_to.ensures (

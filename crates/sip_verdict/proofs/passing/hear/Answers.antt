@@ -1,3 +1,4 @@
+-- `leads` says that the set leads, from the moment `from` on, to the runs over the events so far, and `late` that the event is not before that moment.
 use Rattle.std.proofs.Common.{rules}
 use Rattle.sip_states.specs.AnySet.{IsEmpty}
 use Rattle.sip_verdict.proofs.keys.AnyHearing.{takes_known, hears_none, hears_some, hears_wide}

@@ -1,3 +1,4 @@
+-- i is the place of the next number; `heard` is what the call for it promises, and `old` what held at the start of this turn of the loop.
 use Rattle.std.proofs.Common.{◌+◌, ◌∙◌, take, get_or, sym, subst, arith}
 use Rattle.std.proofs.lemmas.List.{take_more}
 use Rattle.sip_verdict.specs.inner.Tracking.{first_of}

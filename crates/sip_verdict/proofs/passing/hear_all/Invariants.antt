@@ -6,6 +6,7 @@ use Rattle.sip_verdict.proofs.passing.hear_all.Given as goal
 abbrev pub invariant-loop-number : goal.invariant-loop-number
 invariant-loop-number g l =
     record {
+      -- times and keys are as before the loop, and no set is later than the event
       times_are : l.tables.times ≡ l.initial.tables.times;
       keys_are : l.tables.keys ≡ l.initial.tables.keys;
       may : MayPass l.book l.tables l.event.moment;

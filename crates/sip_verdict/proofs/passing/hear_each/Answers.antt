@@ -1,3 +1,4 @@
+-- t are the tables before, and u those after; h is the event with those that it concerns, and `hear` says that it may be heard.
 use Rattle.std.proofs.Common.{◌∙◌, refl, sym, ap, subst, arith}
 use Rattle.sip_verdict.specs.inner.Tracking.{first_of}
 use Rattle.sip_verdict.specs.inner.Concerned.{each, is_all}
@@ -32,6 +33,7 @@ returns-in_ok-hear_one-in-Own-clause-heard g c =
     let u = c.hear_one.new.tables in
     let h = c.args.hearing.now in
     let hear = c.requires.hear in
+    -- `heard` is what the call for the own transaction promises
     let heard = c.in_ok-hear_one-in-Own.ensures in (
       heard.may,
       -- the own transaction is the only hearer
@@ -55,6 +57,7 @@ returns-in_ok-hear_one-in-OwnAndCancelled-2-clause-heard g c =
     let cancelled = c.in_ok-hear_one-in-OwnAndCancelled-2 in (
       -- the own transaction and the cancelled one are the hearers
       cancelled.ensures.may,
+      -- the two are heard one after another, and their outcomes are joined in this order
       (
         each h.concerned,
         named_hearers t h.concerned (ap is_all c.in-OwnAndCancelled.is) hear.given hear.apart,

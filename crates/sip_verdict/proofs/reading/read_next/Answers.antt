@@ -1,3 +1,4 @@
+-- In each proof `old` is how far the log was read before the call, and `new` how far after it.
 use Rattle.sip_log.specs.Reading as log
 use Rattle.sip_log.specs.Reading.{beside_source}
 use Rattle.sip_verdict.proofs.listings.WalkingLemmas.{gives_entry, gives_end, gives_fault}

@@ -33,11 +33,13 @@ returns-in_ok-hear_or_release-in-OwnAndCancelled-clause-others g c =
     let own = c.in-OwnAndCancelled.own in
     let cancelled = c.in-OwnAndCancelled.cancelled in
     on_ok_weaker c.hear_or_release-in-OwnAndCancelled-2.result (λ still n none.
+    -- the number is neither that of the own transaction nor that of the cancelled one, so that both calls leave its set
     let apart = among_none (n + 1) own (cancelled ∷ []) (subst (λ x. (is_all x || is_among (each x) (n + 1)) ≡ false) c.in-OwnAndCancelled.is none) in
     still n (among_none (n + 1) cancelled [] apart.1).0 ∙ c.in_ok-hear_or_release-in-OwnAndCancelled.ensures.others n apart.0) c.hear_or_release-in-OwnAndCancelled-2.ensures.others
 
 -- at a restart all transactions hear the event, so there are no others
 pub returns-in-All-clause-others : goal.returns-in-All-clause-others
+-- a number that the restart does not concern cannot be, since it concerns all
 returns-in-All-clause-others g c = on_ok_weaker c.restart.result (λ keys n none. absurd (false≢true (sym (subst (λ x. (is_all x || is_among (each x) (n + 1)) ≡ false) c.in-All.is none)))) c.restart.ensures.keys
 
 -- the cancelled transaction is still one of the tables
@@ -52,6 +54,7 @@ returns-in-Own-clause-watched g c = on_ok_weaker c.hear_or_release.result (λ wa
 -- where the event concerns its own transaction alone, that one hears it or is released
 pub returns-in-Own-clause-heard : goal.returns-in-Own-clause-heard
 returns-in-Own-clause-heard g c =
+    -- t and b are the tables and the trouble at first, u and d those after the own transaction has heard
     let t = c.args.tables.now in
     let b = c.args.troubled.now in
     let u = c.hear_or_release.new.tables in

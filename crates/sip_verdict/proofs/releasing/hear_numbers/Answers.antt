@@ -1,3 +1,4 @@
+-- i is the place of the next number; `heard` is what the call for it promises, and `old` what held at the start of this turn of the loop.
 use Rattle.std.proofs.Common.{◌+◌, ◌∙◌, drop, get_or, subst, arith}
 use Rattle.sip_verdict.specs.inner.TablesTracking.{is_among}
 use Rattle.sip_verdict.specs.inner.Surveying.{AreWatched, ArePassing}
@@ -21,6 +22,7 @@ loop-number-preserved g c =
     let heard = c.in_ok-hear_or_release.ensures in
     let old = c.loop-number.invariant in
     -- the next number is that of the transaction that hears now
+    -- `next` parts what is left of the list into this number and those after it
     let next = next_number numbers i (omega arith) in
     record {
       times_are = heard.times ∙ old.times_are;

@@ -1,3 +1,5 @@
+-- t are the tables before. What the calls promise: `settles`, that a last moment was put on record; `anew`, that a set began anew; `added`, that a
+-- transaction came into trouble. `waits` are the numbers that are still to hear the event, and h is what held before.
 use Rattle.std.proofs.Common.{◌≤◌, ◌-◌, inl, inr, Some, refl, ap, ◌∙◌, subst}
 use Rattle.std.proofs.lemmas.Result.{on_ok_weaker}
 use Rattle.sip_states.specs.AnySet.{moment_of, start_of, IsKnownSet, IsEmpty}

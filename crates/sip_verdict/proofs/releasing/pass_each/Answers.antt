@@ -9,7 +9,7 @@ use Rattle.sip_verdict.proofs.surveys.passing.Waiting.{mark_passes, event_waits,
 use Rattle.sip_verdict.proofs.surveys.passing.Watching.{watched_more}
 use Rattle.sip_verdict.proofs.releasing.pass_each.Goals as goal
 
--- what was overdue was released, and the next entry may come
+-- what was overdue was released, and the tables may still pass the moment
 pub returns-in_default-clause-may : goal.returns-in_default-clause-may
 returns-in_default-clause-may g c = c.in_ok-release_overdue.ensures.may c.args.book.now c.requires.may
 
@@ -52,7 +52,7 @@ pub hear_each-requires-clause-may : goal.hear_each-requires-clause-may
 hear_each-requires-clause-may g c =
     subst (MayPass c.args.book.now c.release_overdue.new.tables) (sym (c.requires.hear c.in-Some.hearing c.in-Some.is).at) (c.in_ok-release_overdue.ensures.may c.args.book.now c.requires.may)
 
--- the entry was heard, and the next one may come
+-- the entry was heard, and the tables may still pass the moment
 pub returns-clause-may : goal.returns-clause-may
 returns-clause-may g c =
     on_ok_weaker c.hear_each.result (λ may. subst (MayPass c.args.book.now c.hear_each.new.tables) (c.requires.hear c.in-Some.hearing c.in-Some.is).at may) c.hear_each.ensures.may
@@ -65,6 +65,7 @@ returns-clause-watched g c =
 -- first the transactions whose time is over are released, then the others hear the event: so all have passed the entry
 pub returns-clause-passed : goal.returns-clause-passed
 returns-clause-passed g c =
+    -- t are the tables before, u and d the tables and the trouble after the release, which promises `released`
     let released = c.in_ok-release_overdue.ensures in
     let texts = c.args.book.now in
     let moment = c.args.moment in

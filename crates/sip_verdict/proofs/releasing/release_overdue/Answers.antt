@@ -9,6 +9,7 @@ use Rattle.sip_verdict.proofs.releasing.release_overdue.Goals as goal
 -- after one transaction more, whose time is over, was called broken and its set began anew, the tables still pass the entry
 pub loop-number-preserved : goal.loop-number-preserved
 loop-number-preserved g c =
+    -- t and b are the tables and the trouble before this turn, u and d those after it; `number` is that of the overdue transaction, and `old` what held before
     let t = c.loop-number.tables in
     let u = c.restart_key.new.self in
     let b = c.loop-number.troubled in

@@ -13,6 +13,7 @@ use Rattle.sip_verdict.proofs.releasing.release_overdue.Given as goal
 abbrev pub invariant-loop-number : goal.invariant-loop-number
 invariant-loop-number g l =
     record {
+      -- times and keys are as before the loop, and there is a flag for each key
       times_are : l.tables.times ≡ l.initial.tables.times;
       keys_are : l.tables.keys ≡ l.initial.tables.keys;
       long : length l.troubled.deaf.items ≡ length l.tables.keys;

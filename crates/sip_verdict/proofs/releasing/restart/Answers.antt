@@ -12,7 +12,7 @@ use Rattle.sip_verdict.proofs.releasing.restart.Goals as goal
 pub hear_numbers-requires-clause-given : goal.hear_numbers-requires-clause-given
 hear_numbers-requires-clause-given g c = subst (All (IsGiven c.args.tables.now)) (sym c.as_slice.ensures.value) c.in_ok-numbers.ensures.given
 
--- the restart was heard, and the next entry may come
+-- the restart was heard, and the tables may still pass its moment
 pub returns-clause-may : goal.returns-clause-may
 returns-clause-may g c = subst (λ u. MayPass c.args.book.now u c.args.event.now.moment) (sym c.restarted.ensures) c.in_ok-hear_numbers.ensures.may
 
@@ -25,6 +25,7 @@ returns-clause-watched g c = λ h.
 -- all transactions hear the restart, one after another
 pub returns-clause-heard : goal.returns-clause-heard
 returns-clause-heard g c =
+    -- t are the tables, and the hearers are the numbers of all sets that a restart may change
     let t = c.args.tables.now in (
       c.as_slice.result.now,
       subst (AreHearers t concerned.All) (sym c.as_slice.ensures.value) (all_hearers t c.in_ok-numbers.numbers.items c.in_ok-numbers.ensures),

@@ -13,6 +13,7 @@ use Rattle.sip_verdict.proofs.remembering.survey_forgetting.Goals as goal
 -- after the header nothing was read or forgotten; from there on the loop tells the survey of the whole log
 pub returns-in-Ok-clause-surveyed : goal.returns-in-Ok-clause-surveyed
 returns-in-Ok-clause-surveyed g c =
+    -- `start` is the input, and `state` how far it was read
     let part = option_copied c.args.part in
     let start = g.R.Source.left c.args.reader.now in
     let state : ProgressState → log.ReaderState = λ place. beside_source place (g.R.Source.left c.read_header.new.reader) (g.R.Source.has_failed c.read_header.new.reader) in
@@ -20,6 +21,7 @@ returns-in-Ok-clause-surveyed g c =
     let read = rw c.in-Ok.is at c.in_ok-params.ensures.reads in
     let p = c.new-survey.result.tables.times in
     let times : p ≡ c.in-Ok.params = search rules in
+    -- the loop began where nothing was read, found or forgotten, so that what it tells is the survey of the whole log
     all_told_forgetting c.args.age part _ c.write_on.result start (g.W.Sink.written c.args.writer.now) (g.W.Sink.written c.write_on.new.writer) c.write_on.ensures.surveyed
     (subst (λ place. RemembersRead c.args.age part p c.new-survey.result [] [] start (state place)) (search rules)
     (remembers_none c.args.age part p c.new-survey.result start (state c.in-Ok.progress) refl c.new-survey.ensures.stands

@@ -1,3 +1,5 @@
+-- l is how the loop stands, and p the times; `old` and `new` are how far the log was read before the next entry and after it. `told` is what was told so
+-- far; `before`, `mid` and `after` are what was written at first, so far, and with the last line.
 use Rattle.std.proofs.Common.{◌≡◌, ◌+◌, ◌∙◌, List, [], ◌++◌, length, false, refl, ap, sym, subst, rules, arith}
 use Rattle.std.specs.Prelude.{IsTrue}
 use Rattle.std.proofs.lemmas.Bool.{false≢true}
@@ -19,6 +21,7 @@ use Rattle.sip_verdict.proofs.remembering.write_on.Goals as goal
 -- before the first entry nothing was found, written or forgotten
 pub loop-found-init : goal.loop-found-init
 loop-found-init g c = record {
+  -- neither reader nor writer has failed since, and survey and log stand at the same place
   read = refl;
   written = refl;
   at = c.requires.at;
@@ -41,6 +44,7 @@ entry-requires g c = λ goes_on.
     let moves = rw c.in-Entry.is at c.in_ok-entry.ensures.moves in
     let forgot = c.in_ok-forget_due-in-Entry.ensures in
     let number = moves.1.number_is in
+    -- the cut entry has the number and the moment of the one that was read
     let same = c.in_ok-cut_to-in-Entry.ensures.number in
     let moment = c.in_ok-cut_to-in-Entry.ensures.moment in
     -- after the forgetting the survey has the same number and the same newest moment
@@ -51,6 +55,7 @@ entry-requires g c = λ goes_on.
     let order = moves.1.order in
     let high = moves.1.moment_high in
     let is_room : IsTrue c.has_room.result = search rules in
+    -- all of this follows by arithmetic from how the reader has moved on, and the room from the test
     record { next = omega (arith, number, same, counts, kept); order = omega (arith, newest, now, order, moment); limit = omega (arith, high, moment); room = c.has_room.ensures.0 is_room }
 
 -- after one entry more, the lines are those of all findings so far, and the survey stands after what is remembered
@@ -86,6 +91,7 @@ loop-found-preserved g c =
       written = put.fine ∙ l.invariant.written;
       at = record {
         on = moves.0;
+        -- the survey has not failed, since it took the entry
         goes_on = search rules;
         newest = taken.newest.1 ∙ cut.moment ∙ sym moves.2;
       };
@@ -96,6 +102,7 @@ loop-found-preserved g c =
       told = (
         told.0 ++ items,
         told.1 ++ put.text.0,
+        -- lines and counts are those before and those of this entry
         told_more told.0 items told.1 put.text.0 l.counts c.in_ok-counts-in-Entry.counts (g.W.Sink.written c.args.writer.now) (g.W.Sink.written l.writer) (g.W.Sink.written c.put_findings.new.writer) told.2
             (search rules) put.text.1,
         -- what was read, forgotten and taken is told on
@@ -105,6 +112,7 @@ loop-found-preserved g c =
             remembers_on c.args.age part p start old l.survey told.0 told.1 so.0 l.horizon so.1 l.invariant.aged c.in-Entry.entry c.cut_to.new.entry new more cut.cut
             c.forget_due.new.survey c.entry.new.self c.forget_due.new.horizon c.note.new.self forgot.times taken.times (omega (arith, was, order, forgot_moment, taken_moment, cut_moment)) forgot.left has_room items
             (rw c.clear.ensures.items at taken.found) put.text.0 (subst (λ fs. AreLinesBy c.entry.new.self fs put.text.0) lines put.text.2)
+            -- the horizon takes note of the entry, whose number and moment are those of the survey
             (λ es horizon_is stands. c.note.ensures.horizon es horizon_is (sym taken.newest.0 ∙ stands.number) (sym taken.newest.1 ∙ stands.moment)),
       );
     }
@@ -152,6 +160,7 @@ returns-in-End-clause-surveyed g c =
     summed c.finish-in-End.result l.counts c.unwrap.result c.finish-in-End.ensures.sums c.finish-in-End.ensures.text (λ summary end findings undecided last start reads.
     let so = (told.3 start reads).0 in
     let logs = (rw c.in-End.is at c.in_ok-entry.ensures.gives) start p so.items so.read in
+    -- the end that is told counts the entries that were taken and the transactions that are left
     let is = same_Some _ _ (sym c.unwrap.ensures ∙ c.end.ensures.clean so.es so.follows) in
     remembers_end c.args.age part p start old l.survey told.0 told.1 so l.counts summary before mid after told.2 findings undecided (end ∙ is) (subst (λ e. Appends mid after (end_text e l.counts.findings)) is last) logs)
 

@@ -13,6 +13,7 @@ invariant-loop-found g l =
     let part = option_copied l.fn.part in
     let p = l.fn.survey.tables.times in
     record {
+      -- neither reader nor writer has failed since, and survey and log stand at the same place
       read : g.R.Source.has_failed l.reader ≡ g.R.Source.has_failed l.fn.reader;
       written : g.W.Sink.has_failed l.writer ≡ g.W.Sink.has_failed l.fn.writer;
       at : IsStreamAt l.survey l.progress;

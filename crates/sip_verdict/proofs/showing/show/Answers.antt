@@ -1,3 +1,4 @@
+-- l is how the loop stands, and `start` the input; `old` and `new` are how far the log was read before the next entry and after it.
 use Rattle.std.proofs.Common.{◌+◌, ◌∙◌, ◌++◌, ◌∷◌, [], Some, refl, sym, subst, arith}
 use Rattle.std.specs.Io.KnownBytes.{Appends}
 use Rattle.sip_standard.specs.LogSays.{line_feed}
@@ -21,6 +22,7 @@ loop-entry-init g c =
     -- the reader stands after the header
     let opened = Opens-stands start left before after c.in-Ok.field-0-0 progress c.in-Ok.ensures in
     record {
+      -- no entry was counted, nothing has failed since, and nothing was written
       count = sym opened.count;
       few = omega (arith, opened.count);
       read = opened.fine;
@@ -40,6 +42,7 @@ returns-in-Ok-None-clause-shown g c =
     let before = g.W.Sink.written l.writer in
     let after = g.W.Sink.written c.finish-in-Ok-None.new.writer in
     let nexts = rw c.in-Ok-None.field-0-is at c.in-Ok-None.ensures in
+    -- where the last line was written, all that was written is what is shown of the log
     finished c.finish-in-Ok-None.result (End l.count) (Answers start first after) (Appends before after (last_text (End l.count) ++ line_feed ∷ []))
     c.finish-in-Ok-None.ensures.same c.finish-in-Ok-None.ensures.text
     (λ last. showed_end start old first before l.invariant.showed new after l.count l.invariant.count nexts last)
@@ -78,6 +81,7 @@ returns-in-Some-clause-shown g c =
     let e = c.in-Ok-Some.entry in
     let fault = c.in-Some.fault in
     let nexts = rw c.in-Ok-Some.field-0-is at c.in-Ok-Some.ensures in
+    -- the entry was not written, since its message has this fault
     let shows = rw c.in-Some.is at c.in_ok-fault.ensures in
     -- the last line tells the fault of the message
     finished c.finish-in-Some.result (Malformed e.number fault) (Answers start first after) (Appends (g.W.Sink.written c.show_entry.new.writer) after (last_text (Malformed e.number fault) ++ line_feed ∷ []))
@@ -101,6 +105,7 @@ loop-entry-preserved g c =
       count = counted.continues.number_is ∙ sym counted.up;
       few = omega (arith, counted.up, counted.few);
       read = Nexts-fine start l.invariant.showed.items old new (Some e) nexts ∙ l.invariant.read;
+      -- no write has failed, and the text is that of one entry more
       written = shows.3 ∙ l.invariant.written;
       showed = showed_more start old (g.W.Sink.written c.args.writer.now) (g.W.Sink.written l.writer) l.invariant.showed new e nexts (g.W.Sink.written c.show_entry.new.writer) shows.0 shows.1 shows.2;
     }

@@ -1,3 +1,4 @@
+-- t are the tables, and `number` is that of the message; `two` are the own transaction and the cancelled one.
 use Rattle.std.proofs.Common.{◌≡◌, [], inl, inr, true, false, All, refl, sym, subst, ◌∙◌, arith}
 use Rattle.std.specs.Prelude.{◌↔◌, IsTrue}
 use Rattle.std.proofs.lemmas.Bool.{false≢true}
@@ -26,6 +27,7 @@ pub returns-in-Own-clause-may : goal.returns-in-Own-clause-may
 returns-in-Own-clause-may g c =
     let t = c.args.tables.now in
     let number = c.args.number in
+    -- `tells` says that the message may be named just where the set of the one key may name it, and `may` is what the test answers
     let tells = own_may t number c.in-Own.own c.set.result.now c.set.ensures in
     let may = c.may_name.ensures.may in
     subst (λ x. IsTrue c.may_name.result ↔ MayBeNamed t number x) (sym c.in-Own.is) (λ yes. tells.0 (may.0 yes), λ named. may.1 (tells.1 named))
@@ -45,6 +47,7 @@ returns-then-may_name-clause-may g c =
     let t = c.args.tables.now in
     let number = c.args.number in
     let two = c.in-OwnAndCancelled in
+    -- the set of the own transaction may name the message, by the test
     let its = c.may_name-in-OwnAndCancelled.ensures.may.0 c.if-may_name.true in
     let named = first_may t number two.own two.cancelled c.set-in-OwnAndCancelled.result.now c.set-in-OwnAndCancelled.ensures its in
     subst (λ x. IsTrue c.may_name-in-OwnAndCancelled.result ↔ MayBeNamed t number x) (sym two.is) (λ _. named, λ _. c.if-may_name.true)

@@ -7,6 +7,7 @@ use Rattle.sip_verdict.proofs.surveying.put_finding.Goals as goal
 -- what is written is the line of the finding, with the transaction that it names
 pub returns-clause-text : goal.returns-clause-text
 returns-clause-text g c =
+    -- f is the finding, `told` its transaction, if it has one, and `line` what was written
     let f = c.args.finding.now in
     let told = c.transaction_of-transaction.result in
     let line = c.in_ok-line.line.items in

@@ -1,3 +1,4 @@
+-- s is the survey, and l how the loop stands; `put` is what the call promises that writes the next finding, with its line.
 use Rattle.std.proofs.Common.{◌<◌, ◌∙◌, ◌++◌, length, take, sym, subst, arith}
 use Rattle.std.proofs.KnownBytes.{Appends-trans}
 use Rattle.std.proofs.lemmas.List.{take_more}
@@ -12,6 +13,7 @@ loop-finding-preserved g c =
     let s = c.args.survey.now in
     let found = c.args.found.now in
     let put = c.in_ok-put_finding.ensures in
+    -- `text` are the lines so far, and `line` is that of this finding
     let (text, written, are) = l.invariant.text in
     let (line, appends, is) = put.text in
     -- the next finding comes after those so far

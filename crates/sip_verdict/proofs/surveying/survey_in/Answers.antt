@@ -11,11 +11,13 @@ use Rattle.sip_verdict.proofs.surveying.survey_in.Goals as goal
 -- after the header nothing was read; from there on the loop tells the survey of the whole log
 pub returns-in-Ok-clause-surveyed : goal.returns-in-Ok-clause-surveyed
 returns-in-Ok-clause-surveyed g c =
+    -- `start` is the input, `state` how far it was read, `read` says that its header was read, and `times` that the survey has the header's times
     let part = option_copied c.args.part in
     let start = g.R.Source.left c.args.reader.now in
     let state : ProgressState → log.ReaderState = λ place. beside_source place (g.R.Source.left c.read_header.new.reader) (g.R.Source.has_failed c.read_header.new.reader) in
     let read = rw c.in-Ok.is at c.in_ok-params.ensures.reads in
     let times : c.new-survey.result.tables.times ≡ c.in-Ok.params = search rules in
+    -- the loop began where nothing was read or found, so that what it tells is the survey of the whole log
     all_told part _ c.write_entries.result start (g.W.Sink.written c.args.writer.now) (g.W.Sink.written c.write_entries.new.writer) c.write_entries.ensures.surveyed
     (subst (λ place. SurveysRead part c.new-survey.result [] start (state place)) (search rules) (surveys_none part c.new-survey.result c.in-Ok.params start (state c.in-Ok.progress) times c.new-survey.ensures.stands read))
 

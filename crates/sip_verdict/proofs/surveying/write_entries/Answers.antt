@@ -1,3 +1,5 @@
+-- l is how the loop stands; `old` and `new` are how far the log was read before the next entry and after it. `told` is what was told so far; `before`,
+-- `mid` and `after` are what was written at first, so far, and with the last line.
 use Rattle.std.proofs.Common.{◌≡◌, ◌+◌, ◌∙◌, List, [], ◌++◌, refl, sym, subst, rules, arith}
 use Rattle.std.specs.Io.KnownBytes.{Appends}
 use Rattle.std.specs.Option.{option_copied}
@@ -14,6 +16,7 @@ use Rattle.sip_verdict.proofs.surveying.write_entries.Goals as goal
 -- before the first entry nothing was found or written
 pub loop-found-init : goal.loop-found-init
 loop-found-init g c = record {
+  -- neither reader nor writer has failed since, and survey and log stand at the same place
   read = refl;
   written = refl;
   at = c.requires.at;
@@ -41,6 +44,7 @@ entry-requires g c = λ goes_on.
     let high = moves.3 in
     let room = l.invariant.at.room in
     let low = moves.6 in
+    -- all of this follows by arithmetic from how the reader has moved on
     record { next = omega (arith, number, counts); order = omega (arith, newest, order); limit = high; room = (omega (arith, counts, low), omega (arith, room, low)) }
 
 -- after one entry more, the lines are those of all findings so far, and the survey stands after the entries that were read
@@ -63,6 +67,7 @@ loop-found-preserved g c =
       written = put.fine ∙ l.invariant.written;
       at = record {
         on = moves.0;
+        -- the survey has not failed, since it took the entry
         goes_on = search rules;
         -- the count and the newest moment are those of the entries that were read
         counts = taken.newest.0 ∙ sym moves.4;
@@ -75,6 +80,7 @@ loop-found-preserved g c =
       told = (
         told.0 ++ items,
         told.1 ++ put.text.0,
+        -- lines and counts are those before and those of this entry
         told_more told.0 items told.1 put.text.0 l.counts c.in_ok-counts-in-Entry.counts (g.W.Sink.written c.args.writer.now) (g.W.Sink.written l.writer) (g.W.Sink.written c.put_findings.new.writer) told.2
             (search rules) put.text.1,
         -- what was read and taken is told on
@@ -103,6 +109,7 @@ returns-in-End-clause-surveyed g c =
     let so = told.3 start reads in
     let read = so.read in
     let logs = (rw c.in-End.is at c.in_ok-entry.ensures.gives) start l.survey.tables.times read.items read.read in
+    -- the end that is told counts the entries and transactions that were taken
     let is = same_Some _ _ (sym c.unwrap.ensures ∙ c.end.ensures.clean read.es read.follows) in
     surveys_end part start old l.survey told.0 told.1 so l.counts summary before mid after told.2 findings undecided (end ∙ is) (subst (λ e. Appends mid after (end_text e l.counts.findings)) is last) logs)
 

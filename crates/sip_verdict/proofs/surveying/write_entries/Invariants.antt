@@ -11,6 +11,7 @@ use Rattle.sip_verdict.proofs.surveying.write_entries.Given as goal
 abbrev pub invariant-loop-found : goal.invariant-loop-found
 invariant-loop-found g l =
     record {
+      -- neither reader nor writer has failed since, and survey and log stand at the same place
       read : g.R.Source.has_failed l.reader ≡ g.R.Source.has_failed l.fn.reader;
       written : g.W.Sink.has_failed l.writer ≡ g.W.Sink.has_failed l.fn.writer;
       at : IsSurveyAt l.survey l.progress;

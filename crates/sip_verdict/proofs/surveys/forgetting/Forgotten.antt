@@ -48,6 +48,7 @@ kept_by (b ∷ flags) (k ∷ keys) key = cond (same_key key k) b (kept_by flags 
 
 -- where all keys differ, a key at a place is kept as the flag at the same place says
 pub kept_by_at : (flags : List Bool) (keys : List KeyParts) → AllPairs (λ a b. a ≢ b) keys → (n : ℕ) (key : KeyParts) (b : Bool) → slice_get keys n ≡ Some key → slice_get flags n ≡ Some b → kept_by flags keys key ≡ b
+-- without a flag or a key nothing stands at the place
 kept_by_at [] keys apart n key b at flag = absurd cc
 kept_by_at (c ∷ flags) [] apart n key b at flag = absurd cc
 -- the key is the first one, k, and b is its flag c
@@ -61,11 +62,13 @@ kept_by_at (c ∷ flags) (k ∷ keys) apart (suc n) key b at flag =
   where
     -- the flag of the key is b, whether or not the first key is the one that is looked for
     go : (t : Bool) → same_key key k ≡ t → kept_by flags keys key ≡ b → cond (same_key key k) c (kept_by flags keys key) ≡ b
+    -- the first key would be equal to a later one, but all keys differ
     go true e rest = absurd (All-place (λ x. k ≢ x) keys n key at (AllPairs-head (λ a b. a ≢ b) k keys apart) (sym ((same_key-decides key k).0 e)))
     go false e rest = ap (λ t. cond t c (kept_by flags keys key)) e ∙ rest
 
 -- a key that is not kept stands at some place, and its flag is false
 pub kept_by_not : (flags : List Bool) (keys : List KeyParts) (key : KeyParts) → kept_by flags keys key ≡ false → (n : ℕ) × (slice_get keys n ≡ Some key) × (slice_get flags n ≡ Some false)
+-- a key without a flag is kept
 kept_by_not [] keys key gone = absurd (true≢false gone)
 kept_by_not (b ∷ flags) [] key gone = absurd (true≢false gone)
 kept_by_not (b ∷ flags) (k ∷ keys) key gone = go (same_key key k) refl (λ still. kept_by_not flags keys key still)
@@ -73,6 +76,7 @@ kept_by_not (b ∷ flags) (k ∷ keys) key gone = go (same_key key k) refl (λ s
     -- a key that is not kept stands at a place whose flag is false, whether or not the first key is this one
     go : (t : Bool) → same_key key k ≡ t → (kept_by flags keys key ≡ false → (n : ℕ) × (slice_get keys n ≡ Some key) × (slice_get flags n ≡ Some false))
         → (n : ℕ) × (slice_get (k ∷ keys) n ≡ Some key) × (slice_get (b ∷ flags) n ≡ Some false)
+    -- the key is the first one, and that one's flag is false; or it is a later one
     go true e rest = (0, ap Some (sym ((same_key-decides key k).0 e)), ap Some (sym (ap (λ t. cond t b (kept_by flags keys key)) e) ∙ gone))
     go false e rest = let (n, at, flag) = rest (sym (ap (λ t. cond t b (kept_by flags keys key)) e) ∙ gone) in (suc n, at, flag)
 
@@ -80,8 +84,10 @@ kept_by_not (b ∷ flags) (k ∷ keys) key gone = go (same_key key k) refl (λ s
 filter_flags : (test : KeyParts → Bool) (flags : List Bool) (keys : List KeyParts) → length flags ≡ length keys
     → ((n : ℕ) (key : KeyParts) (b : Bool) → slice_get keys n ≡ Some key → slice_get flags n ≡ Some b → test key ≡ b) → filter test keys ≡ kept_of flags keys
 filter_flags test [] [] long says = refl
+-- there are as many flags as keys
 filter_flags test [] (k ∷ keys) long says = absurd (omega (arith, long))
 filter_flags test (b ∷ flags) [] long says = absurd (omega (arith, long))
+-- the first key is on both sides where its flag keeps it, and on neither where not
 filter_flags test (true ∷ flags) (k ∷ keys) long says =
     ap (λ t. cond t (k ∷ filter test keys) (filter test keys)) (says 0 k true refl refl) ∙ ap (λ l. k ∷ l) (filter_flags test flags keys (omega (arith, long)) (λ n key b at flag. says (suc n) key b at flag))
 filter_flags test (false ∷ flags) (k ∷ keys) long says =
@@ -142,6 +148,7 @@ module _ (kept : KeyParts → Bool) (key : KeyParts) (is : kept key ≡ true) wh
 
   -- a set that follows the entries for the key follows what is remembered of them
   followed_kept : (texts : Texts) (p : Times) (es : List (Observation KeyParts)) (set : AnySet) (d : Bool) → IsFollowed texts p es key set d → IsFollowed texts p (remembered kept es) key set d
+  -- the transaction is in trouble over what is remembered too, and its set leads to the runs over no event at the same moment
   followed_kept texts p es set true (leads, unsound) =
       let zip = zip_remembered kept es in (
         subst (λ m. LeadsOf texts p (machine_of_key p.rules key) [] m set) (sym (newest_cut kept 0 es (remembered kept es) zip)) leads,
@@ -177,6 +184,7 @@ key_of p es key last (before, e, after, whole, is, none, counts) = by (list_any 
     -- the key stands at some place of the keys, since an entry concerns it
     by : (b : Bool) → list_any (same_key key) (keys_in es) ≡ b → (n : ℕ) × (slice_get (keys_in es) n ≡ Some key)
     by true among = let (n, inside, there) = among-contains key (keys_in es) among in (n, slice_get-get_or (keys_in es) n key inside ∙ ap Some there)
+    -- else no entry would concern the key, but e does
     by false lacks =
         let all = none_in key es (among-fold key [] (flat_map (λ o. o.keys) es) lacks).1 in
         absurd (false≢true (sym (All-middle (λ o. is_of key o ≡ false) before after e (subst (All (λ o. is_of key o ≡ false)) whole all)) ∙ is))
@@ -310,6 +318,7 @@ module _ (flags : List Bool) (t : Tabled) (long : length flags ≡ length t.keys
 
     -- a key whose set is quiet, or which is in trouble, is over
     over_by : (key : KeyParts) (set : AnySet) (d : Bool) → IsFollowed texts t.times es key set d → moment_of set ≤ newest_moment es → IsQuietSet set → IsOver t.times es key
+    -- a deaf transaction is in trouble; a quiet set of any other says that it is idle again or has ended
     over_by key set true (leads, unsound) low quiet = inl unsound
     over_by key set false (leads, sound) low quiet = inr (quiet_over texts t.times (machine_of_key t.times.rules key) (events_for key es) (newest_moment es) set leads low quiet)
 
@@ -318,6 +327,7 @@ module _ (flags : List Bool) (t : Tabled) (long : length flags ≡ length t.keys
     forgotten key gone =
         let (n, at, flag) = kept_by_not flags t.keys key gone in
         let (set, d, h, here, is, of) = at_key n key at in
+        -- the false flag says that the set is quiet (past.0) and that the last entry has a number up to `until` (past.1)
         let past = (says.each n false set h flag here of).0 refl in
         let low = subst (λ m. moment_of set ≤ m) (sym newest) (All-place (λ s. moment_of s ≤ moment) t.sets n set here may.order) in (
           over_by key set d (tracks.each n key set d at here is) low past.0,
@@ -333,6 +343,7 @@ module _ (flags : List Bool) (t : Tabled) (long : length flags ≡ length t.keys
           let at : slice_get t.keys n ≡ Some key = ap (λ ks. slice_get ks n) tracks.keys ∙ there in
           let (set, d, h, here, is, of) = at_key n key at in
           let (flag, flagged) = at_place flags n (let inside = slice_get_within t.keys n key at in omega (arith, inside, long)) in
+          -- the history's last entry is the last one, so that its number is not above `until`; and the set is quiet: so the flag is false
           let not_later = last_not_after es key last (max h.last b.restart) is_last (told.each n key h there of).last in
           kept_by_at flags t.keys apart n key flag at flagged ∙ (says.each n flag set h flagged here of).1 (over_quiet n key set at here over, omega (arith, not_later, low))
 

@@ -27,6 +27,7 @@ IsFrom m e = m ≤ e.moment
 module _ {X : Type 0} (f : Figure X) (p : Times) (lasts : (m : ℕ) → Lasts f p (quiet f.idle) m) (has_no_end : (m : ℕ) → ¬ (MayEnd f p (quiet f.idle) m)) where
   -- no event of a run is after the moment at which the run stands
   events_to : (events : List MachineEvent) (m : ℕ) (y : Owing X) → Stands f p events m y → All (IsTo m) events
+  -- the run has taken no event; or it has waited or ended since it took them; or it takes the last one at the moment at which it stands
   events_to events m y begins = All-nil (IsTo 0)
   events_to events m y (waits evs h k x stands low lasting) = All-weaker (IsTo h) (IsTo k) (λ e to. omega (arith, to, low)) evs (events_to evs h x stands)
   events_to events m y (ends evs h x stands may) = events_to evs h x stands
@@ -43,7 +44,9 @@ module _ {X : Type 0} (f : Figure X) (p : Times) (lasts : (m : ℕ) → Lasts f 
       where
         -- the runs over both parts stand at n as they do at h: m has come by h, or the transaction is idle still
         go : Dec (m ≤ h) → (m ≤ h → Stands f p (old ++ evs) h x) × (h < m → (evs ≡ []) × (x ≡ quiet f.idle)) → (m ≤ n → Stands f p (old ++ evs) n x) × (n < m → (evs ≡ []) × (x ≡ quiet f.idle))
+        -- m has come when the wait begins: the run over both parts waits on
         go (yes late) both = (λ high. waits (old ++ evs) h n x (both.0 late) low lasting, λ before. absurd (omega (arith, late, low, before)))
+        -- the wait begins before m: no event was taken, and the transaction waits in idle from m on
         go (no early) both =
             let new = both.1 (omega (arith, early)) in (
               λ high. subst (λ es. Stands f p (old ++ es) n x) (sym new.0) (subst (λ es. Stands f p es n x) (sym (append-nil old)) (subst (Stands f p old n) (sym new.1) (waits old m n (quiet f.idle) idle high (lasts n)))),
@@ -54,6 +57,7 @@ module _ {X : Type 0} (f : Figure X) (p : Times) (lasts : (m : ℕ) → Lasts f 
       where
         -- the claim of the runs holds of one that ends, whether the end comes at m or later, or before it
         go : Dec (m ≤ h) → (m ≤ h → Stands f p (old ++ evs) h x) × (h < m → (evs ≡ []) × (x ≡ quiet f.idle)) → (m ≤ h → Stands f p (old ++ evs) h (quiet f.ended)) × (h < m → (evs ≡ []) × (quiet f.ended ≡ quiet f.idle))
+        -- the end comes at m or later; it cannot come earlier, since the run stands in idle then, which does not end
         go (yes late) both = (λ high. ends (old ++ evs) h x (both.0 late) may, λ before. absurd (omega (arith, late, before)))
         go (no early) both = absurd (has_no_end h (subst (λ z. MayEnd f p z h) (both.1 (omega (arith, early))).1 may))
     -- the run takes an event, which comes at m or later
@@ -70,6 +74,7 @@ module _ {X : Type 0} (f : Figure X) (p : Times) (lasts : (m : ℕ) → Lasts f 
 
     -- where old events leave the transaction in idle alone, a run over them and later events is a run over the later ones alone
     off : (all : List MachineEvent) (k : ℕ) (y : Owing X) → Stands f p all k y → m ≤ k → (more : List MachineEvent) → all ≡ old ++ more → All (IsFrom m) more → Stands f p more k y
+    -- a run that has only begun has taken no event
     off all k y begins high more is from = subst (λ es. Stands f p es 0 (quiet f.idle)) (second old more is) begins
       where
         -- where two lists together are empty, the second is
@@ -84,6 +89,7 @@ module _ {X : Type 0} (f : Figure X) (p : Times) (lasts : (m : ℕ) → Lasts f 
           where
             -- there are no later events
             by : (ys ≡ []) ⊎ ((front : List MachineEvent) × (e : MachineEvent) × (ys ≡ front ++ e ∷ [])) → ys ≡ []
+            -- a last one would not be before m, as later events are, nor after h, where the run stands, which is before m
             by (inl e) = e
             by (inr (front, e, is_last)) =
                 let whole : evs ≡ (old ++ front) ++ e ∷ [] = are ∙ ap (λ zs. old ++ zs) is_last ∙ sym (append_assoc old front (e ∷ [])) in
@@ -95,7 +101,7 @@ module _ {X : Type 0} (f : Figure X) (p : Times) (lasts : (m : ℕ) → Lasts f 
         go : Dec (m ≤ h) → (m ≤ h → Stands f p more h x) → Stands f p more n x
         go (yes late) before = waits more h n x (before late) low lasting
         go (no early) before =
-            -- m comes before the wait begins: no later event is left, so the run over the old events stands at m in x, which is idle and as new
+            -- the wait begins before m: there is no later event, so the run over the old events stands at m in x, which is idle and as new
             let nil : more ≡ [] = none more is from (omega (arith, early)) in
             let here : Stands f p old m x = waits old h m x (subst (λ es. Stands f p es h x) (is ∙ ap (λ ys. old ++ ys) nil ∙ append-nil old) stands) (omega (arith, early)) (lasts_earlier f p x m n high lasting) in
             subst (λ es. Stands f p es n x) (sym nil) (subst (Stands f p [] n) (sym (only x here)) (new n))
@@ -105,7 +111,7 @@ module _ {X : Type 0} (f : Figure X) (p : Times) (lasts : (m : ℕ) → Lasts f 
       where
         -- the run over the later events stands in z at e, whether e is the last of them or there are none
         go : (more ≡ []) ⊎ ((front : List MachineEvent) × (d : MachineEvent) × (more ≡ front ++ d ∷ [])) → ((front : List MachineEvent) → evs ≡ old ++ front → All (IsFrom m) front → Stands f p front e.moment x) → Stands f p more e.moment z
-        -- no later event was taken, so e is the last one, at the moment m
+        -- there is no later event, so e is the last of the old ones, at the moment m
         go (inl nil) before =
             -- all events are old ones, so e is not after m; and z is idle, which is where a new run begins
             let whole : evs ++ e ∷ [] ≡ old = is ∙ ap (λ ys. old ++ ys) nil ∙ append-nil old in

@@ -61,6 +61,7 @@ split_text es (f ∷ here) later lines (front, rest, line, more, is, long, of, o
 text_here : (es after : Entries) (found : List Finding) (text : List ℕ) → ((f : Finding) → Contains found f → entry_of f ≡ length es) → IsTextOf (es ++ after) found text → IsTextOf es found text
 text_here es after [] text at none = none
 text_here es after (f ∷ found) text at (front, rest, line, more, is, long, of, others, whole) =
+    -- the finding is of the newest entry, so that the entries up to its own are es
     let number = at f (0, omega arith, refl) in
     let same : front ≡ es = sym (take_at front rest (length es) (long ∙ number)) ∙ ap (take (length es)) (sym is) ∙ take_at es after (length es) refl in
     (front, [], line, more, sym same ∙ sym (append-nil front), long, of, text_here es after found more (λ g has. at g (suc has.0, omega (arith, has.1), has.2)) others, whole)
@@ -139,6 +140,7 @@ never_after : (age : ℕ) (part : Option PartOf) (p : Times) (es : Entries) (ite
 -- no item is left
 never_after age part p es [] [] Clean found end after lines are few keys is seen text = (is, subst (λ fs. IsTextOf (es ++ after) fs lines) is.0 text)
 never_after age part p es [] [] (Stops fault) found end after lines are few keys is seen text = (is, subst (λ fs. IsTextOf (es ++ after) fs lines) is.0 text)
+-- as many items are taken and seen as there are, so that no list is longer
 never_after age part p es [] (x ∷ taken) close found end after lines are few keys is seen text = absurd are
 never_after age part p es (item ∷ items) [] close found end after lines are few keys is seen text = absurd are
 never_after age part p es (item ∷ items) (x ∷ taken) close found end [] lines are few keys is seen text = absurd seen
@@ -157,6 +159,7 @@ never_after age part p es (item ∷ items) (x ∷ taken) close found end (f ∷ 
       inr (
         (omega arith, omega arith),
         (
+          -- x is the item as it is taken, e what is seen of it, `here` and `later` what is found at it and after it, and s.text and s.more the lines of both
           x,
           e,
           here,
@@ -168,6 +171,7 @@ never_after age part p es (item ∷ items) (x ∷ taken) close found end (f ∷ 
           sees,
           are,
           text_here (es ++ e ∷ []) after here s.text (λ g has. number_here p es e g ((are.1 g).0 has)) s.first,
+          -- the findings and the lines are those of this item and those of the later ones, which are told in the same way
           both,
           s.whole,
           never_after age part p (es ++ e ∷ []) items taken close later end after s.more more (omega arith) (omega arith) left (subst (λ x. AreSeen (es ++ x ∷ []) taken after) same seen) s.second,
@@ -177,6 +181,7 @@ never_after age part p es (item ∷ items) (x ∷ taken) close found end (f ∷ 
 
 -- a log that stops after 1,000,000 entries stops for no other fault than their number
 cut_off : (format : Format) (count last : ℕ) (rest : List ℕ) (fault : LogReason) → most_entries ≤ count → EndsWith format count last rest (Stops fault) → fault ≡ Limit
+-- the log stops at its limit; or there are fewer entries than the most, which cannot be
 cut_off format count last rest fault many (some, inl (most, same)) = same
 cut_off format count last rest fault many (some, inr (under, at)) = absurd (under many)
 
@@ -222,6 +227,7 @@ whole_taken (item ∷ items) = (refl, whole_taken items)
 -- the log of a part is taken of the whole, item by item
 part_taken : (part : PartOf) (items cuts : List Item) → IsPartLog part items cuts → AreTaken (Some part) items cuts × (length cuts ≡ length items)
 part_taken part [] [] is = (tt, refl)
+-- neither list is longer than the other
 part_taken part [] (x ∷ cuts) is = absurd is
 part_taken part (item ∷ items) [] is = absurd is
 part_taken part (item ∷ items) (x ∷ cuts) (one, is) = let more = part_taken part items cuts is in ((one, more.0), ap suc more.1)
@@ -252,12 +258,14 @@ item_one part item a b one other = by (direction_of item.action) one other
   where
     -- two items that are cut of one item are the same, whether or not it has a message
     by : (direction : Option Direction) → IsPartAs part item a direction → IsPartAs part item b direction → a ≡ b
+    -- an item without a message stays; one with a message is cut by its branch, of which a message tells only one
     by None is are = is ∙ sym are
     by (Some d) (branch, tells, is) (told, also, are) = is ∙ ap (λ t. if falls_into part t then item else mark_of item) (one_told item.text branch told tells also) ∙ sym are
 
 -- a part has one log
 part_one : (part : PartOf) (items cuts others : List Item) → IsPartLog part items cuts → IsPartLog part items others → cuts ≡ others
 part_one part [] [] [] is are = refl
+-- no list is longer than another
 part_one part [] [] (x ∷ others) is are = absurd are
 part_one part [] (x ∷ cuts) others is are = absurd is
 part_one part (item ∷ items) [] others is are = absurd is
@@ -268,8 +276,10 @@ part_one part (item ∷ items) (x ∷ cuts) (y ∷ others) (one, is) (other, are
 -- where nothing is forgotten, the survey of a part and its text are among those of a survey that may forget
 pub never_part : (age : ℕ) (part : PartOf) (input : List ℕ) (found : List Finding) (end : SurveyEnd) (text : List ℕ) → end ≢ LogFault (most_entries + 1) Limit → IsPartToldOf part input found end text → IsToldForgetting age (Some part) input found end text
 -- p and q are the times of the log by the survey and by what is told, and es are the entries that were observed
+-- the input has no header by both, so nothing was found, and the text is the last line alone
 never_part age part input found end text other (inl (lacks, none, ended), (es, inl (also, empty), (lines, are, whole))) =
     inl (lacks, none, ended, whole ∙ ap (λ l. l ++ end_text end (length found)) (subst (λ fs. IsTextOf es fs lines) none are) ∙ ap (λ fs. end_text end (length fs)) none)
+-- both cannot be: by one the input has no header, and by the other it has one
 never_part age part input found end text other (inl (lacks, none, ended), (es, inr (q, others, last, taken, says, cut, seen), told)) = absurd (lacks says.format q _ says.header)
 never_part age part input found end text other (inr (p, items, close, cuts, says, cut, is), (es, inl (lacks, empty), told)) = absurd (lacks says.format p _ says.header)
 -- both surveys are of entries of the part

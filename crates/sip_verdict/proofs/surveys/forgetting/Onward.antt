@@ -51,6 +51,7 @@ no_entry (x ∷ front) e rest is = cc
 -- the moments of entries are those of the items that were read
 seen_moments : (done : Entries) (items : List Item) (es : Entries) → AreSeen done items es → map (λ e. e.event.moment) es ≡ map (λ i. i.moment) items
 seen_moments done [] [] seen = refl
+-- each item has its entry
 seen_moments done [] (e ∷ es) seen = absurd seen
 seen_moments done (item ∷ items) [] seen = absurd seen
 seen_moments done (item ∷ items) (e ∷ es) (sees, seen) = ap₂ (λ m ms. m ∷ ms) (seen_moment done item e item.action sees) (seen_moments (done ++ e ∷ []) items es seen)
@@ -95,20 +96,24 @@ module _ (key : KeyParts) where
 
       -- the one key alone is kept where its own keys are added to it, whether or not the next one is equal to it
       go : (b : Bool) → same_key key k ≡ b → fold with_key (key ∷ []) (own keys) ≡ key ∷ [] → fold with_key (key ∷ []) (cond (same_key key k) (k ∷ own keys) (own keys)) ≡ key ∷ []
+      -- another key is left out; one equal to the key is there already
       go false e rest = ap (λ b. fold with_key (key ∷ []) (cond b (k ∷ own keys) (own keys))) e ∙ rest
       go true e rest =
           ap (λ b. fold with_key (key ∷ []) (cond b (k ∷ own keys) (own keys))) e ∙ ap (λ start. fold with_key start (own keys)) (known e) ∙ rest
 
   -- where the key is among keys, the ones equal to it, each added where it is new, give a list of the key alone
   becomes_one : (keys : List KeyParts) → list_any (same_key key) keys ≡ true → fold with_key [] (own keys) ≡ key ∷ []
+  -- the key is not among no keys
   becomes_one [] some = absurd (false≢true some)
   becomes_one (k ∷ keys) some = go (same_key key k) refl some (becomes_one keys)
     where
       -- where the key is among the keys, its own keys are this key alone, whether or not the first is this one
       go : (b : Bool) → same_key key k ≡ b → (same_key key k || list_any (same_key key) keys) ≡ true → (list_any (same_key key) keys ≡ true → fold with_key [] (own keys) ≡ key ∷ [])
           → fold with_key [] (cond (same_key key k) (k ∷ own keys) (own keys)) ≡ key ∷ []
+      -- another key is left out, so that the key is among the later ones
       go false e any rest =
           ap (λ b. fold with_key [] (cond b (k ∷ own keys) (own keys))) e ∙ rest (sym (ap (λ b. b || list_any (same_key key) keys) e) ∙ any)
+      -- the first key is the one key, and no later one is added to it
       go true e any rest =
           ap (λ b. fold with_key [] (cond b (k ∷ own keys) (own keys))) e ∙ ap (λ z. fold with_key (z ∷ []) (own keys)) (same_back k e) ∙ stays_one keys
 
@@ -120,6 +125,7 @@ module _ (key : KeyParts) where
   -- after an entry that concerns the key, the key is once among the keys of all entries
   own_with : (es : Entries) (e : Observation KeyParts) → list_any (same_key key) e.keys ≡ true → own (keys_in (es ++ e ∷ [])) ≡ key ∷ []
   own_with es e some =
+      -- all the keys that entries name, one after another, with those of e at the end, have the key among them (`any`)
       let all = flat_map (λ f. f.keys) es in
       let whole : flat_map (λ f. f.keys) (es ++ e ∷ []) ≡ all ++ e.keys = flat_map-append (λ f. f.keys) es (e ∷ []) ∙ ap (λ keys. all ++ keys) (append-nil e.keys) in
       let any : list_any (same_key key) (all ++ e.keys) ≡ true = list_any-append (same_key key) all e.keys ∙ or_last (list_any (same_key key) all) (list_any (same_key key) e.keys) some in
@@ -138,6 +144,7 @@ module _ (key : KeyParts) where
     -- where the key is among the keys of two logs alike, and one entry more concerns it in both or in neither, it is among their keys alike still
     own_push : (done left : Entries) (e f : Observation KeyParts) → own (keys_in done) ≡ own (keys_in left) → own e.keys ≡ own f.keys → own (keys_in (done ++ e ∷ [])) ≡ own (keys_in (left ++ f ∷ []))
     own_push done left e f same here =
+        -- the one key among the keys with those of the entry is what its own keys of the entry add to its own among the keys so far
         ap own (keys_in-push done e) ∙ sym (filter_keys (same_key key) (keys_in done) e.keys)
         ∙ ap₂ (λ start keys. fold with_key start keys) same here
         ∙ filter_keys (same_key key) (keys_in left) f.keys ∙ sym (ap own (keys_in-push left f))
@@ -202,6 +209,7 @@ module _ (key : KeyParts) where
     -- ys stand for xs, and vs for us
     zip_join : (xs ys us vs : Entries) → AllZip (IsCutOf (same_key key)) xs ys → AllZip (IsCutOf (same_key key)) us vs → AllZip (IsCutOf (same_key key)) (xs ++ us) (ys ++ vs)
     zip_join [] [] us vs zip more = more
+    -- neither list is longer than the other
     zip_join [] (y ∷ ys) us vs zip more = absurd zip
     zip_join (x ∷ xs) [] us vs zip more = absurd zip
     zip_join (x ∷ xs) (y ∷ ys) us vs zip more = (zip.0, zip_join xs ys us vs zip.1 more)
@@ -215,10 +223,12 @@ module _ (key : KeyParts) where
     Alike front e back f = (Breaks p front e key ↔ Breaks p back f key) × (Widens p front e key ↔ Widens p back f key)
 
     -- two logs in which the key fares as in a third one are alike
+    -- e, c and f are the entries after `front`, `mid` and `back`
     through : (front mid back : Entries) (e c f : Observation KeyParts) → Alike front e mid c → Alike back f mid c → Alike front e back f
     through front mid back e c f a b = ((λ h. b.0.1 (a.0.0 h), λ h. a.0.1 (b.0.0 h)), (λ h. b.1.1 (a.1.0 h), λ h. a.1.1 (b.1.0 h)))
 
     -- where both logs stand for the same entries when other keys are left out, the same is found of the key
+    -- e, c and f are the entries after `front`, `mid` and `back`
     alike_by : (front mid back : Entries) (e c f : Observation KeyParts) → AllZip (IsCutOf (same_key key)) front mid → AllZip (IsCutOf (same_key key)) back mid → IsCutOf (same_key key) e c → IsCutOf (same_key key) f c
         → Alike front e back f
     alike_by front mid back e c f fronts backs first second =
@@ -261,6 +271,7 @@ module _ (key : KeyParts) where
       where
         -- the events of the entry for the key are restarts, whether or not the entry concerns the key
         go : (b : Bool) → list_any (same_key key) e.keys ≡ b → Passes e → All (λ d. d.action ≡ Restart) (map (λ f. f.event) (cond (list_any (same_key key) e.keys) (e ∷ []) []))
+        -- an entry that does not concern the key brings it no event, and one that does is a restart
         go false none any = subst (λ b. All (λ d. d.action ≡ Restart) (map (λ f. f.event) (cond b (e ∷ []) []))) (sym none) (All-nil (λ d. d.action ≡ Restart))
         go true some (inl none) = absurd (false≢true (sym none ∙ some))
         go true some (inr is) = subst (λ b. All (λ d. d.action ≡ Restart) (map (λ f. f.event) (cond b (e ∷ []) []))) (sym some) (All-cons (λ d. d.action ≡ Restart) e.event [] is (All-nil (λ d. d.action ≡ Restart)))
@@ -331,6 +342,7 @@ module _ (key : KeyParts) where
     comes done left item e f Sent sees saw = message e f (message_one way.Sent item e f sees saw) (list_any (same_key key) e.keys) refl
     comes done left item e f Received sees saw = message e f (message_one way.Received item e f sees saw) (list_any (same_key key) e.keys) refl
     comes done left item e f Failed sees saw = message e f (message_one way.Sent item e f sees saw) (list_any (same_key key) e.keys) refl
+    -- a mark concerns no key
     comes done left item e f Mark sees saw = inr (inl (ap (λ g. list_any (same_key key) g.keys) sees), inl (ap (λ g. list_any (same_key key) g.keys) saw))
     comes done left item e f Restart sees saw = inr (inr (ap (λ g. g.event.action) sees), inr (ap (λ g. g.event.action) saw))
 
@@ -355,6 +367,7 @@ module _ (key : KeyParts) where
 
     -- a key that is idle again after both logs has the same trouble at the same entries of what comes
     later_rests : (old left : Entries) (items : List Item) (es fs : Entries) → IsOrdered (old ++ es) → IsOrdered (left ++ fs) → Rests old → Rests left → AreSeen old items es → AreSeen left items fs → HasSameTroubleAfter p old left es fs key
+    -- the entries e and f are among what comes, so that there is an item, and each item has its entry in both logs
     later_rests old left [] [] fs order order_left r r_left seen saw front back e f rest more split other long = absurd (no_entry front e rest split)
     later_rests old left [] (g ∷ es) fs order order_left r r_left seen saw front back e f rest more split other long = absurd seen
     later_rests old left (item ∷ items) [] fs order order_left r r_left seen saw front back e f rest more split other long = absurd seen
@@ -390,6 +403,7 @@ module _ (key : KeyParts) where
         at now now_left later (x ∷ front) [] e f rest more split other long = absurd (omega (arith, long))
         -- the two entries are later ones in both logs
         at now now_left later (x ∷ front) (y ∷ back) e f rest more split other long =
+            -- the next entries g and h are the first ones before e and f; put after the old entries, they leave e and f among what comes later
             let is : g ≡ x = cc in
             let is_left : h ≡ y = cc in
             let tail : es ≡ front ++ e ∷ rest = cc in

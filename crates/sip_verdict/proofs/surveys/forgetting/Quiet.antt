@@ -52,10 +52,12 @@ module _ (texts : Texts) (p : Times) (machine : MachineKind) (events : List Mach
       elim at_rest [
         -- the one state is idle, or it is ended
         | inl first ↦
+            -- x is the state with which the machine begins; so the runs stand in idle alone
             let is = ap (λ z. (meaning_of machine).seen texts z) (ap (λ l. get_or l 0 x) (sym one ∙ first)) ∙ first_is_of machine texts p in
             let at = stands x (quiet (transaction_of machine).figure.idle) one still is in
             inl ((at (quiet (transaction_of machine).figure.idle)).1 refl, λ y h. (at y).0 h)
         | inr last ↦
+            -- x is the state in which the machine ends; so the runs stand in the ended phase alone
             let is = ap (λ z. (meaning_of machine).seen texts z) (ap (λ l. get_or l 0 x) (sym one ∙ last)) ∙ last_is_of machine texts p in
             let at = stands x (quiet (transaction_of machine).figure.ended) one still is in
             inr ((at (quiet (transaction_of machine).figure.ended)).1 refl, λ y h. (at y).0 h)

@@ -43,6 +43,7 @@ restarted f p e y is =
   where
     -- a restart leaves the idle transaction idle
     stays : Restarts f (quiet f.idle) y → y ≡ quiet f.idle
+    -- a restart takes a transaction in idle to idle; the other case is of one that is not idle
     stays (inl idle) = idle.1
     stays (inr other) = absurd (other.0 refl)
 
@@ -104,6 +105,7 @@ module _ (kept : KeyParts → Bool) where
         -- the key is found among the kept keys as often as among all, whether or not k is kept, and whether or not it is the key
         go : (b : Bool) → kept k ≡ b → (t : Bool) → same_key key k ≡ t → filter (same_key key) (filter kept keys) ≡ filter (same_key key) keys
             → filter (same_key key) (cond (kept k) (k ∷ filter kept keys) (filter kept keys)) ≡ cond (same_key key k) (k ∷ filter (same_key key) keys) (filter (same_key key) keys)
+        -- a key that is kept stands on both sides, or on neither if it is another one
         go true e t same rest =
             ap (λ b. filter (same_key key) (cond b (k ∷ filter kept keys) (filter kept keys))) e ∙ ap (λ l. cond (same_key key k) (k ∷ l) l) rest
         -- a key that is not kept is not equal to a kept one
@@ -119,6 +121,7 @@ module _ (kept : KeyParts → Bool) where
     -- where ys are the entries xs cut to the key, ys and further entries cut to the key are xs and these entries cut to the key
     zip_append : (xs ys : List (Observation KeyParts)) → AllZip (IsCutOf (same_key key)) xs ys → (more : List (Observation KeyParts)) → AllZip (IsCutOf (same_key key)) (xs ++ more) (ys ++ remembered (same_key key) more)
     zip_append [] [] zip more = zip_remembered (same_key key) more
+    -- neither list is longer than the other
     zip_append [] (y ∷ ys) zip more = absurd zip
     zip_append (x ∷ xs) [] zip more = absurd zip
     zip_append (x ∷ xs) (y ∷ ys) zip more = (zip.0, zip_append xs ys zip.1 more)
@@ -146,6 +149,7 @@ module _ (kept : KeyParts → Bool) where
         -- a key that is forgotten is not among the kept keys, whether or not k is kept, and whether or not it is the key
         go : (b : Bool) → kept k ≡ b → (t : Bool) → same_key key k ≡ t → list_any (same_key key) (filter kept keys) ≡ false
             → list_any (same_key key) (cond (kept k) (k ∷ filter kept keys) (filter kept keys)) ≡ false
+        -- k is left out; or it is kept, and then it is not the key, which is not
         go false e t same rest = ap (λ b. list_any (same_key key) (cond b (k ∷ filter kept keys) (filter kept keys))) e ∙ rest
         go true e true same rest = absurd (false≢true (sym not ∙ ap kept ((same_key-decides key k).0 same) ∙ e))
         go true e false same rest =

@@ -64,6 +64,7 @@ module _ {X S : Type 0} (names : S → List ℕ) (InRange : S → Type 0) (seen 
 -- the book keeps the messages that the set names, and the moment of the set is that until which it waited
 waited_known : (texts : Texts) → IsBook texts → (moment : ℕ) (old new : AnySet) → SetWaits moment old new → IsKnownSet texts old → IsKnownSet texts new × (moment_of new ≡ moment)
 waited_known texts book moment old new waits known =
+    -- s is the set before the wait, by its machine, and t after it; the states of t stand for runs, so that the book has what they name
     let (machine, s, is) = some_machine old in
     let (t, new_is, waited) = of_sets (λ X M S m s u. HasWaited m moment s u) machine s new (subst (λ o. SetWaits moment o new) is waits) in
     let stand = waited.states texts book (of_set (λ X M S m s. IsKnown m texts s) machine s (subst (IsKnownSet texts) is known)) in
@@ -164,6 +165,7 @@ module _ (texts : Texts) (book : IsBook texts) (t u : Tabled) (moment : ℕ) (wa
   waited_recorded recorded = record {
     long = ap length waited.records ∙ recorded.long ∙ sym (ap length waited.keys);
     each = λ n new r at here.
+        -- the records did not change in the wait, so that r is right for the set before it
         let (old, was) = before n new at in
         let there : slice_get t.records n ≡ Some r = ap (λ rs. slice_get rs n) (sym waited.records) ∙ here in
         go n r old new was at (recorded.each n old r was there);
@@ -196,6 +198,7 @@ module _ (texts : Texts) (book : IsBook texts) (t u : Tabled) (moment : ℕ) (wa
       order = tracks.order;
       keys = waited.keys ∙ tracks.keys;
       each = λ n key new d at here is.
+          -- the set that stood at the place before the wait followed the entries, and so does the one after it
           let (old, was) = before n new here in
           subst (λ q. IsFollowed texts q es key new d) (sym waited.times)
           (follows n old new was here key d (tracks.each n key old d (ap (λ ks. slice_get ks n) (sym waited.keys) ∙ at) was is));
@@ -223,6 +226,7 @@ module _ (texts : Texts) (book : IsBook texts) (t u : Tabled) (moment : ℕ) (wa
 
         -- the set of a transaction that is over is quiet: the transaction is in trouble, idle again, or ended
         by : (n : ℕ) (old new : AnySet) → slice_get t.sets n ≡ Some old → slice_get u.sets n ≡ Some new → (key : KeyParts) (d : Bool) → IsFollowed texts t.times es key old d → IsOver t.times es key → IsQuietSet new
+        -- the set of a deaf transaction leads to the runs over no event, which stand in idle
         by n old new was at key true (leads, unsound) over = idle n old new was at (machine_of_key t.times.rules key) [] leads (idle_begun (machine_of_key t.times.rules key) t.times (newest_moment es))
         by n old new was at key false (leads, sound) (inl unsound) = absurd (unsound sound)
         by n old new was at key false (leads, sound) (inr (inl again)) = idle n old new was at (machine_of_key t.times.rules key) (events_for key es) leads again

@@ -18,6 +18,7 @@ use Rattle.sip_verdict.specs.declared.survey_end.SurveyEnd.TheVariants as ended
 
 -- at each entry some list of findings is found, which may be empty
 found_some : (p : Times) (es : List (Observation KeyParts)) (e : Observation KeyParts) → Weakly ((found : List Finding) × AreFoundAt p es e found)
+-- `never` says that there is no such list; yet the keys that break have numbers, and so have those that are too wide, and these make one
 found_some p es e never =
     let keys = keys_in (es ++ e ∷ []) in
     numbers_some (Breaks p es e) keys (λ broken.
@@ -28,6 +29,7 @@ found_some p es e never =
 after_some : (p : Times) (es : List (Observation KeyParts)) (items : List Item) (close : LogEnd) → Weakly ((found : List Finding) × (end : SurveyEnd) × IsSurveyAfter p es items close found end)
 after_some p es [] Clean never = never ([], ended.Clean (length es) (length (keys_in es)), (refl, refl))
 after_some p es [] (Stops fault) never = never ([], ended.LogFault (length es + 1) fault, (refl, refl))
+-- the next item is seen as an entry, at which some list is found, and the items after it have a survey
 after_some p es (item ∷ items) close never =
     sees_entry es item (λ seen.
     found_some p es seen.0 (λ here.

@@ -35,6 +35,7 @@ numbered P keys key among holds =
 pub found_at : (p : Times) (done : List (Observation KeyParts)) (items : List Item) (close : LogEnd) (es : List (Observation KeyParts)) (found : List Finding) (end : SurveyEnd) → AreSeen done items es →
     IsSurveyAfter p done items close found end → (front : List (Observation KeyParts)) (e : Observation KeyParts) (more : List (Observation KeyParts)) → es ≡ front ++ e ∷ more → (f : Finding) →
     IsFoundAt p (done ++ front) e f → Contains found f
+-- there are as many entries as items, and at least one, since the list is split at e
 found_at p done [] close [] found end seen survey [] e more is f at = absurd (cc)
 found_at p done [] close [] found end seen survey (g ∷ front) e more is f at = absurd (cc)
 found_at p done [] close (g ∷ es) found end seen survey front e more is f at = absurd seen
@@ -59,8 +60,10 @@ found_at p done (item ∷ items) close (g ∷ es) found end (sees, seen) (h, her
 pub found_is : (p : Times) (done : List (Observation KeyParts)) (items : List Item) (close : LogEnd) (es : List (Observation KeyParts)) (found : List Finding) (end : SurveyEnd) → AreSeen done items es →
     IsSurveyAfter p done items close found end → (f : Finding) → Contains found f → (front : List (Observation KeyParts)) × (e : Observation KeyParts) × (more : List (Observation KeyParts)) × (es ≡ front ++ e ∷ more)
     × IsFoundAt p (done ++ front) e f
+-- no item is left, and nothing is found
 found_is p done [] Clean es found end seen survey f has = absurd (Contains-none f (subst (λ fs. Contains fs f) survey.0 has))
 found_is p done [] (Stops fault) es found end seen survey f has = absurd (Contains-none f (subst (λ fs. Contains fs f) survey.0 has))
+-- each item has its entry
 found_is p done (item ∷ items) close [] found end seen survey f has = absurd seen
 -- the finding is found at the entry of the next item, or of a later one
 found_is p done (item ∷ items) close (g ∷ es) found end (sees, seen) (h, here, later, saw, whole, are, rest) f has =

@@ -41,6 +41,7 @@ ordered_front R (x ∷ xs) ys sorted =
 pub observed_order : (format : Format) (last : ℕ) (done : List (Observation KeyParts)) (items : List Item) (es : List (Observation KeyParts)) → InOrder format last items → AreSeen done items es
     → All (λ e. last ≤ e.event.moment) es × AllPairs (λ a b. a.event.moment ≤ b.event.moment) es
 observed_order format last done [] [] order seen = (All-nil (λ e. last ≤ e.event.moment), λ i j d low high. absurd (omega (arith, high)))
+-- each item has its entry, so that neither list is longer
 observed_order format last done [] (e ∷ es) order seen = absurd seen
 observed_order format last done (item ∷ items) [] order seen = absurd seen
 -- the next entry has the moment of its item, and the later ones come after it
@@ -54,6 +55,7 @@ observed_order format last done (item ∷ items) (e ∷ es) (low, entry, order) 
 -- a survey has entries that are observed of its items
 survey_observed : (p : Times) (done : List (Observation KeyParts)) (items : List Item) (close : LogEnd) (found : List Finding) (end : SurveyEnd) → IsSurveyAfter p done items close found end
     → (es : List (Observation KeyParts)) × AreSeen done items es
+-- no item is left, and so no entry; else the survey says what is observed of the next item, and a survey of the rest follows
 survey_observed p done [] close found end survey = ([], tt)
 survey_observed p done (item ∷ items) close found end (e, here, later, sees, whole, at, more) =
     let rest = survey_observed p (done ++ e ∷ []) items close later end more in (e ∷ rest.0, (sees, rest.1))
@@ -66,6 +68,7 @@ keys_after keys (k ∷ more) = by (list_any (same_key k) keys) (keys_after (cond
     -- the keys stand first in those with more, whether or not k is one of them
     by : (b : Bool) → ((zs : List KeyParts) × (fold with_key (cond b keys (keys ++ k ∷ [])) more ≡ cond b keys (keys ++ k ∷ []) ++ zs))
         → (zs : List KeyParts) × (fold with_key (cond b keys (keys ++ k ∷ [])) more ≡ keys ++ zs)
+    -- a key that is there adds none, and a new one comes first of those that are added
     by true rest = rest
     by false rest = (k ∷ rest.0, rest.1 ∙ append_assoc keys (k ∷ []) rest.0)
 
@@ -89,6 +92,7 @@ IsTroubled p front e key = Breaks p front e key ⊎ Widens p front e key
 -- a finding of a transaction at the entry e says that the key with its number breaks there or is followed no further
 troubled : (p : Times) (front : List (Observation KeyParts)) (e : Observation KeyParts) (t : ℕ) (f : Finding) → IsOf t f → IsFoundAt p front e f → HoldsOf (IsTroubled p front e) (keys_in (front ++ e ∷ [])) t
 troubled p front e t (Malformed n a) is found = absurd is
+-- the number in the finding is t, so that what is found of its key is of the key with the number t
 troubled p front e t (Breach n u) is (at, (before, key, rest, are, breaks, number)) = (before, key, rest, are, inl breaks, sym is ∙ number)
 troubled p front e t (Undecided n u) is (at, (before, key, rest, are, widens, number)) = (before, key, rest, are, inr widens, sym is ∙ number)
 
@@ -150,7 +154,9 @@ module _ (p : Times) (es : List (Observation KeyParts)) (order : AllPairs (λ a 
 
 -- two findings of one transaction in a survey are the same
 pub named_once : (input : List ℕ) (found : List Finding) (end : SurveyEnd) → IsSurveyOf input found end → (t : ℕ) (f g : Finding) → Contains found f → Contains found g → IsOf t f → IsOf t g → f ≡ g
+-- without a header nothing is found
 named_once input found end (inl lacks) t f g has also is so = absurd (Contains-none f (subst (λ fs. Contains fs f) lacks.1 has))
+-- else both findings are found at entries of the log, which are in order
 named_once input found end (inr (p, items, close, says, survey)) t f g has also is so =
     let (es, seen) = survey_observed p [] items close found end survey in
     let order = (observed_order says.format 0 [] items es says.order seen).1 in

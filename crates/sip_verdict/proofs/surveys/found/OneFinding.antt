@@ -17,9 +17,11 @@ sound_fewer p key front more order (runs, narrow) = (
 -- a transaction that broke at an entry, or is followed no further from it, is in trouble after it, whatever entries come
 pub stays_in_trouble : (p : Times) (key : KeyParts) (front : List (Observation KeyParts)) (e : Observation KeyParts) (more : List (Observation KeyParts))
     → AllPairs (λ a b. a.event.moment ≤ b.event.moment) (front ++ e ∷ more) → Breaks p front e key ⊎ Widens p front e key → ¬ (IsSound p (front ++ e ∷ more) key)
+-- in no trouble over all entries it would have a run over those up to e too, but it broke there
 stays_in_trouble p key front e more order (inl breaks) sound =
     let one : front ++ e ∷ more ≡ (front ++ e ∷ []) ++ more = sym (append_assoc front (e ∷ []) more) in
     breaks.1 (sound_fewer p key (front ++ e ∷ []) more (subst (AllPairs (λ a b. a.event.moment ≤ b.event.moment)) one order) (subst (λ es. IsSound p es key) one sound)).0
+-- it is too wide at e, which is one of the entries
 stays_in_trouble p key front e more order (inr widens) sound = sound.1 front e more refl widens.1
 
 -- a transaction that broke at an entry, or is followed no further from it, has no finding at a later entry
@@ -36,6 +38,7 @@ trouble_breaks p key es e sound unsound none = none (inl (sound, λ runs. unsoun
 -- where nothing is found of a transaction at any entry, it is in no trouble
 no_finding : (p : Times) (key : KeyParts) (done rest es : List (Observation KeyParts)) → es ≡ done ++ rest → ¬ (¬ (IsSound p done key))
     → ((front : List (Observation KeyParts)) (e : Observation KeyParts) (more : List (Observation KeyParts)) → es ≡ front ++ e ∷ more → ¬ (Breaks p front e key ⊎ Widens p front e key)) → ¬ (¬ (IsSound p es key))
+-- `done` are the entries that are known to leave it in no trouble, and `rest` those that are left, one of which is taken up at each step
 no_finding p key done [] es is sound none = λ never. sound (λ s. never (subst (λ xs. IsSound p xs key) (sym (is ∙ append-nil done)) s))
 no_finding p key done (e ∷ rest) es is sound none =
     no_finding p key (done ++ e ∷ []) rest es (is ∙ sym (append_assoc done (e ∷ []) rest)) (λ unsound. sound (λ s. trouble_breaks p key done e s unsound (none done e rest is))) none

@@ -33,6 +33,7 @@ module _ {A : Type 0} (R : A → A → Type 0) (once : (a b : A) → R a b → R
   -- lists in order with the same elements are the same
   pub ordered_one : (xs ys : List A) → AllPairs R xs → AllPairs R ys → ((a : A) → Contains xs a → Contains ys a) → ((a : A) → Contains ys a → Contains xs a) → xs ≡ ys
   ordered_one [] [] a b to from = refl
+  -- an element of the one list would be in the other, which is empty
   ordered_one [] (y ∷ ys) a b to from = absurd (Contains-none y (from y (Contains-here y ys)))
   ordered_one (x ∷ xs) [] a b to from = absurd (Contains-none x (to x (Contains-here x xs)))
   ordered_one (x ∷ xs) (y ∷ ys) a b to from =
@@ -40,6 +41,7 @@ module _ {A : Type 0} (R : A → A → Type 0) (once : (a b : A) → R a b → R
     where
       -- the first elements of both lists are the same, since neither comes before the other
       by : (y ≡ x) ⊎ Contains ys x → (x ≡ y) ⊎ Contains xs y → x ≡ y
+      -- the one is the other's first element; or each is a later element of the other list, so that each comes before the other
       by (inl e) h = sym e
       by (inr h) (inl e) = e
       by (inr h) (inr k) = absurd (once y x (first_before R y ys b x h) (first_before R x xs a y k))

@@ -19,6 +19,7 @@ use Rattle.sip_verdict.proofs.surveys.forgetting.Lasting.{idle_lasts}
 -- a key that no entry concerns has a run
 pub idle_runs : (p : Times) (es : List (Observation KeyParts)) (key : KeyParts) → events_for key es ≡ [] → RunsOver p es key
 idle_runs p es key none =
+    -- a run over no event begins in idle and can wait there for ever
     let kind = machine_of_key p.rules key in
     let f = (transaction_of kind).figure in
     (quiet f.idle, subst (λ events. Stands f p events (newest_moment es) (quiet f.idle)) (sym none) (waits [] 0 (newest_moment es) (quiet f.idle) begins zero-le (idle_lasts kind p (newest_moment es))))
@@ -30,6 +31,7 @@ concerned-among key es e h = by (list_any (same_key key) (keys_in (es ++ e ∷ [
     -- the key is among the keys, since the entry concerns it
     by : (b : Bool) → list_any (same_key key) (keys_in (es ++ e ∷ [])) ≡ b → Contains (keys_in (es ++ e ∷ [])) key
     by true is = among-contains key (keys_in (es ++ e ∷ [])) is
+    -- were it not among them, it would not be among the keys of the entry
     by false is =
         let lacks = among-fold key (keys_in es) e.keys (ap (list_any (same_key key)) (sym (keys_in-push es e)) ∙ is) in
         absurd (false≢true (sym lacks.1 ∙ h))
@@ -55,6 +57,7 @@ sound_push p es e key sound runs narrow = (runs, λ front f rest is. by front f 
     -- wherever the entries are split, at the new entry or before it, the key is not too wide at the entry there
     by : (front : List (Observation KeyParts)) (f : Observation KeyParts) (rest : List (Observation KeyParts)) → es ++ e ∷ [] ≡ front ++ f ∷ rest →
         ((es ≡ front) × (e ≡ f)) ⊎ (((zs : List (Observation KeyParts)) × (front ≡ es ++ e ∷ zs)) ⊎ ((zs : List (Observation KeyParts)) × (es ≡ front ++ f ∷ zs))) → ¬ (IsWideAt p front f key)
+    -- the split is at the new entry; it cannot be past the last; or it is at one of the entries before
     by front f rest is (inl h) wide = narrow (subst (λ g. IsWideAt p es g key) (sym h.1) (subst (λ gs. IsWideAt p gs f key) (sym h.0) wide))
     by front f rest is (inr (inl h)) wide = absurd (omega (arith, simp length-append at (ap length is), simp length-append at (ap length h.1)))
     by front f rest is (inr (inr h)) wide = sound.1 front f h.0 h.1 wide
@@ -66,6 +69,7 @@ all_sound_push p es e sound runs narrow key = sound_push p es e key (sound key) 
   where
     -- the key has a run over one entry more, whether or not it is among the keys
     by_key : (b : Bool) → list_any (same_key key) (keys_in (es ++ e ∷ [])) ≡ b → RunsOver p (es ++ e ∷ []) key
+    -- a key among the keys has a run, as all of these have; no entry concerns any other key
     by_key true is = All-contains (RunsOver p (es ++ e ∷ [])) (keys_in (es ++ e ∷ [])) key runs (among-contains key (keys_in (es ++ e ∷ [])) is)
     by_key false is = idle_runs p (es ++ e ∷ []) key (new_key key (es ++ e ∷ []) is)
 

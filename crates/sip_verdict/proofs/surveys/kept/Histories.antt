@@ -153,6 +153,7 @@ module _ (entry : ℕ) (text : List ℕ) where
     has.0,
     (let within = slice_get_within t.keys (n - 1) key has.1 in omega (arith, long)),
   )
+  -- a known key has a history, so that none is begun; and a new key has none that could be written anew
   note_long key n t u old new (inl (has, same)) long (inr h) = (let within = slice_get_within t.keys (n - 1) key has.1 in let beyond = h.beyond in absurd (omega (arith, long)))
   note_long key n t u old new (inr (none, counts, is)) long (inl h) = (let within = slice_get_within old (n - 1) h.before h.was in absurd (omega (arith, long, counts)))
   -- the key is new, and so is its history
@@ -181,6 +182,7 @@ module _ (entry : ℕ) (text : List ℕ) where
     where
       -- the history at the place is right after a new one was begun, whether or not the place is that of the new one
       by : (b : Bool) → nat_eq (i + 1) n ≡ b → (slice_get old i ≡ Some h) ⊎ ((i ≡ length old) × (note.begun ≡ h)) → IsAt entry text old i h b
+      -- the new history stands after all others, so that its place is past them, and only its number is n
       by true same (inl was) = (let within = slice_get_within old i h was in let beyond = note.beyond in absurd (omega (arith, (unsigned_Decides (i + 1) n).0 same)))
       by true same (inr (at, is)) = (
         sym (ap (λ k. k.last) is) ∙ note.last,
@@ -198,6 +200,7 @@ module _ (entry : ℕ) (text : List ℕ) where
   -- ns are the numbers of the keys ks; t and u are the tables before and after these were looked up
   pub notes_long : (ks : List KeyParts) (ns : List ℕ) (t u : Tabled) (old new : List History) → TouchesEach ks ns t u → length old ≡ length t.keys → NotesEach entry text ns old new → length new ≡ length u.keys
   notes_long [] [] t u old new same long is = ap length is ∙ long ∙ ap (λ x. length x.keys) (sym same)
+  -- there are as many keys as numbers
   notes_long [] (n ∷ ns) t u old new touched long notes = absurd touched
   notes_long (k ∷ ks) [] t u old new touched long notes = absurd touched
   notes_long (k ∷ ks) (n ∷ ns) t u old new (between, one, rest) long (mid, note, notes) = notes_long ks ns between u mid new rest (note_long k n t between old mid one long note).0 notes
@@ -217,7 +220,9 @@ module _ (entry : ℕ) (text : List ℕ) where
     where
       -- the history at the place is right after all notes, whether or not the number of the place is among the others
       by : (b : Bool) → IsAt entry text mid i h b → ((j : History) → slice_get mid i ≡ Some j → IsAt entry text old i j (nat_eq (i + 1) n)) → IsAt entry text old i h (nat_eq (i + 1) n || b)
+      -- the number is not among the others: the history is what the first key's note left
       by false was step = subst (IsAt entry text old i h) (sym (or_none (nat_eq (i + 1) n))) (step h was)
+      -- the notes of the others wrote the history j anew, which the first key's note left; its branch and its first entry stay
       by true (last, inl (j, was, branch, first)) step = subst (IsAt entry text old i h) (sym (or_some (nat_eq (i + 1) n))) (last, back (nat_eq (i + 1) n) (step j was))
         where
           -- the history h at the place is right after both notes, whether or not the number of the place was noted first
@@ -225,6 +230,7 @@ module _ (entry : ℕ) (text : List ℕ) where
           back false same = inl (j, same, branch, first)
           back true (_, inl (o, same, o_branch, o_first)) = inl (o, same, branch ∙ o_branch, first ∙ o_first)
           back true (_, inr (beyond, o_first, spells)) = inr (beyond, first ∙ o_first, subst (SpellsBranch text) (sym branch) spells)
+      -- the notes of the others began the history, past all those that the first key's note left
       by true (last, inr (beyond, first, spells)) step =
           subst (IsAt entry text old i h) (sym (or_some (nat_eq (i + 1) n))) (last, inr ((let grows = long_note n old mid note in omega (arith, beyond)), first, spells))
 
@@ -266,6 +272,7 @@ module _ (es : Entries) (e : Observation KeyParts) (b c : Histories) (number : �
     long = notes_long number text ks ns t w b.each.items c.each.items touched t_long notes ∙ ap length w_keys;
     restart = (let long = length-append es (e ∷ []) in let low = h.restart in omega (arith, same_restart));
     each = λ n key k at here.
+        -- the key stands at n in the new tables (`there`), and the entry concerns it exactly if its number was noted (`is`)
         let there : slice_get w.keys n ≡ Some key = ap (λ xs. slice_get xs n) w_keys ∙ at in
         let is : is_of key e ≡ is_among ns (n + 1) = ap (list_any (same_key key)) keys ∙ same_numbers w.keys apart ns ks (have_numbers ks ns t w touched) n key there in
         by n key k (is_among ns (n + 1)) is (notes_at number text ks ns t w b.each.items c.each.items touched t_long notes n k here) (old_or_new n key there);
@@ -282,6 +289,7 @@ module _ (es : Entries) (e : Observation KeyParts) (b c : Histories) (number : �
       by n key k false other was (inl at) =
           let one = h.each n key k at was in
           record { first = first_more es e key k.first k.branch.items one.first; last = subst (λ r. IsLastOf (es ++ e ∷ []) key (max k.last r)) (sym same_restart) (last_more es e key (max k.last b.restart) other one.last) }
+      -- a key that is new has no history yet
       by n key k false other was (inr (beyond, none)) = (let within = slice_get_within b.each.items n k was in absurd (omega (arith, t_long)))
       -- the entry is its last one now
       by n key k true is (last, inl (o, was, branch, first)) (inl at) =
@@ -290,6 +298,7 @@ module _ (es : Entries) (e : Observation KeyParts) (b c : Histories) (number : �
             first = subst (λ x. IsFirstOf (es ++ e ∷ []) key x k.branch.items) (sym first) (subst (IsFirstOf (es ++ e ∷ []) key o.first) (sym branch) (first_more es e key o.first o.branch.items one.first));
             last = last_here es e key (max k.last c.restart) is (newest k last);
           }
+      -- a key that is new had no history
       by n key k true is (last, inl (o, was, branch, first)) (inr (beyond, none)) = (let within = slice_get_within b.each.items n o was in absurd (omega (arith, t_long)))
       -- the key is new, so the entry is its first and its last one
       by n key k true is (last, inr (beyond, first, spells)) (inl at) = (let within = slice_get_within (keys_in es) n key at in let long = h.long in absurd (omega arith))
@@ -312,6 +321,7 @@ some_keys key keys is none = false≢true (sym (ap (list_any (same_key key)) non
 -- an entry whose message concerns a key has a message with a branch
 heard_says : (direction : Direction) (i : Item) (e : Observation KeyParts) → ObservesMessage direction i e → (key : KeyParts) → is_of key e ≡ true
     → (s : Said) × Says i.text (gives s) × ((branch : List ℕ) × (s.via.branch ≡ Some branch))
+-- a message with a fault, or whose branch has no cookie, concerns no key
 heard_says direction i e (has_fault fault says is) key of = absurd (some_keys key e.keys of (ap (λ o. o.keys) is))
 heard_says direction i e (has_no_cookie s says lacks is) key of = absurd (some_keys key e.keys of (ap (λ o. o.keys) is))
 heard_says direction i e (is_heard s keys says fine concerns is) key of =
@@ -328,6 +338,7 @@ message_says es i e says seen key of =
 -- ns are the numbers of the keys ks; t and u are the tables before and after these were looked up
 pub touched_low : (ks : List KeyParts) (ns : List ℕ) (t u : Tabled) → TouchesEach ks ns t u → All (λ n. 0 < n) ns
 touched_low [] [] t u same = All-nil (λ n. 0 < n)
+-- there are as many keys as numbers
 touched_low [] (n ∷ ns) t u touched = absurd touched
 touched_low (k ∷ ks) [] t u touched = absurd touched
 touched_low (k ∷ ks) (n ∷ ns) t u (between, one, rest) = All-cons (λ i. 0 < i) n ns (low one) (touched_low ks ns between u rest)

@@ -51,6 +51,7 @@ module _ (texts : Texts) (book : IsBook texts) (t u : Tabled) (moment : ℕ) (ad
 
   -- a set that follows the entries for a key follows them beside the kept messages alone
   follows : (n : ℕ) (old new : AnySet) → slice_get t.sets n ≡ Some old → slice_get u.sets n ≡ Some new → (key : KeyParts) (d : Bool) → IsFollowed texts p es key old d → IsFollowed (only numbers texts) p es key new d
+  -- the set of a deaf transaction leads to the runs over no event, and any other to those over the key's events
   follows n old new was is key true (h, unsound) = (leads n old new was is key [] h, unsound)
   follows n old new was is key false (h, sound) = (leads n old new was is key (events_for key es) h, sound)
 
@@ -60,6 +61,7 @@ module _ (texts : Texts) (book : IsBook texts) (t u : Tabled) (moment : ℕ) (ad
     order = tracks.order;
     keys = advances.keys ∙ tracks.keys;
     each = λ n key new d at here is.
+        -- the set that stood at the place before the wait followed the entries, and so does the one after it, beside the kept messages
         let (old, was) = before texts book t u moment advances may numbers up same n new here in
         subst (λ q. IsFollowed (only numbers texts) q es key new d) (sym advances.times)
         (follows n old new was here key d (tracks.each n key old d (ap (λ ks. slice_get ks n) (sym advances.keys) ∙ at) was is));
@@ -100,7 +102,9 @@ module _ (texts : Texts) (book : IsBook texts) (t u : Tabled) (moment : ℕ) (ad
     where
       -- the sets name the message if the transaction of this set does
       by : (n : ℕ) (old new : AnySet) → slice_get t.sets n ≡ Some old → slice_get u.sets n ≡ Some new → (d : Bool) → IsFollowed texts p es h.key old d → IsNumberOf texts (flat_map numbers_of u.sets) text
+      -- a deaf transaction is in trouble, and this one is in none
       by n old new was there true (leads_it, unsound) = absurd (unsound h.sound)
+      -- the set of one in no trouble names all that a state names in which a run over its events stands
       by n old new was there false (leads_it, sound) =
           into n new there text
           ((names n old new was there h.key (events_for h.key es) leads_it text).0
@@ -109,6 +113,7 @@ module _ (texts : Texts) (book : IsBook texts) (t u : Tabled) (moment : ℕ) (ad
   -- a message under a number that some set names is named by a transaction in no trouble
   from_number : (text : List ℕ) → IsNumberOf texts (flat_map numbers_of u.sets) text → IsStillNamed p es text
   from_number text (number, has, text_is) =
+      -- the number is named by the set `new` at the place n, where the key has the set `old` from before the wait and the flag d
       let (new, (n, inside, is), in_set) = Contains-from_flat_map numbers_of u.sets number has in
       let there : slice_get u.sets n ≡ Some new = slice_get-get_or u.sets n new inside ∙ ap Some is in
       let (key, at) = at_place t.keys n (let long = may.long in let as_long = advances.long in omega (arith, inside)) in
@@ -117,6 +122,7 @@ module _ (texts : Texts) (book : IsBook texts) (t u : Tabled) (moment : ℕ) (ad
     where
       -- the transaction of this set names the message if the set does
       by : (n : ℕ) (key : KeyParts) (new : AnySet) → slice_get u.sets n ≡ Some new → IsNumberOf texts (numbers_of new) text → (old : AnySet) → slice_get t.sets n ≡ Some old → (d : Bool) → IsFollowed texts p es key old d → IsStillNamed p es text
+      -- the set of a deaf transaction leads to the runs over no event, and these name no message
       by n key new there named old was true (leads_it, unsound) =
           absurd (no_events_silent p moment (machine_of_key p.rules key) [] text refl ((names n old new was there key [] leads_it text).1 named))
       -- a transaction in no trouble has a run whose state names the message

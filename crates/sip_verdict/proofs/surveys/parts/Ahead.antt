@@ -20,6 +20,7 @@ module _ (p new : ProgressState) (a : Ahead) (is : IsAhead p a) (e : Entry) (num
   -- the entry has the next number, and keeps the order and the limit of moments
   pub takes_ahead : TakesOn p new (next.Entry e)
   takes_ahead =
+      -- that the entry comes next says that there were fewer than the most entries (few), and that its moment is in order and within the limit (high)
       let (whole, few, order, entry) = is.comes [] in
       let high = entry.1.0 in
       let count = number ∙ is.number_is in (

@@ -69,6 +69,7 @@ module _ (chosen : List ℕ → Bool) where
 
   -- an item of whose message keys are observed stays or becomes a mark
   message_cut : (direction : Direction) (item : Item) (e : Observation KeyParts) → ObservesMessage direction item e → Cut item e
+  -- a message with a fault, or whose branch has no cookie, concerns no key; the keys of any other have the branch of its Via
   message_cut direction item e (has_fault fault says is) = none_stays item e (ap (λ f. f.keys) is)
   message_cut direction item e (has_no_cookie s says lacks is) = none_stays item e (ap (λ f. f.keys) is)
   message_cut direction item e (is_heard s keys says has concerns is) =
@@ -89,6 +90,7 @@ module _ (chosen : List ℕ → Bool) where
   -- a log of the chosen branches exists
   pub branch_cut : (done : List (Observation KeyParts)) (items : List Item) (es : List (Observation KeyParts)) → AreSeen done items es → (cuts : List Item) × IsCutLog (λ key. chosen key.branch) items es cuts
   branch_cut done [] [] seen = ([], tt)
+  -- each item has its entry
   branch_cut done [] (e ∷ es) seen = absurd seen
   branch_cut done (item ∷ items) [] seen = absurd seen
   branch_cut done (item ∷ items) (e ∷ es) (sees, seen) =

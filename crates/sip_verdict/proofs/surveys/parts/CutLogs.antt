@@ -55,6 +55,7 @@ module _ (chosen : KeyParts → Bool) where
   -- an item that stays, being a restart or having chosen keys alone, is seen after the cut entries as an entry that stands for e
   stays : (done back : List (Observation KeyParts)) → AllZip (IsCutOf chosen) done back → (item : Item) (e : Observation KeyParts) (a : Action) → SeenAs done item e a
       → (a ≡ Restart) ⊎ All (λ key. chosen key ≡ true) e.keys → Cut back item e a
+  -- an item with a message is no restart, so that all its keys are chosen; its message is seen alike after any entries
   stays done back zip item e Sent sees (inl other) = absurd (cc)
   stays done back zip item e Sent sees (inr all) = (e, sees, heard_stays back item e all)
   stays done back zip item e Received sees (inl other) = absurd (cc)
@@ -69,8 +70,10 @@ module _ (chosen : KeyParts → Bool) where
   -- an item of the cut log is seen after the cut entries as an entry that stands for e
   one_cut : (done back : List (Observation KeyParts)) → AllZip (IsCutOf chosen) done back → (item : Item) (e : Observation KeyParts) (cut : Item) → Sees done item e → StaysOrIsMark chosen item e cut
       → (c : Observation KeyParts) × Sees back cut c × IsCutOf chosen e c
+  -- the item stays
   one_cut done back zip item e cut sees (inl (is, either)) =
       let found = stays done back zip item e item.action sees either in (found.0, subst (λ i. Sees back i found.0) (sym is) found.1, found.2)
+  -- the item becomes a mark, which is seen as an entry of the same moment without keys, and none of the keys of e is chosen
   one_cut done back zip item e cut sees (inr (is, none)) =
       let c : Observation KeyParts = silent_observation Mark item.moment [] in
       (c, subst (λ i. Sees back i c) (sym is) refl, (sym (seen_moment done item e item.action sees), sym (filter_none e.keys none), λ some. absurd (some refl)))
@@ -79,6 +82,7 @@ module _ (chosen : KeyParts → Bool) where
   pub log_cut : (done back : List (Observation KeyParts)) → AllZip (IsCutOf chosen) done back → (items : List Item) (es : List (Observation KeyParts)) (cuts : List Item) → AreSeen done items es
       → IsCutLog chosen items es cuts → (cs : List (Observation KeyParts)) × AreSeen back cuts cs × AllZip (IsCutOf chosen) es cs
   log_cut done back zip [] [] [] seen cut = ([], tt, tt)
+  -- each item has its entry and its item of the cut log, so that no list is longer
   log_cut done back zip [] [] (c ∷ cuts) seen cut = absurd cut
   log_cut done back zip [] (e ∷ es) cuts seen cut = absurd seen
   log_cut done back zip (item ∷ items) [] cuts seen cut = absurd seen

@@ -28,8 +28,11 @@ module _ (chosen : KeyParts → Bool) where
       -- the key is found among the chosen keys as it is among all, whether or not k is chosen, and whether or not it is the key
       go : (b : Bool) → chosen k ≡ b → (t : Bool) → same_key key k ≡ t → list_any (same_key key) (filter chosen keys) ≡ list_any (same_key key) keys
           → list_any (same_key key) (cond (chosen k) (k ∷ filter chosen keys) (filter chosen keys)) ≡ (same_key key k || list_any (same_key key) keys)
+      -- k is chosen, and stands first in both lists
       go true e t same rest = ap (λ b. list_any (same_key key) (cond b (k ∷ filter chosen keys) (filter chosen keys))) e ∙ ap (λ b. same_key key k || b) rest
+      -- k is not chosen, so it is not the key, which is
       go false e true same rest = absurd (false≢true (sym e ∙ ap chosen (sym ((same_key-decides key k).0 same)) ∙ is))
+      -- k is neither chosen nor the key: it is left out, and finds nothing in the other list
       go false e false same rest =
           ap (λ b. list_any (same_key key) (cond b (k ∷ filter chosen keys) (filter chosen keys))) e ∙ rest ∙ ap (λ b. b || list_any (same_key key) keys) (sym same)
 
@@ -51,6 +54,7 @@ module _ (chosen : KeyParts → Bool) where
 
       -- one key more is cut as the keys are, whether or not k is chosen, and whether or not it is among the keys already
       by : (b t : Bool) → chosen k ≡ b → list_any (same_key k) keys ≡ t → OneMore keys k b t
+      -- k is chosen: it is there on both sides, or is added on both; it is not chosen: it is left out, whether or not it is added to all
       by true true e f = sym (ap (λ t. cond t (filter chosen keys) (filter chosen keys ++ k ∷ [])) (there true f e))
       by true false e f = one true e ∙ sym (ap (λ t. cond t (filter chosen keys) (filter chosen keys ++ k ∷ [])) (there false f e))
       by false true e f = refl
@@ -78,6 +82,7 @@ module _ (chosen : KeyParts → Bool) where
   -- the keys of the cut entries, one after another, are the chosen ones of the whole log's
   all_keys : (es cs : List (Observation KeyParts)) → AllZip (IsCutOf chosen) es cs → flat_map (λ c. c.keys) cs ≡ filter chosen (flat_map (λ e. e.keys) es)
   all_keys [] [] zip = refl
+  -- entries stand for one another one by one, so that there are as many of the one as of the other
   all_keys [] (c ∷ cs) zip = absurd zip
   all_keys (e ∷ es) [] zip = absurd zip
   all_keys (e ∷ es) (c ∷ cs) (here, rest) = ap₂ (λ a b. a ++ b) here.1 (all_keys es cs rest) ∙ sym (filter-append chosen e.keys (flat_map (λ f. f.keys) es))
@@ -89,6 +94,7 @@ module _ (chosen : KeyParts → Bool) where
   -- where entries stand for others, they still do with one entry more on both sides
   pub zip_push : (es cs : List (Observation KeyParts)) (e c : Observation KeyParts) → AllZip (IsCutOf chosen) es cs → IsCutOf chosen e c → AllZip (IsCutOf chosen) (es ++ e ∷ []) (cs ++ c ∷ [])
   zip_push [] [] e c zip here = (here, tt)
+  -- neither list is longer than the other
   zip_push [] (d ∷ cs) e c zip here = absurd zip
   zip_push (f ∷ es) [] e c zip here = absurd zip
   zip_push (f ∷ es) (d ∷ cs) e c zip here = (zip.0, zip_push es cs e c zip.1 here)
@@ -96,6 +102,7 @@ module _ (chosen : KeyParts → Bool) where
   -- the newest moment of the cut log is that of the whole log
   pub newest_cut : (last : ℕ) (es cs : List (Observation KeyParts)) → AllZip (IsCutOf chosen) es cs → fold (λ moment e. e.event.moment) last cs ≡ fold (λ moment e. e.event.moment) last es
   newest_cut last [] [] zip = refl
+  -- neither list is longer than the other
   newest_cut last [] (c ∷ cs) zip = absurd zip
   newest_cut last (e ∷ es) [] zip = absurd zip
   newest_cut last (e ∷ es) (c ∷ cs) (here, rest) =
@@ -122,12 +129,14 @@ module _ (chosen : KeyParts → Bool) where
     -- the key has the same events in the cut log
     pub events_cut : (es cs : List (Observation KeyParts)) → AllZip (IsCutOf chosen) es cs → events_for key cs ≡ events_for key es
     events_cut [] [] zip = refl
+    -- neither list is longer than the other
     events_cut [] (c ∷ cs) zip = absurd zip
     events_cut (e ∷ es) [] zip = absurd zip
     events_cut (e ∷ es) (c ∷ cs) (here, rest) = go (concerns key c) refl (events_cut es cs rest)
       where
         -- the key has the same events in both logs with one entry more, whether or not the entry concerns the key
         by : (b : Bool) → concerns key c ≡ b → events_for key cs ≡ events_for key es → events_with b c cs ≡ events_with b e es
+        -- an entry that concerns the key has the same event in both logs; one that does not brings none in either
         by true any same = ap₂ (λ f fs. f ∷ fs) (event_cut e c here any) same
         by false any same = same
 
@@ -141,6 +150,7 @@ module _ (chosen : KeyParts → Bool) where
       pub runs_cut : (es cs : List (Observation KeyParts)) → AllZip (IsCutOf chosen) es cs → RunsOver p es key ↔ RunsOver p cs key
       runs_cut es cs zip =
           let f = (transaction_of (machine_of_key p.rules key)).figure in (
+            -- both logs have the same events of the key and the same newest moment, so that a run over the one is a run over the other
             λ runs. (runs.0, subst (λ m. Stands f p (events_for key cs) m runs.0) (sym (newest_cut 0 es cs zip)) (subst (λ events. Stands f p events (newest_moment es) runs.0) (sym (events_cut es cs zip)) runs.1)),
             λ runs. (runs.0, subst (λ m. Stands f p (events_for key es) m runs.0) (newest_cut 0 es cs zip) (subst (λ events. Stands f p events (newest_moment cs) runs.0) (events_cut es cs zip) runs.1)),
           )
@@ -175,7 +185,9 @@ module _ (chosen : KeyParts → Bool) where
       -- where the cut log is split at an entry, the whole log is split at the entry for which it stands
       pub split_left : (es front : List (Observation KeyParts)) (c : Observation KeyParts) (rest : List (Observation KeyParts)) → AllZip (IsCutOf chosen) es (front ++ c ∷ rest)
           → (back : List (Observation KeyParts)) × (e : Observation KeyParts) × (more : List (Observation KeyParts)) × (es ≡ back ++ e ∷ more) × AllZip (IsCutOf chosen) back front × IsCutOf chosen e c
+      -- the whole log is not empty, since an entry stands for c
       split_left [] [] c rest zip = absurd zip
+      -- the split is at the first entry, or at a later one, which is split off the rest
       split_left (e ∷ es) [] c rest zip = ([], e, es, refl, tt, zip.0)
       split_left [] (f ∷ front) c rest zip = absurd zip
       split_left (e ∷ es) (f ∷ front) c rest zip =
@@ -185,7 +197,9 @@ module _ (chosen : KeyParts → Bool) where
       -- where the whole log is split at an entry, the cut log is split at the one that stands for it
       pub split_right : (front cs : List (Observation KeyParts)) (e : Observation KeyParts) (rest : List (Observation KeyParts)) → AllZip (IsCutOf chosen) (front ++ e ∷ rest) cs
           → (back : List (Observation KeyParts)) × (c : Observation KeyParts) × (more : List (Observation KeyParts)) × (cs ≡ back ++ c ∷ more) × AllZip (IsCutOf chosen) front back × IsCutOf chosen e c
+      -- the cut log is not empty, since an entry stands for e
       split_right [] [] e rest zip = absurd zip
+      -- the split is at the first entry, or at a later one, which is split off the rest
       split_right [] (c ∷ cs) e rest zip = ([], c, cs, refl, tt, zip.0)
       split_right (f ∷ front) [] e rest zip = absurd zip
       split_right (f ∷ front) (c ∷ cs) e rest zip =
@@ -198,6 +212,7 @@ module _ (chosen : KeyParts → Bool) where
         λ sound. (
           (runs_cut es cs zip).0 sound.0,
           λ front c rest is wide.
+              -- an entry at which the key was too wide in the cut log stands for one of the whole log, at which it would be too wide
               let found = split_left es front c rest (subst (AllZip (IsCutOf chosen) es) is zip) in
               sound.1 found.0 found.1 found.2 found.3 ((wide_cut found.0 front found.1 c found.4 found.5).1 wide),
         ),
@@ -205,6 +220,7 @@ module _ (chosen : KeyParts → Bool) where
         λ sound. (
           (runs_cut es cs zip).1 sound.0,
           λ front e rest is wide.
+              -- an entry at which the key was too wide in the whole log has one that stands for it, at which it would be too wide
               let found = split_right front cs e rest (subst (λ xs. AllZip (IsCutOf chosen) xs cs) is zip) in
               sound.1 found.0 found.1 found.2 found.3 ((wide_cut front found.0 e found.1 found.4 found.5).0 wide),
         ),
@@ -213,6 +229,7 @@ module _ (chosen : KeyParts → Bool) where
       -- where both logs are split at the same place, the entries before it stand for one another, and so do the two at it
       split_same : (front back : List (Observation KeyParts)) (e c : Observation KeyParts) (rest others : List (Observation KeyParts)) → AllZip (IsCutOf chosen) (front ++ e ∷ rest) (back ++ c ∷ others)
           → length front ≡ length back → AllZip (IsCutOf chosen) front back × IsCutOf chosen e c
+      -- the split is at the first entries; or in neither log, since both fronts are of the same length
       split_same [] [] e c rest others zip long = (tt, zip.0)
       split_same [] (d ∷ back) e c rest others zip long = absurd (omega (arith, long))
       split_same (f ∷ front) [] e c rest others zip long = absurd (omega (arith, long))
@@ -223,6 +240,7 @@ module _ (chosen : KeyParts → Bool) where
       pub trouble_cut : (front back : List (Observation KeyParts)) (e c : Observation KeyParts) → AllZip (IsCutOf chosen) front back → IsCutOf chosen e c
           → (Breaks p front e key ↔ Breaks p back c key) × (Widens p front e key ↔ Widens p back c key)
       trouble_cut front back e c zip here =
+          -- in no trouble before, a run over the entry, too wide at the entry: each is so in both logs or in neither
           let sound = sound_cut front back zip in
           let runs = runs_cut (front ++ e ∷ []) (back ++ c ∷ []) (zip_push front back e c zip here) in
           let wide = wide_cut front back e c zip here in (

@@ -22,6 +22,7 @@ use Rattle.sip_verdict.proofs.surveys.parts.Parts.{same_split}
 
 -- the entry with the number n of a log and the one that stands for it in the cut log, with what is seen of both
 record At (chosen : KeyParts → Bool) (done back : List (Observation KeyParts)) (items cuts : List Item) (es cs : List (Observation KeyParts)) (n : ℕ) : Type 0 where
+  -- the item with those before it and after it, in the log, and then the one that stands for it in the cut log
   pub front : List Item
   pub item : Item
   pub rest : List Item
@@ -51,6 +52,7 @@ record At (chosen : KeyParts → Bool) (done back : List (Observation KeyParts))
 -- at each place of a log that is cut there is an entry and one that stands for it
 at_place : (chosen : KeyParts → Bool) (done back : List (Observation KeyParts)) (items cuts : List Item) (es cs : List (Observation KeyParts)) → AreSeen done items es
     → AreSeen back cuts cs → IsCutLog chosen items es cuts → (n : ℕ) → n < length es → At chosen done back items cuts es cs n
+-- the place is within the entries, and there are as many items as entries in both logs
 at_place chosen done back items cuts [] cs seen saw cut n low = absurd (omega (arith, low))
 at_place chosen done back [] cuts (e ∷ es) cs seen saw cut n low = absurd seen
 at_place chosen done back (item ∷ items) [] (e ∷ es) cs seen saw cut n low = absurd cut
@@ -163,7 +165,7 @@ faults_of p chosen items cuts es cs close shut found part end fin seen saw cut w
         there : (front : List (Observation KeyParts)) × (e : Observation KeyParts) × (more : List (Observation KeyParts)) × (cs ≡ front ++ e ∷ more) × IsFoundAt p front e (Malformed n fault)
         there = found_is p [] cuts shut cs part fin saw some (Malformed n fault) has
 
-        -- the whole has as many entries as the part
+        -- the place lies within the whole, which has as many entries as the part
         low : length there.0 < length es
         low = let long = cut_long chosen [] [] items cuts es cs seen saw cut in let split = ap length there.3 in omega (arith, long, simp length-append at split)
 
@@ -185,6 +187,7 @@ faults_of p chosen items cuts es cs close shut found part end fin seen saw cut w
 
         -- the finding of the fault is found and its item stays: else the item is a mark, which has no fault
         by : StaysOrIsMark chosen at.item at.e at.cut → Contains found (Malformed n fault) × StaysAt items cuts n
+        -- the item stays: the whole has the same fault at this entry
         by (inl (is, which)) = (
           found_at p [] items close es found end seen whole at.so_far at.e at.more at.es_are (Malformed n fault)
               (number, same_fault at.so_far at.cut_so_far at.item at.e at.c at.sees (subst (λ i. Sees at.cut_so_far i at.c) is at.saw) ∙ fault_is),
@@ -206,6 +209,7 @@ faults_of p chosen items cuts es cs close shut found part end fin seen saw cut w
             -- where the item stays, the part of the log has it at its place
             cuts_are : at.cut ≡ at.item → cuts ≡ at.before ++ at.item ∷ at.others
             cuts_are is = at.cuts_are ∙ ap (λ i. at.before ++ i ∷ at.others) is
+        -- the item is a mark in the part, which has no fault
         by (inr (is, none)) =
             let both : None ≡ Some fault = sym (mark_whole at.cut_so_far at.item at.c (subst (λ i. Sees at.cut_so_far i at.c) is at.saw)) ∙ fault_is in absurd (cc)
 

@@ -27,6 +27,7 @@ cookie_compared (Some branch) text is = by (bytes_eq (take 7 (compared (Some bra
   where
     -- a branch with the cookie is compared by its own bytes
     by : (b : Bool) → (if b then Some (compared (Some branch)) else None) ≡ Some text → compared (Some branch) ≡ text
+    -- the branch has the cookie and is the text, or it has none and gives no text
     by true e = cc
     by false e = absurd (cc)
 
@@ -38,12 +39,14 @@ module _ (part : PartOf) where
 
   -- an item whose keys are all of the part, or all not, stays or becomes a mark
   kept : (item cut : Item) (e : Observation KeyParts) (falls : Bool) → All (λ key. Chosen key ≡ falls) e.keys → cut ≡ (if falls then item else mark_of item) → StaysOrIsMark Chosen item e cut
+  -- where the keys are of the part the item stays, and else it becomes a mark
   kept item cut e true all is = inl (is, inr all)
   kept item cut e false all is = inr (is, all)
 
   -- an item with a message, as the log of the part has it, stays or becomes a mark as the branch of its message falls
   message_part : (direction : Direction) (item cut : Item) (e : Observation KeyParts) → ObservesMessage direction item e → (branch : List ℕ) → TellsBranch item.text branch
       → cut ≡ (if falls_into part branch then item else mark_of item) → StaysOrIsMark Chosen item e cut
+  -- a message with a fault, or whose branch has no cookie, concerns no key
   message_part direction item cut e (has_fault fault says is) branch tells same =
       kept item cut e (falls_into part branch) (subst (All (λ key. Chosen key ≡ falls_into part branch)) (sym (ap (λ f. f.keys) is)) (All-nil (λ key. Chosen key ≡ falls_into part branch))) same
   message_part direction item cut e (has_no_cookie s says lacks is) branch tells same =
@@ -66,6 +69,7 @@ module _ (part : PartOf) where
     where
       -- the item stays or is a mark, whatever its action was
       by : (a : Action) → item.action ≡ a → SeenAs done item e a → CutSo item cut a → StaysOrIsMark Chosen item e cut
+      -- an item with a message is cut by its branch; a mark, which concerns no key, and a restart stay
       by Sent is seen (branch, tells, same) = message_part way.Sent item cut e seen branch tells same
       by Received is seen (branch, tells, same) = message_part way.Received item cut e seen branch tells same
       by Failed is seen (branch, tells, same) = message_part way.Sent item cut e seen branch tells same
@@ -75,6 +79,7 @@ module _ (part : PartOf) where
   -- the log of a part is cut from the whole by the keys whose branches fall into it
   pub part_cut : (done : List (Observation KeyParts)) (items cuts : List Item) (es : List (Observation KeyParts)) → AreSeen done items es → IsPartLog part items cuts → IsCutLog Chosen items es cuts
   part_cut done [] [] [] seen are = tt
+  -- each item has its entry and its item of the part, so that no list is longer
   part_cut done [] [] (e ∷ es) seen are = absurd seen
   part_cut done [] (cut ∷ cuts) es seen are = absurd are
   part_cut done (item ∷ items) [] es seen are = absurd are

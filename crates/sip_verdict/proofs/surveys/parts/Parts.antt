@@ -34,6 +34,7 @@ same_split {A} xs us ys vs x y is long = by (split_compare xs us ys vs x y is)
 -- lists whose elements stand for one another, one by one, have the same length
 zip_long : {A B : Type 0} (R : A → B → Type 0) (xs : List A) (ys : List B) → AllZip R xs ys → length xs ≡ length ys
 zip_long R [] [] zip = refl
+-- neither list is longer than the other
 zip_long R [] (y ∷ ys) zip = absurd zip
 zip_long R (x ∷ xs) [] zip = absurd zip
 zip_long R (x ∷ xs) (y ∷ ys) zip = let rest = zip_long R xs ys zip.1 in omega (arith, rest)
@@ -75,6 +76,7 @@ module _ (p : Times) (kind : ℕ → ℕ → Finding) (P : List (Observation Key
     holds_cut : (es cs : List (Observation KeyParts)) (n : ℕ) → AllZip (IsCutOf chosen) es cs → Holds es key n ↔ Holds cs key n
     holds_cut es cs n zip = (
       λ holds.
+          -- P holds at the entry e of the whole log; so it does at c, which stands for e in the cut log and has the same number
           let (front, e, more, is, entry, at) = holds in
           let (back, c, rest, split, zipped, here) = split_right chosen key is_chosen p front cs e more (subst (λ xs. AllZip (IsCutOf chosen) xs cs) is zip) in
           (back, c, rest, split, entry ∙ ap (λ n. n + 1) (zip_long (IsCutOf chosen) front back zipped), (same front back e c zipped here).0 at),
@@ -89,6 +91,7 @@ module _ (p : Times) (kind : ℕ → ℕ → Finding) (P : List (Observation Key
     named_among : (es cs : List (Observation KeyParts)) (part : List Finding) (n : ℕ) → AllZip (IsCutOf chosen) es cs → Names kind keys_in cs part key n ↔ Names kind (chosen_in chosen) es part key n
     named_among es cs part n zip = (
       λ names.
+          -- c is the entry of the cut log at which the key is named, and e the one for which it stands; the keys up to c are the chosen ones up to e
           let (back, c, more, t, is, entry, named, has) = names in
           let (front, e, rest, split, zipped, here) = split_left chosen key is_chosen p es back c more (subst (AllZip (IsCutOf chosen) es) is zip) in
           let keys = keys_cut chosen (front ++ e ∷ []) (back ++ c ∷ []) (zip_push chosen front back e c zipped here) in
@@ -105,6 +108,7 @@ module _ (p : Times) (kind : ℕ → ℕ → Finding) (P : List (Observation Key
     named_cut : (items cuts : List Item) (es cs : List (Observation KeyParts)) (close shut : LogEnd) (found part : List Finding) (end fin : SurveyEnd) → AreSeen [] items es → AreSeen [] cuts cs
         → AllZip (IsCutOf chosen) es cs → IsSurveyAfter p [] items close found end → IsSurveyAfter p [] cuts shut part fin → (n : ℕ) → Names kind keys_in es found key n ↔ Names kind (chosen_in chosen) es part key n
     named_cut items cuts es cs close shut found part end fin seen saw zip whole some n =
+        -- where the one survey names the key, P holds of it there, so it holds at the same entry of the other log, whose survey names it too
         let cut = holds_cut es cs n zip in
         let among = named_among es cs part n zip in (
           λ named. among.0 (holds_named cuts shut cs part fin saw some key n (cut.0 (named_holds items close es found end seen whole key n named))),

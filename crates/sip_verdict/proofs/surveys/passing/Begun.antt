@@ -49,6 +49,7 @@ module _ (old t : Tabled) (h : AreMore old t) (k : KeyParts) (n : ℕ) where
 
   -- tables that have grown by keys have grown by them and by one more that was looked up
   one_more : (u : Tabled) → Touches k n t u → AreMore old u
+  -- the key was known, and the tables stay; or it is new, and comes at the end with the set that it starts with
   one_more u (inl known) = subst (AreMore old) (sym known.1) h
   one_more u (inr (new, counts, is)) = subst (AreMore old) (sym is) (record {
     times = h.times;
@@ -59,6 +60,7 @@ module _ (old t : Tabled) (h : AreMore old t) (k : KeyParts) (n : ℕ) where
   })
     where
       -- the key and its set are old ones, or the new key and the set in which it starts
+      -- i is the place of the key, and s its set
       by : (i : ℕ) (key : KeyParts) (s : AnySet) → (slice_get t.keys i ≡ Some key) ⊎ ((i ≡ length t.keys) × (k ≡ key)) → (slice_get t.sets i ≡ Some s) ⊎ ((i ≡ length t.sets) × (start_of t.times k ≡ s))
           → ((slice_get old.keys i ≡ Some key) × (slice_get old.sets i ≡ Some s)) ⊎ ((length old.keys ≤ i) × (s ≡ start_of old.times key) × ¬ Contains old.keys key)
       -- key and set are old ones
@@ -76,6 +78,7 @@ module _ (old t : Tabled) (h : AreMore old t) (k : KeyParts) (n : ℕ) where
 -- tables that have grown by keys have grown still after more keys were looked up
 -- ns are the numbers of the keys ks; t and u are the tables before and after these were looked up
 pub more_each : (old : Tabled) (ks : List KeyParts) (ns : List ℕ) (t u : Tabled) → AreMore old t → TouchesEach ks ns t u → AreMore old u
+-- there are as many keys as numbers; each key that was looked up is one step
 more_each old [] [] t u h same = subst (AreMore old) (sym same) h
 more_each old [] (n ∷ ns) t u h touched = absurd touched
 more_each old (k ∷ ks) [] t u h touched = absurd touched
@@ -98,6 +101,7 @@ touched_key k n t u (inr (new, counts, is)) =
 -- ns are the numbers of the keys ks; t and u are the tables before and after these were looked up
 pub touched_keys : (ks : List KeyParts) (ns : List ℕ) (t u : Tabled) → TouchesEach ks ns t u → u.keys ≡ fold with_key t.keys ks
 touched_keys [] [] t u same = ap (λ x. x.keys) same
+-- there are as many keys as numbers
 touched_keys [] (n ∷ ns) t u h = absurd h
 touched_keys (k ∷ ks) [] t u h = absurd h
 touched_keys (k ∷ ks) (n ∷ ns) t u (between, one, rest) = touched_keys ks ns between u rest ∙ ap (λ keys. fold with_key keys ks) (touched_key k n t between one)
@@ -124,6 +128,7 @@ module _ (texts : Texts) (es : List (Observation KeyParts)) (e : Observation Key
   new_follows : (key : KeyParts) (s : AnySet) → s ≡ start_of old.times key → ¬ Contains old.keys key → IsFollowed texts old.times es key s false
   new_follows key s is none =
       let p = old.times in
+      -- the key is not among those of the entries, so that it has no event
       let silent = new_key key es (not_among key (keys_in es) (λ has. none (subst (λ ks. Contains ks key) (sym tracks.keys) has))) in (
         subst (LeadsOf texts p (machine_of_key p.rules key) (events_for key es) (newest_moment es)) (sym is)
             (subst (λ events. LeadsOf texts p (machine_of_key p.rules key) events (newest_moment es) (start_of p key)) (sym silent) (starts texts p key (newest_moment es))),
@@ -148,8 +153,10 @@ module _ (texts : Texts) (es : List (Observation KeyParts)) (e : Observation Key
       -- n is the place of the key, s its set and d whether it is deaf
       by : (n : ℕ) (key : KeyParts) (s : AnySet) (d : Bool) → slice_get (deaf ++ more) n ≡ Some d
           → ((slice_get old.keys n ≡ Some key) × (slice_get old.sets n ≡ Some s)) ⊎ ((length old.keys ≤ n) × (s ≡ start_of old.times key) × ¬ Contains old.keys key) → IsPassing texts old.times es e any b (n + 1) key s d
+      -- an old transaction stands at its place, with its flag, and is followed as before
       by n key s d is (inl (at, here)) =
           follows n key s d (tracks.each n key s d at here (front_place deaf more n d (let within = slice_get_within old.keys n key at in omega arith) is))
+      -- a new one comes after the old ones, so that its flag is a new one, and says that it is in no trouble
       by n key s d is (inr (low, start, none)) =
           follows n key s d (subst (IsFollowed texts old.times es key s) (sym (back_place (λ x. x ≡ false) deaf more n d (omega arith) false_all is)) (new_follows key s start none))
 

@@ -114,6 +114,7 @@ module _ (texts : Texts) (es : List (Observation KeyParts)) (e : Observation Key
     where
       -- the transaction has passed the entry, and breaks there, so its number is among the broken ones
       by : (d : Bool) (s : AnySet) → IsPassing texts p es e (is_among []) b (n + 1) key s d → Contains b.broken.items (n + 1)
+      -- it was in no trouble before, so that it is deaf only since this entry; were it too wide, or did it go on, it would have a run over the entry
       by true s (leads, inl before) = absurd (before sound)
       by true s (leads, inr (inl has)) = has
       by true s (leads, inr (inr has)) = absurd (none (one_key (λ k. Widens p es e k × RunsOver p (es ++ e ∷ []) k) n key at (h.wide (n + 1) has)).1)
@@ -125,6 +126,7 @@ module _ (texts : Texts) (es : List (Observation KeyParts)) (e : Observation Key
     where
       -- the transaction has passed the entry, and is too wide there, so its number is among the wide ones
       by : (d : Bool) (s : AnySet) → IsPassing texts p es e (is_among []) b (n + 1) key s d → Contains b.wide.items (n + 1)
+      -- it was in no trouble before, so that it is deaf only since this entry; what is too wide does not break, nor does it go on
       by true s (leads, inl before) = absurd (before sound)
       by true s (leads, inr (inl has)) = absurd ((one_key (Breaks p es e) n key at (h.broken (n + 1) has)).1 (wide_runs p es e key wide))
       by true s (leads, inr (inr has)) = has
@@ -138,6 +140,7 @@ module _ (texts : Texts) (es : List (Observation KeyParts)) (e : Observation Key
     breaks = (
       broken_is.0,
       λ n. (
+        -- a number among them is that of a key that breaks, and the number of each key that breaks is among them
         λ has. number_holds (Breaks p es e) t.keys n (h.broken n ((broken_is.1 n).0 has)),
         λ holds. let (key, at, is, next) = holds_at (Breaks p es e) t.keys n holds in (broken_is.1 n).1 (subst (Contains b.broken.items) next (all_broken (n - 1) key at is)),
       ),
@@ -148,6 +151,7 @@ module _ (texts : Texts) (es : List (Observation KeyParts)) (e : Observation Key
     widens = (
       wide_is.0,
       λ n. (
+        -- a number among them is that of a key that is followed no further, and the number of each such key is among them
         λ has. let own = h.wide n ((wide_is.1 n).0 has) in number_holds (Widens p es e) t.keys n (record { low = own.low; key = own.key; at = own.at; holds = own.holds.0 }),
         λ holds. let (key, at, is, next) = holds_at (Widens p es e) t.keys n holds in (wide_is.1 n).1 (subst (Contains b.wide.items) next (all_wide (n - 1) key at is)),
       ),

@@ -1,4 +1,5 @@
 -- One transaction of a survey hears the event of an entry, or has waited too long for it.
+-- In the lemmas n is the place of a key, s its set, and d whether it is deaf.
 use Rattle.std.proofs.Common.{◌≡◌, ◌≢◌, ◌≤◌, ◌<◌, ◌+◌, ◌-◌, ◌⊎◌, inl, inr, ℕ, Bool, true, false, Option, Some, None, List, [], ◌∷◌, ◌++◌, MatchBool, length, slice_get, slice_set, slice_index_or, refl, sym, ap, ◌∙◌, subst, true≢false, arith}
 use Rattle.std.proofs.lemmas.Option.{slice_get-get_or}
 use Rattle.sip_standard.specs.Key.{KeyParts}
@@ -71,7 +72,9 @@ module _ (texts : Texts) (p : Times) (es : List (Observation KeyParts)) (e : Obs
       -- n is the place of the key, s its set and d whether it is deaf
       one : (n : ℕ) (key : KeyParts) (s : AnySet) (d : Bool) → slice_get t.keys n ≡ Some key → slice_get t.sets n ≡ Some s → slice_get b.deaf.items n ≡ Some d
           → IsPassing texts p es e (is_among (number ∷ waits)) b (n + 1) key s d → IsPassing texts p es e (is_among waits) b (n + 1) key s d
+      -- a transaction in trouble has passed as it is
       one n key s true at here is g = g
+      -- one in no trouble is another one, since this one is deaf; so it is among those that wait as before
       one n key s false at here is g =
           let other : n ≢ number - 1 = λ same. true≢false (same_at b.deaf.items n true false (ap (slice_get b.deaf.items) same ∙ deaf) is) in
           stays texts p es e (is_among (number ∷ waits)) (is_among waits) b b (n + 1) key s false (among_cons (n + 1) number waits (λ same. other (omega (arith, same)))) (λ among. among) g
@@ -85,9 +88,11 @@ module _ (texts : Texts) (p : Times) (es : List (Observation KeyParts)) (e : Obs
     -- the key was in no trouble over the entries, and `outcome` is what the entry leaves of its runs
     left : (key : KeyParts) → slice_get t.keys (number - 1) ≡ Some key → IsSound p es key × IsPassed p k es e (key, after) outcome
     left key at =
+        -- the transaction waits for the event, so before it the key is in no trouble and its set is ready
         let among = among_first (place + 1) number waits back in
         let own = h.each place key before false at was hearing in
         let ready : IsReady k es (key, before) = subst (λ x. MatchBool x (IsReady k es (key, before)) (GoesOn p k es e (key, before))) among own.1 in
+        -- the entry has this event and concerns the key; so what the step of the set came out as is what the entry leaves of the key's runs
         let told = concerned place key at among in
         let now : newest_moment es ≤ e.event.moment = subst (λ f. newest_moment es ≤ f.moment) (sym told.0) late in
         (own.0, heard_left texts p es e key before ready now event told.0 told.1 after outcome stepped)
@@ -137,6 +142,7 @@ module _ (texts : Texts) (p : Times) (es : List (Observation KeyParts)) (e : Obs
         -- the transaction is not deaf
         by : (d : Bool) → slice_get b.deaf.items (number - 1) ≡ Some d → slice_get b.deaf.items (number - 1) ≡ Some false
         by false is = is
+        -- a deaf transaction has no last moment on record, and such a record is never overdue
         by true is = absurd (true≢false (sym past ∙ ap (is_overdue moment) (same_at t.records (number - 1) _ (Some None) there (watched.silent (number - 1) is))))
 
     -- a transaction that has waited longer than it can breaks at the entry
@@ -149,7 +155,9 @@ module _ (texts : Texts) (p : Times) (es : List (Observation KeyParts)) (e : Obs
       where
         -- a set whose last moment on record is past has no run
         by : (s : AnySet) → IsReady k es (key, s) → slice_get t.sets (number - 1) ≡ Some s → (r : Option (Option ℕ)) → slice_get t.records (number - 1) ≡ Some r → is_overdue moment r ≡ true → ¬ RunsOver p (es ++ e ∷ []) key
+        -- no record is not overdue
         by s ready here None on is = absurd (true≢false (sym is))
+        -- the record is the last moment until which the set can wait; that is past, so the key has no run over the entry
         by s ready here (Some limit) on is =
             overdue_breaks texts p es e key s ready (subst (λ n. newest_moment es ≤ n) (sym now) late) (subst (λ n. moment_of s ≤ n) (sym now) (All-place (λ x. moment_of x ≤ moment) t.sets (number - 1) s here may.order))
             limit (watched.recorded.each (number - 1) s (Some limit) here on) (subst (λ n. is_overdue n (Some limit) ≡ true) (sym now) is)

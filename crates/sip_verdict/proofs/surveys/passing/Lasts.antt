@@ -22,6 +22,7 @@ overdue_one moment (Some (Some last)) is = refl
 -- where an overdue last moment is taken off the record, one less is on it
 pub one_less : (rs : Records) (i moment : ℕ) → is_overdue moment (slice_index_or rs i None) ≡ true → lasts (slice_set rs i (Some None)) < lasts rs
 unfolding lasts
+-- no record is overdue in an empty list; the one at the place i is the first, or one of the others
 one_less [] i moment past = absurd (true≢false (sym past))
 one_less (x ∷ rs) zero moment past = let is = overdue_one moment x past in omega (arith, is)
 one_less (x ∷ rs) (suc i) moment past = let less = one_less rs i moment past in omega (arith, less)

@@ -48,8 +48,10 @@ module _ (texts : Texts) (p : Times) (es : List (Observation KeyParts)) (e : Obs
   pub stays : (v w : ℕ → Bool) (b c : Troubled) (number : ℕ) (key : KeyParts) (s : AnySet) (is_deaf : Bool) → v number ≡ w number
       → (Contains b.broken.items number ⊎ Contains b.wide.items number → Contains c.broken.items number ⊎ Contains c.wide.items number)
       → IsPassing texts p es e v b number key s is_deaf → IsPassing texts p es e w c number key s is_deaf
+  -- a transaction in trouble was so before the entry, or is among those that came into trouble at it and still is among the more
   stays v w b c number key s true same more (leads, inl unsound) = (leads, inl unsound)
   stays v w b c number key s true same more (leads, inr among) = (leads, inr (more among))
+  -- a transaction in no trouble waits, or has gone on, as it did
   stays v w b c number key s false same more (sound, h) = (sound, waits_alike (v number) (w number) key s same h)
 
   -- where the keys are the same, P holds of the key with a number in both lists
@@ -57,7 +59,7 @@ module _ (texts : Texts) (p : Times) (es : List (Observation KeyParts)) (e : Obs
   number_still P keys new number same h = subst (λ ks. IsNumberOf P ks number) (sym same) h
 
   -- What follows is of one transaction, by its number, that passes the entry, while the others stay as they are: the tables were t and are u.
-  -- v says which transactions had passed it before, and w which have now.
+  -- v says which transactions were still to hear it before, and w which are now.
   module _ (t u : Tabled) (b : Troubled) (v w : ℕ → Bool) (number : ℕ) (given : IsGiven t number) (keys : u.keys ≡ t.keys)
       (others : (n : ℕ) → n ≢ number - 1 → v (n + 1) ≡ w (n + 1)) (h : ArePassing texts p es e v t b) where
     -- the place of the transaction with this number
@@ -81,7 +83,9 @@ module _ (texts : Texts) (p : Times) (es : List (Observation KeyParts)) (e : Obs
           -- the transaction itself has passed the entry
           -- n is the place of the key, s its set and d whether it is deaf
           own : (n : ℕ) (key : KeyParts) (s : AnySet) (d : Bool) → slice_get t.keys n ≡ Some key → n ≡ place → after ≡ s → false ≡ d → IsPassing texts p es e w b (n + 1) key s d
+          -- the transaction is in no trouble, so it is not deaf
           own n key s true at here same is = absurd (false≢true is)
+          -- it has heard the event (w says so), so what is asked of it is that it goes on, which `goes` says of its new set
           own n key s false at here same is =
               let g = goes key (ap (slice_get t.keys) (sym here) ∙ at) in
               let off : w (n + 1) ≡ false = ap w (omega (arith, here, next)) ∙ done in
@@ -91,6 +95,7 @@ module _ (texts : Texts) (p : Times) (es : List (Observation KeyParts)) (e : Obs
           -- n is the place of the key, s its set and d whether it is deaf
           one : (n : ℕ) (key : KeyParts) (s : AnySet) (d : Bool) → slice_get t.keys n ≡ Some key → slice_get b.deaf.items n ≡ Some d
               → ((n ≡ place) × (after ≡ s)) ⊎ ((n ≢ place) × (slice_get t.sets n ≡ Some s)) → IsPassing texts p es e w b (n + 1) key s d
+          -- the transaction itself has passed; another one is still at its place with its set, and w says of it what v said
           one n key s d at is (inl (here, same)) = own n key s d at here same (same_at b.deaf.items n false d (ap (slice_get b.deaf.items) here ∙ hearing) is)
           one n key s d at is (inr (other, there)) = stays v w b b (n + 1) key s d (others n other) (λ among. among) (h.each n key s d at there is)
 
@@ -105,6 +110,7 @@ module _ (texts : Texts) (p : Times) (es : List (Observation KeyParts)) (e : Obs
       released more among broken wide = record {
         broken = broken;
         wide = wide;
+        -- the flag at a place is the new one or an old one, and so is the set
         each = λ n key s d at here is. one n key s d (ap (λ ks. slice_get ks n) (sym keys) ∙ at) (set_place b.deaf.items place n true d (ap (λ xs. slice_get xs n) (sym deaf) ∙ is)) (sets n s here);
       }
         where
@@ -112,7 +118,9 @@ module _ (texts : Texts) (p : Times) (es : List (Observation KeyParts)) (e : Obs
           -- n is the place of the key, s its set and d whether it is deaf
           own : (n : ℕ) (key : KeyParts) (s : AnySet) (d : Bool) → slice_get t.keys n ≡ Some key → n ≡ place → true ≡ d
               → ((key : KeyParts) → slice_get t.keys place ≡ Some key → LeadsOf texts p (machine_of_key p.rules key) [] e.event.moment s) → IsPassing texts p es e w c (n + 1) key s d
+          -- the flag of the transaction is set, so it is deaf
           own n key s false at here is leads = absurd (false≢true (sym is))
+          -- its new set leads to the runs over no event, and its number is among those that came into trouble
           own n key s true at here is leads =
               let same : number ≡ n + 1 = omega (arith, here, next) in
               (leads key (ap (slice_get t.keys) (sym here) ∙ at), inr (subst (λ i. Contains c.broken.items i ⊎ Contains c.wide.items i) same among))
@@ -134,6 +142,7 @@ module _ (texts : Texts) (p : Times) (es : List (Observation KeyParts)) (e : Obs
       pub released_broken : c.broken.items ≡ b.broken.items ++ number ∷ [] → c.wide.items ≡ b.wide.items → ((key : KeyParts) → slice_get t.keys (number - 1) ≡ Some key → Breaks p es e key) → ArePassing texts p es e w u c
       released_broken added kept breaks =
           released more (inl (subst (λ ns. Contains ns number) (sym added) (Contains-push b.broken.items number)))
+          -- a number among the broken is the new one or an old one; a number among the wide is an old one
           (λ n has. by n (Contains-push_cases b.broken.items number n (subst (λ ns. Contains ns n) added has)))
           (λ n has. number_still (λ key. Widens p es e key × RunsOver p (es ++ e ∷ []) key) t.keys u.keys n keys (h.wide n (subst (λ ns. Contains ns n) kept has)))
         where
@@ -154,6 +163,7 @@ module _ (texts : Texts) (p : Times) (es : List (Observation KeyParts)) (e : Obs
           → ((key : KeyParts) → slice_get t.keys (number - 1) ≡ Some key → Widens p es e key × RunsOver p (es ++ e ∷ []) key) → ArePassing texts p es e w u c
       released_wide added kept widens =
           released more (inr (subst (λ ns. Contains ns number) (sym added) (Contains-push b.wide.items number)))
+          -- a number among the broken is an old one; a number among the wide is the new one or an old one
           (λ n has. number_still (Breaks p es e) t.keys u.keys n keys (h.broken n (subst (λ ns. Contains ns n) kept has)))
           (λ n has. by n (Contains-push_cases b.wide.items number n (subst (λ ns. Contains ns n) added has)))
         where

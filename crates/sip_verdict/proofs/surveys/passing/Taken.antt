@@ -1,4 +1,5 @@
 -- What the transactions of a survey are after an entry of each kind.
+-- Where a lemma looks at one transaction, n is the place of its key, s its set, and d whether it is deaf.
 use Rattle.std.proofs.Common.{◌≡◌, ◌≢◌, ◌≤◌, ◌<◌, ◌+◌, inl, inr, ℕ, Bool, true, false, Option, Some, None, List, [], ◌∷◌, ◌++◌, All, AllPairs, Contains, length, slice_get, refl, sym, ap, ◌∙◌, subst, true≢false, arith}
 use Rattle.std.specs.Prelude.{fold}
 use Rattle.std.proofs.Math.Decide.{dec_le}
@@ -44,7 +45,9 @@ use Rattle.sip_verdict.proofs.surveys.passing.Begun.{begun_same, begun_touched, 
 module _ (old new : Texts) (number : ℕ) (bytes : List ℕ) (p : Times) where
   -- a set of a machine leads to the same runs beside the book that has grown
   grown_leads : IsGrown old number bytes new → (machine : MachineKind) (events : List MachineEvent) (from : ℕ) (set : AnySet) → LeadsOf old p machine events from set → LeadsOf new p machine events from set
+  -- the book has not grown
   grown_leads (inl same) machine events from set leads = subst (λ texts. LeadsOf texts p machine events from set) (sym same) leads
+  -- the book has one message more: the set's states name messages of the old book, which stand under the same numbers in the new one
   grown_leads (inr more) machine events from set (s, is, leads) =
       let m = meaning_of machine in
       subst (λ texts. LeadsOf texts p machine events from set) (sym more) (
@@ -59,6 +62,7 @@ grown_survey old new number bytes grown es t deaf h = record { order = h.order; 
   where
     -- a deaf transaction stays in trouble, and the set of any other one follows the same entries
     by : (key : KeyParts) (s : AnySet) (d : Bool) → IsFollowed old t.times es key s d → IsFollowed new t.times es key s d
+    -- the set of a deaf transaction leads to the runs over no event
     by key s true (leads, unsound) = (grown_leads old new number bytes t.times grown (machine_of_key t.times.rules key) [] (newest_moment es) s leads, unsound)
     by key s false (leads, sound) = (grown_leads old new number bytes t.times grown (machine_of_key t.times.rules key) _ (newest_moment es) s leads, sound)
 
@@ -181,6 +185,7 @@ dropped_passing number before new p es e t b (inr (bytes, is, unnamed)) h =
       record {
         runs = goes.runs;
         narrow = goes.narrow;
+        -- its set leads to the same runs, and stands for the same last states, beside the book without the message
         ready = unnamed_leads number bytes new p (machine_of_key p.rules key) (events_for key (es ++ e ∷ [])) (newest_moment (es ++ e ∷ [])) s none goes.ready;
         stands = λ concerned. unnamed_stands number bytes new p (machine_of_key p.rules key) (events_for key es) e.event s none (goes.stands concerned);
       },
@@ -198,7 +203,9 @@ watched_touched ks ns t w b d more touched sets h deaf false_all long = record {
   where
     -- the record of a transaction in trouble says that it has no last moment: only an old transaction is in trouble, since new ones are in none
     by : (n : ℕ) → slice_get (b.deaf.items ++ more) n ≡ Some true → Dec (length b.deaf.items ≤ n) → slice_get w.records n ≡ Some (Some None)
+    -- the place is that of a new transaction, and each new flag says that it is in no trouble
     by n is (yes low) = absurd (true≢false (back_place (λ x. x ≡ false) b.deaf.items more n true low false_all is))
+    -- the place is that of an old one, whose record stays where it is as new ones are put after it
     by n is (no high) =
         touches_elim (λ x. slice_get x.records n ≡ Some (Some None)) (λ x key at. slice_get-more x.records (None ∷ []) n (Some None) at) ks ns t w
         (h.silent n (front_place b.deaf.items more n true (omega (arith, high)) is)) touched

@@ -1,4 +1,5 @@
 -- The transactions of a survey that do not hear an entry's event wait, once none is overdue.
+-- In the lemmas n is the place of a key, s its set, and d whether it is deaf.
 use Rattle.std.proofs.Common.{◌≡◌, ◌≤◌, ◌+◌, ◌⊎◌, ◌||◌, inl, inr, ℕ, Bool, true, false, Option, Some, None, List, [], IsTrue, MatchBool, position, slice_get, refl, sym, ap, ◌∙◌, subst, arith}
 use Rattle.std.specs.Option.{option_map}
 use Rattle.std.proofs.lemmas.Bool.{false≢true}
@@ -60,6 +61,7 @@ module _ (texts : Texts) (p : Times) (es : List (Observation KeyParts)) (e : Obs
       where
         -- the set has its last moment on record, and that is not past, so it goes on
         recorded : (r : Option (Option ℕ)) → slice_get t.records n ≡ Some r → concerns key e ≡ false → GoesOn p k es e (key, s)
+        -- only a set that is to hear the event has nothing on record, and this one is not to hear it
         recorded None on apart = absurd (false≢true (sym other ∙ watched.recorded.each n s None here on))
         recorded (Some limit) on apart =
             in_time_goes texts p es e key s ready since (subst (λ i. moment_of s ≤ i) (sym now) (All-place (λ x. moment_of x ≤ moment) t.sets n s here may.order)) limit (watched.recorded.each n s (Some limit) here on)
@@ -67,6 +69,7 @@ module _ (texts : Texts) (p : Times) (es : List (Observation KeyParts)) (e : Obs
 
         -- the key goes on: the entry does not concern it, or it goes on anyway
         by : (concerns key e ≡ false) ⊎ GoesOn p k es e (key, s) → GoesOn p k es e (key, s)
+        -- it goes on as is known, or the entry does not concern it, and then its record says that it can wait
         by (inr g) = g
         by (inl apart) = let r = at_place t.records n (let within = slice_get_within t.keys n key at in let long = watched.recorded.long in omega arith) in recorded r.0 r.1 apart
 
@@ -105,7 +108,9 @@ module _ (texts : Texts) (p : Times) (es : List (Observation KeyParts)) (e : Obs
 
       -- the entry does not concern the key, or the key goes on, whether or not the event is a restart, which concerns all
       by : (a : Bool) → is_all hearing.concerned ≡ a → (concerns key e ≡ false) ⊎ GoesOn p (key_keeping texts p) es e (key, s)
+      -- no restart: the entry concerns just the keys with its numbers, and this number is none of them
       by false some = inl ((told n key at).concerned ∙ ap (λ a. a || is_among (each hearing.concerned) (n + 1)) some ∙ unnamed)
+      -- a restart, which concerns all: a transaction that does not hear it has a quiet set, which goes on over it
       by true all = inr (quiet_goes texts p es e key s ready (subst (λ i. newest_moment es ≤ i) (sym now) late)
           (subst (λ i. moment_of s ≤ i) (sym now) (All-place (λ x. moment_of x ≤ moment) t.sets n s here may.order))
           hearing.event (told n key at).event (hear.restart all) (hearers.others all n s here other)

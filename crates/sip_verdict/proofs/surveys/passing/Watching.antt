@@ -38,6 +38,7 @@ module _ (t : Tabled) (b : Troubled) (number : ℕ) (waits : List ℕ) (given : 
   watched_on u after limit agenda hearing keys sets records = record {
     long = h.long ∙ ap length (sym keys);
     recorded = settled t number waits given.low after limit agenda h.recorded u keys sets records;
+    -- a transaction in trouble is another one, since this one hears; so its record is as it was
     silent = λ n deaf. ap (λ rs. slice_get rs n) records
         ∙ set_other t.records place n (Some limit) (Some None) (λ same. true≢false (same_Some true false (sym deaf ∙ ap (slice_get b.deaf.items) same ∙ hearing))) (h.silent n deaf);
   }
@@ -53,7 +54,9 @@ module _ (t : Tabled) (b : Troubled) (number : ℕ) (waits : List ℕ) (given : 
       -- each record is right, that of the transaction itself and that of another one
       -- n is the place of the transaction, s its set and r its record
       one : (n : ℕ) (s : AnySet) (r : Option (Option ℕ)) → slice_get t.records n ≡ Some r → IsOnRecord (number ∷ waits) (n + 1) s r → IsOnRecord waits (n + 1) s r
+      -- a last moment that is on record stays so
       one n s (Some limit) here kept = kept
+      -- nothing on record is of a set that is to hear the event; were it the transaction itself, its record would say that it has no last moment
       one n s None here kept = among_one (n + 1) number waits kept (λ same.
           let at : n ≡ number - 1 = omega (arith, same) in
           absurd (none_some None (sym here ∙ ap (slice_get t.records) at ∙ h.silent place deaf)))
@@ -64,11 +67,13 @@ module _ (t : Tabled) (b : Troubled) (number : ℕ) (waits : List ℕ) (given : 
   watched_off u c after agenda deaf keys sets records = record {
     long = ap length deaf ∙ length-set b.deaf.items place true ∙ h.long ∙ ap length (sym keys);
     recorded = settled t number waits given.low after None agenda h.recorded u keys sets records;
+    -- a transaction in trouble is this one now, or was in trouble before
     silent = λ n is. ap (λ rs. slice_get rs n) records ∙ one n (set_place b.deaf.items place n true true (ap (λ ds. slice_get ds n) (sym deaf) ∙ is));
   }
     where
       -- no last moment is on record of the transaction itself, nor of another one in trouble
       one : (n : ℕ) → ((n ≡ place) × (true ≡ true)) ⊎ ((n ≢ place) × (slice_get b.deaf.items n ≡ Some true)) → slice_get (slice_set t.records place (Some None)) n ≡ Some (Some None)
+      -- the transaction's own record is the one that was put in; another record is as it was
       one n (inl (same, same_too)) = ap (slice_get (slice_set t.records place (Some None))) same ∙ set_here t.records place (Some None) (let low = inside in let long = h.long in let as_long = h.recorded.long in omega arith)
       one n (inr (other, is)) = set_other t.records place n (Some None) (Some None) other (h.silent n is)
 

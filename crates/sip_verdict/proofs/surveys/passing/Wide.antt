@@ -18,8 +18,10 @@ first_of_many P n (x ∷ xs) long all = (x, All-head P x xs all)
 pub wide_runs : (p : Times) (es : List (Observation KeyParts)) (e : Observation KeyParts) (key : KeyParts) → IsWideAt p es e key → RunsOver p (es ++ e ∷ []) key
 wide_runs p es e key (concerned, (many, apart, long, all)) =
     let f = (transaction_of (machine_of_key p.rules key)).figure in
+    -- `one` is the first of the more than 1,024 last states: a run over the key's events so far stands in one.1.0, and e leads from it to one.0
     let one = first_of_many (StandsAfter f p (events_for key es) e.event) 1024 many long all in (
       one.0,
+      -- so a run over the events with e, which is an event of the key, stands in one.0 at the moment of e
       subst (λ m. Stands f p (events_for key (es ++ e ∷ [])) m one.0) (sym (newest_moment-push es e))
           (subst (λ events. Stands f p events e.event.moment one.0) (sym (events_for-concerned key es e concerned))
           (takes (events_for key es) e.event one.1.0 one.0 one.1.1 one.1.2)),

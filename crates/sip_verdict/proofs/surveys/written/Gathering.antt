@@ -33,6 +33,7 @@ use Rattle.sip_verdict.specs.declared.survey_end.SurveyEnd.TheVariants as ended
 -- where items are taken for a part, and one item more is, all of them are
 pub taken_push : (part : Option PartOf) (items takens : List Item) (item taken : Item) → AreTaken part items takens → IsTaken part item taken → AreTaken part (items ++ item ∷ []) (takens ++ taken ∷ [])
 taken_push part [] [] item taken are one = (one, tt)
+-- as many items are taken as there are, so that no list is longer
 taken_push part [] (x ∷ takens) item taken are one = absurd are
 taken_push part (i ∷ items) [] item taken are one = absurd are
 taken_push part (i ∷ items) (x ∷ takens) item taken (first, are) one = (first, taken_push part items takens item taken are one)
@@ -40,6 +41,7 @@ taken_push part (i ∷ items) (x ∷ takens) item taken (first, are) one = (firs
 -- the whole log is taken as it is
 pub taken_whole : (items takens : List Item) → AreTaken None items takens → takens ≡ items
 taken_whole [] [] are = refl
+-- no list is longer than the other
 taken_whole [] (x ∷ takens) are = absurd are
 taken_whole (i ∷ items) [] are = absurd are
 taken_whole (i ∷ items) (x ∷ takens) (same, are) = let rest = taken_whole items takens are in cc
@@ -47,6 +49,7 @@ taken_whole (i ∷ items) (x ∷ takens) (same, are) = let rest = taken_whole it
 -- a log that is surveyed for a part is the log of the part
 pub taken_part : (part : PartOf) (items takens : List Item) → AreTaken (Some part) items takens → IsPartLog part items takens
 taken_part part [] [] are = tt
+-- no list is longer than the other
 taken_part part [] (x ∷ takens) are = absurd are
 taken_part part (i ∷ items) [] are = absurd are
 taken_part part (i ∷ items) (x ∷ takens) (one, are) = (one, taken_part part items takens are)
@@ -78,6 +81,7 @@ survey_without (Some part) input end lacks same = inl (lacks, refl, same)
 -- What follows is of a survey, `s`, that has read some items of a log or of a part of it, and of what it has found; `now` is the state of its reader.
 module _ (part : Option PartOf) (start : Option (List ℕ)) (now : log.ReaderState) (s : Surveying) (found : List Finding) (read : SurveysRead part s found start now) where
   -- where one more item was read and taken, and these findings were made at it, the survey has read that item too
+  -- i is the item and `cut` the entry as which it is taken; `new` is the state of the reader and k the survey after it
   unfoldable pub found_on : (i : Item) (cut : Entry) (new : log.ReaderState) → HasRead start s.tables.times (read.items ++ i ∷ []) new → IsTaken part i (item cut) → (k : Surveying) → k.tables.times ≡ s.tables.times
       → (seen : Observation KeyParts) (here : List Finding) → Sees read.es (item cut) seen → AreFoundAt s.tables.times read.es seen here → SurveysFor k (read.es ++ seen ∷ [])
       → SurveysRead part k (found ++ here) start new
@@ -94,6 +98,7 @@ module _ (part : Option PartOf) (start : Option (List ℕ)) (now : log.ReaderSta
         read = subst (λ t. HasRead start t (read.items ++ i ∷ []) new) (sym times) more;
         -- with what comes later the findings are those of all
         front = λ rest close later end left.
+            -- what is found at the later items comes after what is found at this one (`whole`), which is then put into brackets with what was found before
             let after : IsSurveyAfter p (read.es ++ seen ∷ []) rest close later end = subst (λ t. IsSurveyAfter t (read.es ++ seen ∷ []) rest close later end) times left in
             let whole : IsSurveyAfter p [] (read.taken ++ item cut ∷ rest) close (found ++ (here ++ later)) end =
             read.front (item cut ∷ rest) close (here ++ later) end (seen, here, later, observed, refl, are, after) in
@@ -103,6 +108,7 @@ module _ (part : Option PartOf) (start : Option (List ℕ)) (now : log.ReaderSta
       }
 
   -- where the findings at the next entry are put after those so far, the survey has read that entry too
+  -- e is the entry and `cut` the one as which it is taken; `new` is the state of the reader and k the survey after it, and `items` are all findings then
   pub gathered_on : (e cut : Entry) (new : log.ReaderState) → HasRead start s.tables.times (read.items ++ item e ∷ []) new → IsTaken part (item e) (item cut) → (k : Surveying) → k.tables.times ≡ s.tables.times
       → (items : List Finding)
       → ((es : List (Observation KeyParts)) → SurveysFor s es → (seen : Observation KeyParts) × (here : List Finding) × Sees es (item cut) seen
@@ -139,6 +145,7 @@ module _ (part : Option PartOf) (start : Option (List ℕ)) (now : log.ReaderSta
 
 -- the verdict of an entry in trouble has a number that is not 0
 trouble-counted : (p : Times) (front : List (Observation KeyParts)) (e : Observation KeyParts) (v : Verdict) → HasTrouble p front e v → trouble_of v ≡ Some 0 → ⊥
+-- a legal log and a fault of the log are no trouble at an entry; any other trouble has the number of its entry, which counts from 1
 trouble-counted p front e (Legal entries transactions) is none = is
 trouble-counted p front e (Malformed entry fault) (at, has) none = let same = same_Some entry 0 none in omega (arith, at, same)
 trouble-counted p front e (Breach entry transaction) (at, formed, first) none = let same = same_Some entry 0 none in omega (arith, at, same)
@@ -151,6 +158,7 @@ none-some n same = cc
 
 -- no verdict on the entries of a log is of the entry 0
 counted : (p : Times) (es : List (Observation KeyParts)) (items : List Item) (close : LogEnd) (v : Verdict) → IsVerdictAfter p es items close v → trouble_of v ≡ Some 0 → ⊥
+-- a legal log has no number, and a fault has one that is above 0
 counted p es [] Clean v is none = none-some 0 (sym (ap trouble_of is) ∙ none)
 counted p es [] (Stops fault) v is none = let same = same_Some (length es + 1) 0 (sym (ap trouble_of is) ∙ none) in omega (arith, same)
 counted p es (item ∷ items) close v (e, sees, inl trouble) none = trouble-counted p es e v trouble none

@@ -18,7 +18,7 @@ horizon_push m es e are later =
     let long = length-append es (e ∷ []) in
     let low = are.inside in
     let below = are.until_inside in
-    -- the first entries are the same, and their newest moment is
+    -- the first entries are the same, and so is their newest moment
     record {
       inside = omega (arith, long, low);
       at = ap newest_moment (take-append-le m.number es (e ∷ []) are.inside) ∙ are.at;
@@ -26,7 +26,7 @@ horizon_push m es e are later =
       long_ago = by are.long_ago;
     }
   where
-    -- after one entry more the horizon still has no moment, or was long ago
+    -- after one entry more `until` is still 0, or its entries still came long ago
     by : (m.until ≡ 0) ⊎ IsLongAgo m.age m.until es → (m.until ≡ 0) ⊎ IsLongAgo m.age m.until (es ++ e ∷ [])
     by (inl none) = inl none
     by (inr ago) =
@@ -52,7 +52,7 @@ horizon_kept kept m es are =
     same : (n : ℕ) → newest_moment (take n (remembered kept es)) ≡ newest_moment (take n es)
     same n = ap newest_moment (take-map (λ e. record { fault = e.fault; event = e.event; keys = filter kept e.keys }) n es) ∙ newest_kept kept (take n es)
 
-    -- after some keys are forgotten the horizon still has no moment, or was long ago
+    -- after some keys are forgotten `until` is still 0, or its entries still came long ago
     by : (m.until ≡ 0) ⊎ IsLongAgo m.age m.until es → (m.until ≡ 0) ⊎ IsLongAgo m.age m.until (remembered kept es)
     by (inl none) = inl none
     by (inr ago) =
@@ -65,7 +65,7 @@ pub horizon_left : (m n : Horizon) (es : List (Observation KeyParts)) → IsHori
 horizon_left m n es are age until number moment =
     let low = are.inside in
     let below = are.until_inside in
-    -- the first entries are the same, and their newest moment is
+    -- the first entries are the same, and so is their newest moment
     record {
       inside = omega (arith, number, low);
       at = ap (λ i. newest_moment (take i es)) number ∙ are.at ∙ sym moment;
@@ -73,7 +73,7 @@ horizon_left m n es are age until number moment =
       long_ago = by are.long_ago;
     }
   where
-    -- the new horizon has no moment, or was long ago, as the old one
+    -- `until` is 0 in the new horizon, or its entries came long ago, as in the old one
     by : (m.until ≡ 0) ⊎ IsLongAgo m.age m.until es → (n.until ≡ 0) ⊎ IsLongAgo n.age n.until es
     by (inl none) = inl (until ∙ none)
     by (inr ago) = let before = ap (λ i. newest_moment (take i es)) until in inr (omega (arith, before, age, ago))
@@ -82,7 +82,7 @@ horizon_left m n es are age until number moment =
 pub came_long_ago : (m : Horizon) (es : List (Observation KeyParts)) → IsHorizonOf m es → m.until ≢ 0 → IsLongAgo m.age m.until es
 came_long_ago m es are some = by are.long_ago
   where
-    -- the horizon was long ago, since `until` is not 0
+    -- the entries up to `until` came long ago, since `until` is not 0
     by : (m.until ≡ 0) ⊎ IsLongAgo m.age m.until es → IsLongAgo m.age m.until es
     by (inl none) = absurd (some none)
     by (inr ago) = ago

@@ -45,11 +45,11 @@ pub remembers_none : (age : ℕ) (part : Option PartOf) (p : Times) (s : Surveyi
 remembers_none age part p s start now times stands read =
     record { items = []; es = []; times = times; follows = stands; read = read; front = λ rest close later end more told. told }
 
--- What follows is of a survey, `s`, that has read some items and forgotten transactions whose last entry is older by `age` than the newest: `found` is what
--- it has found,
--- `lines` is what it has written, and `now` is the state of its reader.
+-- What follows is of a survey, `s`, that has read some items and may have forgotten transactions whose last entry came at least `age` milliseconds ago:
+-- `found` is what it has found, `lines` is what it has written, and `now` is the state of its reader.
 module _ (age : ℕ) (part : Option PartOf) (p : Times) (start : Option (List ℕ)) (now : log.ReaderState) (s : Surveying) (found : List Finding) (lines : List ℕ) (so : RemembersRead age part p s found lines start now) where
   -- where transactions may have been forgotten, one more item was read and surveyed, and its lines were written, the survey has read that item too
+  -- m is the horizon before; f and a are the survey and the horizon after what was due was forgotten, and k and b those after the entry
   pub remembers_on : (m : Horizon) → IsHorizonOf m so.es → m.age ≡ age
       → (e cut : Entry) (new : log.ReaderState) → HasStreamed start p (so.items ++ item e ∷ []) new → IsTaken part (item e) (item cut)
       → (f k : Surveying) (a b : Horizon) → f.tables.times ≡ s.tables.times → k.tables.times ≡ f.tables.times → f.moment ≤ k.moment
@@ -66,6 +66,7 @@ module _ (age : ℕ) (part : Option PartOf) (p : Times) (start : Option (List �
       -- what is left after the forgetting, and what is seen and found at the entry
       let (left, left_is, f_stands, f_horizon) = forgets so.es so.follows horizon_is in
       let (seen, here, observed, are, same, k_stands) = says left f_stands in
+      -- what is left, the findings at the entry, their lines and the room are as the definition asks, by the times and the age of the whole survey
       let is_left : IsLeftOf age p so.es left = subst (λ t. IsLeftOf age t so.es left) so.times (subst (λ n. IsLeftOf n s.tables.times so.es left) aged left_is) in
       let found_here : AreFoundAt p left seen items = subst (AreFoundAt p left seen) (sym same) (subst (λ t. AreFoundAt t left seen here) (f_times ∙ so.times) are) in
       let text_is : IsTextOf (left ++ seen ∷ []) items text = found_text k p left seen k_stands items text (λ g has. (found_here.1 g).0 has) are_lines in
@@ -83,6 +84,7 @@ module _ (age : ℕ) (part : Option PartOf) (p : Times) (start : Option (List �
           read = more;
           -- with what comes later the text is that of the whole
           front = λ rest close later end further told.
+              -- what is found and written later comes after what is found and written here (`whole`), which is then put into brackets with what came before
               let whole : IsToldAfter age part p [] (so.items ++ item e ∷ rest) close (found ++ (items ++ later)) end (lines ++ (text ++ further)) =
               so.front (item e ∷ rest) close (items ++ later) end (text ++ further)
               (left, is_left, inr (has_room, (item cut, seen, items, later, text, further, is_taken, observed, found_here, text_is, refl, refl, told))) in
@@ -93,9 +95,8 @@ module _ (age : ℕ) (part : Option PartOf) (p : Times) (start : Option (List �
         notes (left ++ seen ∷ []) (horizon_push a left seen f_horizon (omega (arith, f_now, k_now, newest, moves))) k_stands,
       )
 
-  -- What follows is of the end of the survey: `counts` are what its lines count, `summary` is what it tells last, and `before`, `mid` and `after` are the
-  -- sink
-  -- before its lines, after them, and after the summary.
+  -- What follows is of the end of the survey: `counts` are what its lines count, `summary` is what it tells last, and `before`, `mid` and `after` are what
+  -- the sink has before its lines, after them, and after the last line.
   module _ (counts : Counts) (summary : Summary) (before mid after : Option (List ℕ)) (told : AreTold found lines counts before mid)
       (findings : summary.findings ≡ counts.findings) (undecided : summary.undecided ≡ counts.undecided) where
     -- where the lines tell the findings of the whole input, and the last line is written, the survey of the input is written and summed up
@@ -129,6 +130,7 @@ module _ (age : ℕ) (part : Option PartOf) (p : Times) (start : Option (List �
         (λ input says. (so.items, close, says, subst (λ is. IsToldAfter age part p [] is close found end lines) (append-nil so.items) (at_end [] close end (left, refl)))) logs)
 
     -- the survey has no room for the entry that comes next
+    -- m is the horizon before; f and a are the survey and the horizon after what was due was forgotten
     pub remembers_full : (m : Horizon) → IsHorizonOf m so.es → m.age ≡ age → (e : Entry) (new : log.ReaderState) → HasStreamed start p (so.items ++ item e ∷ []) new → (f : Surveying) (a : Horizon)
         → ((es : List (Observation KeyParts)) → SurveysFor s es → IsHorizonOf m es → (left : List (Observation KeyParts)) × IsLeftOf m.age s.tables.times es left × SurveysFor f left × IsHorizonOf a left)
         → ¬ (HasRoom f.number (length f.tables.keys)) → (number : ℕ) → number ≡ f.number + 1 → summary.end ≡ ended.LogFault number Limit → Appends mid after (end_text (ended.LogFault number Limit) counts.findings)

@@ -45,6 +45,7 @@ told_none counts w none nothing = record { findings = none; undecided = nothing;
 pub told_more : (found here : List Finding) (lines text : List ℕ) (a b : Counts) (before mid after : Option (List ℕ)) → AreTold found lines a before mid → AreCounted here a b → Appends mid after text
     → AreTold (found ++ here) (lines ++ text) b before after
 told_more found here lines text a b before mid after told counted written =
+    -- the counts of all findings, and of the undecided among them, are those so far and those of this entry together
     let long = length-append found here in
     let undecided = ap length (filter-append is_undecided found here) ∙ length-append (filter is_undecided found) (filter is_undecided here) in
     let one = told.findings in
@@ -57,6 +58,7 @@ told_more found here lines text a b before mid after told counted written =
 -- a counts before the findings, b after them, and c after the finding f more; o is what the code answers
 pub counted_more : (found : List Finding) (f : Finding) (a b c : Counts) (o : Option Counts) → AreCounted found a b → IfSome o (AreCounted (f ∷ []) b) → o ≡ Some c → AreCounted (found ++ f ∷ []) a c
 counted_more found f a b c o told one is =
+    -- the counts of all findings, and of the undecided among them, are those of the first and of the one more together
     let next = subst (λ x. IfSome x (AreCounted (f ∷ []) b)) is one in
     let long = length-append found (f ∷ []) in
     let undecided = ap length (filter-append is_undecided found (f ∷ [])) ∙ length-append (filter is_undecided found) (filter is_undecided (f ∷ [])) in
@@ -93,6 +95,7 @@ line_with-told s f number told line tells is es stands P (before, key, rest, who
     -- the line has the words of the transaction, which the survey has
     by : (o : Option Transaction) → IsSomeAnd o (λ t. (t.key.now ≡ key) × IsFirstOf es key t.first t.branch.now × IsLastOf es key t.last) → line ≡ line_with f o
         → (words : List ℕ) × HoldsOf (AreWordsOf es words) (keys_in es) number × (line ≡ rendered (verdict_of f) ++ words ++ line_feed ∷ [])
+    -- the survey knows the transaction, so that it tells something of it
     by None none same = absurd none
     by (Some t) (key_is, first, last) same = (
       words_of t,
@@ -102,6 +105,7 @@ line_with-told s f number told line tells is es stands P (before, key, rest, who
 
 -- a line with what the survey tells of its finding is the line of the finding
 pub line_by : (s : Surveying) (f : Finding) (told : Option Transaction) (line : List ℕ) → TellsOf s f told → line ≡ line_with f told → IsLineBy s f line
+-- a fault names no transaction, so that its line has no words of one
 line_by s (Malformed entry fault) told line none is p es e stands found = is ∙ ap (line_with (Malformed entry fault)) none
 line_by s (Breach entry number) told line tells is p es e stands found = line_with-told s (Breach entry number) number told line tells is (es ++ e ∷ []) stands _ found.1
 line_by s (Undecided entry number) told line tells is p es e stands found = line_with-told s (Undecided entry number) number told line tells is (es ++ e ∷ []) stands _ found.1
@@ -117,6 +121,7 @@ found_text s p es e stands (f ∷ found) text at (line, more, is, are, whole) =
       -- the first finding is of the newest entry, and so are the others
       line,
       more,
+      -- the entries up to the finding's own are all entries; the line is its line there, and the rest of the text is of the other findings
       sym (append-nil (es ++ e ∷ [])),
       length-append es (e ∷ []) ∙ sym (at_entry f here),
       is p es e stands here,
@@ -172,6 +177,8 @@ module _ (part : Option PartOf) (start : Option (List ℕ)) (now : log.ReaderSta
   read = told_so.read
 
   -- where one more item was read and surveyed, and its lines were written, the survey has read and told that item too
+  -- i is the item and `cut` the entry as which it is taken; `new` is the state of the reader and k the survey after it; `items` and `text` are the
+  -- findings at it and their lines
   pub surveys_on : (i : Item) (cut : Entry) (new : log.ReaderState) → HasRead start s.tables.times (read.items ++ i ∷ []) new → IsTaken part i (item cut) → (k : Surveying) → k.tables.times ≡ s.tables.times
       → (items : List Finding)
       -- what was found at the entry, and the lines of that
@@ -188,9 +195,8 @@ module _ (part : Option PartOf) (start : Option (List ℕ)) (now : log.ReaderSta
             (found_text k s.tables.times read.es seen stands here text (λ f has. (are.1 f).0 has) (subst (λ fs. AreLinesBy k fs text) same are_lines));
       })
 
-  -- What follows is of the end of the survey: `counts` are what its lines count, `summary` is what it tells last, and `before`, `mid` and `after` are the
-  -- sink
-  -- before its lines, after them, and after the summary.
+  -- What follows is of the end of the survey: `counts` are what its lines count, `summary` is what it tells last, and `before`, `mid` and `after` are what
+  -- the sink has before its lines, after them, and after the last line.
   module _ (counts : Counts) (summary : Summary) (before mid after : Option (List ℕ)) (told : AreTold found lines counts before mid)
       (findings : summary.findings ≡ counts.findings) (undecided : summary.undecided ≡ counts.undecided) where
     -- where the log ends after the items that were read, and the last line is written, the survey is written and summed up

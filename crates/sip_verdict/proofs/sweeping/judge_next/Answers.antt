@@ -1,3 +1,5 @@
+-- s is what stands before the entry e, `mid` after it, and `new` after the sweep; `swept` is what the sweep promises; `left` is how many messages the
+-- book kept after the last sweep, and the next one is due where it has more than twice as many and 64.
 use Rattle.std.proofs.Common.{◌≤◌, ◌+◌, Contains, length, arith}
 use Rattle.std.proofs.lemmas.List.Elements.{All-contains, All-weaker}
 use Rattle.sip_log.specs.Told.{item}
@@ -12,6 +14,7 @@ returns-then-not-is_slow-clause-judged g c =
     let mid = c.judge.new.self in
     let e = c.args.entry.now in
     let left = c.args.left.now in
+    -- few messages are kept still: the test says that no sweep is due
     let few : length mid.book ≤ left + left + 64 = omega (arith, c.kept.ensures.kept, c.if-kept-left.true) in
     followed_kept s.book mid.book s.tables mid.tables c.in_ok-verdict.ensures.times e.number (item e) (rw c.in_default.is at c.in_ok-verdict.ensures.judged) left few
 
@@ -29,6 +32,7 @@ pub returns-clause-left : goal.returns-clause-left
 returns-clause-left g c =
     let may = rw c.in_default.is at c.in_ok-verdict.ensures.may in
     let fewer = within_keeps c.judge.new.self.book c.sweep.new.self.book c.in_ok-sweep.ensures.fewer in
+    -- each number that the book keeps is at most that of the entry
     let high = c.kept-2.ensures.few (c.args.entry.now.number + 1) (λ n keeps. may.numbered n (fewer n keeps)) in
     omega (arith, high, c.requires.count)
 

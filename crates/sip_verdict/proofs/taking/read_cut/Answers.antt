@@ -5,6 +5,7 @@ use Rattle.sip_verdict.proofs.taking.read_cut.Goals as goal
 -- the cut entry has the number and the moment of the entry that was read
 pub returns-in_ok-cut_to-in-Entry-clause-moves : goal.returns-in_ok-cut_to-in-Entry-clause-moves
 returns-in_ok-cut_to-in-Entry-clause-moves g c =
+    -- `moves` says what was read, and `cut` what became of the entry: the order and the limit of moments hold of the cut one too
     let moves = rw c.in-Entry.is at c.in_ok-entry.ensures.moves in
     let cut = c.in_ok-cut_to-in-Entry.ensures in
     let order = moves.1.order in

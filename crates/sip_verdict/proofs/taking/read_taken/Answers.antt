@@ -19,6 +19,7 @@ returns-in-Some-ahead-clause-moves g c =
 -- what was read is what was read before and this entry, which is taken as the part has it
 pub returns-in-Some-ahead-clause-gives : goal.returns-in-Some-ahead-clause-gives
 returns-in-Some-ahead-clause-gives g c = λ start times items read.
+    -- `left` is what the source has left, and `failed` whether reading it has failed
     let taken = c.in_ok-entry.ensures in
     let left = g.R.Source.left c.args.reader.now in
     let failed = g.R.Source.has_failed c.args.reader.now in

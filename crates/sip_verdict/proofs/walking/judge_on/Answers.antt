@@ -1,3 +1,5 @@
+-- s is what stands before the entry, and `new` what stands after it.
+-- `IfOk-weaker` draws from what holds of a result's value what follows of it.
 use Rattle.std.proofs.lemmas.Result.{IfOk-weaker}
 use Rattle.sip_verdict.proofs.listings.WalksLemmas.{judges_end, judges_entry}
 use Rattle.sip_verdict.proofs.walking.judge_on.Goals as goal
@@ -10,7 +12,7 @@ returns-in-End-clause-judged g c =
     IfOk-weaker c.judge_next.result _ _
     (λ verdict says. judges_end s.book new.book s.tables new.tables c.args.left.now c.judge_next.new.left c.args.entry.now c.args.aim c.in-End.is verdict says) c.judge_next.ensures.judged
 
--- on the way to an entry no sweep takes place
+-- on the way to an entry, an entry is judged without a sweep, so that each message stays in the book under its number
 pub returns-in-Entry-clause-judged : goal.returns-in-Entry-clause-judged
 returns-in-Entry-clause-judged g c =
     let s = c.args.standing.now in

@@ -1,3 +1,4 @@
+-- l is how the loop stands, and `start` the input; `old` and `new` are how far the log was read before the next entry and after it, and `moves` says so.
 use Rattle.std.proofs.Common.{◌≡◌, ◌≢◌, ◌+◌, ◌∙◌, Option, sym, ap, subst, arith}
 use Rattle.std.specs.Prelude.{IfNone}
 use Rattle.sip_standard.specs.declared.verdict.Verdict.{Verdict}
@@ -32,6 +33,7 @@ loop-standing-init g c =
     let now : log.ReaderState = beside_source opened.1 (g.R.Source.left c.read_header.new.reader) (g.R.Source.has_failed c.read_header.new.reader) in
     let reads = rw c.in-Ok.is at c.in_ok-opened.ensures.reads in
     record {
+      -- no read has failed since, and the reader stands at the entries
       fine = c.in_ok-opened.ensures.ok;
       on = reads.on;
       counts = sym (rw c.in-Ok.is at c.in_ok-opened.ensures.first).0;
@@ -41,6 +43,7 @@ loop-standing-init g c =
       before = λ n is.
           let apart : n ≢ 0 = λ zero. c.is_entry.ensures.is_not c.if-is_entry.false (is ∙ ap aim.Entry zero) in
           omega (arith, apart);
+      -- the first entry may come, and the walk has walked over none
       may = first_may c.new-standing.result.book c.new-standing.result.tables opened.0 opened.1.last c.new-standing.ensures.book c.new-standing.ensures.tables;
       walks = walks_start c.args.aim start now opened.0 c.new-standing.result.book c.new-standing.result.tables c.new-standing.ensures.book c.new-standing.ensures.tables reads;
     }
@@ -105,6 +108,7 @@ loop-standing-preserved g c =
     let next : e.number ≡ l.count + 1 = moves.1.number_is ∙ ap (λ n. n + 1) (sym l.invariant.counts) in
     let now = c.judge_on.new in
     record {
+      -- no read has failed, and as many entries were counted as were read
       fine = c.in_ok-entry.ensures.ok ∙ l.invariant.fine;
       on = moves.0;
       counts = sym moves.2;

@@ -10,6 +10,7 @@ use Rattle.sip_verdict.proofs.walking.walk.Given as goal
 abbrev pub invariant-loop-standing : goal.invariant-loop-standing
 invariant-loop-standing g l =
     record {
+      -- no read has failed since, and as many entries were judged as were read
       fine : g.R.Source.has_failed l.reader ≡ g.R.Source.has_failed l.fn.reader;
       on : l.progress.stage ≡ entries;
       counts : l.count ≡ l.progress.count;

@@ -16,6 +16,7 @@ made c =
     let begun = c.fold.new.text.items in
     let begun_is : begun ≡ head ++ folded (branch ++ []) =
     c.fold.ensures ∙ ap folded (c.in_ok-text.ensures ∙ sym (append-nil (head ++ branch))) ∙ begun_folded Client (length branch) (length c.args.method.now) branch [] in
+    -- `built` says that the text is that of the key with these parts, and `keyed` that the parts which the text tells are then these
     keyed (record { role = Client; branch = folded branch; sent_by = []; method = c.args.method.now }) c.extend_from_slice.new.self.items
     (built Client branch [] [] c.args.method.now begun c.extend_from_slice.new.self.items begun_is
     (c.in_ok-extend_from_slice.ensures.items ∙ ap (λ text. text ++ c.args.method.now) (sym (append-nil begun))))

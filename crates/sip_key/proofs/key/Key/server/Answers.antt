@@ -22,6 +22,7 @@ made c =
     c.fold.ensures ∙ ap folded (c.in_ok-extend_from_slice.ensures.items ∙ ap (λ text. text ++ host) c.in_ok-text.ensures) ∙ begun_folded Server (length branch) (length c.args.method.now) branch host in
     let port : List ℕ = colon ∷ decimal (port_number (option_copied c.args.port)) in
     let ported : c.push_port.new.text.items ≡ begun ++ port = c.in_ok-push_port.ensures in
+    -- `built` says that the text is that of the key with these parts, and `keyed` that the parts which the text tells are then these
     keyed (record { role = Server; branch = folded branch; sent_by = folded host ++ port; method = c.args.method.now }) c.extend_from_slice-2.new.self.items
     (built Server branch host port c.args.method.now begun c.extend_from_slice-2.new.self.items begun_is
     (c.in_ok-extend_from_slice-2.ensures.items ∙ ap (λ text. text ++ c.args.method.now) ported))

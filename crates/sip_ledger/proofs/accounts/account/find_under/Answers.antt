@@ -41,7 +41,7 @@ returns-then-is_newest-clause-first c =
     rw c.sooner-first.ensures (newest-first g s c.args.account c.args.index.now c.args.key c.args.moment c.in-Some.message c.requires.gained c.loop-step.first c.find-place.result c.find-place.ensures.found
     (rw c.if-is_newest.true at c.is_newest.ensures) more)
 
--- where the message found so far is less than the next one that is owed, it is the first of all
+-- where no gain that is kept has a greater message, what was found is the first of all
 pub returns-then-gains-message-clause-first : goal.returns-then-gains-message-clause-first
 returns-then-gains-message-clause-first c =
     let g = c.args.gains.now in

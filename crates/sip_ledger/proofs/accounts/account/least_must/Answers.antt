@@ -2,7 +2,7 @@ use Rattle.sip_ledger.proofs.Lemmas.{arith, entries_long, entries_of, least-firs
 use Rattle.sip_ledger.proofs.accounts.account.least_must.Goals.{then-owes+else-gains, else-owes}
 use Rattle.sip_ledger.proofs.accounts.account.least_must.Goals as goal
 
--- before the first place there is no least deadline, or it is that of the first debt
+-- before the first place that is looked at nothing has to be sent, so there is no least deadline yet
 pub loop-place-init : goal.loop-place-init
 loop-place-init c =
     let from = c.max-from.ensures in
@@ -37,6 +37,6 @@ loop-place-preserved c =
           (sym c.owes.ensures ∙ w.if-owes.false))
     ]
 
--- all places were looked at
+-- no gain that must be sent is left, so the least so far is the least of all
 pub returns : goal.returns
 returns c = grind (arith, least-last)

@@ -1,7 +1,7 @@
 use Rattle.sip_ledger.proofs.Lemmas.{AreAt, ◌-◌}
 use Rattle.sip_ledger.proofs.accounts.account.same.Given as goal
 
--- what is left of both accounts is the same exactly if all that they owe is
+-- both accounts owe the same before their places (AreAt), so that they owe the same exactly if what is left of them is the same
 abbrev pub invariant-loop-at : goal.invariant-loop-at
 invariant-loop-at l = AreAt l.gains l.strikes l.one l.other l.at l.beside
 

@@ -8,6 +8,7 @@ loop-at-init c = rw (c.new-kept.ensures.items, c.new-moved.ensures.items) (moved
 -- one account more is moved
 pub loop-at-preserved : goal.loop-at-preserved
 loop-at-preserved c =
+    -- `none` stands for no account
     let none : Account = record { start = 0; end = 0; soft = 0; first = 0; last = 0; print = 0 } in
     let inside : c.loop-at.at < length c.args.rows.now = omega arith in
     rw c.in_ok-push.ensures.items

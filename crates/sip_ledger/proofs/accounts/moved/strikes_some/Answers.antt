@@ -1,7 +1,7 @@
 use Rattle.sip_ledger.proofs.Lemmas.{arith, ltb-false, OnFalse_from, strikes-none}
 use Rattle.sip_ledger.proofs.accounts.moved.strikes_some.Goals as goal
 
--- the strike strikes something if it reaches the first place that is left
+-- where the first place of its message that is left is not before the end of the strike, it strikes nothing from there on
 pub returns-in-Some : goal.returns-in-Some
 returns-in-Some c =
     OnFalse_from _ _ (λ late.

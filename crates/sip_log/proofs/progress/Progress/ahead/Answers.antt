@@ -17,11 +17,14 @@ returns-in-Entries c =
     let inside = c.self.inside in
     let window = c.in-Entries.window in
     let held = ap held_at c.in-Entries.is in
+    -- `MatchOption-map` leads from what `entry_ahead` says of its answer to what is asked: by the first function where it is none, else by the second
     MatchOption-map c.entry_ahead.result (ComesWithout (EntryComes inside.format inside.count inside.last (items window))) (LacksAhead c.args.self.now)
     (λ a. (a.number ≡ inside.count + 1) × ComesAhead inside.format inside.count inside.last (items window) a) (IsAhead c.args.self.now)
+    -- where none is answered, no entry with a message comes by the code, and so none comes next by the spelling
     (λ without. subst (λ (p : ProgressState). LacksAhead p) c.self.view_is
     (λ on e after some comes. Without-lacks inside.format inside.count inside.last (items window) without e after some
     (subst (λ h. ComesNext inside.format inside.count inside.last h (gives e after)) held comes)))
+    -- where an entry a is answered, it is one that stands whole in the window
     (λ a is. subst (λ (p : ProgressState). IsAhead p a) c.self.view_is (record {
       on = ap stage_of c.in-Entries.is;
       number_is = is.0;

@@ -14,6 +14,7 @@ use Rattle.sip_log.proofs.progress.Progress.open.Goals as goal
 pub returns-in-Ok : goal.returns-in-Ok
 returns-in-Ok g c =
     let window = c.in_ok-window.window in
+    -- `left` and `left2` are what is unread before and after the header, and `before` and `after` whether the source had failed
     let left = g.R.Source.left c.args.source.now in
     let left2 = prepend_known (items c.read_header.new.window) (g.R.Source.left c.read_header.new.source) in
     let before = g.R.Source.has_failed c.args.source.now in
@@ -22,6 +23,7 @@ returns-in-Ok g c =
     let format = c.in-Ok.header.0 in
     let p = c.in-Ok.header.1 in (
       refl,
+      -- `headed`: where a header was read, the answer with its times tells what stands first in the input
       subst (λ o. TellsWhatComes {A = Times} o left2 before after (Heads format) gives (Ok p)) (unread-fresh window left c.in_ok-window.ensures)
           (headed (unread window left) left2 before after format p c.in-Ok.ensures),
     )
@@ -35,5 +37,6 @@ returns-in-Err g c =
     let left2 = g.R.Source.left c.read_header.new.source in
     let before = g.R.Source.has_failed c.args.source.now in
     let after = g.R.Source.has_failed c.read_header.new.source in
+    -- `unheaded`: where the header is at fault, the answer with the error tells what stands first in the input
     subst (λ o. TellsWhatComes {A = Times} o left2 before after (Heads One) gives (Err c.in-Err.error)) (unread-fresh window left c.in_ok-window.ensures)
     (unheaded (unread window left) left2 before after One c.in-Err.error c.in-Err.ensures)

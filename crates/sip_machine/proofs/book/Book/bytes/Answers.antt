@@ -10,8 +10,9 @@ use Rattle.sip_machine.proofs.book.Book.bytes.Goals as goal
 -- the binary search has found the message with this number
 pub returns-in-Ok : goal.returns-in-Ok
 returns-in-Ok c =
+    -- each call of the closure gives the number of the message that it is asked of (`answers_always`)
     let at = c.in-Ok.ensures.position (λ k. k.number) (answers_always _ _ _ (λ f a r g called. search rules)) in
-    -- the message that was found has the number that was asked for, so its bytes are those of this number
+    -- the message that was found has the number that was asked for, since the two compare as `Equal` (`ranked`); so its bytes are those of this number
     let same = ranked c.index.result.now.number c.args.number Equal (sym (rw (c.deref.ensures.value, ← c.index.ensures) at (at c.index.result.now))) in
     let found = text_of-kept (λ k. (k.number, k.bytes.items)) c.self.inside.kept.items c.in-Ok.position c.index.result.now c.self.invariant.0.rising
     (rw c.deref.ensures.value at c.in-Ok.ensures.bound) c.index.ensures in

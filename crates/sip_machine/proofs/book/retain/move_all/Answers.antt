@@ -11,7 +11,7 @@ loop-i-preserved c =
     moves_run (moved (texts_of c.args.kept.now) c.args.numbers.now) most_places c.args.runs.now.items c.loop-i.runs.items c.loop-i.i c.index_mut.result.now c.move_run.new.run c.loop-i.invariant (omega arith)
     c.index_mut.ensures.value c.move_run.ensures.places c.move_run.ensures.fewer c.move_run.ensures.led
 
--- the runs that are left are those that still have a place
+-- the runs that are left are those that still have a place: `retain` asks just this of each (`filter_same`)
 pub returns : goal.returns
 returns c =
     let is = filter_same _ has_places _ (λ x b f' k. search rules) _ _ c.retain.ensures.filtered in

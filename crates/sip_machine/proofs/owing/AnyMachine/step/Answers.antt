@@ -19,6 +19,7 @@ returns-in_ok-lead-in-Some-None-clause-alone g c =
     let one = c.requires.alone in
     let d = some-at xs 0 (omega (arith, one)) in
     let led = led_by (g.M.Phases.times c.args.self.now) c.args.event.now.moment c.in-Some-None.turn (get_or xs 0 d) in
+    -- the one state of the pool was set to this one, and so there is one again
     let changed : c.lead.new.self ≡ set xs 0 led = rw (c.in_ok-turn.ensures.same, c.params.ensures, c.moment-moment.ensures) at c.in_ok-lead-in-Some-None.ensures.ok d in
     ap length (changed ∙ alone-set xs led one)
 
@@ -37,5 +38,6 @@ returns-in_ok-come_to_rest-in-None-Some-clause-alone g c =
     let one = c.requires.alone in
     let d = some-at xs 0 (omega (arith, one)) in
     let rested = rests_at c.args.event.now.moment c.in-None-Some.rest (get_or xs 0 d) in
+    -- the one state of the pool was set to this one, and so there is one again
     let changed : c.come_to_rest.new.self ≡ set xs 0 rested = rw (c.in_ok-turn.ensures.same, c.moment-moment.ensures) at c.in_ok-come_to_rest-in-None-Some.ensures.ok d in
     ap length (changed ∙ alone-set xs rested one)

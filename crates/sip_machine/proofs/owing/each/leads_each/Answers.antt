@@ -1,3 +1,4 @@
+-- In the answers m is the machine by its figure and its phases, and e the event as the definitions have it.
 use Rattle.std.proofs.Common.{arith}
 use Rattle.sip_machine.specs.NumberedEvent.{event_in}
 use Rattle.sip_machine.specs.Owing.{owing_seen, owing_names, OwingInRange}

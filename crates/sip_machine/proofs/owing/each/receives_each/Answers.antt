@@ -1,3 +1,4 @@
+-- In the answers m is the machine by its figure and its phases, p its times and e the event as the definitions have it.
 use Rattle.std.specs.Prelude.{take}
 use Rattle.std.proofs.lemmas.Result.{on_ok_weaker}
 use Rattle.sip_machine.specs.NumberedEvent.{event_in}
@@ -26,6 +27,7 @@ returns-clause-gives g c =
     let (added, is, covers) = has in (
       added,
       is,
+      -- a state takes of a received message just what its row, or its stay, leads to (`takes-received`)
       Covers-same (owing_names m.names) (OwingInRange m.in_range) (owing_seen m.seen) texts (FromSome P some)
           (FromSome (λ x. TakeOf m.figure p (owing_seen m.seen texts x) e) some)
           (FromSome-same P (λ x. TakeOf m.figure p (owing_seen m.seen texts x) e) (takes-received m.figure p m.seen texts e c.requires.action) some) added covers,

@@ -1,3 +1,4 @@
+-- In the answers m is the machine by its figure and its phases, p its times and e the event as the definitions have it.
 use Rattle.std.specs.Prelude.{◌≡◌, ◌<◌, ◌++◌, [], get_or, option_to_list}
 use Rattle.std.specs.Option.{option_map}
 use Rattle.std.proofs.Common.{sym, subst, append-nil}

@@ -1,3 +1,5 @@
+-- In the answers m is the machine by its figure and its phases, p its times and e the event as the definitions have it.
+-- In them xs are the states of the pool, and `some` those of the run.
 use Rattle.std.specs.Prelude.{◌≡◌, ◌<◌, ◌&&◌, ◌++◌, [], filter, map}
 use Rattle.std.specs.List.{list_any}
 use Rattle.std.proofs.Common.{sym, ◌∙◌, subst, arith, append-nil, true≢false}

@@ -1,3 +1,4 @@
+-- In the answers m is the machine by its figure and its phases, and e the event as the definitions have it.
 use Rattle.std.specs.Prelude.{◌≡◌, take}
 use Rattle.std.proofs.Common.{subst, arith}
 use Rattle.sip_machine.specs.NumberedEvent.{event_in}
@@ -39,6 +40,7 @@ loop-at-preserved g c =
     let m = g.M.Phases in
     let texts = c.args.book.now in
     let e = event_in texts c.args.event.now in
+    -- P says of a state what it takes of the event; `Denot` is the type of the phases as clauses see them
     let P = λ (x : CodeOwing g.row.M-Phase.Denot). TakeOf m.figure (m.times c.args.machine.now) (owing_seen m.seen texts x) e in
     -- what was found before the run, and what the run takes, is found of all up to its end
     let (at_le, has) = c.loop-at.invariant in

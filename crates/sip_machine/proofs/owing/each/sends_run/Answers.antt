@@ -1,3 +1,4 @@
+-- In the answers m is the machine by its figure and its phases, p its times and e the event as the definitions have it.
 use Rattle.std.specs.Prelude.{◌++◌, ◌⊎◌, All}
 use Rattle.std.proofs.Common.{sym, ◌∙◌, ap, subst, append_assoc}
 use Rattle.std.proofs.lemmas.Result.{on_ok_weaker}
@@ -50,6 +51,7 @@ returns-clause-gives g c =
       Covers-same (owing_names m.names) (OwingInRange m.in_range) (owing_seen m.seen) texts (λ y. FromSome P some y ⊎ FromSome Q some y)
           (FromSome (λ x. TakeOf m.figure p (owing_seen m.seen texts x) e) some)
           (λ y.
+          -- what a state takes of a sent message is where a row leads it or where it rests (`takes-sent`)
           let either = FromSome-either P Q some y in
           let same = FromSome-same (λ x y. P x y ⊎ Q x y) (λ x. TakeOf m.figure p (owing_seen m.seen texts x) e) (takes-sent m.figure p m.seen texts e c.requires.action) some y in
           (λ h. same.0 (either.0 h), λ h. either.1 (same.1 h))) (added ++ more)

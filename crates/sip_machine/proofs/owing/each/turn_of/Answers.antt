@@ -1,3 +1,4 @@
+-- In the answers m is the machine by its figure and its phases.
 use Rattle.std.proofs.lemmas.Result.{IfOk-weaker}
 use Rattle.sip_machine.specs.NumberedEvent.{event_in}
 use Rattle.sip_machine.proofs.steps.OwingEachLemmas.{leads-received, leads-sent}

@@ -10,6 +10,7 @@ loop-at-preserved g c =
     let at = c.loop-at.at in
     let rows = c.loop-at.rows.items in
     let first = c.loop-at.invariant in
+    -- `c.loop-at.auto.at` says that `at` is not before `from`, where the loop begins
     let among = rw c.deref.ensures.value at c.is_among.ensures in
     -- the state has no equal among the first ones, or it has one
     elim c.if-not-is_among.branch [

@@ -11,8 +11,10 @@ loop-at-preserved g c =
     let from = c.args.from in
     let rows = c.loop-at.rows.items in
     let prints = c.in_ok-prints.prints.items in
+    -- `kept` are the prints in the slots, and `print` is that of the state at hand
     let kept = c.loop-at.slots.prints in
     let print = c.index-print.result.now in
+    -- `at_from` says that `at` is not before `from`, where the loop begins
     let at_from = c.loop-at.auto.at in
     -- the state has an equal before it exactly if one of the first ones is equal
     let (first, long, told) = c.loop-at.invariant in
@@ -32,6 +34,7 @@ loop-at-preserved g c =
             more_kept ∙ ap (λ n. n + 1) long ∙ sym more_rows,
             -- each row has its print, the new one too
             (λ k low. elim (cases_lt k (length rows)) [
+              -- an old row has the print that it had, and the new one that of the state at hand
               | inl before ↦
                   get_or_append_left kept (print ∷ []) 0 k (omega (arith, before, long)) ∙ told k before
                   ∙ ap (λ r. get_or prints (r - from) 0) (sym (get_or_append_left rows (at ∷ []) 0 k before))

@@ -9,6 +9,7 @@ returns-in-None g c = λ x.
     let phases = c.self.inside.phases.items in
     let rows = c.self.inside.dues in
     let kept = c.args.rows.now in
+    -- there are as many states as phases, so each index is one of a phase
     let size = beside-length phases rows in
     let view = ap length c.self.view_is in
     let within : All (λ row. row < length phases) kept = λ k d low. let w = c.requires.within k d low in omega (arith, size, view, w) in

@@ -21,11 +21,13 @@ loop-at-preserved g c =
       omega (arith, from, order.0),
       omega (arith, high),
       -- the hash of this phase was mixed into the prints of the run
+      -- the prints are as many as before (`c.mix.auto.prints`)
       rw (with_items_is c.loop-at.prints c.mix.new.prints (c.mix.auto.prints ∙ c.deref_mut.ensures.len)) (
           mixed-run g.P.Hash.hash_input phases c.args.from old c.loop-at.prints.items c.mix.new.prints (at - c.args.from) (to - c.args.from) c.hash_of.result p mixing (rw c.deref_mut.ensures.value at c.mix.ensures) c.hash_of.ensures
           (omega (arith, order.0))
           (λ k q above below inside.
           -- the phase at each place of the run is the one whose hash was mixed
+          -- `Denot` is the type of the phases as clauses see them
           let x : CodeOwing g.row.P.Denot = record { phase = q; owes = [] } in
           let there : c.args.from + k < length xs = omega (arith, below, high) in
           let here : at < length xs = omega (arith, order.0, high) in
@@ -43,5 +45,6 @@ returns g c =
     let (from, within, mixing) = c.loop-at.invariant in
     let size = beside-length phases rows in
     let same = ap length c.self.view_is in
+    -- the loop has come to the end of the phases
     let all : length phases ≤ c.args.from + (c.loop-at.at - c.args.from) = omega (arith, size, same, from) in
     mixed-all g.P.Hash.hash_input phases c.args.from old rows c.args.self.now c.loop-at.prints.items (c.loop-at.at - c.args.from) c.self.view_is c.self.invariant c.in_ok-prints.ensures mixing all

@@ -26,6 +26,7 @@ returns-clause-ok g c =
     -- all states of the run have its phase
     let phase : (get_or xs from d).phase ≡ q
     = ap (λ z. z.phase) (state-at phases rows xs from q d c.self.view_is c.requires.from) ∙ sym c.index-phase.ensures in
+    -- `Denot` is the type of the phases as clauses see them
     let each : All (λ (x : CodeOwing g.row.P.Denot). record { phase = q; owes = pays x.owes } ≡ repaid_at t message x) (from_to from to xs)
     = All-weaker (λ x. x.phase ≡ (get_or xs from d).phase) (λ x. record { phase = q; owes = pays x.owes } ≡ repaid_at t message x)
     (λ x same. ap (λ p. record { phase = p; owes = pays x.owes }) (sym phase ∙ sym same)) (from_to from to xs) (c.requires.same d) in

@@ -3,10 +3,11 @@ use Rattle.sip_machine.specs.inner.Slots.{AreSlots}
 use Rattle.sip_machine.proofs.pools.SlotsLemmas.{pair-print, pair-older, reached-more}
 use Rattle.sip_machine.proofs.slots.Slots.last_from.Goals as goal
 
--- no row between this one and the older one of its slot has the print
+-- no print between this one and the older one of its slot is equal to the one that is looked for
 pub loop-next-preserved : goal.loop-next-preserved
 loop-next-preserved c =
-    -- s are the slots, `newest` the newest row of each, `kept` the print of each row with the older row of its slot, and x that of the row `at`
+    -- s are the prints by slots; `newest` has one past the newest print of each slot, and `kept` each print with one past the older one of its slot;
+    -- x is the pair of `kept` at the place `at`
     let s = c.args.self.now in
     let at = c.loop-next.next - 1 in
     let some = c.loop-next-test.true in
@@ -14,19 +15,19 @@ loop-next-preserved c =
     let kept = c.self.inside.kept.items in
     let x = c.index-kept.result.now in
     let are : AreSlots s = subst AreSlots c.self.view_is c.self.invariant in
-    -- the row that is looked at leads to an older one of its slot
+    -- the print that is looked at leads to an older one of its slot
     let low : at < length s.prints = omega (arith, some, c.loop-next.invariant.0) in
     let print = pair-print newest kept s at x c.self.view_is low c.index-kept.ensures in
     let older = pair-older newest kept s at x c.self.view_is low c.index-kept.ensures in
     let within = (are.older_is at low).within in (
       omega (arith, older, within, low),
-      -- no row between the two has the print
+      -- no print between the two is equal to it
       λ limit low_limit is.
           rw (sym older)
           (reached-more s c.args.print limit c.loop-next.next at are low_limit (c.loop-next.invariant.1 limit low_limit is) (omega (arith, some)) (λ same. c.if-kept-print.false (sym print ∙ same))),
     )
 
--- at the end of the loop no row has the print
+-- at the end of the loop no print before the limit is equal to the one that is looked for
 pub returns : goal.returns
 returns c = λ limit low is.
     let reached = c.loop-next.invariant.1 limit low is in

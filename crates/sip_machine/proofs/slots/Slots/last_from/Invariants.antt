@@ -9,6 +9,6 @@ invariant-loop-next l =
     × ((limit : ℕ) → limit ≤ length l.self.prints → IsNewest (length l.self.newest) l.self.prints (slot_of (length l.self.newest) l.print) limit l.fn.newest →
     IsReached (length l.self.newest) l.self.prints l.print limit l.next)
 
--- each turn of the loop goes to an earlier row
+-- each turn of the loop goes to an earlier print
 abbrev pub decreases-loop-next : goal.decreases-loop-next
 decreases-loop-next l = l.next

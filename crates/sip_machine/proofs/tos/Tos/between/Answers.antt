@@ -9,7 +9,8 @@ pub returns-clause-count : goal.returns-clause-count
 returns-clause-count c =
     let tos = c.self.inside.list.items in
     let up = rises_weakly (λ to. to.number) tos c.self.invariant.0 in
-    -- the first search finds where the numbers reach `low`, and the second where they pass `high`
+    -- the first search finds where the numbers reach `low`, and the second where they pass `high`; each call of their closures makes this test of a
+    -- number, and changes nothing (`always_returns_same`)
     let parts = c.partition_point-from.ensures.partitioned (λ to. nat_lt to.number c.args.low) (always_returns_same _ _ _ (λ a r g called. search rules))
     (rw c.deref.ensures.value (IsPartitionedBy-ltb (λ to. to.number) tos c.args.low up)) in
     let parts' = c.partition_point-to.ensures.partitioned (λ to. nat_le to.number c.args.high) (always_returns_same _ _ _ (λ a r g called. search rules))

@@ -19,6 +19,7 @@ invariant_of-self c =
     let last = c.in-Some.last.now in
     let old = c.self.inside.hashes in
     let new = c.drop_note.new.hashes in
+    -- `at` says that `last` stands at the end of the list
     let at = rw (c.in-Some.is, c.deref.ensures.value) at c.last.ensures.value in
     -- the last To is the one with this number, and the others have lesser numbers
     let same : last.number ≡ c.args.number = omega arith in

@@ -21,6 +21,7 @@ invariant_of-self-2 c =
     let noted = rw c.hash.ensures at c.in_ok-note.ensures.ok in
     let under : All P tos = λ k d low.
     put-keeps (full_hash c.args.text) c.args.number c.self.inside.hashes c.note.new.hashes noted (full_hash (get_or tos k d).text) (get_or tos k d).number (c.self.invariant.1 k d low) in
+    -- all others have lesser numbers, so that the new one comes last
     let lower : All (λ t. t.number < c.args.number) tos = rw c.self.view_is c.requires in
     let here : P to = put-here (full_hash c.args.text) c.args.number c.self.inside.hashes c.note.new.hashes noted in
     (subst (AllPairs below) (sym c.in_ok-push.ensures.items) (all_pairs_push below tos to c.self.invariant.0 lower), subst (All P) (sym c.in_ok-push.ensures.items) (All-push P tos to under here))

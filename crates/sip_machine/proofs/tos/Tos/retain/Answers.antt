@@ -8,7 +8,7 @@ use Rattle.sip_machine.proofs.tos.Tos.retain.Goals as goal
 abbrev below : To → To → Type 0
 below a b = a.number < b.number
 
--- the To values that are left are still in order, and no hashes are kept
+-- the Tos that are left are still in order, and no hashes are kept
 pub invariant_of-self : goal.invariant_of-self
 invariant_of-self c =
     let kept = c.retain.ensures.filtered in
@@ -20,6 +20,7 @@ pub returns-then-is_none : goal.returns-then-is_none
 returns-then-is_none c =
     let numbers = c.args.numbers.now in
     let kept = c.retain.ensures.filtered in
+    -- `among`: the test that the code asks of each To is whether its number is one of these
     let among = All-from_retain _ (λ to. Contains numbers to.number) _ (λ x b f' k. search rules) _ _ kept in
     rw (← c.self.view_is) (left_over kept.0 c.self.inside.list.items c.retain.new.self.items numbers kept.4 among)
 
@@ -29,10 +30,11 @@ invariant_of-self-2 c =
     let kept = c.retain.ensures.filtered in
     (subst (AllPairs below) (sym kept.4) (AllPairs-picked below kept.0 c.self.inside.list.items c.self.invariant.0), rw c.deref.ensures.value at c.hashes_of.ensures)
 
--- the To values that are left are those with these numbers
+-- the Tos that are left are those with these numbers
 pub returns : goal.returns
 returns c =
     let numbers = c.args.numbers.now in
     let kept = c.retain.ensures.filtered in
+    -- `among`: the test that the code asks of each To is whether its number is one of these
     let among = All-from_retain _ (λ to. Contains numbers to.number) _ (λ x b f' k. search rules) _ _ kept in
     rw (← c.self.view_is) (left_over kept.0 c.self.inside.list.items c.retain.new.self.items numbers kept.4 among)

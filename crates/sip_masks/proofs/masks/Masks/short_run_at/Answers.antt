@@ -1,3 +1,5 @@
+-- `stops-at`: where a bit of the word is set, the run ends at the lowest one. `goes-on`: where none is, all bytes of which the word tells pass.
+-- The arguments say that a byte is other than plain where it is not plain, that NUL is, and what the bits tell; no byte was passed before p.
 use Rattle.std.proofs.Common.{◌≡◌, ◌+◌, ◌≤◌, length, drop, w64, refl, ap, ◌∙◌, subst, arith}
 use Rattle.std.specs.Int.{trailing_zeros}
 use Rattle.std.specs.List.{prefix_len}
@@ -29,4 +31,5 @@ returns-then-word-eq0 c =
     let within : p ≤ length text = omega (arith, ap length c.self.view_is, c.requires) in
     let more = goes-on is_plain is_other (λ x. refl) refl text 64 p p c.word_at-word.result (omega (arith, c.if-word-eq0.true))
     (λ j h. c.word_at-word.ensures j h ∙ c.self.invariant.others_mark (p + j) (omega (arith, h, within))) (λ k from below. absurd (omega (arith, from, below))) within in
+    -- `run-from`: bytes that pass and lie within the text are a run at least as long
     subst (λ t. 64 ≤ prefix_len is_plain (drop p t)) c.self.view_is (run-from is_plain text p 64 more.0 more.1)

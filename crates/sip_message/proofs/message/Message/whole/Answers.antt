@@ -32,12 +32,14 @@ returns-then-not-is_clean c = fault-says _ _ (passes _ c.in-Some.ensures.0 (stop
 -- where the first line is no start line, this is the fault of the bytes
 pub returns-in_default-read_start : goal.returns-in_default-read_start
 returns-in_default-read_start c =
+    -- b tells how the bytes begin: they have a head without bare line ends, and its lines
     let b = begins c.in-Some.ensures.0 (c.is_clean.ensures.0 c.if-not-is_clean.false) c.cut_first.ensures in
     fault-says _ _ (begun b.1 (stopped _ (c.in_default-read_start.ensures, refl) refl))
 
 -- where a line of the head is at fault, this is the fault of the bytes
 pub returns-in_err-fields : goal.returns-in_err-fields
 returns-in_err-fields c =
+    -- b tells how the bytes begin, and the start line was read
     let b = begins c.in-Some.ensures.0 (c.is_clean.ensures.0 c.if-not-is_clean.false) c.cut_first.ensures in
     settled (λ (read : Vec Code × Kept). fields_parts read.0) (FieldsOf 1 b.0) c.args.bytes.now c.in_err-fields.field-0.0 c.from_residual.result c.from_residual.ensures.0 c.from_residual.ensures.1 (c.in_err-fields.ensures.fields b.0 b.2)
     (λ fault stop. begun b.1 (passes _ c.in-Some-read_start.ensures.0 (stopped fault stop refl)))
@@ -45,6 +47,7 @@ returns-in_err-fields c =
 -- where a named field is missing or stands twice, this is the fault of the bytes
 pub returns-in_err-named : goal.returns-in_err-named
 returns-in_err-named c =
+    -- b tells how the bytes begin, and the start line and the fields were read
     let b = begins c.in-Some.ensures.0 (c.is_clean.ensures.0 c.if-not-is_clean.false) c.cut_first.ensures in
     let fault = c.in_err-named.field-0.0 in
     faulted c.args.bytes.now fault c.from_residual-in_err-named.result c.from_residual-in_err-named.ensures.0 c.from_residual-in_err-named.ensures.1
@@ -65,22 +68,26 @@ returns-in_err-body c =
 -- each field has a value that its row allows
 pub read_body-requires-clause-rows : goal.read_body-requires-clause-rows
 read_body-requires-clause-rows c =
+    -- b tells how the bytes begin, and what is read of the lines are fields
     let b = begins c.in-Some.ensures.0 (c.is_clean.ensures.0 c.if-not-is_clean.false) c.cut_first.ensures in
     subst (λ xs. AllByRecursion (λ f. Row f.name f.value) (map field_parts xs)) (sym c.deref-2.ensures.value) (fields-rows b.0 (fields_parts c.in_ok-fields.fields) (read-fields 1 b.0 (fields_parts c.in_ok-fields.fields) (c.in_ok-fields.ensures.fields b.0 b.2)))
 
 -- the head has a Via, so its value was kept when its field was read
 pub unwrap-via-requires : goal.unwrap-via-requires
 unwrap-via-requires c =
+    -- among the fields stands a first Via, so an element of it was kept
     via-some (fields_parts c.in_ok-fields.fields) c.in_ok-fields.kept c.in_ok-named.named.via.now c.in_ok-fields.ensures.kept (subst (λ xs. IsFirstOf (values known_name.Via (map field_parts xs)) c.in_ok-named.named.via.now) c.deref.ensures.value c.in_ok-named.ensures.stand.via)
 
 -- the CSeq was kept when its field was read
 pub unwrap-cseq-requires : goal.unwrap-cseq-requires
 unwrap-cseq-requires c =
+    -- among the fields stands a first CSeq, so its number and method were kept
     cseq-some (fields_parts c.in_ok-fields.fields) c.in_ok-fields.kept c.in_ok-named.named.cseq.now c.in_ok-fields.ensures.kept (subst (λ xs. IsFirstOf (values known_name.CSeq (map field_parts xs)) c.in_ok-named.named.cseq.now) c.deref.ensures.value c.in_ok-named.ensures.stand.cseq)
 
 -- what was kept of the Via is what its field says
 pub read_body-requires-clause-via : goal.read_body-requires-clause-via
 read_body-requires-clause-via c =
+    -- the element that was kept is the first of the first Via
     via-is (fields_parts c.in_ok-fields.fields) c.in_ok-fields.kept c.in_ok-named.named.via.now c.unwrap-via.result c.in_ok-fields.ensures.kept (subst (λ xs. IsFirstOf (values known_name.Via (map field_parts xs)) c.in_ok-named.named.via.now) c.deref.ensures.value c.in_ok-named.ensures.stand.via) c.unwrap-via.ensures
 
 -- what was found are the parts of the bytes, so a message can be made of them
@@ -100,6 +107,7 @@ new-requires-clause-keeps c =
       stand = subst (λ xs. Stand (map field_parts xs) (names_of c.in_ok-named.named)) c.deref.ensures.value c.in_ok-named.ensures.stand;
     } in
     found-keeps (element c.unwrap-via.result) (cseq_parts c.unwrap-cseq.result) found
+    -- the element and the CSeq that were kept are what the first Via and the first CSeq say
     (via-is (fields_parts c.in_ok-fields.fields) c.in_ok-fields.kept c.in_ok-named.named.via.now c.unwrap-via.result c.in_ok-fields.ensures.kept (subst (λ xs. IsFirstOf (values known_name.Via (map field_parts xs)) c.in_ok-named.named.via.now) c.deref.ensures.value c.in_ok-named.ensures.stand.via) c.unwrap-via.ensures)
     (cseq-is (fields_parts c.in_ok-fields.fields) c.in_ok-fields.kept c.in_ok-named.named.cseq.now c.unwrap-cseq.result c.in_ok-fields.ensures.kept (subst (λ xs. IsFirstOf (values known_name.CSeq (map field_parts xs)) c.in_ok-named.named.cseq.now) c.deref.ensures.value c.in_ok-named.ensures.stand.cseq) c.unwrap-cseq.ensures)
 

@@ -8,4 +8,5 @@ use Rattle.sip_part.proofs.part.Part.has_message.Goals as goal
 pub returns-in-Some : goal.returns-in-Some
 returns-in-Some c =
     let plain = c.in-Some.branch.now in
+    -- the message falls by this branch in lower case, since it stands plainly in it
     (folded plain, plain_told c.args.bytes.now plain (sym c.led_branch.ensures ∙ ap option_copied c.in-Some.is), c.has_branch.ensures)

@@ -1,3 +1,4 @@
+-- Of the marks, `named` are the flags of the sets that may name a message, and `moved` those of the sets that a restart may change.
 use Rattle.std.proofs.Common.{◌≡◌, true, length, All}
 use Rattle.sip_states.proofs.marks.Marks.all.Given as goal
 

@@ -1,3 +1,4 @@
+-- Of the marks, `named` are the flags of the sets that may name a message, and `moved` those of the sets that a restart may change.
 use Rattle.std.proofs.Common.{true}
 use Rattle.sip_states.proofs.lists.Places.{set_here}
 use Rattle.sip_states.proofs.marks.Marks.mark.Goals as goal

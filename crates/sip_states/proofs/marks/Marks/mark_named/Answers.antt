@@ -1,9 +1,13 @@
+-- Of the marks, `named` are the flags of the sets that may name a message, and `moved` those of the sets that a restart may change.
 use Rattle.std.proofs.Common.{◌≡◌, ◌<◌, ◌∙◌, ◌+◌, ap, true, get_or, arith, set, sym}
 use Rattle.std.proofs.lemmas.Bool.{lt-ltb}
 use Rattle.std.proofs.lemmas.List.{get_or_default}
 use Rattle.sip_states.specs.inner.Marks.{IsMarked, Marked, marks}
 use Rattle.sip_states.proofs.due.MarksLemmas.{exchanged, marked_beside, marked_more, marked_still, marked_under, narrower, place_low}
 use Rattle.sip_states.proofs.marks.Marks.mark_named.Goals as goal
+
+-- Of the invariant of marks `c.self.invariant.0` says that the order has each index at the place that `places` gives for it (IsPlaced), and
+-- `c.self.invariant.1` that no more are named than moved.
 
 -- the index is marked as moved, so it has a place
 pub index-requires : goal.index-requires

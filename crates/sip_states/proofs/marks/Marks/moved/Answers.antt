@@ -1,5 +1,9 @@
+-- Of the marks, `named` are the flags of the sets that may name a message, and `moved` those of the sets that a restart may change.
 use Rattle.sip_states.proofs.due.MarksLemmas.{front_marked, front_once}
 use Rattle.sip_states.proofs.marks.Marks.moved.Goals as goal
+
+-- Of the invariant of marks `c.self.invariant.0` says that the order has each index at the place that `places` gives for it (IsPlaced), and
+-- `c.self.invariant.1` that no more are named than moved.
 
 -- the first indices in the order are those that are marked
 pub returns-clause-members : goal.returns-clause-members

@@ -1,3 +1,4 @@
+-- Of the marks, `named` are the flags of the sets that may name a message, and `moved` those of the sets that a restart may change.
 use Rattle.std.proofs.Common.{◌≡◌, ◌≤◌, ◌∙◌, [], inl, refl, sym, subst, get_or, true, arith}
 use Rattle.std.proofs.lemmas.Option.{slice_get_within}
 use Rattle.std.proofs.lemmas.Map.Entries.{length-values_of}
@@ -8,6 +9,9 @@ use Rattle.sip_states.specs.Tables.{most_keys}
 use Rattle.sip_states.specs.inner.Marks.{IsMarked}
 use Rattle.sip_states.proofs.due.AdvanceLemmas.{place_among, marked_advance, some_advance, marked_still, always_ok, always_err}
 use Rattle.sip_states.proofs.tables.Tables.advance_all.Goals as goal
+
+-- Of the invariant of the tables (`c.self.invariant`) part 0 says that the keys are few, 1 that the agenda is as long as the keys, 2 and 4 that the marks
+-- `named` and `moved` are, 3 that the first are right (AreMarked), and 5 that the second are (AreMoved). A new invariant has its parts in this order.
 
 -- each marked index is one of the sets
 pub advance_each-requires-clause-inside : goal.advance_each-requires-clause-inside
@@ -75,7 +79,7 @@ pub unmark_silent-requires-clause-marked : goal.unmark_silent-requires-clause-ma
 unmark_silent-requires-clause-marked g c =
     marked_still (λ s. numbers_of s ≡ []) c.args.moment c.named.result.now c.self.inside.marks.named (values c.self.inside.sets) (values c.advance_each.new.sets) c.self.invariant.3 (λ n has. (c.named.ensures.members n).0 has) c.in_ok-advance_each.ensures.ok
 
--- all sets have waited: the marked ones were advanced, and waiting does not change the others
+-- each set has waited, as the marked ones have, or it names no message and is as before
 pub returns-clause-ok : goal.returns-clause-ok
 returns-clause-ok g c =
     let up = c.in_ok-advance_each.ensures.ok in
@@ -85,7 +89,7 @@ returns-clause-ok g c =
       keys = c.in_ok-advance_each.ensures.keys;
       records = refl;
       long = up.long;
-      -- a marked set has waited, and waiting does not change another one
+      -- a marked set has waited, and another one names no message and is as before
       each = marked_advance c.args.moment c.named.result.now c.self.inside.marks.named (values sets) (values c.advance_each.new.sets)
           (c.self.invariant.2 ∙ sym (length-values_of sets.entries)) c.self.invariant.3 c.named.ensures.members up;
     }))
@@ -100,7 +104,7 @@ returns-clause-err g c =
       keys = c.in_ok-advance_each.ensures.keys;
       records = refl;
       long = up.long;
-      -- a marked set has waited, and waiting does not change another one
+      -- a marked set has waited, and another one names no message and is as before
       each = λ n a b was is. inl (marked_advance c.args.moment c.named.result.now c.self.inside.marks.named (values sets) (values c.advance_each.new.sets)
           (c.self.invariant.2 ∙ sym (length-values_of sets.entries)) c.self.invariant.3 c.named.ensures.members up n a b was is);
     }))

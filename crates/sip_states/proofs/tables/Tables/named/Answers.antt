@@ -1,3 +1,4 @@
+-- Of the marks, `named` are the flags of the sets that may name a message, and `moved` those of the sets that a restart may change.
 use Rattle.std.proofs.Common.{◌≡◌, ◌↔◌, ◌<◌, ◌∙◌, ℕ, [], Some, Contains, sym, ap, subst, true, arith, length, get_or, slice_get}
 use Rattle.std.specs.List.{flat_map}
 use Rattle.std.proofs.lemmas.List.{take_all}
@@ -12,6 +13,9 @@ use Rattle.sip_states.proofs.keyed.NamesLemmas.{appends_more}
 use Rattle.sip_states.proofs.keyed.ByMachine.{numbers_appended}
 use Rattle.sip_states.proofs.due.AdvanceLemmas.{place_among, numbers_at, numbers_at-is, marked_names, named_if}
 use Rattle.sip_states.proofs.tables.Tables.named.Goals as goal
+
+-- Of the invariant of the tables (`c.self.invariant`) part 0 says that the keys are few, 1 that the agenda is as long as the keys, 2 and 4 that the marks
+-- `named` and `moved` are, 3 that the first are right (AreMarked), and 5 that the second are (AreMoved). A new invariant has its parts in this order.
 
 -- an index that is marked is one of the sets
 pub index-requires : goal.index-requires

@@ -1,3 +1,4 @@
+-- Of the marks, `named` are the flags of the sets that may name a message, and `moved` those of the sets that a restart may change.
 use Rattle.std.proofs.Common.{◌≡◌, ◌≤◌, ◌-◌, ◌∙◌, [], None, Some, length, slice_get, slice_set, sym, ap, subst}
 use Rattle.std.proofs.lemmas.List.{length-set}
 use Rattle.indexmap.specs.IndexMap.{keys, values, index_map_len}
@@ -10,6 +11,9 @@ use Rattle.sip_states.proofs.keyed.TablesLemmas.{values_of-set_value_at}
 use Rattle.sip_states.proofs.due.AdvanceLemmas.{start_names, start_quiet}
 use Rattle.sip_states.proofs.keyed.StartLemmas.{start_endless, else_set}
 use Rattle.sip_states.proofs.tables.Tables.restart_key.Goals as goal
+
+-- Of the invariant of the tables (`c.self.invariant`) part 0 says that the keys are few, 1 that the agenda is as long as the keys, 2 and 4 that the marks
+-- `named` and `moved` are, 3 that the first are right (AreMarked), and 5 that the second are (AreMoved). A new invariant has its parts in this order.
 
 -- the set that begins anew names nothing and is quiet, so the marks are right with it
 pub invariant_of-self-2 : goal.invariant_of-self-2

@@ -1,3 +1,4 @@
+-- Of the marks, `named` are the flags of the sets that may name a message, and `moved` those of the sets that a restart may change.
 use Rattle.std.proofs.Common.{◌≡◌, ◌-◌, ◌∙◌, [], refl, sym, slice_set, true}
 use Rattle.std.proofs.lemmas.List.{length-set}
 use Rattle.indexmap.specs.IndexMap.{values, with_value_at}
@@ -8,6 +9,9 @@ use Rattle.sip_states.specs.inner.Marks.{AreMarked, AreMoved}
 use Rattle.sip_states.proofs.keyed.TablesLemmas.{values_of-set_value_at}
 use Rattle.sip_states.proofs.due.AdvanceLemmas.{marked_set, within_set}
 use Rattle.sip_states.proofs.tables.Tables.set_mut.Goals as goal
+
+-- Of the invariant of the tables (`c.self.invariant`) part 0 says that the keys are few, 1 that the agenda is as long as the keys, 2 and 4 that the marks
+-- `named` and `moved` are, 3 that the first are right (AreMarked), and 5 that the second are (AreMoved). A new invariant has its parts in this order.
 
 -- whatever is left in the set that was lent, its marks are set and so they are right
 pub invariant_of-self-lent : goal.invariant_of-self-lent

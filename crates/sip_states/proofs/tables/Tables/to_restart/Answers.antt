@@ -1,3 +1,4 @@
+-- Of the marks, `named` are the flags of the sets that may name a message, and `moved` those of the sets that a restart may change.
 use Rattle.std.proofs.Common.{◌+◌, ◌∙◌, map, sym, ap, subst, arith}
 use Rattle.std.proofs.lemmas.List.{take_all}
 use Rattle.std.proofs.lemmas.Map.Entries.{length-values_of, length-keys_of}
@@ -6,6 +7,9 @@ use Rattle.sip_states.specs.Tables.{Tabled}
 use Rattle.sip_states.specs.Restarting.{AreToRestart}
 use Rattle.sip_states.proofs.due.AdvanceLemmas.{restart_numbers}
 use Rattle.sip_states.proofs.tables.Tables.to_restart.Goals as goal
+
+-- Of the invariant of the tables (`c.self.invariant`) part 0 says that the keys are few, 1 that the agenda is as long as the keys, 2 and 4 that the marks
+-- `named` and `moved` are, 3 that the first are right (AreMarked), and 5 that the second are (AreMoved). A new invariant has its parts in this order.
 
 -- the numbers are those of the sets that have their second mark; all others are quiet, so that a restart changes none of them
 pub returns : goal.returns

@@ -1,3 +1,4 @@
+-- Of the marks, `named` are the flags of the sets that may name a message, and `moved` those of the sets that a restart may change.
 use Rattle.std.proofs.Common.{◌≡◌, ◌<◌, ◌≤◌, ◌+◌, ◌∙◌, ◌++◌, ◌∷◌, [], None, false, ap, length, take, sym, subst, arith}
 use Rattle.std.specs.Map.{values_of}
 use Rattle.std.proofs.Math.Seq.{take-append_seam}
@@ -11,6 +12,9 @@ use Rattle.sip_states.specs.inner.Marks.{AreMarked, AreMoved}
 use Rattle.sip_states.proofs.due.AdvanceLemmas.{marked_push, within_push, start_names, start_quiet}
 use Rattle.sip_states.proofs.keyed.TablesLemmas.{fresh-index}
 use Rattle.sip_states.proofs.tables.Tables.touch.Goals as goal
+
+-- Of the invariant of the tables (`c.self.invariant`) part 0 says that the keys are few, 1 that the agenda is as long as the keys, 2 and 4 that the marks
+-- `named` and `moved` are, 3 that the first are right (AreMarked), and 5 that the second are (AreMoved). A new invariant has its parts in this order.
 
 -- with a new key each list is longer by one, and its mark need not be set, since a new set names nothing and is quiet
 pub invariant_of-self-2 : goal.invariant_of-self-2

@@ -1,3 +1,4 @@
+-- `is` says that the fields of the survey are those of what it holds, and `comes` that the entry may come next; s is what it holds, and e the entry.
 use Rattle.std.proofs.Common.{◌≤◌, ◌+◌, ◌∙◌, All, Contains, length, sym, ap, subst, arith}
 use Rattle.std.proofs.lemmas.List.{length_push}
 use Rattle.sip_log.specs.Told.{item}
@@ -24,6 +25,7 @@ find_next-taken-requires-clause-count g c =
     let comes = c.requires (ap (λ j. j.failed) (sym is) ∙ c.if-self.false) in
     let next = comes.next in
     let low = comes.room.0 in
+    -- the number is the next one, and there is room for one entry more
     omega arith
 
 -- there is room for two keys more
@@ -33,6 +35,7 @@ find_next-taken-requires-clause-room g c =
     let comes = c.requires (ap (λ j. j.failed) (sym is) ∙ c.if-self.false) in
     let keys = ap (λ j. length j.tables.keys) is in
     let few = comes.room.1 in
+    -- the tables have as many keys as the survey says, and there is room for two more
     omega arith
 
 -- where the survey stands after the entries, what was found at the next one is right, and it stands after that one too
@@ -55,6 +58,7 @@ returns-in-Ok-clause-found g c = λ es surveys.
         number = comes.next ∙ ap (λ n. n + 1) surveys.number ∙ sym (length_push es seen);
         moment = sym (observed_moment es (item e) seen observed);
         follows = follows;
+        -- the histories are those of the entries and this one
         histories = c.in-Ok.ensures.histories es seen (subst (λ j. AreHistories es j.histories) (sym is) surveys.histories)
             (ap (λ j. j.tables.keys) is ∙ surveys.follows.tracks.keys) (comes.next ∙ ap (λ n. n + 1) surveys.number) observed;
       },

@@ -6,6 +6,7 @@ use Rattle.sip_verdict.proofs.following.Survey.new.Goals as goal
 -- a new survey stands after no entry
 pub returns-clause-stands : goal.returns-clause-stands
 returns-clause-stands g c = record {
+  -- no entry was taken, the moment is 0, tables and book are empty, and there is no history
   goes_on = refl;
   number = refl;
   moment = refl;

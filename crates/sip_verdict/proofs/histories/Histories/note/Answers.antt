@@ -13,6 +13,7 @@ returns-then-index-len-clause-noted c =
       before = before;
       -- the history under the number is written anew, and only its last entry is another one
       after = record { branch = before.branch; first = before.first; last = c.args.entry.now.number };
+      -- `was`: the old history stood under the number; `is`: nothing else was written
       was = slice_get-get_or old (c.args.number - 1) _ inside ∙ ap Some (sym c.index_mut.ensures.value);
       is = refl;
       branch = refl;

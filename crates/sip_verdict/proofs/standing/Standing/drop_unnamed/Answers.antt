@@ -10,6 +10,7 @@ returns-then-not-may_name-clause-book g c =
     let unnamed = c.may_name.ensures.none c.if-not-may_name.true in
     elim c.forget_newest.ensures [
       | inl same ↦ inl same
+      -- the message was dropped: gone.0 are its bytes, and gone.1 says that the book had them last
       | inr gone ↦ inr (gone.0, gone.1, all_unnamed c.args.number c.args.concerned t unnamed.0 c.requires.others unnamed.1)
     ]
 

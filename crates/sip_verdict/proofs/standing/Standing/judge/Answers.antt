@@ -1,3 +1,4 @@
+-- `mid` is what stands after the entry was taken, and `new` what stands once its message was dropped, if no set names it.
 use Rattle.std.proofs.Common.{None, ◌+◌, All, Contains, sym, subst}
 use Rattle.sip_verdict.specs.inner.Tracking.{IsJudged}
 use Rattle.sip_verdict.specs.inner.TablesTracking.{key_keeping, transactions_of, MayTake}

@@ -1,3 +1,4 @@
+-- s is what stands before the entry e, and `new` what stands after it.
 use Rattle.std.proofs.Common.{[], ◌∷◌, ◌++◌, ◌+◌, sym, ◌∙◌, ap, length, string_bytes}
 use Rattle.sip_log.specs.Told.{item}
 use Rattle.sip_standard.specs.ListingOf.{first_entry}

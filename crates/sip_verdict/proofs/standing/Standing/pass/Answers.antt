@@ -8,7 +8,7 @@ use Rattle.sip_verdict.proofs.standing.Standing.pass.Goals as goal
 -- where the outcome is fine, no transaction is in trouble after the entry
 pub returns-in-Fine-clause-judged : goal.returns-in-Fine-clause-judged
 returns-in-Fine-clause-judged g c = λ es e formed newest told before counts.
-    -- s is what stands before the entry, p its times, and k the key of a number in the book; `new` has the sets after all events were heard
+    -- s is what stands before the entry, p its times, and k what is kept of each key; `new` has the sets after all events were heard
     let s = c.args.self.now in
     let new = c.pass_all.new.tables in
     let p = s.tables.times in
@@ -22,7 +22,7 @@ returns-in-Fine-clause-judged g c = λ es e formed newest told before counts.
 -- where a transaction has no state left, the verdict is a breach of the first such transaction
 pub returns-in-NoRun-clause-judged : goal.returns-in-NoRun-clause-judged
 returns-in-NoRun-clause-judged g c = λ es e formed newest told before counts.
-    -- s is what stands before the entry, p its times, and k the key of a number in the book; `new` has the sets after all events were heard
+    -- s is what stands before the entry, p its times, and k what is kept of each key; `new` has the sets after all events were heard
     let s = c.args.self.now in
     let new = c.pass_all.new.tables in
     let p = s.tables.times in
@@ -36,7 +36,7 @@ returns-in-NoRun-clause-judged g c = λ es e formed newest told before counts.
 -- where a transaction has too many states, the verdict is that it is undecided
 pub returns-in-TooWide-clause-judged : goal.returns-in-TooWide-clause-judged
 returns-in-TooWide-clause-judged g c = λ es e formed newest told before counts.
-    -- s is what stands before the entry, p its times, and k the key of a number in the book; `new` has the sets after all events were heard
+    -- s is what stands before the entry, p its times, and k what is kept of each key; `new` has the sets after all events were heard
     let s = c.args.self.now in
     let new = c.pass_all.new.tables in
     let p = s.tables.times in

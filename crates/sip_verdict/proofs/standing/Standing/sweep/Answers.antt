@@ -1,3 +1,5 @@
+-- s is what stands before the sweep, u are the tables after all sets have waited, as `advances` says, `numbers` are those of the messages that the sets of
+-- u name, as `named` says, and `kept` says that the book has these messages.
 use Rattle.std.proofs.Common.{All, Contains, length, refl, sym, subst}
 use Rattle.sip_verdict.specs.Named.{IsNamed, AreMany}
 use Rattle.sip_verdict.specs.inner.TablesTracking.{MayPass, TablesTrack}

@@ -1,3 +1,6 @@
+-- s is what stands before the entry, and e the entry: it is a restart, is heard by no transaction (Unheard), has a fault, or is heard by some.
+-- `passed` is what the passing answers and promises, and `kept` says which message the book has more.
+-- Of what is kept of a heard message, .4 says that the book is as before, or has the message too.
 use Rattle.std.proofs.Common.{[], ◌||◌, Some, None, ◌∙◌, ap, inl, length, refl, arith, subst, sym}
 use Rattle.std.proofs.lemmas.Bool.{false≢true}
 use Rattle.std.proofs.lemmas.Option.{same_Some}
@@ -15,7 +18,7 @@ use Rattle.sip_verdict.specs.declared.concerned.Concerned.TheVariants as concern
 use Rattle.sip_verdict.proofs.sweeps.NewestLemmas.{others_known}
 use Rattle.sip_verdict.proofs.standing.Standing.take.Goals as goal
 
--- the book has not lost what the tables name
+-- the tables may pass the restart, since the book has all that they name
 pub pass-requires-in-Restart-clause-may : goal.pass-requires-in-Restart-clause-may
 pass-requires-in-Restart-clause-may g c =
     let s = c.args.self.now in
@@ -39,6 +42,7 @@ returns-in_ok-verdict-in-Restart-clause-may g c =
     let s = c.args.self.now in
     let e = c.args.entry.now in
     let passed = c.in_ok-verdict-in-Restart in
+    -- no message came into the book and no key into the tables, so that every number stands as after the entry
     may_next passed.verdict s.book c.observe.new.book c.pass-in-Restart.new.self.book s.tables s.tables c.pass-in-Restart.new.self.tables e.number e.moment e.bytes.items c.requires.may
     (inl (rw c.in-Restart.is at c.in_ok-told.ensures.kept).0) (omega arith) passed.ensures.keys passed.ensures.book passed.ensures.may passed.ensures.recorded
 
@@ -49,6 +53,7 @@ returns-in_ok-verdict-in-Restart-clause-numbered g c =
     let e = c.args.entry.now in
     let kept = rw c.in-Restart.is at c.in_ok-told.ensures.kept in
     let new = c.pass-in-Restart.new.self.book in
+    -- nothing is asked where there is a verdict; else the restart concerns no key, and the book is as it was
     unless_trouble (StaysNumbered (item e) e.number s.book new) c.in_ok-verdict-in-Restart.verdict
     (numbered_none (item e) e.number s.book new kept.1 (c.in_ok-verdict-in-Restart.ensures.book ∙ kept.0))
 
@@ -75,12 +80,13 @@ pass-requires-in-Heard-clause-may g c =
 pub pass-requires-in-Heard-clause-hear : goal.pass-requires-in-Heard-clause-hear
 pass-requires-in-Heard-clause-hear g c =
     let e = c.args.entry.now in
+    -- the event fits the book (.0), is at the entry's moment (.1), concerns keys that all differ (.2), and is not one for all keys (.3)
     let is_heard = rw c.in-Heard.is at c.in_ok-told.ensures.heard in
     λ h is. subst (MayHear c.observe.new.book c.touch_each.new.tables e.moment) (ap (λ b. b.now) (same_Some _ h is))
     (may_hear c.observe.new.book e.moment c.in-Heard.event c.in-Heard.concerned c.in_ok-concerned-in-Heard.concerned c.args.self.now.tables c.touch_each.new.tables c.in_ok-concerned-in-Heard.ensures.touched
     is_heard.0 is_heard.1 is_heard.2 (c.in_ok-concerned-in-Heard.ensures.same ∙ is_heard.3))
 
--- the new keys have a place in the agenda
+-- after the keys were looked up, each last moment is on record but those of the transactions that the entry concerns
 pub pass-requires-in-Heard-clause-recorded : goal.pass-requires-in-Heard-clause-recorded
 pass-requires-in-Heard-clause-recorded g c =
     touched_recorded (each c.in-Heard.concerned) (each c.in_ok-concerned-in-Heard.concerned) c.args.self.now.tables c.touch_each.new.tables c.in_ok-concerned-in-Heard.ensures.touched
@@ -92,6 +98,7 @@ returns-in_ok-verdict-in-Unheard-clause-may g c =
     let s = c.args.self.now in
     let e = c.args.entry.now in
     let passed = c.in_ok-verdict-in-Unheard in
+    -- no message came into the book and no key into the tables, so that every number stands as after the entry
     may_next passed.verdict s.book c.observe.new.book c.pass.new.self.book s.tables s.tables c.pass.new.self.tables e.number e.moment e.bytes.items c.requires.may
     (inl (rw c.in-Unheard.is at c.in_ok-told.ensures.kept)) (omega arith) passed.ensures.keys passed.ensures.book passed.ensures.may passed.ensures.recorded
 
@@ -104,6 +111,7 @@ returns-in_ok-verdict-in-Unheard-clause-numbered g c =
     let kept = rw c.in-Unheard.is at c.in_ok-told.ensures.kept in
     let told = (rw c.in-Unheard.is at c.in_ok-told.ensures.observed) [] in
     let new = c.pass.new.self.book in
+    -- nothing is asked where there is a verdict; else the entry concerns no key, and the book is as it was
     unless_trouble (StaysNumbered (item e) e.number s.book new) c.in_ok-verdict-in-Unheard.verdict
     (numbered_none (item e) e.number s.book new (told.0, told.1, told.2.2) (c.in_ok-verdict-in-Unheard.ensures.book ∙ kept))
 
@@ -122,6 +130,7 @@ returns-in-Fault-clause-judged g c = λ es tracks counts newest.
       fault_observation (item c.args.entry.now) c.in-Fault.fault,
       subst (Sees es (item c.args.entry.now)) is seen,
       (counts, refl),
+      -- no key has a number, since the entry concerns none
       tt,
     )
 
@@ -131,6 +140,7 @@ returns-in_ok-verdict-in-Heard-clause-may g c =
     let s = c.args.self.now in
     let e = c.args.entry.now in
     let passed = c.in_ok-verdict-in-Heard in
+    -- the book has at most the message of the entry more, and the tables at most two keys
     may_next passed.verdict s.book c.observe.new.book c.pass-in-Heard.new.self.book s.tables c.touch_each.new.tables c.pass-in-Heard.new.self.tables e.number e.moment e.bytes.items c.requires.may
     (rw c.in-Heard.is at c.in_ok-told.ensures.kept).4
     (few_keys c.in-Heard.concerned (each c.in_ok-concerned-in-Heard.concerned) s.tables c.touch_each.new.tables c.in_ok-concerned-in-Heard.ensures.touched)
@@ -171,19 +181,20 @@ returns-in_ok-verdict-in-Heard-clause-judged g c = λ es tracks counts newest.
     c.in-Heard.event c.in-Heard.concerned c.in_ok-concerned-in-Heard.concerned s.tables c.touch_each.new.tables new.tables
     c.requires.may.passes.long c.in_ok-concerned-in-Heard.ensures.touched c.known-in-Heard.ensures.unique c.in_ok-verdict-in-Heard.ensures.keys (rw c.in-Heard.is at c.in_ok-told.ensures.heard).1
     some (rw c.in-Heard.is at c.in_ok-told.ensures.observed) c.in_ok-verdict-in-Heard.ensures.judged es tracks counts newest in (
+      -- what is seen of the entry and judged is as h says, and the keys have the numbers that are listed
       h.0,
       h.1,
       h.2,
       subst (λ ns. HaveNumbers new.tables.keys ns h.0.keys) (sym (listed_each (length new.tables.keys) c.in_ok-concerned-in-Heard.concerned some)) h.3,
     )
 
--- no transaction hears the entry, so the others are all
+-- no transaction hears the entry, so that all sets name only messages that the book had before it
 pub returns-in_ok-verdict-in-Unheard-clause-others : goal.returns-in_ok-verdict-in-Unheard-clause-others
 returns-in_ok-verdict-in-Unheard-clause-others g c =
     let s = c.args.self.now in
     others_known s.book concerned.None None s.tables c.pass.new.self.tables c.requires.may.passes.known c.in_ok-verdict-in-Unheard.ensures.others (λ n some among. refl)
 
--- the tables are as before
+-- the tables are as before, and their sets name only messages that the book had
 pub returns-in-Fault-clause-others : goal.returns-in-Fault-clause-others
 returns-in-Fault-clause-others g c =
     let s = c.args.self.now in
@@ -193,11 +204,12 @@ returns-in-Fault-clause-others g c =
 pub returns-in_ok-verdict-in-Restart-clause-others : goal.returns-in_ok-verdict-in-Restart-clause-others
 returns-in_ok-verdict-in-Restart-clause-others g c some = absurd (false≢true (sym some))
 
--- the keys that the entry does not concern keep what is known of them
+-- the sets of the keys that the entry does not concern name only messages that the book had before it
 pub returns-in_ok-verdict-in-Heard-clause-others : goal.returns-in_ok-verdict-in-Heard-clause-others
 returns-in_ok-verdict-in-Heard-clause-others g c =
     let s = c.args.self.now in
     let u = c.touch_each.new.tables in
     let numbers = c.in_ok-concerned-in-Heard.concerned in
+    -- after the keys were looked up, the book before the entry still has all that the sets name
     let may = touches_may s.book c.args.entry.now.moment (each c.in-Heard.concerned) (each numbers) s.tables u c.requires.may.passes c.in_ok-concerned-in-Heard.ensures.touched in
     others_known s.book numbers (Some (record { event = c.in-Heard.event; concerned = numbers })) u c.pass-in-Heard.new.self.tables may.known c.in_ok-verdict-in-Heard.ensures.others (λ n some among. ap (λ b. b || is_among (each numbers) n) some ∙ among)

@@ -3,7 +3,7 @@ use Rattle.sip_verdict.specs.inner.Numbering.{Appends}
 use Rattle.sip_verdict.proofs.standing.Standing.text.Goals.{in-None+in_ok-push_str-in-None, in-Own+in_ok-push_one-in-Own, in-OwnAndCancelled+in_ok-push_one-in-OwnAndCancelled+in_ok-push_one-in-OwnAndCancelled-2}
 use Rattle.sip_verdict.proofs.standing.Standing.text.Goals as goal
 
--- the text is that of no transaction, of the entry's own one, or of its own one and the cancelled one
+-- the text is that of no transaction, of the entry's own one, or of its own one and the cancelled one; w is what is given on each way
 pub returns-clause-text : goal.returns-clause-text
 returns-clause-text g c =
     let t = c.args.self.now.tables in

@@ -8,6 +8,7 @@ use Rattle.sip_verdict.proofs.standing.Standing.text_of_all.Goals as goal
 
 -- the numbers up to n are those up to n - 1, and n
 up_to-more : (n : ℕ) → 0 < n → up_to n ≡ up_to (n - 1) ++ n ∷ []
+-- n is not 0, by what is given
 up_to-more zero low = absurd (omega arith)
 up_to-more (suc n) low = let before : n ≡ suc n - 1 = omega arith in ap (λ k. up_to k ++ suc n ∷ []) before
 
@@ -36,6 +37,7 @@ returns g c =
     let n = c.loop-number.number in
     let fresh = c.new-text.ensures.bytes in
     let counted = c.len-count.ensures in
+    -- `is_text`: once the texts of all transactions were appended to nothing, they are the whole text
     let is_text : (text : List ℕ) → AppendsEach t (up_to (length t.keys)) (string_bytes c.new-text.result) text → IsTextOf t (up_to (length t.keys)) text =
     λ text each. text_of_some t (up_to (length t.keys)) text (up_to-some (length t.keys) (omega arith)) (subst (λ old. AppendsEach t (up_to (length t.keys)) old text) fresh each) in
     -- the loop ended before the last number was passed, or right after the last text

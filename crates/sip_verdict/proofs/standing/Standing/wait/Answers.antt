@@ -1,7 +1,7 @@
 use Rattle.sip_verdict.proofs.surveys.forgetting.Waited.{waited_may, waited_over, waited_recorded, waited_survey}
 use Rattle.sip_verdict.proofs.standing.Standing.wait.Goals as goal
 
--- after the wait the next entry may come
+-- after the wait the tables may still pass the moment
 pub returns-clause-may : goal.returns-clause-may
 returns-clause-may g c =
     let s = c.args.self.now in

@@ -1,3 +1,4 @@
+-- `is` says that the fields of the judge are those of what it holds, `comes` that the entry may come next, and `stands` that the judge has taken es.
 use Rattle.std.proofs.Common.{◌+◌, ◌∙◌, All, Contains, refl, sym, ap, subst, arith}
 use Rattle.sip_verdict.specs.Judging.{Judging, AreFollowed, MayComeNext}
 use Rattle.sip_verdict.proofs.judges.JudgeLemmas.{may_take_next, stands_on}
@@ -23,6 +24,7 @@ returns-in-Ok-None-clause-judged g c es stands =
     let next = comes.next in
     let new = c.judge_next.new in
     let now : Judging = record { number = e.number; moment = e.moment; texts = new.standing.book; tables = new.standing.tables; left = new.left; stage = c.self.inside.stage } in
+    -- what the call promises holds here, since the entry has the next number and is not before the newest
     stands_on c.args.self.now now e next refl refl c.in-Open.is es stands
     ((rw c.in-Ok-None.field-0-is at c.in-Ok-None.ensures.judged) es (subst (λ j. AreFollowed j.texts j.tables j.left es) (sym is) stands.follows) (next ∙ ap (λ n. n + 1) stands.number) (omega (arith, comes.order, stands.moment)))
 
@@ -37,6 +39,7 @@ returns-in-Ok-Some-clause-judged g c es stands =
     let comes = c.requires (ap (λ j. j.stage) (sym is) ∙ c.in-Open.is) in
     let h = (rw c.in-Ok-Some.field-0-is at c.in-Ok-Some.ensures.judged) es (subst (λ j. AreFollowed j.texts j.tables j.left es) (sym is) stands.follows) (comes.next ∙ ap (λ n. n + 1) stands.number)
     (omega (arith, comes.order, stands.moment)) in
+    -- what is seen of the entry, and its verdict
     (h.0, h.1, h.2)
 
 -- after an entry without keys the book has no message that is new

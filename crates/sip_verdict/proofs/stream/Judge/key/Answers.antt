@@ -6,6 +6,7 @@ use Rattle.sip_verdict.proofs.stream.Judge.key.Goals as goal
 -- the tables give the key of the transaction, or have none with the number
 pub returns-clause-named : goal.returns-clause-named
 returns-clause-named g c es stands =
+    -- `is` says that the fields of the judge are those of what it holds, `may` that it may take a next entry, and `found` what the tables answer
     let is = c.self.view_is in
     let may = (c.self.invariant (ap (λ j. j.stage) is ∙ stands.goes_on)).0 in
     let number = c.args.transaction in

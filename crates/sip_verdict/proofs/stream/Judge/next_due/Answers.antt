@@ -7,6 +7,7 @@ use Rattle.sip_verdict.proofs.stream.Judge.next_due.Goals as goal
 -- some transaction is due at a moment exactly if its last moment is below it
 pub returns-in-Open-clause-waits : goal.returns-in-Open-clause-waits
 returns-in-Open-clause-waits g c es stands moment later =
+    -- `is` says that the fields of the judge are those of what it holds, `may` that it may take a next entry, and `due` that `earliest` tells what is due
     let is = c.self.view_is in
     let may = subst (λ j. MayTake j.texts j.tables (j.number + 1) j.moment) is (c.self.invariant c.in-Open.is).0 in
     let due = subst (λ j. (due_of j.tables moment ≡ None) ↔ IfSome c.earliest.result (λ last. moment ≤ last)) is (c.earliest.ensures moment) in

@@ -9,6 +9,7 @@ loop-init c = record { long = sym (c.len-counter.ensures ∙ c.args.self.now.dea
 -- one flag more was added: a new transaction is in no trouble
 pub loop-preserved : goal.loop-preserved
 loop-preserved c =
+    -- `old` is what held at the start of this turn of the loop, `more` are the flags that it had added, and `pushed` says that one more was
     let old = c.loop.invariant in
     let more = old.deaf.0 in
     let pushed = c.in_ok-push.ensures.items in

@@ -8,6 +8,7 @@ use Rattle.sip_verdict.proofs.troubled.Troubled.tell.Goals as goal
 pub returns-then-is_fresh-clause-told : goal.returns-then-is_fresh-clause-told
 returns-then-is_fresh-clause-told c =
     let fresh = c.if-is_fresh.ensures.0 refl in
+    -- the empty list ascends, and has what the empty list has
     let none : AreAscending [] [] = ((λ i j d low high. absurd (omega arith)), (λ n. ((λ h. h), (λ h. h)))) in (
       [],
       [],
@@ -30,6 +31,7 @@ returns-clause-told c =
       wide,
       (c.keep_ascending.ensures.rising, c.keep_ascending.ensures.members),
       (c.keep_ascending-2.ensures.rising, c.keep_ascending-2.ensures.members),
+      -- the findings are those before, then the breaches, then what is undecided
       second ∙ ap (λ xs. xs ++ map (λ transaction. Undecided entry transaction) wide) first
           ∙ append_assoc old (map (λ transaction. Breach entry transaction) broken) (map (λ transaction. Undecided entry transaction) wide),
     )

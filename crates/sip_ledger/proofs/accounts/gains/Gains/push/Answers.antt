@@ -1,7 +1,7 @@
 use Rattle.sip_ledger.proofs.Lemmas.{ap, arith, common_steps, entries_long, Entry, Flags, flags-more, flags-same, Gains, gains-more, gains-same, holds, leb-true, nat_le, on-error, refl, rules, true, [], ◌++◌, ◌+◌, ◌∙◌, ◌∷◌, ◌≡◌}
 use Rattle.sip_ledger.proofs.accounts.gains.Gains.push.Goals as goal
 
--- more room for entries leaves the gains as they are
+-- where memory is refused for more entries, the gains are the same
 pub returns-in_err-reserve : goal.returns-in_err-reserve
 returns-in_err-reserve c =
     let g = c.args.self.now in

@@ -281,7 +281,7 @@ field-cut line f is =
 
 -- the canonical forms of fields, one after another, are lines that are the fields with their values unfolded
 fields-canon : (lines : List (List ℕ)) (fs : List Field) → FieldsText lines fs → FieldsText (map field_text (map unfolded_field fs)) (map unfolded_field fs)
--- no fields have no lines; else the first field is its line, and the others are theirs
+-- without fields there are no lines; else the first field is its line, and the others are theirs
 fields-canon [] fs is = subst (λ gs. FieldsText (map field_text (map unfolded_field gs)) (map unfolded_field gs)) (sym is) refl
 fields-canon (line ∷ lines) fs (f, more, is, are, whole) =
     subst (λ gs. FieldsText (map field_text (map unfolded_field gs)) (map unfolded_field gs)) (sym whole)
@@ -289,7 +289,7 @@ fields-canon (line ∷ lines) fs (f, more, is, are, whole) =
 
 -- the canonical forms of fields have no CR and no LF, and none is empty
 fields-inner : (lines : List (List ℕ)) (fs : List Field) → FieldsText lines fs → AreInner (map field_text (map unfolded_field fs))
--- no fields have no lines; else the first line has no CR and no LF, and neither have the others
+-- without fields there are no lines; else the first line has no CR and no LF, and neither have the others
 fields-inner [] fs is = subst (λ gs. AreInner (map field_text (map unfolded_field gs))) (sym is) tt
 fields-inner (line ∷ lines) fs (f, more, is, are, whole) =
     subst (λ gs. AreInner (map field_text (map unfolded_field gs))) (sym whole) (field-inner line f is, fields-inner lines more are)

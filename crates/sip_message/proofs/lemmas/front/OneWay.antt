@@ -158,12 +158,10 @@ each-hostname =
   where
     -- the byte of a letter or digit is a byte of a token
     alnum : Each T (One is_ascii_alphanumeric)
-    -- each such byte is a byte of a token
     alnum = each-one T is_ascii_alphanumeric token-alnum
 
     -- the byte of a letter is a byte of a token
     alpha : Each T (One is_ascii_alphabetic)
-    -- each such byte is a byte of a token
     alpha = each-one T is_ascii_alphabetic token-alpha
 
     -- the inner bytes of a label are bytes of tokens
@@ -221,7 +219,7 @@ each-bare = each-or B _ _ (λ u is. bare-all u (each-token u is)) each-v6
 
 -- a token or an IPv6 address is not empty
 pub some-bare : (u : List ℕ) → (Token or Ipv6) u → u ≡ [] → ⊥
--- a token has a byte, and the test of an IPv6 address fails of the empty text
+-- a token is not empty, and the empty text does not pass the test of an IPv6 address
 some-bare u (inl token) none = some-run is_token_byte u token none
 some-bare u (inr address) none = both_ways (is_v6 u) (ap is_v6 none) (v6-is u address)
 
@@ -249,7 +247,7 @@ items-contents text many = many-flat (Qdtext or QuotedPair) QuotedItem text each
   where
     -- blanks are pieces, and so is each other content
     each : (u : List ℕ) → (Qdtext or QuotedPair) u → Many QuotedItem u
-    -- a blank run of several bytes, a byte of text, or a backslash with its byte
+    -- the contents are a blank run, which may have several pieces, a byte of text, or a backslash with its byte
     each u (inl (inl lws)) = many-map Blank QuotedItem u (λ w blank. inr (inr blank)) (blanks-lws u lws)
     each u (inl (inr byte)) = many-one QuotedItem u (inl byte)
     each u (inr pair) = many-one QuotedItem u (inr (inl pair))

@@ -100,7 +100,7 @@ decides-more text rest more p first found read is so x = ((λ whole. to x ((so x
 -- where a parameter named branch has no token for value, the text has no parameters of a Via
 pub decides-not : (text rest more : List ℕ) (p : Param) (first : Option (List ℕ)) → ReadAs (ParamFront rest) (p, more) → NotRead (BranchOf p) → Decides text rest first → NotRead (BranchFront text)
 decides-not text rest more p first read none so (b, left) is =
-    -- `after` is the branch of the rest with its parameters, of which the first would have a branch
+    -- `after` is the branch of the rest with its parameters, of which p is the first: p would have a branch, or another name
     let after = (so (b, left)).0 is in
     let others = behind-one rest more left p after.1.0 read after.1.1 in
     let cons = branch-cons p others.0 after.0 (subst (λ qs. IsBranch qs after.0) others.1 after.1.2) in
@@ -113,7 +113,7 @@ decides-all text rest first none so =
   where
     -- an option is the same where nothing is found after it
     or-none : (o : Option (List ℕ)) → o ≡ option_or o None
-    -- there is no option; or it has v
+    -- nothing is there; or v is
     or-none None = refl
     or-none (Some v) = refl
 

@@ -44,7 +44,7 @@ same-demand {X = X} {Y = Y} Q R P fault go come = record { to = to; back = back 
 
 -- two demands without a value, of which each gives the other, come to the same
 pub same-holds : (A B : Type 0) (fault : Fault) → (A → B) → (B → A) → Same {X = ⊤} {Y = ⊤} Equal (Holds A fault) (Holds B fault)
--- to meet the one demand, of which A is to hold, is to meet the other, of which B is
+-- each is a demand without a value: the one that A holds, and the other that B holds
 same-holds A B fault go come = same-demand Equal (λ _. A) (λ _. B) fault (λ x a. (x, go a, refl)) (λ y b. (y, come b, refl))
 
 -- the steps that give x and y come to the same where Q relates x and y

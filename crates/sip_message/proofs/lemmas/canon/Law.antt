@@ -296,14 +296,14 @@ fields-inner (line ∷ lines) fs (f, more, is, are, whole) =
 
 -- no canonical form of a field begins with a blank
 fields-cut : (lines : List (List ℕ)) (fs : List Field) → FieldsText lines fs → AllByRecursion (λ line. ¬ (OpensBlank line)) (map field_text (map unfolded_field fs))
--- no fields have no lines; else the first line begins with no blank, and neither do the others
+-- without fields there are no lines; else the first line begins with no blank, and neither do the others
 fields-cut [] fs is = subst (λ gs. AllByRecursion (λ line. ¬ (OpensBlank line)) (map field_text (map unfolded_field gs))) (sym is) tt
 fields-cut (line ∷ lines) fs (f, more, is, are, whole) =
     subst (λ gs. AllByRecursion (λ line. ¬ (OpensBlank line)) (map field_text (map unfolded_field gs))) (sym whole) (field-cut line f is, fields-cut lines more are)
 
 -- where lines are fields, each field has a value of its row
 pub fields-rows : (lines : List (List ℕ)) (fs : List Field) → FieldsText lines fs → AllByRecursion (λ f. Row f.name f.value) fs
--- no fields have no rows; else the first field is of its row, and so are the others
+-- of no fields nothing is asked; else the first field is of its row, and so are the others
 fields-rows [] fs is = subst (AllByRecursion (λ f. Row f.name f.value)) (sym is) tt
 fields-rows (line ∷ lines) fs (f, more, is, are, whole) =
     subst (AllByRecursion (λ g. Row g.name g.value)) (sym whole) (is.row, fields-rows lines more are)

@@ -192,7 +192,7 @@ NotRead {X = X} R = (x : X) → ¬ (R x)
 
 -- where the first of two steps gives nothing, both together give nothing
 pub stop : {X Y : Type 0} {R : X → Type 0} {S : X → Y → Type 0} → NotRead R → NotRead (Seq R S)
--- y would be given by the first step, which gives nothing
+-- the first step would give x, but it gives nothing
 stop none y (both x r s) = none x r
 
 -- where the first of two steps gives one value, and the second nothing after it, both together give nothing

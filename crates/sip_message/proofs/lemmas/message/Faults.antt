@@ -30,7 +30,7 @@ one-field n line =
 
 -- the reading of field lines has one outcome
 one-fields : (n : ℕ) (lines : List (List ℕ)) → IsOne (FieldsOf n lines)
--- no lines have no fields
+-- without lines there are no fields
 one-fields n [] = one-gives []
 -- the first line has one outcome, and so have the others
 one-fields n (line ∷ lines) = one-then (one-field n line) (λ f. one-then (one-fields (n + 1) lines) (λ fs. one-gives (f ∷ fs)))
@@ -92,7 +92,7 @@ one-read bytes =
 
 -- lines that are read are fields
 pub read-fields : (n : ℕ) (lines : List (List ℕ)) (fields : List Field) → FieldsOf n lines (gives fields) → FieldsText lines fields
--- no lines give no fields
+-- without lines there are no fields
 read-fields n [] fields is = given is
 read-fields n (line ∷ lines) fields is =
     -- `one` is the field of the first line, and `more` are those of the others; `named` is its name and `valued` its value
@@ -111,7 +111,7 @@ read-fields n (line ∷ lines) fields is =
 
 -- lines that are fields are read as them
 pub fields-read : (n : ℕ) (lines : List (List ℕ)) (fields : List Field) → FieldsText lines fields → FieldsOf n lines (gives fields)
--- no lines are no fields
+-- without lines there are no fields
 fields-read n [] fields is = ap (λ fs. gives fs) is
 fields-read n (line ∷ lines) fields (f, fs, is, are, whole) =
     -- the first line is read as its name and its value, and then the others

@@ -2,8 +2,8 @@
 -- The first step is a cut of the text (`AddressCut`): `named`, with the URI in "<" and ">", or `plain`, without them. `make d u r` is the cut into the
 -- display name d, the URI u and the rest r. In a row of two steps, `both v one other` is what the first step gives, v, that it gives it, and the next step.
 -- In the lemmas u and w are the URI and what follows it, c and d two cuts, a and b two addresses, ps parameters by their names and values.
--- `HasScheme` says that a text begins with bytes of tokens, or none, and a colon; `NameFront` is a display name at the front, and `DisplayFront` that, if there
--- is one, and "<" after its blanks.
+-- `HasScheme` says that a text begins with bytes of tokens, or none, and a colon; `NameFront` is a display name at the front, and `DisplayFront` that, if
+-- there is one, and "<" after its blanks.
 use Rattle.std.proofs.Common.{◌≡◌, ℕ, zero, suc, ◌<◌, ◌≤◌, Bool, true, false, ◌||◌, not, nat_eq, nat_lt, List, [], ◌∷◌, ◌++◌, Option, Some, None, IfSome, length, take, drop, get_or, slice_index, refl, sym, ap, ◌∙◌, subst, inl, inr, arith}
 use Rattle.std.specs.Bool.{Decides}
 use Rattle.std.specs.List.{prefix_len}

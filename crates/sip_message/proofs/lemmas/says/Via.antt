@@ -147,8 +147,8 @@ said-port (Some p) text (m, t, mark, (fits, p_is), whole) = (subst Port (sym p_i
 -- an element of Via of the readers says its parts by the definitions
 via-said : (text : List ℕ) (v : ViaParts) → ViaText text v → ViaSays (said_via (text, v)) text
 via-said text v (fits, (a, w1, a_is, (s, w2, slash1, (b, w3, b_is, (r, w4, slash2, (c, w5, c_is, (sp, w6, blanks, (h, w7, h_is, (p, q, port, params, w7_is), w6_is), w5_is), w4_is), w3_is), w2_is), w1_is), whole)) =
-    -- ps is what the parameters say; `host` says that the host of the readers is one of the definitions, and `behind` that w5 is blanks, the host, the port and
-    -- the parameters
+    -- ps is what the parameters say; `host` says that the host of the readers is one of the definitions, and `behind` that w5 is blanks, the host, the port
+    -- and the parameters
     let ps = params-said fits.params.0 v.branch q (tail-params q v.params fits.params.0 fits.params.1 params) fits.params.2 in
     let host : profile.Host h × (host_text v.host ≡ h) = (subst profile.Host (sym h_is) (parts-host (host_text v.host) v.host fits.host), sym h_is) in
     let behind : (profile.Blanks then ((λ t. profile.Host t × (host_text v.host ≡ t)) then (PortSays v.port then SaidParams ps.0))) w5 =

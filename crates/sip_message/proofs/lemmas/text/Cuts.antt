@@ -34,11 +34,8 @@ two_cuts (a ∷ u) v (b ∷ x) y same = more (two_cuts u v x y tails)
 
     -- one more byte before both fronts leaves them as they are to each other
     more : Cuts u v x y → Cuts (a ∷ u) v (b ∷ x) y
-    -- the first front is longer still
     more (first_longer c z longer is) = first_longer c z (ap (λ t. t ∷ u) heads ∙ ap (λ t. b ∷ t) longer) is
-    -- both are the same still
     more (same_length left right) = same_length (ap (λ t. t ∷ u) heads ∙ ap (λ t. b ∷ t) left) right
-    -- the second front is longer still
     more (second_longer c z longer is) = second_longer c z (ap (λ t. t ∷ x) (sym heads) ∙ ap (λ t. a ∷ t) longer) is
 
 -- the text does not begin with a byte that passes the test
@@ -52,7 +49,7 @@ All test text = AllByRecursion (λ b. test b ≡ true) text
 
 -- where all bytes of two texts in a row pass the test, those of the first do
 pub all_left : (test : ℕ → Bool) (u v : List ℕ) → All test (u ++ v) → All test u
--- none stands in no bytes
+-- of no bytes nothing is asked
 all_left test [] v all = tt
 all_left test (b ∷ u) v all = (all.0, all_left test u v all.1)
 
@@ -75,12 +72,9 @@ same_front test u v x y us xs v_stops y_stops same = at (two_cuts u v x y same)
   where
     -- neither front is longer, since the next byte would pass and fail the test
     at : Cuts u v x y → (u ≡ x) × (v ≡ y)
-    -- both fronts are of the same length
     at (same_length left right) = (left, right)
-    -- the first front is longer
     at (first_longer b z longer is) =
         absurd (both_ways (test b) (subst (Stops test) is y_stops) (all_right test x (b ∷ z) (subst (All test) longer us)).0)
-    -- the second front is longer
     at (second_longer b z longer is) =
         absurd (both_ways (test b) (subst (Stops test) is v_stops) (all_right test u (b ∷ z) (subst (All test) longer xs)).0)
 

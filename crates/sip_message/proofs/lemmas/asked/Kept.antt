@@ -68,7 +68,6 @@ map-or parts (Some a) p = refl
 pub via-row : (text : List ℕ) (r : Option Via) (b : Bool) → b ≡ is_some r → IsOnlyValue FirstVia element text r → IsTrue b ↔ Row (known known_name.Via) text
 -- nothing is read, so it is no value of Via
 via-row text None b is none = (λ so. absurd (false≢true (sym is ∙ so)), λ row. absurd (first-none text none row))
--- an element is read
 via-row text (Some v) b is read = (λ _. read.0.0, λ _. is)
 
 -- with a further Via, what the first one says is kept
@@ -85,7 +84,6 @@ via-keeps f (Some v) b old new named is read via cseq so fields kept = record {
 pub cseq-row : (text : List ℕ) (r : Option CSeq) (b : Bool) → b ≡ is_some r → IsOnlyValue CSeqValue cseq_parts text r → IsTrue b ↔ Row (known known_name.CSeq) text
 -- nothing is read, so it is no value of CSeq
 cseq-row text None b is none = (λ so. absurd (false≢true (sym is ∙ so)), λ row. absurd (none (row.0, row.1) row.2))
--- a number and a method are read
 cseq-row text (Some c) b is read = (λ _. (c.number, c.method.now, read.0), λ _. is)
 
 -- with a further CSeq, what the first one says is kept

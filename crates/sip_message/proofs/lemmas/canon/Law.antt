@@ -1,6 +1,6 @@
 -- The law of the canonical form.
 -- In the lemmas fs are fields, and n is the number of the first of them; as Bools, x and y are what two tests of a byte say.
--- A text is inner (`Inner`) where it has neither CR nor LF. `unfolded_field` is a field with its value unfolded, and `message_of` a message with all of them.
+-- A text is inner (`Inner`) where it has neither CR nor LF. `unfolded_field` is a field with its value unfolded, and `message_of` a message with all its values unfolded.
 use Rattle.std.proofs.Common.{◌≡◌, ℕ, ◌+◌, ◌≤◌, ◌<◌, Bool, true, false, not, ◌&&◌, List, [], ◌∷◌, ◌++◌, length, take, map, cond, nat_eq, Option, Some, None, refl, sym, ap, ◌∙◌, subst, inl, inr, arith}
 use Rattle.std.specs.Prelude.{is_some, get_or, ◌^◌, codes, decimal, IsTrue, bytes_eq}
 use Rattle.std.specs.Char.{is_ascii_digit}
@@ -144,7 +144,7 @@ name-text (other t) spelled token is =
 
 -- a code of three digits is written as it was spelled
 pub code-decimal : (text : List ℕ) (code : ℕ) → CodeText text code → decimal code ≡ text
--- the decimal of the number that digits write is those digits, since they are few, and do not begin with 0
+-- the decimal of the number that digits write is those digits, since the number is small, and they do not begin with 0
 code-decimal text code is =
     ap decimal is.code_is
     ∙ decimal-digits_value (numerals_by_value (λ ds. all_ascii_digits ds ≡ true) tells_all_ascii_digits) text digits

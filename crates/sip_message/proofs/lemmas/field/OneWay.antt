@@ -75,7 +75,6 @@ same_solid u v x y us xs vs ys same = at (two_cuts u v x y same)
   where
     -- u and x are the same: neither is longer, since what follows would begin with a byte that is no blank
     at : Cuts u v x y → u ≡ x
-    -- both end at the same place
     at (same_length left right) = left
     -- u would be longer, and end with the blanks b and z, with which y begins
     at (first_longer b z longer is) =

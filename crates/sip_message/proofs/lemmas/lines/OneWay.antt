@@ -63,7 +63,6 @@ same_first l m rest more l_folded m_folded l_cut m_cut same = at (two_cuts l (cr
 
     -- both lines are the same, and so are the rests: neither line is longer, since the CRLF in it would have a blank after it
     at : Cuts l (crlf ++ rest) m (crlf ++ more) → (l ≡ m) × (rest ≡ more)
-    -- both lines end at the same place
     at (same_length left right) =
         let ends : carriage_return ∷ line_feed ∷ rest ≡ carriage_return ∷ line_feed ∷ more = right in
         (left, cc)
@@ -138,13 +137,11 @@ lines-cons b text (a ∷ l) ls is = at l refl (nat_eq b carriage_return) (nat_eq
     -- the claim holds whether or not the byte and the next one are CR and LF
     -- x says whether the byte is CR, and y whether the next one is LF; t is the rest of the first line
     at : (t : List ℕ) → t ≡ l → (x y : Bool) → nat_eq b carriage_return ≡ x → nat_eq a line_feed ≡ y → (m : List ℕ) × (ms : List (List ℕ)) × LinesSay (b ∷ text) m ms
-    -- the byte is no CR
     at t same false y x_is y_is = longer (λ v e. let head : b ≡ carriage_return = cc in absurd (both_ways (nat_eq b carriage_return) x_is (eq-eqb b carriage_return head)))
-    -- the next byte is no LF
     at t same true false x_is y_is = longer (λ v e. let head : a ≡ line_feed = cc in absurd (both_ways (nat_eq a line_feed) y_is (eq-eqb a line_feed head)))
-    -- both stand there, and the first line has nothing after them
+    -- CR and LF stand there, and the first line has nothing after them
     at [] same true true x_is y_is = ends (eqb-true b carriage_return x_is) (eqb-true a line_feed y_is) (λ begins. subst OpensBlank (sym same) begins)
-    -- both stand there, and c follows them
+    -- CR and LF stand there, and c follows them
     at (c ∷ t) same true true x_is y_is = blank (is_wsp c) refl
       where
         -- the claim holds whether or not a blank follows the CR and LF

@@ -1,7 +1,7 @@
 -- Bytes are read as a message exactly if they are one, and as at most one message or one fault.
 -- In the lemmas f and fs are the first field and the others, z and zs the first element of a list and the others, and n is the number of a line.
--- `IsOne` says that a reading has one outcome at most. `NamesOf` is the demands on the named fields, `BodyOf` those on the method and the body, and `LinesOf` and
--- `HeadOf` are the reading of the lines of a head, and of a head.
+-- `IsOne` says that a reading has one outcome at most. `NamesOf` is the demands on the named fields, `BodyOf` those on the method and the body, and `LinesOf`
+-- and `HeadOf` are the reading of the lines of a head, with the body after them, and of a head.
 use Rattle.std.proofs.Common.{◌≡◌, ℕ, ◌+◌, List, [], ◌∷◌, Option, refl, sym, ap, ◌∙◌, subst}
 use Rattle.sip_message.specs.declared.name.Known.{Known}
 use Rattle.sip_message.specs.declared.name.Known.TheVariants as known_name
@@ -66,7 +66,7 @@ one-names fields =
 -- the reading of the body has one outcome
 one-body : (start : StartLine) (cseq : ℕ × List ℕ) (via : List ℕ) (len : Option ℕ) (rest : List ℕ) → IsOne (BodyOf start cseq via len rest)
 one-body start cseq via len rest =
-    -- four demands come first: on the method, the length, that the body is long enough, and that nothing follows it; then the body is cut
+    -- four demands come first: on the method, the length, that the body is long enough, and that in a stream nothing follows it; then the body is cut
     one-then (one-holds _ _) (λ _. one-then (one-holds _ _) (λ _. one-then (one-holds _ _) (λ _. one-then (one-holds _ _) (λ _. one-gives (cut_body len rest)))))
 
 -- the reading of the lines of a head, and of its body, has one outcome

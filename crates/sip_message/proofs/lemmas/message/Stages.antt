@@ -1,7 +1,7 @@
 -- The stages of reading, one after another.
 -- In the lemmas n is the named fields that were found, e the first element of Via, and s the CSeq by its number and method.
--- `LinesOf` is the reading of a head's lines and of the body after them, `NamesOf` that of the named fields, and `BodyOf` that of the body; `KeepsRead` says what
--- a message keeps of them.
+-- `LinesOf` is the reading of a head's lines and of the body after them, `NamesOf` that of the named fields, and `BodyOf` that of the body; `KeepsRead` says
+-- what a message keeps of them.
 use Rattle.std.proofs.Common.{◌≡◌, ℕ, List, false, refl, sym, ap, subst}
 use Rattle.std.specs.Prelude.{Result, Ok, Err, IsErr, IsErrAnd}
 use Rattle.std.proofs.lemmas.Bool.{both_ways}

@@ -16,9 +16,9 @@ use Rattle.sip_message.proofs.lemmas.params.Reading.{one-all_params, front-param
 
 -- a parameter has one branch at most
 one-branch_of : (p : Param) (a b : Option (List ℕ)) → BranchOf p a → BranchOf p b → a ≡ b
--- by neither reading the parameter has a branch
+-- the parameter has a branch by neither reading
 one-branch_of (name, value) None None x y = refl
--- it is named branch by one reading, and is not so by the other
+-- it is named branch by one reading, and has another name by the other
 one-branch_of (name, value) None (Some b) x y = absurd (x y.0)
 one-branch_of (name, value) (Some a) None x y = absurd (y x.0)
 -- the branch is the value of the parameter

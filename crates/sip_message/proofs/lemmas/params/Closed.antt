@@ -247,7 +247,7 @@ params-set Ok (p ∷ ps) text all (m, t, mark, (x, y, param, more, t_is), whole)
 
 -- texts that are each ";" and a parameter of which Ok holds are the text of a list of such parameters
 pub set-params : (Ok : List ℕ → Option (List ℕ) → Type 0) (us : List (List ℕ)) → AllByRecursion (Mark semicolon then ParamSet Ok) us → (ps : List (List ℕ × Option (List ℕ))) × AllOk Ok ps × ParamsText (concat us) ps
--- no texts, joined, are the text of no parameters
+-- the empty text is that of no parameters
 set-params Ok [] all = ([], tt, refl)
 -- m is the ";" with its blanks, and x the parameter's text
 set-params Ok (u ∷ us) ((m, x, mark, (name, value, ok, param), u_is), all) =

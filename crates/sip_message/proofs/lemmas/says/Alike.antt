@@ -50,7 +50,7 @@ same-holds A B fault go come = same-demand Equal (λ _. A) (λ _. B) fault (λ x
 -- the steps that give x and y come to the same where Q relates x and y
 pub same-gives : {X Y : Type 0} (Q : X → Y → Type 0) (x : X) (y : Y) → Q x y → Same Q (Gives x) (Gives y)
 same-gives Q x y q = record {
-  -- each of both gives nothing but its value
+  -- each of the two gives its value alone
   to = λ a a_is. (gives y, refl, subst (λ o. Alike Q o (gives y)) (sym a_is) q);
   back = λ b b_is. (gives x, refl, subst (λ o. Alike Q (gives x) o) (sym b_is) q);
 }

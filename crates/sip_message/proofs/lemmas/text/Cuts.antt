@@ -15,11 +15,8 @@ pub data Cuts (u v x y : List ℕ) : Type 0 where
 
 -- where u and v make the same text as x and y, the one front is the other, or begins it
 pub two_cuts : (u v x y : List ℕ) → u ++ v ≡ x ++ y → Cuts u v x y
--- both fronts are empty
 two_cuts [] v [] y same = same_length refl same
--- only the first is empty
 two_cuts [] v (a ∷ x) y same = second_longer a x refl same
--- only the second is empty
 two_cuts (a ∷ u) v [] y same = first_longer a u refl (sym same)
 -- both have a first byte, which is the same
 two_cuts (a ∷ u) v (b ∷ x) y same = more (two_cuts u v x y tails)
@@ -61,7 +58,6 @@ all_right test (b ∷ u) v all = all_right test u v all.1
 
 -- where the bytes of both texts pass the test, those of the whole do
 pub all_both : (test : ℕ → Bool) (u v : List ℕ) → All test u → All test v → All test (u ++ v)
--- the first text has no bytes
 all_both test [] v left right = right
 all_both test (b ∷ u) v left right = (left.0, all_both test u v left.1 right)
 

@@ -151,7 +151,6 @@ item-pair P one u (p, q, is_p, (b, escaped, q_is), whole) = at (is_lws_byte b) r
 
     -- the claim holds whether or not the second byte is a blank
     at : (blank : Bool) → is_lws_byte b ≡ blank → IsItem P u
-    -- the second byte is a blank
     at true blank = record { front = backslash ∷ []; back = b ∷ []; solid = (refl, tt); blank = (blank, tt); joins = λ c w is. one; whole = text }
     at false blank = item-solid P u (subst (All is_solid) (sym text) (refl, (ap not blank, tt)))
 

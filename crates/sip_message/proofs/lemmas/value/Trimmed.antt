@@ -158,7 +158,6 @@ value-trimmed text front value back w is of = at w of.opens of.ends (of.whole.4 
 pub read-decides : {A X : Type 0} (R : List ℕ → X → Type 0) (parts : A → X) (text : List ℕ) (r : Option A) (b : Bool) → IsOnlyValue R parts text r → b ≡ is_some r → Decides b ((x : X) × R text x)
 -- nothing was read, so R relates no value to the text
 read-decides R parts text None b none is = (λ yes_b. absurd (both_ways b is yes_b), λ x. absurd (none x.0 x.1))
--- a value was read
 read-decides R parts text (Some a) b only is = (λ _. (parts a, only.0), λ _. is)
 
 -- a text whose last byte is no blank does not end with a blank

@@ -255,7 +255,7 @@ more-set (v ∷ vs) text (m, t, mark, (x, y, via, more, t_is), whole) =
 
 -- elements, each after a comma, are further elements by their parts
 set-more : (us : List (List ℕ)) → AllByRecursion (Mark comma then ViaSet Token) us → (vs : List ViaParts) × MoreVias vs (concat us)
--- no texts, joined, are no further elements
+-- the empty text is that of no further elements
 set-more [] all = ([], refl)
 set-more (u ∷ us) ((m, x, mark, via, u_is), all) =
     -- `more` is the elements after the first, and v the first one

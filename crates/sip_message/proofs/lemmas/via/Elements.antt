@@ -2,7 +2,7 @@
 -- Of further elements u is the comma with its blanks, of which s are those before it, and v what follows: w, or x, is the text of the first one, and f what
 -- it is read as.
 -- `AreLeft` is the elements that are left: those in the rest of a value, each after a comma, and those of the values after it. `NextText` says that the next
--- of them begins a text. `ExactlyOne R` is a value (`the`) with a proof that R holds of it alone, which is hidden (`∥ ∥`), so that no choice is made of it.
+-- of them begins a text. `ExactlyOne R` is a value (`the`) with a hidden proof (`∥ .. ∥₁`) that R holds of it alone.
 use Rattle.std.proofs.Common.{◌≡◌, ℕ, zero, suc, ◌+◌, ◌<◌, List, [], ◌∷◌, ◌++◌, length, drop, map, cond, slice_index_or, add-one, true, false, Option, None, Some, inl, inr, refl, sym, ap, ◌∙◌, subst, arith}
 use Rattle.std.proofs.Math.Logic.{∥∥₁_elim}
 use Rattle.std.specs.Coded.{Coded, Coded-set}

@@ -1,6 +1,6 @@
 -- The law of the canonical form.
 -- In the lemmas fs are fields, and n is the number of the first of them; as Bools, x and y are what two tests of a byte say.
--- A text is inner (`Inner`) where it has neither CR nor LF. `unfolded_field` is a field with its value unfolded, and `message_of` a message with all its values unfolded.
+-- A text is inner (`Inner`) where it has neither CR nor LF. `unfolded_field` is a field with its value unfolded, and `message_of` a message with such fields.
 use Rattle.std.proofs.Common.{◌≡◌, ℕ, ◌+◌, ◌≤◌, ◌<◌, Bool, true, false, not, ◌&&◌, List, [], ◌∷◌, ◌++◌, length, take, map, cond, nat_eq, Option, Some, None, refl, sym, ap, ◌∙◌, subst, inl, inr, arith}
 use Rattle.std.specs.Prelude.{is_some, get_or, ◌^◌, codes, decimal, IsTrue, bytes_eq}
 use Rattle.std.specs.Char.{is_ascii_digit}

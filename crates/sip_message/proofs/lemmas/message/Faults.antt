@@ -1,7 +1,7 @@
 -- Bytes are read as a message exactly if they are one, and as at most one message or one fault.
 -- In the lemmas f and fs are the first field and the others, z and zs the first element of a list and the others, and n is the number of a line.
 -- `IsOne` says that a reading has one outcome at most. `NamesOf` is the demands on the named fields, `BodyOf` those on the method and the body, and `LinesOf`
--- and `HeadOf` are the reading of the lines of a head, with the body after them, and of a head.
+-- and `HeadOf` are the reading of the lines of a head, and of a head, each with the body after it.
 use Rattle.std.proofs.Common.{◌≡◌, ℕ, ◌+◌, List, [], ◌∷◌, Option, refl, sym, ap, ◌∙◌, subst}
 use Rattle.sip_message.specs.declared.name.Known.{Known}
 use Rattle.sip_message.specs.declared.name.Known.TheVariants as known_name

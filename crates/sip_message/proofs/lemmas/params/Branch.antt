@@ -113,7 +113,7 @@ decides-all text rest first none so =
   where
     -- an option is the same where nothing is found after it
     or-none : (o : Option (List ℕ)) → o ≡ option_or o None
-    -- nothing is there; or v is
+    -- the option is None, or it has v
     or-none None = refl
     or-none (Some v) = refl
 

@@ -198,7 +198,7 @@ One-none rest vals one none = ∥∥₁_elim one.1 (Coded-set elements_code one.
 
 -- where there is one list of the elements that are left, it cannot be that no element is read at the front of the next text
 pub One-read : (rest text : List ℕ) (vals more : List (List ℕ)) → ((es : List Element) → AreLeft rest vals es → NextText rest vals text more) → NotRead (ViaFront text) → ExactlyOne (AreLeft rest vals) → ⊥
--- the list would have an element that is read at the front; the hidden proof of that may be used, since what cannot hold has no two proofs
+-- the list would have an element that is read at the front; the hidden proof of that may be used, since what is shown, ⊥, has no two proofs
 One-read rest text vals more next none one = ∥∥₁_elim one.1 (λ a b. absurd a) (λ p. no-first text more one.0 none ((next one.0 p.is).to one.0 p.is))
 
 -- an iterator whose list is empty yields nothing, and its list stays empty

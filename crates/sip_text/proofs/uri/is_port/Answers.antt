@@ -1,4 +1,4 @@
--- `c.NAME.branch` is the test by which a branch was taken that has several: `via-then-A` by A, `via-else-A+then-B` by B, after A failed.
+-- `c.NAME.branch` says which of several tests led to this place: `via-then-A` that A passed, `via-else-A+then-B` that A failed and B passed.
 use Rattle.std.proofs.Common.{refl, sym, ap, ◌≢◌, ◌+◌, ◌*◌, ◌∙◌, arith, length}
 use Rattle.std.proofs.lemmas.Bool.{eqb-true, eqb-false}
 use Rattle.sip_text.proofs.uris.UriPartLemmas.{decides-not}
@@ -26,7 +26,7 @@ returns-then-not-has c = decides-not (λ port.
 -- where the digits so far write a number that is too great for a port, the text is no port
 pub returns-then-number-gt-LAST_PORT : goal.returns-then-number-gt-LAST_PORT
 returns-then-number-gt-LAST_PORT c = decides-not (λ port.
-    -- `more` says which number the digits write with this one, which is above 65535
+    -- `more` says which number the digits write with this one; the test has found it above 65535
     let more = digit-more c.args.text.now c.loop-byte.byte-index c.loop-byte.number c.loop-byte-test.true
     c.loop-byte.invariant (sym c.has.ensures ∙ c.if-not-has.false) in
     port-large c.args.text.now (c.loop-byte.byte-index + 1) (c.loop-byte.number * 10 + c.from.result)
@@ -35,7 +35,7 @@ returns-then-number-gt-LAST_PORT c = decides-not (λ port.
 -- after one digit more, the number is that of the digits up to it, and not above 65535
 pub loop-byte-preserved : goal.loop-byte-preserved
 loop-byte-preserved c =
-    -- `more` says that one digit more passes, and which number the digits then write
+    -- `more` says that the bytes up to this one are digits, and which number they write
     let more = digit-more c.args.text.now c.loop-byte.byte-index c.loop-byte.number c.loop-byte-test.true
     c.loop-byte.invariant (sym c.has.ensures ∙ c.if-not-has.false) in
     record {

@@ -92,7 +92,7 @@ sws_no_token u rest sws ends = by (sws_open u sws)
 lack-wsp : AllLack semicolon Wsp
 lack-wsp = lack-one semicolon _ refl
 
--- no LWS has a semicolon: it is blanks, perhaps with a CRLF before the last of them
+-- no LWS has a semicolon: it is blanks, perhaps with a CRLF before the last ones
 lack-lws : AllLack semicolon Lws
 lack-lws = lack-then semicolon _ _ (lack-optional semicolon _ (lack-then semicolon _ _ (lack-many semicolon _ lack-wsp) (lack-exactly semicolon _ (refl, (refl, tt))))) (lack-some semicolon _ lack-wsp)
 

@@ -117,7 +117,7 @@ single-double (b ∷ u) v single =
       ap (rest_onto (u ++ (double_colon ++ v))) here ∙ rest.1,
     )
   where
-    -- a text whose first byte is no colon begins so also with "::" after it; the test takes a colon for the byte of an empty text, which is so ruled out
+    -- a text that begins with no colon does so also with "::" after it; an empty text is ruled out, since the test takes a colon for its byte
     next : (t : List ℕ) → nat_eq (slice_index_or t 0 colon) colon ≡ false → nat_eq (slice_index (t ++ (double_colon ++ v)) 0) colon ≡ false
     next [] other = cc
     next (a ∷ t) other = other

@@ -12,7 +12,6 @@ returns-then-is_empty c = decides-not (λ port.
     -- a port has one to five bytes; the branch is taken where the text is empty, or else where it is longer
     let (some, few) = port-length c.args.text.now port in
     elim c.then-is_empty.branch [
-      -- an empty text has too few bytes, and a longer one too many
       | then-is_empty-via-then-is_empty w ↦
           absurd (omega (arith, some, eqb-true (length c.args.text.now) 0 (sym c.is_empty.ensures ∙ w.if-is_empty.true)))
       | then-is_empty-via-else-is_empty+then-text-gt-PORT_DIGITS w ↦ absurd (omega (arith, few, w.if-text-gt-PORT_DIGITS.true))

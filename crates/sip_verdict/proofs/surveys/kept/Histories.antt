@@ -181,8 +181,8 @@ module _ (entry : ℕ) (text : List ℕ) where
   note_at n old new low high (inr note) i h here = by (nat_eq (i + 1) n) refl (push_place old note.begun i h (ap (λ hs. slice_get hs i) (sym note.is) ∙ here))
     where
       -- the history at the place is right after a new one was begun, whether or not the place is that of the new one
-      by : (b : Bool) → nat_eq (i + 1) n ≡ b → (slice_get old i ≡ Some h) ⊎ ((i ≡ length old) × (note.begun ≡ h)) → IsAt entry text old i h b
       -- the new history stands after all others, so that its place is past them, and only its number is n
+      by : (b : Bool) → nat_eq (i + 1) n ≡ b → (slice_get old i ≡ Some h) ⊎ ((i ≡ length old) × (note.begun ≡ h)) → IsAt entry text old i h b
       by true same (inl was) = (let within = slice_get_within old i h was in let beyond = note.beyond in absurd (omega (arith, (unsigned_Decides (i + 1) n).0 same)))
       by true same (inr (at, is)) = (
         sym (ap (λ k. k.last) is) ∙ note.last,

@@ -68,8 +68,8 @@ module _ (texts : Texts) (p : Times) (es : List (Observation KeyParts)) (e : Obs
             (ap (λ i. is_overdue i (Some limit)) now ∙ none_past moment t.records none n (Some limit) on) apart
 
         -- the key goes on: the entry does not concern it, or it goes on anyway
-        by : (concerns key e ≡ false) ⊎ GoesOn p k es e (key, s) → GoesOn p k es e (key, s)
         -- it goes on as is known, or the entry does not concern it, and then its record says that it can wait
+        by : (concerns key e ≡ false) ⊎ GoesOn p k es e (key, s) → GoesOn p k es e (key, s)
         by (inr g) = g
         by (inl apart) = let r = at_place t.records n (let within = slice_get_within t.keys n key at in let long = watched.recorded.long in omega arith) in recorded r.0 r.1 apart
 

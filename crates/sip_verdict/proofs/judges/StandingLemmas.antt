@@ -194,9 +194,9 @@ have_all all = subst (HaveNumbers all (up_to (length all))) (take_all (length al
 
 -- after an entry without trouble the next entry may be taken, by the tables and the book that the entry leaves
 -- the book is `old`, then `mid` with the entry's message, then `last`; t, u and v are the tables with each
+-- without trouble the numbers of the book and the limits are as the next entry asks; with a verdict nothing is asked
 pub may_next : (verdict : Option Verdict) (old mid last : Texts) (t u v : Tabled) (number moment : ℕ) (bytes : List ℕ) → MayTake old t number moment → IsGrown old number bytes mid
     → length u.keys ≤ length t.keys + 2 → v.keys ≡ u.keys → last ≡ mid → MayPass last v moment → IfNone verdict (AllAreOnRecord v) → IfNone verdict (MayTake last v (number + 1) moment)
--- without trouble each number and each limit stands as after the entry; with a verdict nothing more is asked
 may_next None old mid last t u v number moment bytes may grown few keys book passes recorded = record {
   passes = passes;
   recorded = recorded;

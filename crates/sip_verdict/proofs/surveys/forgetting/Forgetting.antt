@@ -117,7 +117,6 @@ module _ (p : Times) (key : KeyParts) (old : List (Observation KeyParts)) (again
         order_at front e rest is = order_front (front ++ e ∷ []) rest (subst order_of (is ∙ sym (append_assoc front (e ∷ []) rest)) order)
 
         -- no entry of the old ones or of the later ones finds the key too wide
-        -- the entry is one of the old ones, or one of the later ones
         narrow : IsSound p more key → (front : List (Observation KeyParts)) (e : Observation KeyParts) (rest : List (Observation KeyParts)) → IsWideAt p front e key
             → ((zs : List (Observation KeyParts)) × (old ≡ front ++ e ∷ zs)) ⊎ ((zs : List (Observation KeyParts)) × (front ≡ old ++ zs) × (more ≡ zs ++ e ∷ rest)) → ⊥
         narrow new front e rest wide (inl (zs, is)) = sound.1 front e zs is wide

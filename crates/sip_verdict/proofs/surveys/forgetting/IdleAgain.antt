@@ -89,8 +89,8 @@ module _ {X : Type 0} (f : Figure X) (p : Times) (lasts : (m : ℕ) → Lasts f 
           where
             -- there are no later events
             by : (ys ≡ []) ⊎ ((front : List MachineEvent) × (e : MachineEvent) × (ys ≡ front ++ e ∷ [])) → ys ≡ []
-            -- else a last one would come at m or later, as all later events do, and not after h, where the run stands; but h is before m
             by (inl e) = e
+            -- a last one would come at m or later, as all later events do, and not after h, where the run stands; but h is before m
             by (inr (front, e, is_last)) =
                 let whole : evs ≡ (old ++ front) ++ e ∷ [] = are ∙ ap (λ zs. old ++ zs) is_last ∙ sym (append_assoc old front (e ∷ [])) in
                 let to = All-middle (IsTo h) (old ++ front) [] e (subst (All (IsTo h)) whole (events_to evs h x stands)) in

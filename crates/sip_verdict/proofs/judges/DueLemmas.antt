@@ -50,8 +50,8 @@ module _ (texts : Texts) (t : Tabled) (es : List (Observation KeyParts)) (from :
         (stands-run t.times (machine_of_key t.times.rules key) (events_for key es) moment run)
 
     -- a key whose last moment on record is not past has a run that stands at the moment
-    in_time : (r : Option (Option ℕ)) → slice_get t.records n ≡ Some r → is_overdue moment r ≡ false → Runs key
     -- each key has a last moment on record
+    in_time : (r : Option (Option ℕ)) → slice_get t.records n ≡ Some r → is_overdue moment r ≡ false → Runs key
     in_time None on is = absurd (false≢true (recorded.each n s None here on))
     in_time (Some limit) on is =
         run-stands t.times (machine_of_key t.times.rules key) (events_for key es) moment

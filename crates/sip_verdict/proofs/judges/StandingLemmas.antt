@@ -122,8 +122,8 @@ module _ (ks : List KeyParts) (ns : List ℕ) (old new : Tabled) (touched : Touc
       touches_recorded ns ks ns old new (λ n waiting. waiting) long (record { long = recorded.long; each = λ n set r at here. waits_more n set r (recorded.each n set r at here) }) touched
     where
       -- a last moment that is on record is so, too, where those of the entry's keys may be missing
-      waits_more : (n : ℕ) (set : AnySet) (r : Option (Option ℕ)) → IsOnRecord [] (n + 1) set r → IsOnRecord ns (n + 1) set r
       -- no last moment is missing, where no set is still to hear
+      waits_more : (n : ℕ) (set : AnySet) (r : Option (Option ℕ)) → IsOnRecord [] (n + 1) set r → IsOnRecord ns (n + 1) set r
       waits_more n set None h = absurd (false≢true h)
       waits_more n set (Some limit) h = h
 
@@ -155,8 +155,8 @@ text_of_none [] n none = refl
 text_of_none (kept ∷ texts) n none = go (kept.0 == n) refl (text_of_none texts n (λ has. none (Contains-there kept.0 (map (λ k. k.0) texts) n has)))
   where
     -- a number that the book does not keep has no text, whether or not the first message has the number
+    -- if the first message had the number, the book would keep it
     go : (b : Bool) → (kept.0 == n) ≡ b → text_of texts n ≡ [] → cond b kept.1 (text_of texts n) ≡ []
-    -- the book would keep the number, which it does not
     go true same rest = absurd (none (subst (Contains (map (λ k. k.0) (kept ∷ texts))) ((unsigned_Decides kept.0 n).0 same) (Contains-here kept.0 (map (λ k. k.0) texts))))
     go false differ rest = rest
 

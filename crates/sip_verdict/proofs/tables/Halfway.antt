@@ -219,16 +219,16 @@ module _ (texts : Texts) (p : Times) (es : List (Observation KeyParts)) (e : Obs
     at_moment = (told n key at).at
 
     -- a key whose last moment on record is past has no run over the entries and e
-    late : (r : Option (Option ℕ)) → slice_get t.records n ≡ Some r → is_overdue moment r ≡ true → ¬ RunsOver p (es ++ e ∷ []) key
     -- a key without a record is not overdue
+    late : (r : Option (Option ℕ)) → slice_get t.records n ≡ Some r → is_overdue moment r ≡ true → ¬ RunsOver p (es ++ e ∷ []) key
     late None on is = absurd (false≢true is)
     late (Some limit) on is = λ run.
         overdue_none texts p (machine_of_key p.rules key) (events_for key es) (newest_moment es) s leads limit (recorded.each n s (Some limit) here on) moment newest low is
         (subst (RunsUntil (key_rules p (machine_of_key p.rules key)) (events_for key es)) at_moment (run_still p (key_keeping texts p) es e (key, s) run))
 
     -- a key whose last moment is not past, and that is not to hear the event, goes on over e
-    in_time : (r : Option (Option ℕ)) → slice_get t.records n ≡ Some r → is_overdue moment r ≡ false → is_among numbers (n + 1) ≡ false → GoesOn p (key_keeping texts p) es e (key, s)
     -- only a key that is to hear the event lacks a record
+    in_time : (r : Option (Option ℕ)) → slice_get t.records n ≡ Some r → is_overdue moment r ≡ false → is_among numbers (n + 1) ≡ false → GoesOn p (key_keeping texts p) es e (key, s)
     in_time None on is other = absurd (false≢true (sym other ∙ recorded.each n s None here on))
     in_time (Some limit) on is other = elim (others n key s at here other) [ inl apart ↦ waits_on apart | inr goes ↦ goes ]
       where

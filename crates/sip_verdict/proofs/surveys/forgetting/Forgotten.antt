@@ -61,14 +61,14 @@ kept_by_at (c ∷ flags) (k ∷ keys) apart (suc n) key b at flag =
     go (same_key key k) refl (kept_by_at flags keys (AllPairs-tail (λ a b. a ≢ b) k keys apart) n key b at flag)
   where
     -- the flag of the key is b, whether or not the first key is the one that is looked for
+    -- the first key is not equal to a later one, since all keys differ
     go : (t : Bool) → same_key key k ≡ t → kept_by flags keys key ≡ b → cond (same_key key k) c (kept_by flags keys key) ≡ b
-    -- the first key would be equal to a later one, but all keys differ
     go true e rest = absurd (All-place (λ x. k ≢ x) keys n key at (AllPairs-head (λ a b. a ≢ b) k keys apart) (sym ((same_key-decides key k).0 e)))
     go false e rest = ap (λ t. cond t c (kept_by flags keys key)) e ∙ rest
 
 -- a key that is not kept stands at some place, and its flag is false
-pub kept_by_not : (flags : List Bool) (keys : List KeyParts) (key : KeyParts) → kept_by flags keys key ≡ false → (n : ℕ) × (slice_get keys n ≡ Some key) × (slice_get flags n ≡ Some false)
 -- a key without a flag is kept
+pub kept_by_not : (flags : List Bool) (keys : List KeyParts) (key : KeyParts) → kept_by flags keys key ≡ false → (n : ℕ) × (slice_get keys n ≡ Some key) × (slice_get flags n ≡ Some false)
 kept_by_not [] keys key gone = absurd (true≢false gone)
 kept_by_not (b ∷ flags) [] key gone = absurd (true≢false gone)
 kept_by_not (b ∷ flags) (k ∷ keys) key gone = go (same_key key k) refl (λ still. kept_by_not flags keys key still)

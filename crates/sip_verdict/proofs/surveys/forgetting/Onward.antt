@@ -102,8 +102,8 @@ module _ (key : KeyParts) where
           ap (λ b. fold with_key (key ∷ []) (cond b (k ∷ own keys) (own keys))) e ∙ ap (λ start. fold with_key start (own keys)) (known e) ∙ rest
 
   -- where the key is among keys, the ones equal to it, each added where it is new, give a list of the key alone
-  becomes_one : (keys : List KeyParts) → list_any (same_key key) keys ≡ true → fold with_key [] (own keys) ≡ key ∷ []
   -- an empty list has no key
+  becomes_one : (keys : List KeyParts) → list_any (same_key key) keys ≡ true → fold with_key [] (own keys) ≡ key ∷ []
   becomes_one [] some = absurd (false≢true some)
   becomes_one (k ∷ keys) some = go (same_key key k) refl some (becomes_one keys)
     where

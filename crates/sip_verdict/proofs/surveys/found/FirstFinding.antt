@@ -91,8 +91,8 @@ module _ (p : Times) (es : List (Observation KeyParts)) (e : Observation KeyPart
       let least = first_least (IsWideAt p es e) (Widens p es e) keys t u first ((at.1 (Undecided m u)).0 h).1 (λ key widens. widens.1) in omega (arith, least, low)
 
   -- where an entry is the first in trouble, its verdict is the first finding there
-  trouble_first : AllSound p es → (v : Verdict) → HasTrouble p es e v → (later : List Finding) (end : SurveyEnd) → v ≡ verdict_in (here ++ later) end
   -- a legal log and a fault of the log are no trouble at an entry
+  trouble_first : AllSound p es → (v : Verdict) → HasTrouble p es e v → (later : List Finding) (end : SurveyEnd) → v ≡ verdict_in (here ++ later) end
   trouble_first sound (verdicts.Legal n t) trouble later end = absurd trouble
   trouble_first sound (verdicts.LogFault n r) trouble later end = absurd trouble
   trouble_first sound (verdicts.Malformed n a) trouble later end =

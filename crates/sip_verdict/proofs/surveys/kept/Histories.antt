@@ -319,9 +319,9 @@ some_keys : (key : KeyParts) (keys : List KeyParts) → list_any (same_key key) 
 some_keys key keys is none = false≢true (sym (ap (list_any (same_key key)) none) ∙ is)
 
 -- an entry whose message concerns a key has a message with a branch
+-- a message with a fault, or whose branch has no cookie, concerns no key
 heard_says : (direction : Direction) (i : Item) (e : Observation KeyParts) → ObservesMessage direction i e → (key : KeyParts) → is_of key e ≡ true
     → (s : Said) × Says i.text (gives s) × ((branch : List ℕ) × (s.via.branch ≡ Some branch))
--- a message with a fault, or whose branch has no cookie, concerns no key
 heard_says direction i e (has_fault fault says is) key of = absurd (some_keys key e.keys of (ap (λ o. o.keys) is))
 heard_says direction i e (has_no_cookie s says lacks is) key of = absurd (some_keys key e.keys of (ap (λ o. o.keys) is))
 heard_says direction i e (is_heard s keys says fine concerns is) key of =

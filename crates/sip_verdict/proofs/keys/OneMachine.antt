@@ -29,7 +29,6 @@ module _ {X S : Type 0} (names : S → List ℕ) (seen : Texts → S → X) (tex
       (seen texts s, Leads-some names seen texts r events from moment states leads late s member (All-contains (λ t. Waits r (seen texts t) moment) states s waits member))
     where
       -- a list that is not empty has an element
-      -- the list is not empty, by what is given
       first_of_some : (xs : List S) → xs ≢ [] → (s : S) × Contains xs s
       first_of_some [] some = absurd (some refl)
       first_of_some (x ∷ xs) some = (x, Contains-here x xs)

@@ -136,7 +136,6 @@ appends_more t [] n old mid new same one = (new, subst (λ x. Appends t n x new)
 appends_more t (m ∷ ns) n old mid new (between, first, rest) one = (between, first, appends_more t ns n between mid new rest one)
 
 -- the listings of one transaction or more, appended to nothing, are the text of these transactions
--- there is a transaction, by what is given
 pub text_of_some : (t : Tabled) (ns : List ℕ) (text : List ℕ) → ns ≢ [] → AppendsEach t ns [] text → IsTextOf t ns text
 text_of_some t [] text some appends = absurd (some refl)
 text_of_some t (n ∷ ns) text some appends = appends

@@ -129,7 +129,6 @@ settles_leaves number after t u s = (s.limit, subst (IsAgendaOf s.limit) same s.
     same = elim (set_place t.sets (number - 1) (number - 1) after s.set s.at) [ inl h ↦ sym h.1 | inr h ↦ absurd (h.0 refl) ]
 
 -- where its transaction is in trouble, a set that has heard stands with its number, and nothing else changes
--- the outcome is trouble, by what is given; then only the set is written
 pub trouble_leaves : (number : ℕ) (after : AnySet) (outcome : Outcome) (t : Tabled) → outcome ≢ all.Fine → Leaves number after outcome t (with_set t number after)
 trouble_leaves number after all.Fine t trouble = absurd (trouble refl)
 trouble_leaves number after (all.NoRun told) t trouble = refl

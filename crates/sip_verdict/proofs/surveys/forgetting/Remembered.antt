@@ -42,7 +42,7 @@ restarted f p e y is =
     (λ does. stays (subst (λ a. Steps f p a e (quiet f.idle) y) is does), λ same. subst (λ a. Steps f p a e (quiet f.idle) y) (sym is) (inl (refl, same)))
   where
     -- a restart leaves the idle transaction idle
-    -- a restart takes a transaction in idle to idle; the other case is of one that is not idle
+    -- the other case of a restart is of a transaction that is not idle
     stays : Restarts f (quiet f.idle) y → y ≡ quiet f.idle
     stays (inl idle) = idle.1
     stays (inr other) = absurd (other.0 refl)

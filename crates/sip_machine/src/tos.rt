@@ -39,10 +39,8 @@ impl Model for Tos {
     ghost use Rattle.sip_machine.specs.declared.tos.To.{To};
     ghost use Rattle.sip_machine.specs.inner.Tos.{AreUnder};
 
-    // Tos mean their list.
     ghost Value = { List To };
 
-    // The Tos are those of the list.
     ghost view = { λ t. t.list.items };
 
     // The numbers of the messages rise, and where hashes are kept, each stands under the hash of its To.

@@ -245,10 +245,8 @@ module _ {S X : Type 0} (f : Figure X) (p : Times) (seen : Texts → S → X) (t
 
 -- what holds of all states from one index up to another, at least one, holds of the first of them
 pub slice-first : {S : Type 0} (P : S → Type 0) (from to : ℕ) (xs : List S) (d : S) → from < to → to ≤ length xs → All P (from_to from to xs) → P (get_or xs from d)
--- there is at least one element, so the slice does not end at 0, and the list is not empty
 slice-first P from zero xs d order le all = absurd (omega (arith, order))
 slice-first P from (suc to) [] d order le all = absurd (omega (arith, le))
--- the slice begins at the first element, or later
 slice-first P zero (suc to) (x ∷ xs) d order le all = All-head P x (take to xs) all
 slice-first P (suc from) (suc to) (x ∷ xs) d order le all = slice-first P from to xs d (omega (arith, order)) (omega (arith, le)) all
 

@@ -375,12 +375,10 @@ module _ {S X : Type 0} (f : Figure X) (p : Times) (seen : Texts → S → X) (n
       (subst (Gives (Emits f p e here) e.moment x) none gives) in
       rw is (subst (Gives (Fails true f p e here) e.moment x) (sym none) left)
 
-  -- where an effect that gives the states of P is not empty, P holds of some state
+  -- where an effect that gives the states of P is not empty, P holds of some state: of the one to which the turn leads, or else of the one that rests
   pub has_step : (P : Owing X → Type 0) (t : ℕ) (x : CodeOwing S) (turn : Option (Turn S)) (rest : Option Rest) →
       ((turn ≡ None) × (rest ≡ None) → ⊥) → Gives P t x (record { turn = turn; rest = rest }) → (z : Owing X) × P z
-  -- an effect with neither a turn nor a rest is empty
   has_step P t x None None some gives = absurd (some (refl, refl))
-  -- P holds of the state that rests, or of the one to which the turn leads
   has_step P t x None (Some rest) some gives =
       let z = owing_seen seen texts (rests_at t rest x) in (z, (gives.members z).0 (0, omega arith, refl))
   has_step P t x (Some turn) rest some gives =

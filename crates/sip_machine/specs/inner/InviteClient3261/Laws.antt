@@ -52,7 +52,6 @@ invite_client_3261_is_figure =
 pub invite_client_3261_is_coded : IsCoded invite_client_3261 invite_client_told invite_client_3261_coded
 invite_client_3261_is_coded =
     record {
-      -- each of these is told by a lemma above, or by one of the corrected machine
       is_figure = invite_client_3261_is_figure;
       apart = invite_client_is_coded.apart;
       by_names = invite_client_is_coded.by_names;

@@ -1,3 +1,4 @@
+-- At each turn of the loop (`c.loop-next.invariant`) part 0 says that `next` is not past the prints, and 1 that no print passed so far is the one looked for.
 use Rattle.std.proofs.Common.{◌-◌, ◌<◌, ◌∙◌, arith, length, subst, sym}
 use Rattle.sip_machine.specs.inner.Slots.{AreSlots}
 use Rattle.sip_machine.proofs.pools.SlotsLemmas.{pair-print, pair-older, reached-more}

@@ -1,4 +1,4 @@
--- The definitions that contracts of this crate cite. What they rest on, and the laws of it, stand in `inner`.
+-- The definitions in which the contracts of this crate speak to other crates. Those of its inside, and laws of all, stand in `inner`.
 pub use Rattle.sip_times.specs.Limits
 pub mod Texts
 pub mod Told

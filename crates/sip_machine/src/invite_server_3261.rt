@@ -305,7 +305,7 @@ fn succeeds(phase: &InviteServer3261Phase) -> Option<Turn<InviteServer3261Phase>
         AnswersOne (turn_names invite_server_3261_names) (TurnInRange InviteServer3261InRange) (turn_seen invite_server_3261_seen) texts
         (Sends p (invite_server_3261_seen texts phase.now) (Response code) e) result }
 {
-    // In passed a 2xx changes nothing; in proceeding it drops what is owed, since the machine sends nothing more; in no other phase a 2xx has a row.
+    // In passed a 2xx changes nothing; in proceeding it ends the transaction, and what is owed is dropped; in no other phase has it a row.
     let change = match *phase {
         InviteServer3261Phase::Passed => Change::Keeps,
         InviteServer3261Phase::In {

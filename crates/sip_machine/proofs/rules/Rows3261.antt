@@ -44,7 +44,7 @@ other_row p (Proceeding reliable request cancel) (Response code) e y other = (
   λ h. elim h [ inl success ↦ absurd (other success.0) | inr row ↦ inr row ],
   λ h. elim h [ inl success ↦ absurd (other success.0) | inr row ↦ inr row ],
 )
--- a request in calling has no row by either; of all other messages the rows are the same
+-- a request in calling has no row by either; in all other cases the rows are the same
 other_row p (Calling w) (Request method) e y other = (λ h. h, λ h. h)
 other_row p x k e y other = (λ h. h, λ h. h)
 

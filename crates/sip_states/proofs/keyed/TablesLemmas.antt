@@ -16,10 +16,10 @@ some-is-none : {X : Type 0} (x : X) → Some x ≡ None → ⊥
 some-is-none x e = cc
 
 -- one step of the next lemma: the first of the pairs has the key (b says whether), or the key is found among the others, at the place n
+-- the first pair has the key, which stands at 0 then; or it is found one place further than among the others
 found-step : {X : Type 0} (e : KeyParts × X) (es : List (KeyParts × X)) (key : KeyParts) (n : ℕ) (b : Bool) → same_key key e.0 ≡ b
     → (b ≡ false → (slice_get (keys_of es) n ≡ Some key) × (n < length es))
     → (slice_get (e.0 ∷ keys_of es) (cond (not b) (1 + n) 0) ≡ Some key) × (cond (not b) (1 + n) 0 < length (e ∷ es))
--- the first pair has the key, which stands at 0 then; or it is found one place further than among the others
 found-step e es key n true p rest = (ap Some (sym ((same_key-decides key e.0).0 p)), omega arith)
 found-step e es key n false p rest =
     let found = rest refl in

@@ -143,8 +143,8 @@ invite_rank invite.Ended = 2
 
 -- no row of a message that the INVITE client receives leads to a lower rank
 -- x is the phase, k the kind of the message e, and y where its row leads
-invite_received : (p : Times) (x : invite.InviteClientPhase) (k : Kind) (e : MachineEvent) (y : Row invite.InviteClientPhase) → invite.Receives p x k e y → invite_rank x ≤ invite_rank y.0
 -- in calling a response leads to proceeding, to accepted or to completed, and in proceeding to one of the last two
+invite_received : (p : Times) (x : invite.InviteClientPhase) (k : Kind) (e : MachineEvent) (y : Row invite.InviteClientPhase) → invite.Receives p x k e y → invite_rank x ≤ invite_rank y.0
 invite_received p (invite.Calling w) (Response code) e y (inl h) = rw h.1 (omega arith)
 invite_received p (invite.Calling w) (Response code) e y (inr (inl h)) = rw h.1 (omega arith)
 invite_received p (invite.Calling w) (Response code) e y (inr (inr h)) = rw h.1 (omega arith)
@@ -233,8 +233,8 @@ module _ (p : Times) (code : ℕ) (e : MachineEvent) (y : Owing invite.InviteCli
 
 -- what a row sends from rank 2 is an ACK or a CANCEL
 -- x is the phase, k the kind of the message e, and y where its row leads
-invite_sends_row : (p : Times) (x : invite.InviteClientPhase) (k : Kind) (e : MachineEvent) (y : Row invite.InviteClientPhase) → 2 ≤ invite_rank x → invite.Sends p x k e y → (k ≡ Request Ack) ⊎ (k ≡ Request Cancel)
 -- idle, calling and proceeding have a lower rank than 2; later phases send a CANCEL alone
+invite_sends_row : (p : Times) (x : invite.InviteClientPhase) (k : Kind) (e : MachineEvent) (y : Row invite.InviteClientPhase) → 2 ≤ invite_rank x → invite.Sends p x k e y → (k ≡ Request Ack) ⊎ (k ≡ Request Cancel)
 invite_sends_row p invite.Idle k e y low h = absurd (omega arith)
 invite_sends_row p (invite.Calling w) k e y low h = absurd (omega arith)
 invite_sends_row p (invite.Proceeding reliable request cancel) k e y low h = absurd (omega arith)
@@ -272,8 +272,8 @@ module _ (p : Times) (one : MachineEvent) where
 
   -- no message that the client receives makes Awaits false
   -- x is the phase, k the kind of the message e, and y where its row leads
-  awaits_received : (x : invite.InviteClientPhase) (k : Kind) (e : MachineEvent) (y : Row invite.InviteClientPhase) → invite.Receives p x k e y → Awaits x → Awaits y.0
   -- in calling, in proceeding and in completed a response leads on; no other phase receives
+  awaits_received : (x : invite.InviteClientPhase) (k : Kind) (e : MachineEvent) (y : Row invite.InviteClientPhase) → invite.Receives p x k e y → Awaits x → Awaits y.0
   awaits_received (invite.Calling w) (Response code) e y (inl h) holds = rw h.1 tt
   awaits_received (invite.Calling w) (Response code) e y (inr (inl h)) holds = rw h.1 tt
   awaits_received (invite.Calling w) (Response code) e y (inr (inr h)) holds = rw h.1 tt

@@ -40,8 +40,8 @@ later : (steps : List Step) (g k : MachineEvent) (fs : List MachineEvent) (f : M
 later steps g k fs f first s = record { front = Takes g ∷ s.front; ends = s.ends; is = ap (λ more. Takes g ∷ more) s.is; takes = rw (first, s.takes) }
 
 -- steps that take the events fs and then f are split at the one that takes f
-pub split_last : (steps : List Step) (fs : List MachineEvent) (f : MachineEvent) → taken steps ≡ fs ++ f ∷ [] → SplitAt steps fs f
 -- no events are as long as one or more; a hidden step changes no event; where f alone is left, the first step that takes an event takes f
+pub split_last : (steps : List Step) (fs : List MachineEvent) (f : MachineEvent) → taken steps ≡ fs ++ f ∷ [] → SplitAt steps fs f
 split_last [] [] f e = absurd (cc)
 split_last [] (g ∷ fs) f e = absurd (cc)
 split_last (Hides t ∷ steps) fs f e =

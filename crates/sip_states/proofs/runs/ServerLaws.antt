@@ -102,9 +102,9 @@ abbrev server : (rules : Rules) (invite : Bool) → Figure (transaction_of (mach
 server rules invite = (transaction_of (machine_of rules Server invite)).figure
 
 -- a message for which the idle phase of a server has a row is a request
+-- a request is one; no server has a row in idle for a response
 woken : (rules : Rules) (invite : Bool) (p : Times) (k : Kind) (e : MachineEvent) (y : Row (transaction_of (machine_of rules Server invite)).Phase) →
     (server rules invite).Receives p (server rules invite).idle k e y → (method : Method) × (k ≡ Request method)
--- a request is one; no server has a row in idle for a response
 woken rules invite p (Request method) e y h = (method, refl)
 woken R6026 true p (Response code) e y h = absurd h
 woken R6026 false p (Response code) e y h = absurd h

@@ -94,8 +94,8 @@ sent p x (Request Cancel) e y running h = rw h running
 sent p x k e y running h = absurd h
 
 -- a sent message whose row drops the debts, or that may leave the state as it is, leads to another phase; here there is no such message
-leaves : LeadAway invite_client
 -- each row of a message that is sent keeps the debts, and so none drops them
+leaves : LeadAway invite_client
 leaves p Idle (Request Invite) e y h (inl drop) = absurd (keeps_them h drop)
 leaves p Idle (Request Ack) e y h (inl drop) = absurd (keeps_them h drop)
 leaves p (Calling w) (Request Invite) e y h (inl drop) = absurd (keeps_them h.1 drop)

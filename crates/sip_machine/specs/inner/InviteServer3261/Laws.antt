@@ -84,8 +84,8 @@ received p Passed k e y running h = absurd h
 received p (In x again) k e y running (after, row, is) = rw is (invite_server_is_figure.received_waits p x k e after running row)
 
 -- the row of a sent message leads to a phase whose timers are not past
-sent : LeadOn invite_server_3261 Sends
 -- a 2xx starts no timer, and any other response is a row of the corrected server
+sent : LeadOn invite_server_3261 Sends
 sent p Passed (Response code) e y running h = rw h.1 (All-nil (λ m. e.moment ≤ m))
 sent p (In (Proceeding reliable set last) again) (Response code) e y running (inl success) = rw success.1 (All-nil (λ m. e.moment ≤ m))
 sent p (In (Proceeding reliable set last) again) (Response code) e y running (inr (other, within)) =

@@ -1,4 +1,4 @@
--- The definitions in which the contracts of this crate speak to other crates. Those of its inside, and laws of all, stand in `inner`.
+-- The definitions in which contracts speak of books, events, states, and rules of machines. How the code has these, and laws of them, stand in `inner`.
 pub use Rattle.sip_times.specs.Limits
 pub mod Texts
 pub mod Told

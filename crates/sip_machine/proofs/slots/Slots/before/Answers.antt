@@ -17,8 +17,8 @@ last_from-requires c =
 -- the newest print of the slot before this one that is equal to it is the last such print of all
 pub returns : goal.returns
 returns c =
-    -- s are the prints by slots; `newest` has one past the index of the newest print of each slot, and `kept` each print with one past that of the one before it
-    -- in its slot; x is the pair of `kept` at the place `at`
+    -- s are the prints by slots; `newest` has one past the index of the newest print of each slot, and `kept` each print with one past that of the one before
+    -- it in its slot; x is the pair of `kept` at the place `at`
     let s = c.args.self.now in
     let at = c.args.at in
     let newest = c.self.inside.newest.items in

@@ -7,8 +7,8 @@ use Rattle.sip_machine.proofs.slots.Slots.last_from.Goals as goal
 -- no print between this one and the older one of its slot is equal to the one that is looked for
 pub loop-next-preserved : goal.loop-next-preserved
 loop-next-preserved c =
-    -- s are the prints by slots; `newest` has one past the index of the newest print of each slot, and `kept` each print with one past that of the one before it
-    -- in its slot; x is the pair of `kept` at the place `at`
+    -- s are the prints by slots; `newest` has one past the index of the newest print of each slot, and `kept` each print with one past that of the one before
+    -- it in its slot; x is the pair of `kept` at the place `at`
     let s = c.args.self.now in
     let at = c.loop-next.next - 1 in
     let some = c.loop-next-test.true in

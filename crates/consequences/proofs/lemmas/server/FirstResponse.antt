@@ -40,8 +40,8 @@ module _ {X : Type 0} (f : Figure X) (p : Times) (held : InviteServerPhase → X
       ⊎ Any (InTime (SendsResponse IsAnyCode)) es ⊎ Any (InTime IsRestart) es
 
   -- while the server has sent nothing, no received message has a row
-  no-row : (reliable : Bool) (set : ℕ) (x : InviteServerPhase) (k : Kind) (e : MachineEvent) (row : Row) → x ≡ Proceeding reliable set None → ¬ (ReceivedRow x k e row)
   -- each row is of another phase: idle, proceeding with a response before, or completed
+  no-row : (reliable : Bool) (set : ℕ) (x : InviteServerPhase) (k : Kind) (e : MachineEvent) (row : Row) → x ≡ Proceeding reliable set None → ¬ (ReceivedRow x k e row)
   no-row reliable set x k e row here (comes _) = cc
   no-row reliable set x k e row here (again _ r s last must) = cc
   no-row reliable set x k e row here (again_after _ r final s repeat interval) = cc

@@ -80,14 +80,13 @@ later-left t _ _ (both o n os ns message must deadline rest) = by (keep_at t o) 
         by-must true is = is
         by-must false is = refl
 
-    -- true is not false
     true-false : ¬ (true ≡ false)
     true-false same = cc
 
     -- the second list of what is kept is later than the first, whether or not each of the first debts is kept, which a and b say
+    -- both debts are kept, or the second alone, which then only may be sent, or neither; the first is not kept alone
     by : (a : Bool) → keep_at t o ≡ a → (b : Bool) → keep_at t n ≡ b → Later (filter (keep_at t) os) (filter (keep_at t) ns)
         → Later (if a then o ∷ filter (keep_at t) os else filter (keep_at t) os) (if b then n ∷ filter (keep_at t) ns else filter (keep_at t) ns)
-    -- both debts are kept, or the second alone, which then only may be sent, or neither; the first is not kept alone
     by true is true same later = both o n (filter (keep_at t) os) (filter (keep_at t) ns) message must deadline later
     by true is false same later = absurd (true-false (sym (kept is) ∙ same))
     by false is true same later = extra n (filter (keep_at t) os) (filter (keep_at t) ns) (may is) later
@@ -110,7 +109,6 @@ later-due t _ _ (both o n os ns message must deadline rest) due =
 -- n may be sent, and so is never due
 later-due t _ _ (extra n os ns may rest) due = All-cons (λ o. o.must ≡ true → t ≤ o.deadline) n ns (λ is. absurd (true-false (sym is ∙ may))) (later-due t os ns rest due)
   where
-    -- true is not false
     true-false : ¬ (true ≡ false)
     true-false same = cc
 

@@ -20,7 +20,7 @@ returns-in-Ok g c =
     let fits = subst (λ s. FitsStage s inside.params inside.count inside.last) stage c.self.invariant.1 in
     -- `old` is the reader before the call, which had read nothing
     let old : ProgressState = record { stage = stage_of inside.stage; held = held_at inside.stage; format = inside.format; times = inside.params; count = inside.count; last = inside.last } in
-    -- `fresh-step`: where nothing was read, a header and then an answer of the entry that comes next are one of `next`; `old` is what contracts see of the reader
+    -- `fresh-step`: where nothing was read, a header and then an answer of the next entry are one of `next`; `old` is what contracts see of the reader
     subst (λ (p : ProgressState). Nexts (beside_source p left failed) (beside_source c.entry.new.self left2 failed2) c.entry.result) c.self.view_is
     (fresh-step old c.entry.new.self left left2 failed failed2 c.in_ok-window-in-Fresh.window (ap held_at stage ∙ sym c.in_ok-window-in-Fresh.ensures) _ _ c.in-Ok.header.0 c.in-Ok.header.1 c.entry.result
     (ap stage_of stage) fits.0 fits.1 fits.2 c.entry.ensures.moves c.entry.ensures.format c.entry.ensures.times c.in-Ok.ensures c.entry.ensures.says)

@@ -174,7 +174,7 @@ line-read format line action moment len short of is = elim (message-or-not actio
 -- where the front of the rest is read as a line or a fault, the spelling says the same
 front-told : (format : Format) (last : ℕ) (rest : List ℕ) (next : Next Item) → read.LineComes format last rest next
     → Told (AtFront format last rest) (λ e after. (rest ≡ entry_says e ++ after) × (last ≤ e.moment) × IsEntry format e) next
--- there is no front line, where fewer than 32 bytes are left or no fewer
+-- there is no front line: fewer than 32 bytes are left, or no fewer
 front-told format last rest next (inl (none, inl (few, same))) = inl (faults.Truncated, same, inl (none, inl (not_above 32 (length rest) few, refl)))
 front-told format last rest next (inl (none, inr (many, same))) = inl (faults.EntryLine, same, inl (none, inr ((λ few. omega arith), refl)))
 -- the front line is read as no head, so it is no line of an entry

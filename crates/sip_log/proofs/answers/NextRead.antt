@@ -83,7 +83,7 @@ line-stops format last line behind fault short (inr (action, moment, len, of, is
 
 -- a rest whose front is at fault is read as that fault
 front-stops : (format : Format) (last : ℕ) (rest : List ℕ) (fault : LogReason) → AtFront format last rest fault → read.LineComes format last rest (stops fault)
--- there is no front line, where fewer than 32 bytes are left or no fewer
+-- there is no front line: fewer than 32 bytes are left, or no fewer
 front-stops format last rest fault (inl (none, inl (few, same))) = inl (none, inl ((λ many. omega arith), ap stops same))
 front-stops format last rest fault (inl (none, inr (many, same))) = inl (none, inr (not_below (length rest) 32 many, ap stops same))
 -- there is a front line, which is at fault

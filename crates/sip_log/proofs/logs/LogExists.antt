@@ -369,7 +369,7 @@ NumberOrNot word text = ((n : ℕ) × (behind : List ℕ) × NumberAfter word te
 -- a text with the word has a number before its first blank, or has none
 part-or-not : (word text front back : List ℕ) → text ≡ word ++ (front ++ back) → Lacks space front → Parted back → NumberOrNot word text
 part-or-not word text front back after lacks parted = elim (number-or-not front) [
-  -- the number after the word is what stands before its first blank, so this is a number or there is none
+  -- the number is what stands after the word and before the first blank, so this is a number or there is none
   | inl is ↦ inl (is.0, back, NumberAfter-of word text front back after lacks parted is.0 is.1)
   | inr none ↦ inr (λ n behind is. none n (NumberAfter-part word text front back after lacks parted n behind is))
 ]
@@ -523,7 +523,7 @@ rules-some rest = elim (begins-or-not (rules_text R3261) rest) as (λ _. (rules 
 -- something comes after line 1: it is a header, or a fault
 second-some : (format : Format) (rest : List ℕ) → Comes (ComesSecond format rest)
 second-some format rest = elim (second-or-not format rest) as (λ _. Comes (ComesSecond format rest)) [
-  -- without a line 2 the fault is the header; with one the header ends after it, or after a line of rules that follows it
+  -- without a line 2 the fault is `Header`; with one the header ends after it, or after a line of rules that follows it
   | inr none ↦ (stops faults.Header, inr (none, refl))
   | inl front ↦
       let line = rules-some front.1 in

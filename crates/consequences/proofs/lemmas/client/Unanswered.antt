@@ -60,7 +60,7 @@ module _ (R : Receiving) (is : IsReceiving R) (p : Times) where
   Before es m y = All (λ g. ¬ (SendsRequest Invite g)) es → IsUnasked y.phase
 
   -- what is sent, unless it is an INVITE, leads from idle or ended to idle or ended
-  -- a debt that is paid leaves the phase as it is, and so do what is no INVITE in idle and a CANCEL in ended
+  -- a debt that is paid leaves the phase as it is; so does what is no INVITE in idle, and a CANCEL in ended
   unasked-emits : (e : MachineEvent) (x : InviteClientPhase) (owes : List Owed) (y : Owing InviteClientPhase) → IsUnasked x → ¬ (e.kind ≡ Request Invite) → Emits f p e (record { phase = x; owes = owes }) y → IsUnasked y.phase
   unasked-emits e x owes y from never (inr (inl (left, pays, to))) = rw to from
   unasked-emits e x owes y from never (inr (inr (stays, same))) = absurd stays

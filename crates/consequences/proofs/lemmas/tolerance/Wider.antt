@@ -1,7 +1,7 @@
 -- A run has one with a wider tolerance, in the same phase, whose debts are owed for longer, and with perhaps more debts that only may be sent.
 -- In the lemmas os are debts of the run and ns those by the wider tolerance, o and n one of each; x is a phase, k the kind of a message, and h a moment or
 -- what is known of a row.
--- In cases of `Emits` a message that is sent has a row (`row`, `is_row`, `to`), or pays a debt (`left`, `pays`), or changes nothing (`stays`,
+-- In cases of `Emits` a message that is sent has a row (`row`, `is_row`, `to`), or pays a debt (`left`, `paid`), or changes nothing (`stays`,
 -- `same`), which only the INVITE server by RFC 3261 alone lets it (Stays). In cases of `Steps` a message that is received has a row, or has none and
 -- changes nothing (`none`, `same`), and a restart leaves idle as it is (`idle`) and ends any other phase (`other`).
 use Rattle.std.proofs.Common.{◌≡◌, ◌≤◌, ◌||◌, inl, inr, ℕ, Bool, true, false, IsSomeAnd, IfSome, List, [], ◌∷◌, ◌++◌, All, Contains, filter, refl, sym, ap, subst, ◌∙◌, arith, if◌then◌else◌}

@@ -59,8 +59,8 @@ def seen_in_lines(file, idle=lambda: None):
 def messages_of(element, seen, has_restarts, told):
     """The element's own messages and restarts, in the order in which they were seen."""
     for number, moment, source, target, data, place, seconds in seen:
-        # A restart of the element, what is none of its messages, what is no SIP, what no log can hold, and its messages. One that it sent to itself has
-        # two letters, and so comes twice.
+        # The arms are of a restart of the element, of what is none of its messages, of what is no SIP, of what no log can hold, and of its messages. One that
+        # it sent to itself has two letters, and so comes twice.
         letters = element.letters(source, target)
         if target == RESTART and element.has(source):
             if not has_restarts:

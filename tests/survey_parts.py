@@ -10,8 +10,7 @@ from random_logs import SILENT, random_log
 
 PATIENCE = 60  # seconds for which a program may be silent
 ENVIRONMENT = dict(os.environb)  # posix_spawn would decode and encode os.environ at each call
-# A CANCEL, wherever it stands in a message.
-# But no part of a longer word.
+# A CANCEL, wherever it stands in a message, but not as a part of a longer word.
 CANCEL = re.compile(rb"(?<![\w-])CANCEL")
 
 

@@ -111,10 +111,10 @@ def of_part(messages, part, count):
 
 def once_each(messages, span, told):
     """The messages without copies: a copy has the bytes and the ends of a message that came at most `span` before."""
+    # `recent` has the messages of the last `span`, the oldest first, and `seen` the moment of each by its letter, bytes and ends.
     seen, recent = {}, deque()
     for message in messages:
         while recent and message.moment - recent[0][0] > span:
-            # `recent` has what came within the span, the oldest first, and `seen` by its letter, bytes and ends the moment of the last.
             moment, old = recent.popleft()
             if seen[old] == moment:
                 del seen[old]

@@ -257,7 +257,7 @@ fn stay<P: Phase>(alloc: Global, pool: &Pool<P>, before: &[State<P>]) -> Result<
     }
 }
 
-/// Puts the states that the event gives in the place of those that take it.
+/// Puts the states that the event gives in the place of those that take it. They come after these, which are `count`, and are the only ones that are kept.
 pub(crate) fn step<M: Machine>(
     alloc: Global,
     machine: &M,
@@ -275,7 +275,6 @@ pub(crate) fn step<M: Machine>(
     for at in 0..count {
         machine.successors(book, pool, at, event)?;
     }
-    // The states that the event gives stand after the `count` old ones.
     let given = indices(alloc, count, pool.len())?;
     pool.keep(&given);
     Ok(())

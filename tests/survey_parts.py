@@ -94,7 +94,7 @@ class Expected:
 
     def look(self, group):
         """Asks the verdict of the log of a group."""
-        # Only entries of this group stay.
+        # Of messages only those of this group stay; others are marks.
         part = self.log.part(lambda one: bool(one.keys) and group.issuperset(one.keys))
         words = self.verdict(part).split()
         # The number in the verdict is one among the transactions of the part, and tells which transaction it is.

@@ -1,4 +1,5 @@
 -- A branch that stands plainly in the first Via of a message is that of its top Via.
+-- `opens_other` is yes where another branch may begin after a semicolon: the next byte is a blank, b or B.
 -- In the lemmas b is the branch that is found, and u, v, x and y are texts; a Bool is what a test says, as `comma` and `cr`.
 -- Of bytes 32 is SP, 9 HTAB, 13 CR, 10 LF, 44 the comma, 58 the colon, 59 the semicolon, 61 "=", 91 and 93 the brackets, 98 b and 66 B.
 use Rattle.std.proofs.Common.{◌≡◌, ◌∙◌, ◌⊎◌, inl, inr, ◌+◌, ◌||◌, ℕ, List, [], ◌∷◌, ◌++◌, Bool, Option, Some, None, take, drop, length, if◌then◌else◌, cond, nat_eq, true, false, refl, sym, ap, subst, append_assoc, arith}

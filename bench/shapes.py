@@ -157,7 +157,7 @@ def print_repeated(program, log, name, begun, again, states):
     costs = []
     for count in ENTRIES:
         write_entries(log, begun + count * again)
-        # Its log is legal, and stands in as many states as are told.
+        # The log is legal. It has to stand in as many states as are told.
         verdict, cost = counted(program, log)
         expect(name, verdict, r"legal entries \d+ transactions 1")
         # The difference of both counts is what the further entries took.

@@ -104,7 +104,7 @@ class Feeding:
 
     def feed(self):
         """Writes the lines at their moments, and reads the memory of the watch three times."""
-        # The watch begins.
+        # The watch has a second to begin.
         time.sleep(1)
         begun, waiting = time.time(), []
         for moment, line in lines(self.rate):
@@ -113,7 +113,7 @@ class Feeding:
                 self.flush(waiting)
                 time.sleep(wait)
             self.watch.stdin.write(b"%.6f " % (begun + moment) + line)
-            # What stands in the pipe, unsent, by its moments.
+            # The moments of the lines that were written and not sent yet.
             waiting.append(int((begun + moment) * 1000))
             # The memory is read after each third of the time; the last reading comes after all lines.
             if len(self.sizes) < 2 and moment > (len(self.sizes) + 1) * SECONDS / 3:

@@ -144,11 +144,11 @@ class Interface:
             code, length = struct.unpack_from(order + "HH", block, at)
             value = block[at + 4:min(at + 4 + length, len(block) - 4)]
             if code == TIME_RESOLUTION and len(value) == 1:
-                # The upper bit says whether the others are a power of 2 or of 10.
+                # The upper bit says whether the others are an exponent of 2 or of 10.
                 self.units = 2 ** (value[0] & 0x7F) if value[0] & 0x80 else 10 ** value[0]
             elif code == TIME_OFFSET and len(value) == 8:
                 self.offset, = struct.unpack(order + "q", value)
-            # A value is filled up to 4 bytes.
+            # A value is filled up to a multiple of 4 bytes.
             at += 4 + length + -length % 4
 
     def moment_of(self, ticks):
@@ -166,7 +166,7 @@ class Pcapng:
     def block(self, number):
         """The type and the length of the next block, all of which has been read then. At the end of the file there is no type."""
         window = self.window
-        # A block has at least its kind and its length, twice.
+        # A block has at least its kind, and its length twice.
         if not window.has(12):
             if window.has(1):
                 raise Damaged("it ends after packet %d within a block" % number)
@@ -208,7 +208,7 @@ class Pcapng:
             raise Damaged("the description of an interface cannot be read")
         else:
             self.interfaces.append(Interface(self.order, block))
-        # The sections and interfaces that must stand before a copy of the rest.
+        # The section and its interfaces must stand before a copy of the rest.
         self.preamble += block
 
     def packet(self, number, length):

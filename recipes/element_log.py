@@ -59,8 +59,8 @@ def seen_in_lines(file, idle=lambda: None):
 def messages_of(element, seen, has_restarts, told):
     """The element's own messages and restarts, in the order in which they were seen."""
     for number, moment, source, target, data, place, seconds in seen:
-        # A restart of the element, what is none of its messages, what is no SIP, what no log can hold, and its messages. One that it sent to itself has
-        # two letters, and so comes twice.
+        # The arms are of a restart of the element, of what is none of its messages, of what is no SIP, of what no log can hold, and of its messages. One that
+        # it sent to itself has two letters, and so comes twice.
         letters = element.letters(source, target)
         if target == RESTART and element.has(source):
             if not has_restarts:
@@ -111,10 +111,10 @@ def of_part(messages, part, count):
 
 def once_each(messages, span, told):
     """The messages without copies: a copy has the bytes and the ends of a message that came at most `span` before."""
+    # `recent` has the messages of the last `span`, the oldest first, and `seen` the moment of each by its letter, bytes and ends.
     seen, recent = {}, deque()
     for message in messages:
         while recent and message.moment - recent[0][0] > span:
-            # `recent` has what came within the span, the oldest first, and `seen` by its letter, bytes and ends the moment of the last.
             moment, old = recent.popleft()
             if seen[old] == moment:
                 del seen[old]

@@ -131,7 +131,7 @@ class Capture:
         found = {name: [] for name in names if name}
         if not found:
             return found
-        # A Call-ID that stands in a field of its own line, in full or in its compact form.
+        # A field on a line of its own, with its name in full or in its compact form, and one of the Call-IDs as its value.
         pattern = re.compile(rb"\n(?:Call-ID|i)[ \t]*:[ \t]*(%s)[ \t]*\r?\n" % b"|".join(map(re.escape, found)), re.I)
         for _, moment, source, target, data, place, _ in self.messages():
             of = pattern.search(data)

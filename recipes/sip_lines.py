@@ -180,7 +180,7 @@ class Element:
         if letters is None:
             if len(self.known) == MOST_KNOWN:
                 self.known.clear()
-            # The letters of most pairs of ends are looked up.
+            # The letters of a pair of ends are worked out once, and looked up from then on.
             letters = self.known[source, target] = "S" * self.has(source) + "R" * self.has(target)
         return letters
 
@@ -366,7 +366,6 @@ class Log:
         if rules:
             self.line = self.file.readline()
         # a log of format 1 has one tolerance, for early and for late
-        # The format is 1 where there are four numbers, and 2 where there are five.
         self.times = Times(*numbers[:4], numbers[-1], int(rules[1]) if rules else 0, len(numbers) - 3)
         self.header = self.times.header()
         self.last = 0

@@ -106,7 +106,7 @@ class Input:
             return self.heard - self.lag
         while self.came and self.came[0][0] <= now - self.lag:
             self.settled = self.came.popleft()[1]
-        # Where no line came for as long as `still` says, all lines up to so long ago have come, and up to as much earlier as lines were late.
+        # Where no line came for as long as `still` says, all lines have come up to so long ago, less as much as lines were late.
         by_clock = now - self.still - self.late() if now - self.still_since > self.still else 0
         return max(self.heard - self.lag, self.settled, by_clock)
 

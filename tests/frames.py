@@ -44,7 +44,7 @@ def pcap(frames, link=1, order="<", magic=0xA1B2C3D4, fraction=250000):
 
 def block(order, kind, data):
     """A block of a pcapng file."""
-    # A block is filled up to 4 bytes. Its length stands before what it holds and after it, and counts its kind and both lengths too.
+    # A block is filled up to a multiple of 4 bytes. Its length stands before what it holds and after it, and counts its kind and both lengths too.
     data += bytes(-len(data) % 4)
     return struct.pack(order + "II", kind, 12 + len(data)) + data + struct.pack(order + "I", 12 + len(data))
 
@@ -66,7 +66,7 @@ def pcapng(frames, order="<", options=b"", ticks=1_000_000, link=1):
 
 def option(order, code, value):
     """An option of a block."""
-    # A value is filled up to 4 bytes, which its length does not count.
+    # A value is filled up to a multiple of 4 bytes, which its length does not count.
     return struct.pack(order + "HH", code, len(value)) + value + bytes(-len(value) % 4)
 
 

@@ -10,8 +10,7 @@ from random_logs import SILENT, random_log
 
 PATIENCE = 60  # seconds for which a program may be silent
 ENVIRONMENT = dict(os.environb)  # posix_spawn would decode and encode os.environ at each call
-# A CANCEL, wherever it stands in a message.
-# But no part of a longer word.
+# A CANCEL, wherever it stands in a message, but not as a part of a longer word.
 CANCEL = re.compile(rb"(?<![\w-])CANCEL")
 
 
@@ -95,7 +94,7 @@ class Expected:
 
     def look(self, group):
         """Asks the verdict of the log of a group."""
-        # Only entries of this group stay.
+        # Of messages only those of this group stay; others are marks.
         part = self.log.part(lambda one: bool(one.keys) and group.issuperset(one.keys))
         words = self.verdict(part).split()
         # The number in the verdict is one among the transactions of the part, and tells which transaction it is.

@@ -49,7 +49,7 @@ def each_once(entries):
     first = {}
     for one in entries:
         first.setdefault(one.data, one)
-    # The messages, that which was sent last first.
+    # The messages, each at its last place, from the last one on.
     newest = dict.fromkeys(one.data for one in reversed(entries))
     return [first[data] for data in newest]
 
@@ -164,7 +164,7 @@ class Case:
         if self.is_invite:
             for one in self.refusals()[:2]:
                 yield Candidate("entry %d's %s again" % (one.number, short(one.data)), one.data, "R", one.number)
-        # Codes that hardly any log has, so that the message is a new one.
+        # These have words and a tag that hardly any log has, so that each is a new message.
         for kind, made in (("a provisional response", 183), ("a 2xx", 299), ("a 3xx to 6xx", 699)):
             yield Candidate(kind, response_to(asked.data, made), "R")
 

@@ -149,7 +149,7 @@ class Excuses:
         for one, other in list(zip(own, own[1:]))[-5:]:
             if "Z" in (one.letter, other.letter) or (one.letter == "R") == (other.letter == "R") or other.moment - one.moment > SKEW:
                 continue
-            # The entries of both, and all before them.
+            # The entries up to that of the breach, or up to the later one of both.
             order = [entry for entry in own if entry.number <= max(case.at, other.number)]
             # The received one, where it stands first, waited to be read until the other was sent. The sent one, where it stands first, was noted late.
             moment = other.moment if one.letter == "R" else one.moment
@@ -203,7 +203,7 @@ class Excuses:
 def least_with(helps, low, by):
     """The least tolerance above `low` that helps, and None where none does. The program is first asked about the one by which the breach was off."""
     high = MOST_TOLERANCE
-    # The breach was off by `by`: with so much more it mostly goes away, and with 1 less it does not.
+    # The breach was off by `by`: with so much more tolerance it mostly goes away, and with 1 less it does not.
     if by is not None and low + by <= high and helps(low + by):
         high = low + by
         if high - 1 <= low or not helps(high - 1):

@@ -119,7 +119,7 @@ def response_to(asked, code):
 
 def request_for(response):
     """A request to which this response may be the answer."""
-    # A request that begins a transaction has none.
+    # The request is made without the tag in To, as one outside of a dialog is.
     to_lines = [line.partition(b";tag=")[0] for line in lines_of(response, b"to")]
     return request(cseq(response)[1], b"sip:made@example.invalid", *lines_of(response, b"via"), *lines_of(response, b"from"), *to_lines,
                    *lines_of(response, b"call-id"), *lines_of(response, b"cseq"))

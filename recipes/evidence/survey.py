@@ -72,7 +72,7 @@ class Surveying:
         if said:
             die(said, 4)
         self.text.seek(0)
-        # The last line counts.
+        # The last line has the sums of the survey, and is no finding.
         *lines, _ = self.text.read().decode("latin-1").splitlines()
         return [line.split() for line in lines]
 

@@ -34,7 +34,7 @@ class Excuses:
         said = set(re.findall(r"\d+", re.sub(r"RFC \d+|\b\dxx\b", "", row["question"])))
         holds = self.claims.holds
         holds("a question names its numbers", all(re.search(rf"\b{number}\b", row["question"]) for number in wanted), row["question"])
-        # A late start names how many sends there would have been, and which send entry 1 would be.
+        # A late start names which send of the request the first entry would be.
         holds("no question names other numbers", said <= self.numbers_known() | {str(len(change.get("earlier", [])) + 1)} | numbers_in(change), row["question"])
 
     def numbers_known(self):
@@ -118,7 +118,7 @@ class Excuses:
         self.says("a message that the log lacks", row, self.is_gone([*history, *more, *rest, self.case.last_entry()]))
         if more[0].letter == "Z":
             self.restarts_between(row, more[0].moment)
-        # The question says that no message of this kind, come by this moment, would excuse the breach.
+        # A question with `received by` says that no message of this kind would excuse the breach, had it come by this moment.
         elif not row["helps"] and history and "received by" in row["question"]:
             self.not_sooner_either(row, more[0])
 

@@ -138,7 +138,7 @@ class Plants:
             told = json.loads(said)
         except ValueError:
             return None
-        # But for what differs from run to run.
+        # What differs from run to run is left out.
         return {name: value for name, value in told.items() if name not in ("log", "program", "questions")}
 
     def faults_told(self, what, log, explain=None, **variables):
@@ -213,7 +213,7 @@ def are_told(program, explain, check, chance=None, most=None):
         else:
             print("not tried, for want of cc: the wrong answers of the program")
         todo = chance.sample(todo, most) if most else todo
-        # Beside the plants each log is tried without a fault, which must be told nowhere.
+        # Beside the plants each log is tried without a fault: then none may be told.
         genuine = [pool.submit(plants.genuine, log) for log in sorted({log for logs, *_ in todo for log in logs})]
         waiting = [pool.submit(*one) for _, *one in todo]
         false_alarms = sum(bool(one.result()) for one in genuine)

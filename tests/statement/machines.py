@@ -8,7 +8,7 @@ from collections import Counter
 from statement.files import STANDARD, flat, text_of
 
 # How a definition spells a row of a machine: an argument, a row, and what it leads to; and the lines of a page that are no rows.
-# An argument is a word, or stands in round brackets, which may hold one pair of brackets more.
+# An argument is a word, or stands in round brackets, which may hold others, but no deeper ones.
 ARGUMENT = r"(\((?:[^()]|\([^()]*\))*\)|\S+)"
 # `Receives p PHASE KIND e y = ..`, or the same of `Sends`: where the transaction stands, what happens, and where that leads.
 CLAUSE = re.compile(rf"((Receives|Sends) p {ARGUMENT} {ARGUMENT} e y) = (.*)")

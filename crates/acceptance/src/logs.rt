@@ -43,7 +43,7 @@ pub(crate) fn push_own(
 
 /// An OPTIONS of 60,004 bytes, most of which are in its Subject.
 pub(crate) fn long_message(alloc: Global) -> Result<String, AllocError> {
-    // The other lines and the name of the field have 207 bytes.
+    // All but this value has 207 bytes.
     let subject = "x".repeat(alloc, 59_797)?;
     let message = message_of(alloc, "OPTIONS", "1", None)?;
     let head = message.as_str().strip_suffix("\r\n").unwrap_or("");

@@ -64,6 +64,6 @@ fn judges_by_seed(rt: &(impl Abort + AllocGlobal), seed: u8) -> Result<(), Fail>
 fn judges_many_transactions_by_any_hash(rt: HostRuntime) -> Result<(), Fail> {
     judges_by_seed(&rt, 1)?;
     judges_by_seed(&rt, 2)?;
-    // Where all keys have one hash, each look-up goes past all of them, so that these are few.
+    // Where all keys have one hash, each look-up goes past all of them. So these are but 200.
     judges_by(&rt, 200, AllZero, "legal entries 200 transactions 200")
 }

@@ -199,7 +199,7 @@ fn answers_io_after_the_last_entry(rt: HostRuntime) -> Result<(), Fail> {
 fn answers_io_in_a_long_log(rt: HostRuntime) -> Result<(), Fail> {
     let log = long_log(rt.alloc())?;
     let bytes = log.as_str().as_bytes();
-    // So many calls hand out full pieces, so that a source that fails before is not read to its end.
+    // The log has this many full pieces: a source that fails after so many calls or fewer is not read to its end.
     let fewest = bytes.len() / 4_096;
     // The log needs far fewer calls than a thousand.
     for calls in 0..1_000 {

@@ -1,5 +1,4 @@
 -- What each verdict says by itself, since the entries before the one that it names go well.
--- What holds anyway, as a fact of a value that is not there, holds by `tt`.
 use Rattle.std.proofs.Common.{◌≡◌, ◌+◌, ◌⊎◌, inl, inr, refl, sym, subst, ◌∙◌, ap, ℕ, List, [], ◌∷◌, ◌++◌, length, append_assoc}
 use Rattle.std.proofs.lemmas.List.{append-nil}
 use Rattle.sip_standard.specs.Key.{KeyParts}
@@ -153,9 +152,9 @@ module _ (input : List ℕ) where
   cannot_be_read number reason (inr (p, items, end, says, is)) = by (ends p [] items end (LogFault number reason) is)
     where
       -- where no entry is left, the log stops with the fault, so the input cannot be read
+      -- a log that ends well has no such fault; of one that stops the fault is that of the entry after the last
       at_end : (end : LogEnd) → LogSays input p items end → (found : Ends p [] items end (LogFault number reason)) → found.rest ≡ []
           → IsVerdictAfter p found.front [] end (LogFault number reason) → CannotBeRead input number reason
-      -- a log that ends well has no such fault; of one that stops the fault is that of the entry after the last
       at_end Clean says found none is = absurd cc
       at_end (Stops fault) says found none is =
           let same : items ≡ found.before = found.whole ∙ ap (λ xs. found.before ++ xs) none ∙ append-nil found.before in

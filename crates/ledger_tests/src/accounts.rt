@@ -1,5 +1,5 @@
-//! Steps by chance, on accounts and on plain lists of debts beside them. Each method of `Played` does one thing to both: to the accounts by a call, and
-//! to the lists as the call's contract says. After each step both are compared, whatever can be asked of accounts.
+//! Steps by chance, on accounts and on plain lists of debts beside them. A method of `Played` that changes rows does so in both: in the accounts by a
+//! call, and in the lists as the call's contract says. After each step both are compared by all that can be asked of accounts.
 ghost use Rattle.std.specs.Prelude.{◌<◌, length};
 
 use crate::chance::{Chance, evens};
@@ -582,7 +582,7 @@ fn pays_in_any_order(rt: &impl Abort, played: &mut Played) -> Done {
         played.gain_and_expire(rt, 0, owed(message, 10, message % 2 == 0), 0)?;
     }
     for step in 0..100_u64 {
-        // The multiples of 37 come to each number below 100 once.
+        // 37 and 100 have no common factor, so that each message is paid once.
         played.pay_and_expire(rt, 0, step * 37 % 100, 5)?;
         played.accounts.tidy();
         played.agree(rt)?;

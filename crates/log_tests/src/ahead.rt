@@ -36,7 +36,7 @@ static ROWS: &[(&[u8], Option<Lent<'static>>)] = &[
     (b"S 7 5\nhello", None),
     (b"S 7 5\nhell", None),
     (b"S 7 5", None),
-    // Another byte stands where the message should end, the length is 0, the moment is above the last one, and in format 1 there is no restart.
+    // No LF stands after the message, the length is 0, the moment is above the last one, and a restart has no message.
     (b"S 7 5\nhelloX", None),
     (b"S 7 0\n\n", None),
     (b"S 10000000000000 1\na\n", None),

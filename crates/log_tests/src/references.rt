@@ -1,4 +1,4 @@
-//! Sinks and sources that are used through references, as readers and writers of logs use theirs. The bytes are lines of a log, which play no part.
+//! Sinks and sources that are used through references, as readers and writers of logs use theirs. What the bytes say plays no part.
 
 use crate::devices::{Pieces, Room};
 use crate::wants::is;

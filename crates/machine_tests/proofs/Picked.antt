@@ -4,7 +4,7 @@ use Rattle.std.proofs.Math.Seq.{get_or-append_right}
 use Rattle.std.proofs.lemmas.List.Elements.{All-map, All-set, All-take}
 use Rattle.sip_machine.specs.Pools.{AreFirstOnes, picked}
 
--- In the lemmas `x` stands for a place that is not in a list, and `rows` are the places of the elements that are picked.
+-- In the lemmas `x` is what is taken at a place that is not in a list, and `rows` are the places of the elements that are picked.
 
 -- what holds of all elements holds of those that are picked
 pub all_picked : {X : Type 0} (P : X → Type 0) (xs : List X) (x : X) (rows : List ℕ) → All P xs → All (λ row. row < length xs) rows → All P (picked xs x rows)

@@ -148,7 +148,7 @@ fn refusal(tag: u64) -> u64 {
 }
 
 /// The INVITE, many 486s with a To each, another request between the first two of them, and an ACK for each: that for the tag N has the number
-/// 1000 and N.
+/// 1000 + N.
 fn many(alloc: Global) -> Result<Vec<Numbered>, AllocError> {
     let mut messages = Vec::new(alloc);
     push_many(&mut messages)?;

@@ -348,8 +348,8 @@ fn owes_each_response(rt: HostRuntime) -> Result<(), Fail> {
 const NOT_SENT: Entry = (0, Action::Failed, INVITE);
 
 /// Rows of a client that sent nothing, and of one that has ended.
-/// An ACK, a CANCEL and a response leave an idle client idle, and it sends no OPTIONS. One that has ended sends a CANCEL, and neither an INVITE nor an
-/// ACK.
+/// An ACK, a CANCEL and a response leave an idle client idle, and it sends no OPTIONS. One that has ended may send a CANCEL, and neither an INVITE
+/// nor an ACK.
 static IDLE_AND_ENDED: &[Row] = &[
     (&[(0, Action::Sent, ACK)], &[(IDLE, &[])]),
     (&[(0, Action::Failed, ACK)], &[(IDLE, &[])]),
@@ -447,7 +447,7 @@ fn ends(rt: HostRuntime) -> Result<(), Fail> {
 const OK_NOW: Entry = (100, Action::Received, OK);
 
 /// When the states after the entries may end, over TCP.
-/// Over TCP timer A does not run, and timer D is 0: after the 486 at 0 the client ends by 50, but not while it owes an ACK, and never lasts longer.
+/// Over TCP timer A does not run, and timer D is 0: after the 486 at 0 the client ends by 50. While it owes an ACK it may not end, and lasts no longer.
 static ENDS_OVER_TCP: &[EndsRow] = &[
     (&[FIRST], TIMER_B, Some(32_050)),
     (&OWING, None, Some(50)),

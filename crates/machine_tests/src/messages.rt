@@ -125,7 +125,7 @@ pub(crate) fn event_of(
 ) -> Result<Event, Fail>
     ensures { IfOk result (λ event. FitsBook book.now event) }
 {
-    // That is the last moment that a log can name. A mark is no event of a transaction.
+    // The number is the last moment that a log can name. A mark is no event of a transaction.
     if moment > 9_999_999_999_999 || action == Action::Mark {
         return Err("not an entry".into());
     }

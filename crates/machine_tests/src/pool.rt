@@ -254,7 +254,7 @@ fn are_twice(
     pool: &mut Pool<PlainServerPhase>,
     count: usize,
 ) -> Result<(), Fail> {
-    // The rows of the states stand in the pool once, and in the same order once more: from each row up to the middle the next `count` rows differ.
+    // All states stand in the pool in a row, and then in the same order once more: from any place up to the middle the next `count` of them differ.
     holds(rt, pool.len() == count.saturating_mul(2), "twice");
     first_ones_follow(rt, pool, count, count)?;
     first_ones_follow(rt, pool, 2, count)?;
@@ -302,7 +302,7 @@ fn the_same_debts_compare_as_lists(rt: HostRuntime) -> Result<(), Fail> {
     are_told_apart(&rt, &lists)
 }
 
-/// The messages that the states owe, one state after another, of each run of equal debts one.
+/// The messages that the states owe, one state after another: one for each run of equal debts.
 fn owed_in_turn<P: Phase>(alloc: Global, pool: &Pool<P>) -> Result<Vec<u64>, Fail> {
     let mut messages = Vec::new(alloc);
     for state in &states_of(alloc, pool)? {
@@ -356,11 +356,11 @@ fn keep_two(
     pool: &mut Pool<PlainServerPhase>,
 ) -> Result<(), Fail> {
     holds(rt, pool.len() == 4, "four states");
-    // Neither `fit` nor `tidy`, which give memory back, changes what a state owes.
     pool.copy(0, 3);
     owe(rt, pool, &[1, 2, 3, 1])?;
     let rows = indices(rt.alloc(), 2, pool.len())?;
     pool.keep(&rows);
+    // Neither `fit` nor `tidy`, which give memory back, changes what a state owes.
     pool.fit();
     pool.tidy();
     owe(rt, pool, &[3, 1])

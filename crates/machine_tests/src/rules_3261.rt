@@ -166,7 +166,7 @@ static A_2XX_IS_THE_LAST_OF_A_SERVER: &[Server] = &[
 ];
 
 /// An INVITE that comes at 500, after the 2xx, begins the machine anew: its first response is due by 750.
-/// After another final response a 2xx is always the one of the old transaction, which the user sends again.
+/// After another final response of the new transaction a 2xx is the one of the old transaction, which the user sends again.
 static AN_INVITE_COMES_AGAIN_AFTER_A_2XX: &[Server] = &[
     (
         &[INVITE_CAME, OK_WENT, INVITE_CAME_AGAIN],
@@ -421,7 +421,7 @@ fn all_call(rt: &(impl Abort + AllocGlobal), rows: &[Client]) -> Result<(), Fail
     all_lead(rt, &client, &book(rt.alloc())?, rows)
 }
 
-/// By RFC 3261 alone a 2xx ends a server, which may be sent again all the same.
+/// By RFC 3261 alone a 2xx ends a server. The 2xx may be sent again all the same.
 #[test]
 fn a_2xx_is_the_last_of_a_server(rt: HostRuntime) -> Result<(), Fail> {
     all_serve(&rt, A_2XX_IS_THE_LAST_OF_A_SERVER)
@@ -433,7 +433,6 @@ fn an_invite_comes_again_after_a_2xx(rt: HostRuntime) -> Result<(), Fail> {
     all_serve(&rt, AN_INVITE_COMES_AGAIN_AFTER_A_2XX)
 }
 
-/// A restart of the element, as a server has it.
 #[test]
 fn a_server_starts_anew(rt: HostRuntime) -> Result<(), Fail> {
     all_serve(&rt, A_SERVER_STARTS_ANEW)
@@ -445,7 +444,6 @@ fn a_2xx_ends_a_client(rt: HostRuntime) -> Result<(), Fail> {
     all_call(&rt, A_2XX_ENDS_A_CLIENT)
 }
 
-/// A restart of the element, as a client has it.
 #[test]
 fn a_client_starts_anew(rt: HostRuntime) -> Result<(), Fail> {
     all_call(&rt, A_CLIENT_STARTS_ANEW)
@@ -463,7 +461,7 @@ static BY_RFC_6026: (&[Row<InviteServerPhase>], &[Client]) = (
     )],
 );
 
-/// The same entries by the other rules: an INVITE after a 2xx is taken in, and a client goes on after a 2xx.
+/// By the other rules an INVITE after a 2xx leaves a server accepted, and a 2xx leaves a client accepted.
 #[test]
 fn by_rfc_6026_an_invite_after_a_2xx_changes_nothing(rt: HostRuntime) -> Result<(), Fail> {
     let book = book(rt.alloc())?;

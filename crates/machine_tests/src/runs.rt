@@ -257,7 +257,7 @@ fn stay<P: Phase>(alloc: Global, pool: &Pool<P>, before: &[State<P>]) -> Result<
     }
 }
 
-/// Puts the states that the event gives in the place of those that take it: the former stand after the latter, which are `count`, and alone are kept.
+/// Puts the states that the event gives in the place of those that take it. They come after these, which are `count`, and are the only ones that are kept.
 pub(crate) fn step<M: Machine>(
     alloc: Global,
     machine: &M,

@@ -30,8 +30,8 @@ fn with_fold(alloc: Global, text: &[u8]) -> Result<Vec<u8>, AllocError> {
 }
 
 /// The text with one byte left out, put in or replaced, as the seed says. Its two lowest bits tell what is done: 0 puts a mark before the byte, 1 a mark
-/// in its place, 2 any byte in its place, and 3 leaves it out. The bits from 8
-/// on tell which byte comes, and those from 16 on at which place.
+/// in its place, 2 any byte in its place, and 3 leaves it out. The bits from 8 on tell which byte comes, and those from 16 on at
+/// which place.
 fn mutated(alloc: Global, text: &[u8], seed: u64) -> Result<Vec<u8>, AllocError> {
     let place = (seed >> 16).checked_rem(text.len() as u64).unwrap_or(0);
     let mark = MARKS[(seed >> 8) as usize % 16];

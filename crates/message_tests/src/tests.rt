@@ -108,7 +108,7 @@ fn tells_a_head_from_none(rt: HostRuntime) -> Result<(), Fail> {
 /// The folded request, and its canonical form itself, have the one canonical form.
 #[test]
 fn writes_the_canonical_form(rt: HostRuntime) -> Result<(), Fail> {
-    // The lengths show that both texts have the bytes that are meant, whatever their escapes and folds are spelled like.
+    // The lengths show that both texts have the bytes that are meant, however their escapes and folds are spelled here.
     holds(&rt, FOLDED.len() == 181 && UNFOLDED.len() == 202, "lengths");
     comes_to(&rt, FOLDED, UNFOLDED)?;
     comes_to(&rt, UNFOLDED, UNFOLDED)

@@ -56,7 +56,8 @@ fn words_ask_for_one_thing(rt: HostRuntime) -> Result<(), Fail> {
     )
 }
 
-/// Words that lack a file, that begin otherwise, or that have none, another spelling, a number out of the limits or one word more for an entry.
+/// Words that lack a file, that begin otherwise, or in which an entry has no number, a number that is out of the limits or spelled otherwise, or one
+/// word more after it.
 #[test]
 fn other_words_ask_for_nothing(rt: HostRuntime) -> Result<(), Fail> {
     for words in [

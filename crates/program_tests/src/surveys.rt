@@ -162,7 +162,8 @@ fn asks_by_at_most_one_word(rt: HostRuntime) -> Result<(), Fail> {
     asks_for(&rt, &["--part"], Some("--part"), None)
 }
 
-// FNV-1a of z9hg4bka is 431978031, which is odd, and FNV-1a of z9hg4bkb is 448755650: the branch a falls into part 2 of 2, and b into part 1, in any case.
+// FNV-1a of z9hg4bka is 431978031, which is odd, and FNV-1a of z9hg4bkb is 448755650: the branch a falls into part 2 of 2, and b into part 1, in
+// capitals as well.
 #[test]
 fn asks_for_a_part_by_two_words(rt: HostRuntime) -> Result<(), Fail> {
     let words = texts(rt.alloc(), &["--part", "2/2"])?;

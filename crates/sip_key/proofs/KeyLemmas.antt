@@ -183,7 +183,7 @@ pub tells-read : (k : KeyParts) (text read rest : List ℕ) (branch : ℕ) → t
     rest ≡ after_length (take (length read - 1) (drop 1 read)) →
     (branch ≡ length k.branch) × (length_in rest ≡ length k.method) × (after_length rest ≡ (k.branch ++ k.sent_by) ++ k.method) × (length k.method ≤ length rest)
 tells-read k text read rest branch is same branch_is rest_is =
-    -- without its last byte the front is what follows the role
+    -- `front`: the code cuts off the first byte, and what is left is what follows the role
     let t = tells k text is in
     let front : take (length read - 1) (drop 1 read) ≡ drop 1 text = past-first read ∙ ap (drop 1) same in
     let left : rest ≡ after_length (drop 1 text) = rest_is ∙ ap after_length front in (

@@ -51,7 +51,7 @@ pub fn key_of(
 ) -> Result<Option<Key>, KeyError>
     ensures { IsOwnKey (said_of message.now) direction result }
 {
-    // Some bytes are read as this message, so that the port of its Via is one.
+    // Some bytes are read as this message, so what its Via has as port is a port.
     message.known();
     let start = message.start();
     let via = message.top_via();

@@ -46,7 +46,7 @@ const GOES_ON: usize = 64;
 fn head_room(branch: usize, method: usize) -> usize
     ensures { (role : Role) → result ≡ length (key_head role branch method) }
 {
-    // The role takes one byte, and each length one and another for each 64 of it.
+    // The role takes one byte. Each length takes one, and one more for each 64 of it.
     3 + branch / GOES_ON + method / GOES_ON
 }
 

@@ -20,7 +20,7 @@ paid_rows message t rows =
 abbrev pub mixed : ℕ → ℕ → ℕ
 mixed print word = bit_xor print word * 11400714819323198485 % 2 ^ 64
 
--- a number for a message and a deadline, which tells most apart at once; its upper half, what is left of it by 2^32, is mixed in at the end
+-- a number for a message and a deadline, which tells most apart at once; its upper half, the quotient by 2^32, is mixed in at the end
 unfoldable pub worth_of : ℕ → ℕ → ℕ
 worth_of message deadline = mixed (mixed (mixed 1 message) deadline) (mixed (mixed 1 message) deadline / 2 ^ 32)
 

@@ -39,7 +39,7 @@ pub struct Accounts {
     gains: Gains,
     strikes: Vec<Strike>,
     rows: Vec<Account>,
-    /// The message that was paid since the last call of `tidy`, if there is one: its first gains may be owed by no row any more.
+    /// The message that was paid last since the last call of `tidy`, if there is one: its first gains may be owed by no row any more.
     paid: Option<u64>,
 }
 

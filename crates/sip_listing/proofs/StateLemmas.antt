@@ -81,7 +81,7 @@ module _ (number : List ℕ → ℕ) (texts : Texts) where
 -- where states are told as those of a set, and lines are theirs in order, the lines list the set
 pub listed : (set : AnySet) (states : List ToldState) (lines : List (List ℕ)) → AreTold set states → AreInOrder (map state_line states) lines → Lists set lines
 listed set states lines are in_order = λ number texts tells.
-    -- s is the set as one of its machine, c what the code has for the states of that machine, and `words` tells its phases
+    -- s is what the set holds, c how the code represents its machine, and `words` tells the phases of that
     let (machine, s, is) = some_machine set in
     let c = coded_of machine in
     let words = words_of machine in

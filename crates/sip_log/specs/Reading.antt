@@ -21,7 +21,7 @@ pub data Stage : Type 0 where
   ended : Stage
   failed : Stage
 
--- how far a log was read: the bytes held, its format and the times of its header, how many entries it gave, and the moment of the last
+-- how far a log was read: the stage, the bytes held, the format and the times of the header, how many entries were counted, and the moment of the last
 pub record ProgressState : Type 0 where
   pub stage : Stage
   pub held : List ℕ

@@ -10,7 +10,7 @@ use Rattle.sip_standard.specs.Times.{Times}
 use Rattle.sip_standard.specs.LogEntry.{Item}
 use Rattle.sip_standard.specs.LogSays.{Stops, LogSays, LacksHeader}
 
--- what an error says: a fault of the log is one of the input, and no read failed; `Io`: a read failed; `Memory` says nothing, and `Failed` is not answered
+-- what an error says: P holds of a fault of the log, and no read failed; `Io`: a read has failed; `Memory` says nothing, and `Failed` is not answered
 abbrev pub FailsAs : Bool → Bool → (LogReason → Type 0) → LogError → Type 0
 FailsAs before after P errors.Header = (after ≡ before) × P faults.Header
 FailsAs before after P errors.EntryLine = (after ≡ before) × P faults.EntryLine

@@ -73,7 +73,7 @@ fn read_entry<R: Source>(
     ensures says { TellsWhatComes (unread window.old (R.left source.old)) (unread window.new (R.left source.new))
         (R.has_failed source.old) (R.has_failed source.new) (LineComes format last) entry_next result }
 {
-    // Where no line ends within the most bytes of one, the log ends within it if fewer bytes are left, and else it is no line.
+    // Where no line feed is among the first 32 bytes, the log ends within the line if fewer are left; otherwise it is no line of an entry.
     let Some(len) = window.line_len(source, LONGEST_LINE)? else {
         if window.as_slice().len() < LONGEST_LINE {
             return Err(LogError::Truncated);

@@ -36,7 +36,7 @@ pub enum LogError {
 }
 
 impl From<Broken> for LogError {
-    // A source that has failed makes the error `Io`.
+    // Where the source has failed, the error is `Io`.
     ghost from_gives = { λ _ e. e ≡ Io };
 
     fn from(_broken: Broken) -> LogError {
@@ -45,7 +45,7 @@ impl From<Broken> for LogError {
 }
 
 impl From<AllocError> for LogError {
-    // Memory that was refused makes the error `Memory`.
+    // Where memory was refused, the error is `Memory`.
     ghost from_gives = { λ _ e. e ≡ Memory };
 
     fn from(_error: AllocError) -> LogError {

@@ -59,7 +59,7 @@ impl Model for Progress {
 
     ghost view = { λ p. record { stage = stage_of p.stage; held = held_at p.stage; format = p.format; times = p.params; count = p.count; last = p.last } };
 
-    // At all times no more entries were counted than a log may have, and the other parts are those of the stage.
+    // At all times no more entries were counted than a log may have, and the times, the count and the last moment fit the stage.
     ghost invariant = { λ p. (p.count ≤ most_entries) × FitsStage p.stage p.params p.count p.last };
 }
 

@@ -23,7 +23,7 @@ pub struct LogReader<R: Source> {
 impl<R: Source> Model for LogReader<R> {
     ghost use Rattle.sip_log.specs.Reading.{ReaderState, beside_source};
 
-    // Contracts see a reader as how far the log was read, beside what its source has left and whether that has failed.
+    // Contracts see how far the log was read, what is left to read, and whether the source has failed.
     ghost Value = { ReaderState };
 
     ghost view = { λ r. beside_source r.progress (R.left r.source) (R.has_failed r.source) };

@@ -58,7 +58,7 @@ impl<R: Read> FromRead<R> {
 }
 
 impl<R: Read> Source for FromRead<R> {
-    // Nothing is left once the reader told its end, and before that what the reader has left.
+    // Once the reader told its end nothing is left, and before that what the reader has left is.
     ghost left = { λ s. if s.ended then Some [] else R.remaining s.reader };
 
     // The source has failed where the kind of a failure is kept.

@@ -17,7 +17,7 @@ pub enum WriteError {
 }
 
 impl From<Broken> for WriteError {
-    // A sink that has failed makes the error `Io`.
+    // Where the sink has failed, the error is `Io`.
     ghost from_gives = { λ _ e. e ≡ Io };
 
     fn from(_broken: Broken) -> WriteError {

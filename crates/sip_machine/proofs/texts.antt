@@ -1,4 +1,4 @@
--- The messages that a book keeps, the order and the runs of their places, their Tos, which messages stay, and the newest one.
+-- The messages that a book keeps, the order and the runs of their places, their numbers between two bounds, which messages stay, and the newest one.
 pub mod TextLaws
 pub mod OrderLaws
 pub mod RunLaws

@@ -1,4 +1,4 @@
--- The definitions that contracts of this crate cite. What they rest on, and the laws of it, stand in `inner`.
+-- The definitions in which contracts speak of books, events, states, and rules of machines. How the code has these, and laws of them, stand in `inner`.
 pub use Rattle.sip_times.specs.Limits
 pub mod Texts
 pub mod Told

@@ -88,10 +88,9 @@ impl Model for Book {
     // A book means its texts with their numbers: it keeps each text once, finds it by runs of places, and has the Tos that ACKs are owed for beside them.
     ghost Value = { Texts };
 
-    // The texts are those of the kept messages.
     ghost view = { λ b. texts_of b.kept.items };
 
-    // The messages are a book, their places stand in the runs, and each To is that of one of them.
+    // The messages are a book; the runs hold their places, but for that of a newest one that is loose; and each To is that of one of them.
     ghost invariant = { λ b. IsBook (texts_of b.kept.items) × StandInRuns (texts_of b.kept.items) b.order.items b.loose × AreTos (texts_of b.kept.items) b.tos };
 }
 
@@ -539,8 +538,8 @@ fn make_room(runs: &mut Vec<PlaceRun>, gap: Gap) -> Result<Gap, AllocError>
     })
 }
 
-/// The place of the message with these bytes and this hash among places in order, or where it would go. The clauses say that it is the place of one that
-/// compares as equal, or, where the places are in order, that those before it compare as less and the others as greater.
+/// The place of the message with these bytes and this hash among places in order, or where it would go. The clauses say that the one at the
+/// place compares as equal, or, where the places are in order, that those before it compare as less and the others as greater.
 fn search(kept: &[KeptMessage], places: &[Place], hash: u64, bytes: &[u8]) -> Result<usize, usize>
     ensures within { IsSearchInRange result (length places.now) }
     ensures found { IsBinarySearchResult (λ place. compare (key_of (texts_of kept.now) place) (hash, bytes.now)) places.now result }

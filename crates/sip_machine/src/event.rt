@@ -83,16 +83,15 @@ impl Model for Event {
     ghost use Rattle.sip_standard.specs.Times.{last_moment};
     ghost use Rattle.sip_machine.specs.NumberedEvent.{NumberedEvent};
 
-    // An event means what it has.
+    // An event means its moment, its action, and of its message the number, the kind and whether the transport is reliable.
     ghost Value = { NumberedEvent };
 
-    // Its parts are its fields.
     ghost view = { λ e. record { moment = e.moment; action = e.action; number = e.number; kind = e.kind; reliable = e.reliable } };
 
     // It is no mark, and its moment is within the limit of a log.
     ghost invariant = { λ e. (e.action ≢ Mark) × (e.moment ≤ last_moment) };
 
-    // From its parts the fields are had back.
+    // The event with these parts.
     ghost inverse = { λ e. record { moment = e.moment; action = e.action; number = e.number; kind = e.kind; reliable = e.reliable } };
 }
 
@@ -127,7 +126,7 @@ impl Event {
         Event {
             moment,
             action: Action::Restart,
-            // Nothing asks for the message of a restart, so that its number and its kind are any.
+            // A restart has no message, and nothing asks for its number, its kind or its transport: any would do.
             number: 0,
             kind: Kind::Request(Method::Other),
             reliable: false,

@@ -22,10 +22,8 @@ impl Model for Hashed {
     // A text with its hash means the text, and the hash is that of all its bytes.
     ghost Value = { List ℕ };
 
-    // The text is all that is meant.
     ghost view = { λ h. h.text.items };
 
-    // The hash is that of all bytes of the text.
     ghost invariant = { λ h. h.hash ≡ full_hash h.text.items };
 }
 

@@ -69,10 +69,9 @@ impl Model for InviteClient {
     // A client means the times by which it was made.
     ghost Value = { Times };
 
-    // What a client means is read off its fields.
     ghost view = { λ m. m.params };
 
-    // From these times the fields are had back.
+    // The client that stands for these times.
     ghost inverse = { λ p. record { params = p } };
 }
 
@@ -93,7 +92,6 @@ impl Phases for InviteClient {
     ghost use Rattle.sip_machine.specs.inner.Coded.{has_phases};
     ghost use Rattle.sip_machine.specs.inner.InviteClient.Laws.{invite_client_is_coded};
 
-    // The phases of the code.
     type Phase = InviteClientPhase;
 
     // The figure is that of the INVITE client; `Seen` is the type of its phases, for which those of the code stand.
@@ -102,7 +100,7 @@ impl Phases for InviteClient {
     // The figure: what may happen, and when.
     ghost figure = { invite_client };
 
-    // The times by which it runs are all that a machine means.
+    // A machine means the times by which it runs, and no more.
     ghost times = { λ p. p };
 
     // The phase of the figure for which one of the code stands beside a book.
@@ -128,12 +126,10 @@ impl Phases for InviteClient {
         &self.params
     }
 
-    // Nothing was sent or received yet.
     fn idle(&self) -> InviteClientPhase {
         Idle
     }
 
-    // The transaction is over.
     fn ended(&self) -> InviteClientPhase {
         Ended
     }

@@ -28,10 +28,9 @@ impl Model for InviteClient3261 {
     // A client means the times by which it was made.
     ghost Value = { Times };
 
-    // What a client means is read off its fields.
     ghost view = { λ m. m.corrected };
 
-    // From these times the fields are had back.
+    // The client that stands for these times.
     ghost inverse = { λ p. record { corrected = p } };
 }
 
@@ -55,7 +54,6 @@ impl Phases for InviteClient3261 {
     ghost use Rattle.sip_machine.specs.inner.Coded.{has_phases};
     ghost use Rattle.sip_machine.specs.inner.InviteClient3261.Laws.{invite_client_3261_is_coded};
 
-    // The phases of the code.
     type Phase = InviteClientPhase;
 
     // The figure is that of the INVITE client by RFC 3261 alone; `Seen` is the type of its phases, for which those of the code stand.
@@ -64,7 +62,7 @@ impl Phases for InviteClient3261 {
     // The figure: what may happen, and when.
     ghost figure = { invite_client_3261 };
 
-    // The times by which it runs are all that a machine means.
+    // A machine means the times by which it runs, and no more.
     ghost times = { λ p. p };
 
     // The phase of the figure for which one of the code stands beside a book.
@@ -90,12 +88,10 @@ impl Phases for InviteClient3261 {
         self.corrected.params()
     }
 
-    // Nothing was sent or received yet.
     fn idle(&self) -> InviteClientPhase {
         InviteClientPhase::Idle
     }
 
-    // The transaction is over.
     fn ended(&self) -> InviteClientPhase {
         InviteClientPhase::Ended
     }
@@ -141,32 +137,26 @@ impl Phases for InviteClient3261 {
         self.corrected.paid(alloc, book, phase, event, dues, row)
     }
 
-    // Whether a sent message may leave a state as it is, the corrected machine tells.
     fn stays(&self, phase: &InviteClientPhase, kind: Kind) -> bool {
         self.corrected.stays(phase, kind)
     }
 
-    // Whether a refused message ends the transaction, the corrected machine tells.
     fn ends_refused(&self, phase: &InviteClientPhase, kind: Kind) -> bool {
         self.corrected.ends_refused(phase, kind)
     }
 
-    // The timers are those of the corrected machine.
     fn timer_window(&self, phase: &InviteClientPhase) -> Option<(u64, Option<u64>)> {
         self.corrected.timer_window(phase)
     }
 
-    // A phase lasts as long as in the corrected machine.
     fn closes(&self, phase: &InviteClientPhase) -> Option<u64> {
         self.corrected.closes(phase)
     }
 
-    // A phase names the message that it names in the corrected machine.
     fn message(&self, phase: &InviteClientPhase) -> Option<u64> {
         self.corrected.message(phase)
     }
 
-    // The words are those of the corrected machine.
     fn told(alloc: Global, phase: &InviteClientPhase) -> Result<Told, AllocError> {
         InviteClient::told(alloc, phase)
     }

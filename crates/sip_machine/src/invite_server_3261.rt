@@ -34,7 +34,7 @@ use std::marker::Model;
 pub enum InviteServer3261Phase {
     /// A 2xx was sent: from then on it is the user that sends it again, and the INVITE may come again.
     Passed,
-    /// A phase of `InviteServer`: before a 2xx, or since the INVITE came again after it.
+    /// A phase of `InviteServer`: before any 2xx, or since the INVITE came again after one.
     In {
         /// The phase, as `InviteServer` has it; it is never accepted.
         phase: InviteServerPhase,
@@ -62,10 +62,9 @@ impl Model for InviteServer3261 {
     // A server means the times by which it was made.
     ghost Value = { Times };
 
-    // What a server means is read off its fields.
     ghost view = { λ m. m.corrected };
 
-    // From these times the fields are had back.
+    // The server that stands for these times.
     ghost inverse = { λ p. record { corrected = p } };
 }
 
@@ -90,7 +89,6 @@ impl Phases for InviteServer3261 {
     ghost use Rattle.sip_machine.specs.inner.Coded.{has_phases};
     ghost use Rattle.sip_machine.specs.inner.InviteServer3261.Laws.{invite_server_3261_is_coded};
 
-    // The phases of the code.
     type Phase = InviteServer3261Phase;
 
     // The figure is that of the INVITE server by RFC 3261 alone; `Seen` is the type of its phases, for which those of the code stand.
@@ -99,7 +97,7 @@ impl Phases for InviteServer3261 {
     // The figure: what may happen, and when.
     ghost figure = { invite_server_3261 };
 
-    // The times by which it runs are all that a machine means.
+    // A machine means the times by which it runs, and no more.
     ghost times = { λ p. p };
 
     // The phase of the figure for which one of the code stands beside a book.
@@ -114,10 +112,10 @@ impl Phases for InviteServer3261 {
     // The words by which a phase is listed.
     ghost told = { invite_server_3261_told };
 
-    // The phase before anything was sent or received.
+    // The phase before anything was sent or received, and after the end.
     ghost idle = { λ p. In Idle false };
 
-    // The phase after the end, which is idle again.
+    // The phase after the end: it is idle again.
     ghost ended = { λ p. In Idle false };
 
     // The times and rules are those with which the machine was made.
@@ -125,12 +123,11 @@ impl Phases for InviteServer3261 {
         self.corrected.params()
     }
 
-    // Nothing was sent or received yet.
     fn idle(&self) -> InviteServer3261Phase {
         idle()
     }
 
-    // The transaction is over, and may begin again.
+    // A transaction that is over may begin again.
     fn ended(&self) -> InviteServer3261Phase {
         idle()
     }
@@ -308,7 +305,7 @@ fn succeeds(phase: &InviteServer3261Phase) -> Option<Turn<InviteServer3261Phase>
         AnswersOne (turn_names invite_server_3261_names) (TurnInRange InviteServer3261InRange) (turn_seen invite_server_3261_seen) texts
         (Sends p (invite_server_3261_seen texts phase.now) (Response code) e) result }
 {
-    // After another 2xx what is owed stays; the first one drops what was owed of provisional responses; in no other phase has a 2xx a row.
+    // In passed a 2xx changes nothing; in proceeding it ends the transaction, and what is owed is dropped; in no other phase has it a row.
     let change = match *phase {
         InviteServer3261Phase::Passed => Change::Keeps,
         InviteServer3261Phase::In {

@@ -50,10 +50,9 @@ impl Model for PlainClient {
     // A client means the times by which it was made.
     ghost Value = { Times };
 
-    // What a client means is read off its fields.
     ghost view = { λ m. m.params };
 
-    // From these times the fields are had back.
+    // The client that stands for these times.
     ghost inverse = { λ p. record { params = p } };
 }
 
@@ -74,7 +73,6 @@ impl Phases for PlainClient {
     ghost use Rattle.sip_machine.specs.inner.Coded.{has_phases};
     ghost use Rattle.sip_machine.specs.inner.PlainClient.Laws.{plain_client_is_coded};
 
-    // The phases of the code.
     type Phase = PlainClientPhase;
 
     // The figure is that of the non-INVITE client; `Seen` is the type of its phases, for which those of the code stand.
@@ -83,7 +81,7 @@ impl Phases for PlainClient {
     // The figure: what may happen, and when.
     ghost figure = { plain_client };
 
-    // The times by which it runs are all that a machine means.
+    // A machine means the times by which it runs, and no more.
     ghost times = { λ p. p };
 
     // The phase of the figure for which one of the code stands beside a book.
@@ -109,12 +107,10 @@ impl Phases for PlainClient {
         &self.params
     }
 
-    // Nothing was sent or received yet.
     fn idle(&self) -> PlainClientPhase {
         Idle
     }
 
-    // The transaction is over.
     fn ended(&self) -> PlainClientPhase {
         Ended
     }

@@ -37,7 +37,6 @@ impl<P: Phase> Model for Pool<P> {
     ghost use Rattle.sip_machine.specs.Owing.{CodeOwing};
     ghost use Rattle.sip_machine.specs.inner.Pools.{beside};
 
-    // A pool means its states.
     ghost Value = { List (CodeOwing P) };
 
     // Each phase with what its row owes is a state.
@@ -440,7 +439,7 @@ impl<P: Phase> Pool<P> {
         ensures err { OnErr result (self.new ≡ self.old) }
     {
         let alloc = *self.phases.allocator();
-        // Rows are put there first, and then as many phases. Where memory is refused, the rows go again.
+        // The rows are put after the others first, and then as many phases. Where memory is refused, the rows go again.
         let before = self.dues.len();
         self.dues.push_timely(from, to, moment)?;
         let led = lead_each(alloc, params, moment, turn.change, &mut self.dues, before);
@@ -471,7 +470,7 @@ impl<P: Phase> Pool<P> {
         ensures err { OnErr result (self.new ≡ self.old) }
     {
         let phase = self.phases[from];
-        // Rows are put there first, and then as many phases. Where memory is refused, the rows go again.
+        // The rows are put after the others first, and then as many phases. Where memory is refused, the rows go again.
         let before = self.dues.len();
         self.dues.push_paid(from, to, message, moment)?;
         if push_phases(&mut self.phases, self.dues.len() - before, phase).is_err() {

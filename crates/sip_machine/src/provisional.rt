@@ -27,7 +27,7 @@ pub(crate) fn is_100(alloc: Global, book: &Book, number: u64) -> Result<bool, Al
 fn has_code_100(bytes: &[u8]) -> bool
     ensures { IsTrue result ↔ (take 3 (drop 8 bytes.now) ≡ codes "100") }
 {
-    // A response begins with `SIP/2.0`, a blank and three digits.
+    // A response begins with `SIP/2.0`, one SP and three digits: 11 bytes.
     if bytes.len() < 11 {
         return false;
     }

@@ -27,6 +27,7 @@ pub(crate) fn retransmits(
         Retransmits params.now reliable (text_of book.now message) set interval (event_in book.now event.now) }
 {
     book.known();
-    // It is the same message by its number, its transport is unreliable, and the timer may fire by then; that it does not fire too late is told by `closes`.
+    // It is the same message by its number, its transport is unreliable, and the timer may fire by then. That it has not fired too late, `closes` of the
+    // phase tells.
     event.number() == message && !reliable && params.opens(set, interval) <= event.moment()
 }

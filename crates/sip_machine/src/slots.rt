@@ -27,7 +27,6 @@ impl Model for Slots {
     // What slots mean is their prints, each with a way to the one before it in its slot.
     ghost Value = { Slotted };
 
-    // The slots with their newest prints, and each print with the one before it in its slot.
     ghost view = { λ s. slotted s.newest.items s.kept.items };
 
     // For each slot its newest print is known, and for each print the one before it in its slot.

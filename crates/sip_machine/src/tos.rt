@@ -30,7 +30,7 @@ pub(crate) struct Tos {
 const SLOTS: usize = 1024;
 
 /// Where this many Tos of one call come, those of all messages are to stand here: then no message without one lies between these, and the
-/// response of an ACK is found without a look at each debt. Where fewer are left, no hashes are kept. It is the most that a count of a call,
+/// response of an ACK is found without a look at each debt. Where fewer are left, no hashes are kept. This is the most that a count of a call,
 /// which is a byte, can hold.
 const MANY: u8 = u8::MAX;
 
@@ -39,10 +39,8 @@ impl Model for Tos {
     ghost use Rattle.sip_machine.specs.declared.tos.To.{To};
     ghost use Rattle.sip_machine.specs.inner.Tos.{AreUnder};
 
-    // Tos mean their list.
     ghost Value = { List To };
 
-    // The Tos are those of the list.
     ghost view = { λ t. t.list.items };
 
     // The numbers of the messages rise, and where hashes are kept, each stands under the hash of its To.

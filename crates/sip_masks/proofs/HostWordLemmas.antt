@@ -168,7 +168,7 @@ module _ (window : List ℕ) (len bs ds hs : ℕ) (room : 32 ≤ length window) 
   end-is : test bad_word len ≡ bad (prev_is len) dot
   end-is =
       let within : len ≤ len = omega arith in
-      -- after the text no byte is strange and no hyphen stands, and the bit of the dot there is set
+      -- after the text no byte is strange, and the bit of the dot there is set
       test-or _ _ len ∙ ap₂ (λ a b. a || b)
       (test-or _ _ len ∙ ap₂ (λ a b. a || b) (cut bs len within) (test-and _ _ len ∙ ap₂ (λ a b. a && b) (begins-is len within) (test-or dot_word hyphen_word len ∙ ap (λ b. b || test hyphen_word len) dot-after)))
       (test-and _ _ len ∙ ap₂ (λ a b. a && b) dot-after (hyphen-before len within))

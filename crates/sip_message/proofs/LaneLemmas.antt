@@ -16,12 +16,10 @@ use lib.Lanes.{chunk, zip2, mask_l, top}
 -- two images of a list, joined element by element, are one image of it
 zip2-map : (h : ℕ → ℕ → ℕ) (f g : ℕ → ℕ) (xs : List ℕ) → zip2 h (map f xs) (map g xs) ≡ map (λ x. h (f x) (g x)) xs
 zip2-map h f g [] = refl
--- the first elements are joined, and so are the others
 zip2-map h f g (x ∷ xs) = ap (λ r. h (f x) (g x) ∷ r) (zip2-map h f g xs)
 
 -- an operation on the lanes of two vectors that f and g computed from v is the operation of f x and g x for each x of v
 pub joined : (h : ℕ → ℕ → ℕ) (f g : ℕ → ℕ) (v : List ℕ) {a b : List ℕ} → a ≡ map f v → b ≡ map g v → zip2 h a b ≡ map (λ x. h (f x) (g x)) v
--- a and b are the images, and so what joins them is
 joined h f g v p q = ap₂ (zip2 h) p q ∙ zip2-map h f g v
 
 -- where no top bit of the lanes f x is set, and each byte x whose top bit is not set passes q, the n bytes from place i on pass q
@@ -46,7 +44,7 @@ all_pass q d i n z room few fits none f lanes all k from to =
 -- where the mask of the top bits of n lanes is 0, no top bit is set
 none_set : (z : List ℕ) (n : ℕ) → length z ≡ n → n ≤ 64 → eqb (mask_l (map (top 7) z) % 2 ^ 64) 0 ≡ true → (k : ℕ) → k < n → top 7 (get_or z k 0) ≡ false
 none_set z n long few none k below =
-    -- the mask is 0, so its lanes up to the end have no top bit
+    -- the mask is 0, so no lane has its top bit set
     let whole = leading_from_mask_l (top 7) z (sym (mask_l-mod (map (top 7) z) 64 (omega (arith, length-map z (top 7), long, few))) ∙ eqb-true _ 0 none) in
     not-true _ (prefix_len_passes (λ x. not (top 7 x)) z k 0 (omega (arith, whole, long, below)))
 
@@ -79,19 +77,18 @@ lanes_agree false true none = absurd (both_ways true none refl)
 -- b0 to b7 are the eight bytes
 moved-up : (b0 b1 b2 b3 b4 b5 b6 b7 k : ℕ) → b0 < 256 → b1 < 256 → b2 < 256 → b3 < 256 → b4 < 256 → b5 < 256 → b6 < 256 → b7 < 256 → 1 ≤ k → k ≤ 8
     → from_le_bytes w64 (b0 ∷ b1 ∷ b2 ∷ b3 ∷ b4 ∷ b5 ∷ b6 ∷ b7 ∷ []) * 2 ^ (64 - 8 * k) % 2 ^ 64 ≡ from_le_bytes w64 (filled (take k (b0 ∷ b1 ∷ b2 ∷ b3 ∷ b4 ∷ b5 ∷ b6 ∷ b7 ∷ [])))
--- none is moved
+-- k is not 0
 moved-up b0 b1 b2 b3 b4 b5 b6 b7 zero h0 h1 h2 h3 h4 h5 h6 h7 some few = absurd (omega (arith, some))
--- one byte, and so on up to eight
+-- the number of bytes is 1 to 8, and each case is arithmetic
 moved-up b0 b1 b2 b3 b4 b5 b6 b7 (suc zero) h0 h1 h2 h3 h4 h5 h6 h7 some few = omega (arith, h0, h1, h2, h3, h4, h5, h6, h7)
 moved-up b0 b1 b2 b3 b4 b5 b6 b7 (suc (suc zero)) h0 h1 h2 h3 h4 h5 h6 h7 some few = omega (arith, h0, h1, h2, h3, h4, h5, h6, h7)
 moved-up b0 b1 b2 b3 b4 b5 b6 b7 (suc (suc (suc zero))) h0 h1 h2 h3 h4 h5 h6 h7 some few = omega (arith, h0, h1, h2, h3, h4, h5, h6, h7)
--- the number of bytes is 1 to 8, and each case is arithmetic
 moved-up b0 b1 b2 b3 b4 b5 b6 b7 (suc (suc (suc (suc zero)))) h0 h1 h2 h3 h4 h5 h6 h7 some few = omega (arith, h0, h1, h2, h3, h4, h5, h6, h7)
 moved-up b0 b1 b2 b3 b4 b5 b6 b7 (suc (suc (suc (suc (suc zero))))) h0 h1 h2 h3 h4 h5 h6 h7 some few = omega (arith, h0, h1, h2, h3, h4, h5, h6, h7)
 moved-up b0 b1 b2 b3 b4 b5 b6 b7 (suc (suc (suc (suc (suc (suc zero)))))) h0 h1 h2 h3 h4 h5 h6 h7 some few = omega (arith, h0, h1, h2, h3, h4, h5, h6, h7)
 moved-up b0 b1 b2 b3 b4 b5 b6 b7 (suc (suc (suc (suc (suc (suc (suc zero))))))) h0 h1 h2 h3 h4 h5 h6 h7 some few = omega (arith, h0, h1, h2, h3, h4, h5, h6, h7)
 moved-up b0 b1 b2 b3 b4 b5 b6 b7 (suc (suc (suc (suc (suc (suc (suc (suc zero)))))))) h0 h1 h2 h3 h4 h5 h6 h7 some few = omega (arith, h0, h1, h2, h3, h4, h5, h6, h7)
--- more than eight cannot be moved
+-- k is not above 8
 moved-up b0 b1 b2 b3 b4 b5 b6 b7 (suc (suc (suc (suc (suc (suc (suc (suc (suc k))))))))) h0 h1 h2 h3 h4 h5 h6 h7 some few = absurd (omega (arith, few))
 
 -- the number of eight bytes in small letters, moved up so that the first k are the highest, is the number that the first k write

@@ -1,7 +1,7 @@
 -- Plain parts of values, and the texts of the grammar that they are.
 -- In the lemmas `at`, mid, to and end are places of a text in this order, h is a host, and u the text that it is of.
 -- `PlainRun` is one plain byte or more; `SomeUri`, `SomeParams` and `SomeAddress` are the texts that are a URI, parameters and an address, and `Opening` is
--- what opens a URI in angles: a display name, if there is one, blanks and "<". `PlainParam` is a parameter without blanks, with its ";".
+-- what opens a URI in angles: a display name, if there is one, blanks and "<". `PlainParam` is ";" and a parameter right after it.
 use Rattle.std.proofs.Common.{◌≡◌, ℕ, suc, ◌+◌, ◌-◌, ◌<◌, ◌≤◌, true, false, ◌&&◌, ◌||◌, List, [], ◌∷◌, ◌++◌, Option, None, Some, length, take, drop, get_or, refl, sym, ap, ap₂, ◌∙◌, subst, inl, inr, arith}
 use Rattle.std.specs.Prelude.{codes}
 use Rattle.std.specs.Char.{is_ascii_alphanumeric}
@@ -73,7 +73,7 @@ whole-stands P text at end within p = (within, omega arith, p)
 pub run-ends : (text : List ℕ) (at end n : ℕ) → at ≤ end → EndsAt text end → n ≡ prefix_len is_plain (drop at text) → at + n ≤ end
 run-ends text at end n before (within, stop) is =
     elim (cases_lt (end - at) n) [
-      -- past the end, the byte there would be the CR that ends the line, which is not plain
+      -- if the run went past the end, the CR there would be one of its bytes, but it is not plain
       | inl past ↦
           let place : at + (end - at) ≡ end = omega (arith, before) in
           let byte : get_or (drop at text) (end - at) 0 ≡ carriage_return = get_or-drop at text (end - at) 0 ∙ ap (λ k. get_or text k 0) place ∙ stop in
@@ -86,7 +86,7 @@ run-ends text at end n before (within, stop) is =
 pub byte-before : (text : List ℕ) (at end byte : ℕ) → at ≤ end → EndsAt text end → 32 ≤ byte → get_or text at 0 ≡ byte → at < end
 byte-before text at end byte before (within, stop) mark is =
     elim (cases_lt at end) [
-      -- at the end, or after it, the byte would be the CR, which is a control
+      -- at the end the byte would be the CR, which is a control
       | inl less ↦ less
       | inr most ↦
           let same : at ≡ end = omega (arith, before, most) in
@@ -140,7 +140,6 @@ run-token u run = some-map (One is_plain) _ u (λ v one. (one.0, plain-token one
 
 -- a host is the text that its parts say
 pub host-own : (u : List ℕ) (h : HostParts) → HostText u h → HostText (host_text h) h × (u ≡ host_text h)
--- a host is a name, an IPv4 address, or an IPv6 address in brackets
 host-own u (name t) is = ((subst Hostname (sym is.1) is.0, refl), sym is.1)
 host-own u (v4 t) is = ((subst Ipv4 (sym is.1) is.0, refl), sym is.1)
 host-own u (v6 t) is = ((subst Bracketed (sym is.1) is.0, refl), sym is.1)
@@ -230,7 +229,6 @@ opening-some u w = (Some w.0, w.2, (w.0, w.1, refl, w.3, w.4))
 
 -- a byte without blanks is a mark
 pub mark-alone : (b : ℕ) → Mark b (b ∷ [])
--- no blanks stand before the byte, and none after it
 mark-alone b = ([], b ∷ [], inl refl, (b ∷ [], [], refl, inl refl, refl), refl)
 
 -- ";" and a run of plain bytes are a parameter without a value
@@ -271,8 +269,8 @@ params-behind p text at end to param later = (p ∷ later.0, params-part p later
 
 -- a part without blanks before it is a part that may have blanks before it
 pub behind-self : (u : List ℕ) → BehindBlanks u u
--- nothing, or no blanks, stand before it
 behind-self [] = refl
+-- no blanks stand before it
 behind-self (b ∷ u) = ([], b ∷ u, inl refl, refl, refl)
 
 -- what opens a URI in angles, a URI, ">" and parameters are an address

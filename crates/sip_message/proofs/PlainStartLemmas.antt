@@ -44,7 +44,7 @@ reason-bytes (b ∷ text) clear = and_from _ _ (reason-byte b clear.0) (reason-b
 -- the reason phrase of a status line without controls has only bytes that it may have
 pub reason-open : (line reason : List ℕ) (code : ℕ) → IsOpen line → CodeFront (drop 8 line) (code, reason) → list_all is_reason_byte reason ≡ true
 reason-open line reason code clear front =
-    -- what stands after the version and its SP has no controls, and so has what stands after the code and its SP: the reason
+    -- what stands after the version and its SP has no controls, and neither has a part of it: the reason, which stands after the code and its SP
     let behind : All is_open (drop 8 line) = all_right is_open (take 8 line) (drop 8 line) (subst (All is_open) (sym (take-append-drop 8 line)) clear) in
     let later : All is_open front.1 = all_right is_open front.0 front.1 (subst (All is_open) front.4 behind) in
     let last : All is_open front.3.1 = all_right is_open front.3.0 front.3.1 (subst (All is_open) front.3.4 later) in

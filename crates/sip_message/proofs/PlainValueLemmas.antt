@@ -98,10 +98,9 @@ inner-words u w =
 pub quoted-words : (u : List ℕ) → (Byte dquote then Words then Byte dquote) u → Quoted u
 quoted-words u w = (w.0, w.1, w.2, (w.3.0, w.3.1, inner-words w.3.0 w.3.2, w.3.3, w.3.4), w.4)
 
--- the bytes before the index are digits, write the number, and are at most nine
+-- the bytes before the index are digits and write the number, which is below 2^31
 pub record ReadsShort (text : List ℕ) (at number : ℕ) : Type 0 where
   pub all : list_all is_ascii_digit (take at text) ≡ true
-  -- the number is that of the digits, and at most nine digits keep it below 2^31
   pub value : number ≡ digits_value 10 (take at text)
   pub small : number < 2 ^ 31
 

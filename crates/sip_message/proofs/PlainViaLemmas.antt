@@ -1,6 +1,6 @@
 -- Plain elements of Via.
 -- In the lemmas `at`, to and end are places of a text in this order.
--- `ViaParams` is parameters of which this branch counts, and `BranchOf` the branch that one parameter gives.
+-- `ViaParams` is the text of parameters, of which this branch counts, and `BranchOf` the branch that one parameter gives.
 use Rattle.std.proofs.Common.{◌≡◌, ℕ, List, [], ◌∷◌, Option, None, Some, refl, sym, ap, subst, inl}
 use Rattle.std.specs.Prelude.{IfSome}
 use Rattle.std.specs.Option.{option_or}
@@ -25,17 +25,14 @@ use Rattle.sip_message.proofs.lemmas.via.Steps.{one-via}
 -- where a parameter lies before the parameters of a Via, the segment from it on is parameters of a Via, and its branch counts if it has one
 pub branch-behind : (p : Param) (found later : Option (List ℕ)) (text : List ℕ) (at end to : ℕ) → LiesWithin (PlainParam p) text at end to → BranchOf p found
     → ViaParams (segment to end text) later → ViaParams (segment at end text) (option_or found later)
--- the parameter is put before the others: their text, and the branch, are those of all
 branch-behind p found later text at end to param is (ps, part, branch) = (p ∷ ps, params-part p ps text at end to param part, cons-branch p ps found later is branch)
 
 -- the empty segment is parameters of a Via without a branch
 pub branch-none : (text : List ℕ) (end : ℕ) → ViaParams (segment end end text) None
--- no parameters have the empty text, and no branch
 branch-none text end = subst (λ u. ViaParams u None) (sym (segment-none text end)) ([], (tt, refl), refl)
 
 -- an option or else nothing is that option
 pub or-none : (b : Option (List ℕ)) → option_or b None ≡ b
--- there is none; or it is v
 or-none None = refl
 or-none (Some v) = refl
 
@@ -51,12 +48,10 @@ port-led text at end port to mark is =
 
 -- a run of plain bytes that lies between two places is spelled as the segment between them
 spelled : (text : List ℕ) (at end to : ℕ) → LiesWithin PlainRun text at end to → LiesWithin (Exactly (segment at to text)) text at end to
--- the segment is itself
 spelled text at end to run = (run.0, run.1, refl)
 
 -- a slash without blanks is a slash with the blanks that the grammar allows
 marked : (text : List ℕ) (at end to : ℕ) → LiesWithin (Byte slash) text at end to → LiesWithin (Mark slash) text at end to
--- without blanks the slash is a mark alone
 marked text at end to mark = stands-as (Byte slash) (Mark slash) text at end to (λ u is. subst (Mark slash) (sym is) (mark-alone slash)) mark
 
 -- where the parts of an element of Via lie one after the other, all plain and with one blank before the host, the segment is that element
@@ -99,10 +94,8 @@ via-plain text at end name first version second transport sent_by behind params 
 
 -- a text that is one element of Via is a value of which that element is the first
 pub via-first : (text : List ℕ) (v : ViaParts) → ViaText text v → FirstVia text (text, v)
--- no further element follows, and the text ends with it
 via-first text v is = ((v, [], (text, [], is, refl, sym (append-nil text))), ([], (is, sym (append-nil text), inl refl)))
 
--- the first element of a value of Via is the only one that the value has as its first
+-- the first element of a value of Via is the only one that the value has as its first, since a text has one element at most at its front
 pub via-only : (text : List ℕ) (e : Element) → FirstVia text e → FirstVia text e × ((x : Element) → FirstVia text x → x ≡ e)
--- the front of a text has one element at most
 via-only text e is = (is, λ x other. ap (λ y. y.0) (one-via text (x, other.1.0) (e, is.1.0) other.1.1 is.1.1))

@@ -1,5 +1,6 @@
 -- Lines that end at their first control, and what they are read as.
--- An open line (`IsOpen`) has no control other than HTAB; `is_open` is the test of a byte. The lines of an ordinary head (`IsOrdinary`) are open.
+-- An open line (`IsOpen`) has no control other than HTAB; `is_open` is the test of a byte. `AreOrdinary` is of field lines that are open, with an empty line
+-- after them, and `IsOrdinary` of a head with a start line and fields, none of which is folded.
 -- The number of a text of at most eight bytes (`number_of`) is that of its bytes with the bit of small letters set, filled up with NULs before them
 -- (`filled`). `agree_below_at f g 256 b` says that two tests agree at b, since they do at each byte below 256, which are tried by computing.
 use Rattle.std.proofs.Common.{◌≡◌, ◌⊎◌, ℕ, zero, suc, ◌+◌, ◌-◌, ◌<◌, ◌≤◌, Bool, true, false, not, ◌&&◌, ◌||◌, ◌==◌, nat_le, nat_lt, ltb, cond, List, [], ◌∷◌, ◌++◌, map, length, take, drop, get_or, Fits, w8, w64, refl, sym, ap, ap₂, ◌∙◌, subst, inl, inr, arith}
@@ -119,7 +120,7 @@ open-inner (b ∷ line) clear = (inner b clear.0, open-inner line clear.1)
 pub line-cut : (text : List ℕ) (at n end : ℕ) → at + n < end → end ≤ length text → get_or text (at + n) 0 ≡ colon
     → take (end - at) (drop at text) ≡ take n (drop at text) ++ colon ∷ take (end - (at + n + 1)) (drop (at + n + 1) text)
 line-cut text at n end less within is =
-    -- t is the text from the line's begin on, which has n bytes at least
+    -- t is the text from the start of the line on, which has n bytes at least
     let t = drop at text in
     let long : n ≤ length t = omega (arith, length-drop at text, less, within) in
     let next : suc (at + n) ≡ at + n + 1 = omega arith in
@@ -191,7 +192,7 @@ behind-open text at n end less within mark clear =
 -- the value in a text without controls has no controls
 pub value-open : (rest value : List ℕ) → IsOpen rest → ValueText rest value → IsOpen value
 value-open rest value clear valued =
-    -- the value has blanks before it and after it, and all of them have no controls
+    -- `whole`: blanks, the value and blanks are what follows the colon, which has no controls
     let w = valued.whole in
     let whole : rest ≡ w.0 ++ (value ++ w.3.1) = w.4 ∙ ap (λ t. w.0 ++ t) (w.3.4 ∙ ap (λ t. t ++ w.3.1) w.3.2) in
     all_left is_open value w.3.1 (all_right is_open w.0 (value ++ w.3.1) (subst IsOpen whole clear))
@@ -212,7 +213,7 @@ line-begins line f is =
 
 -- where lines are fields and have no controls, no line has a CR or LF in it or begins with a blank
 lines-begin : (lines : List (List ℕ)) (fields : List Field) → FieldsText lines fields → AllByRecursion IsOpen lines → AreInner lines × AllByRecursion (λ line. ¬ (OpensBlank line)) lines
--- no lines have none of these
+-- without lines nothing is to be shown
 lines-begin [] fields are clear = (tt, tt)
 lines-begin (line ∷ lines) fields (f, fs, is, are, whole) clear =
     let begins = line-begins line f is in
@@ -230,7 +231,7 @@ field-unfolded line f is clear =
 
 -- where lines are fields and have no controls, no value of the fields is folded
 fields-unfolded : (lines : List (List ℕ)) (fields : List Field) → FieldsText lines fields → AllByRecursion IsOpen lines → AreUnfolded fields
--- no fields have no values; else the first value is not folded, and neither are the others
+-- without fields there are no values
 fields-unfolded [] fields are clear = subst AreUnfolded (sym are) tt
 fields-unfolded (line ∷ lines) fields (f, fs, is, are, whole) clear =
     subst AreUnfolded (sym whole) (field-unfolded line f is clear.0, fields-unfolded lines fs are clear.1)
@@ -259,7 +260,7 @@ pub so_far-more : (text : List ℕ) (from at end : ℕ) (fields : List Field) (f
     → drop at text ≡ with_end (take (end - at) (drop at text)) ++ drop (end + 2) text → FieldText (take (end - at) (drop at text)) f → LinesSoFar text from (end + 2) (fields ++ f ∷ [])
 so_far-more text from at end fields f so room clear is field =
     let line = take (end - at) (drop at text) in
-    -- the lines so far and this one are joined to the text up to the end of the new one
+    -- `one`: the text of this line alone is the line with its CRLF
     let one : flat_map with_end (line ∷ []) ≡ with_end line = append-nil (with_end line) in
     record {
       -- the line stands after the lines so far, and its field after theirs
@@ -341,7 +342,7 @@ lower-small b low name =
 small-folded : (text : List ℕ) → Bytes text → All is_token_byte text → list_all is_name_byte (map small text) ≡ true → folded text ≡ map small text
 small-folded [] fits token name = refl
 small-folded (b ∷ text) fits token name =
-    -- the first byte and the others are bytes of known names with the bit set
+    -- with the bit of small letters set the first byte and the others are bytes of known names
     let parts = and_parts (is_name_byte (small b)) (list_all is_name_byte (map small text)) name in
     ap₂ (λ x t. x ∷ t) (token-small b (fits 0) token.0 parts.0) (small-folded text (λ i. fits (suc i)) token.1 parts.1)
 
@@ -409,7 +410,7 @@ known-by text s k fits token is name found =
 pub short-known : (text : List ℕ) (n : ℕ) (k : Known) → ((i : ℕ) → Fits w8 (get_or text i 0)) → Token text → length text ≤ 8 → n ≡ number_of text
     → list_all is_name_byte (spelled n) ≡ true → spelled_by spellings (spelled n) text ≡ known k → known k ≡ name_of text
 short-known text n k fits token few is name found =
-    -- each number of the text is a byte, so that its own number tells its bytes
+    -- the text is bytes, so its number tells them
     let bytes : Bytes text = λ i. (fits i).fits in
     known-by text (spelled n) k bytes token (sym (number-bytes text n bytes few is)) name found
 

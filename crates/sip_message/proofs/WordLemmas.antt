@@ -44,20 +44,19 @@ word-blank u v (front, b, inr fold, one, whole) =
 
 -- where a piece of words stands at the front of a text, `word_len` gives its length
 word-at_front : (u v : List ℕ) → WordItem u → word_len (u ++ v) ≡ length u
--- the piece is a byte of a token, or a blank
+-- the piece is a byte of a token
 word-at_front u v (inl one) =
     ap (λ t. word_len (t ++ v)) one.2 ∙ ap (λ q. cond q 1 (blank_len (one.0 ∷ v))) one.1 ∙ sym (ap length one.2)
 word-at_front u v (inr blank) = word-blank u v blank ∙ blank-step.at_piece u v blank
 
 -- a token byte or a blank is not empty
 word-moves : (u : List ℕ) → WordItem u → 0 < length u
--- a byte is one byte, and a blank has one or more
 word-moves u (inl one) = omega (arith, ap length one.2)
 word-moves u (inr blank) = blank-step.moves u blank
 
 -- `word_len` gives 0, or a piece of words of that length stands at the front of the text
 word-piece : (text : List ℕ) → (word_len text ≡ 0) ⊎ HasFront WordItem text (word_len text)
--- in an empty text nothing stands
+-- at the front of an empty text no piece stands
 word-piece [] = inl refl
 word-piece (a ∷ text) = at (is_token_byte a) refl
   where
@@ -88,7 +87,6 @@ blank-items b blanks = many-map Blank WordItem b (λ u one. inr one) (units-blan
 
 -- optional blanks are a run of token bytes and blanks
 sws-items : (b : List ℕ) → Sws b → Many WordItem b
--- none are no pieces; some are pieces
 sws-items b (inl none) = subst (Many WordItem) (sym none) (many-nil WordItem)
 sws-items b (inr blanks) = blank-items b blanks
 
@@ -131,7 +129,6 @@ one-words text (w, r) (x, s) (w_is, (stop, (stop_blank, (k, y, k_is, y_is, r_is)
 
 -- after the longest token at the front of a text stands no byte of a token
 pub longest-stops : (text : List ℕ) (n : ℕ) → IsLongestFront Token text n → Stops is_token_byte (drop n text)
--- the longest token is empty, or some bytes
 longest-stops text zero longest = no-token-stops text longest
 longest-stops text (suc n) longest = (token-cut text (suc n) longest (λ none. absurd (omega (arith, none)))).1
 
@@ -153,7 +150,6 @@ words-first text n within longest some = record {
 -- a text that is a front and a rest is cut into these at the length of the front
 cut-at : (text front rest : List ℕ) (n : ℕ) → text ≡ front ++ rest → n ≡ length front → (take n text ≡ front) × (drop n text ≡ rest)
 cut-at text front rest n whole n_is = (
-  -- the first n bytes are the front, and what follows them the rest
   ap (λ m. take m text) n_is ∙ ap (take (length front)) whole ∙ take-append_seam front rest,
   ap (λ m. drop m text) n_is ∙ ap (drop (length front)) whole ∙ drop-append_seam front rest,
 )

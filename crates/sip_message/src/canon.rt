@@ -93,7 +93,7 @@ fn append_unfolded(text: &[u8], out: &mut Vec<u8>) -> Result<(), AllocError>
         return append(text, out);
     };
     let mut from = 0;
-    // `from` is where the run of blanks before this byte begins.
+    // In each turn `from` is where the run of blanks before the byte begins.
     'bytes: for (at, byte) in text.iter().enumerate() {
         if is_blank(*byte) {
             continue;
@@ -197,7 +197,7 @@ pub fn write(m: &Message<'_>, out: &mut Vec<u8>) -> Result<(), AllocError>
     ensures ok { OnOk result ((text : List ℕ) × (out.new.items ≡ out.old.items ++ text) × IsFormOf m.now text) }
     ensures err { OnErr result (out.new.items ≡ out.old.items) }
 {
-    // Some bytes are read as this message, so that its code has three digits.
+    // Some bytes are read as this message, so its code has three digits.
     m.known();
     let len = out.len();
     if let Err(e) = append_all(m.start(), m.fields(), m.may_fold(), m.body(), out) {

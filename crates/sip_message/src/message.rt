@@ -50,7 +50,7 @@ impl<'a> Model for Message<'a> {
 
     ghost view = { λ m. record { message = record { start = start_parts m.start; fields = fields_parts m.fields; body = m.body.now }; parts = the m.parts } };
 
-    // At all times some bytes are the text of the message, and what is kept of its named fields is what these fields say.
+    // At all times some bytes are read as the message, and what is kept of its named fields is what these say; and where `may_fold` is no, no value is folded.
     ghost invariant = { λ m. KeepsRead (record { start = start_parts m.start; fields = fields_parts m.fields; body = m.body.now }) (the m.parts) (element m.via) m.from.now m.to.now m.call_id.now (cseq_parts m.cseq) × (m.may_fold ≡ false → AreUnfolded (fields_parts m.fields)) };
 }
 
@@ -159,7 +159,7 @@ impl<'a> Message<'a> {
         // The fields that are asked for are kept as they are read.
         let (fields, kept) = read_fields(alloc, lines)?;
         let named = find_named(&fields)?;
-        // A Via and a CSeq were found, since `find_named` answers a fault where one is missing.
+        // A Via and a CSeq were found, since `find_named` gives a fault where one is missing.
         let via = kept.via.unwrap();
         let cseq = kept.cseq.unwrap();
         let body = read_body(start, named, &via, cseq, &fields, rest)?;

@@ -147,7 +147,7 @@ other_name name compact full = by (bytes_eq name (codes "v")) (bytes_eq name (co
     by false false false false false is = full
 
 -- a byte that is no v in either case has no v as its lower case
--- 118 is v and 86 V; the capital letters are those from 65 up to 91, and each has its small one 32 above it
+-- 118 is v and 86 V; the capital letters are 65 to 90, and each has its small one 32 above it
 lower_v : (x : ℕ) → is_among "vV" x ≡ false → nat_eq (to_ascii_lowercase x) 118 ≡ false
 lower_v x other = false_from_ne_true (nat_eq (to_ascii_lowercase x) 118) (λ is. by (nat_lt x 65) (nat_lt x 91) (eqb-true (to_ascii_lowercase x) 118 is))
   where
@@ -180,8 +180,9 @@ other_field number line rest f (stopped fault stops_at e) opens = absurd (cc)
 -- where the first value of Via has the branch b in its first element, the top Via has it
 top_found : (b value : List ℕ) (values : List (List ℕ)) (via : SaidVia) (others : List SaidVia) → ((v : SaidVia) (vias : List SaidVia) → ViasSay (v ∷ vias) value → v.branch ≡ Some b)
     → ViasTell (value ∷ values) (via ∷ others) → via.branch ≡ Some b
--- no value of Via is without an element; the first element of the first value is the top Via
+-- no value of Via is without an element
 top_found b value values via others first ([], more, says, later, same) = absurd says
+-- the first element of the first value is the top Via
 top_found b value values via others first (v ∷ vias, more, says, later, same) = let e : via ≡ v = cc in ap (λ x. x.branch) e ∙ first v vias says
 
 -- lines as one text, each with its CRLF

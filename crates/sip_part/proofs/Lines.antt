@@ -76,8 +76,9 @@ OnFrom us more = (line : List ℕ) → concat us ≡ line ++ (13 ∷ (10 ∷ mor
 
 -- a line that begins with a CRLF is passed over where what comes after it is
 pass_end : (us : List (List ℕ)) (line more : List ℕ) → AllByRecursion Unit us → 13 ∷ (10 ∷ concat us) ≡ line ++ (13 ∷ (10 ∷ more)) → Folded line → OnFrom us more → Passed line more
--- the line ends at this CRLF, or it has more bytes: one alone cannot be, since the LF of the unit would be a CR
+-- the line is empty, and ends with this CRLF
 pass_end us [] more all same folded on = let rest : concat us ≡ more = cc in record { over = λ tail. refl; clean = (us, all, sym rest) }
+-- the line cannot be one byte alone, since the LF of this CRLF would be the CR at its end
 pass_end us (x ∷ []) more all same folded on = let odd : ◌≡◌ {A = ℕ} 10 13 = cc in absurd (omega (arith, odd))
 -- the line goes on after the CRLF with what follows it
 pass_end us (x ∷ y ∷ line) more all same folded on =
@@ -121,9 +122,11 @@ pass_byte b us (x ∷ line) more plain same folded on =
 
 -- the search passes over each folded line of a clean head
 pub pass_line : (us : List (List ℕ)) (line more : List ℕ) → AllByRecursion Unit us → concat us ≡ line ++ (13 ∷ (10 ∷ more)) → Folded line → Passed line more
--- without units there is no CRLF, with which the line ends; the first unit is a CRLF or a byte
+-- without units there is no CRLF for the line to end with
 pass_line [] [] more all is folded = absurd (cc)
 pass_line [] (x ∷ line) more all is folded = absurd (cc)
+-- the first unit is a CRLF
 pass_line (unit ∷ us) line more (inl crlf, all) is folded = pass_end us line more all (ap (λ t. t ++ concat us) (sym crlf) ∙ is) folded (λ later. pass_line us later more all)
+-- the first unit is a byte that is neither CR nor LF
 pass_line (unit ∷ us) line more (inr (b, plain, one), all) is folded =
     pass_byte b us line more plain (ap (λ t. t ++ concat us) (sym one) ∙ is) folded (λ later. pass_line us later more all)

@@ -1,4 +1,5 @@
 -- A branch that stands plainly in the first Via of a message is that of its top Via.
+-- `opens_other` is yes where another branch may begin after a semicolon: the next byte is a blank, b or B.
 -- In the lemmas b is the branch that is found, and u, v, x and y are texts; a Bool is what a test says, as `comma` and `cr`.
 -- Of bytes 32 is SP, 9 HTAB, 13 CR, 10 LF, 44 the comma, 58 the colon, 59 the semicolon, 61 "=", 91 and 93 the brackets, 98 b and 66 B.
 use Rattle.std.proofs.Common.{◌≡◌, ◌∙◌, ◌⊎◌, inl, inr, ◌+◌, ◌||◌, ℕ, List, [], ◌∷◌, ◌++◌, Bool, Option, Some, None, take, drop, length, if◌then◌else◌, cond, nat_eq, true, false, refl, sym, ap, subst, append_assoc, arith}
@@ -92,7 +93,7 @@ sws_no_token u rest sws ends = by (sws_open u sws)
 lack-wsp : AllLack semicolon Wsp
 lack-wsp = lack-one semicolon _ refl
 
--- no LWS has a semicolon: it is blanks with a CRLF, or neither, and then blanks
+-- no LWS has a semicolon: it is blanks, perhaps with a CRLF before the last ones
 lack-lws : AllLack semicolon Lws
 lack-lws = lack-then semicolon _ _ (lack-optional semicolon _ (lack-then semicolon _ _ (lack-many semicolon _ lack-wsp) (lack-exactly semicolon _ (refl, (refl, tt))))) (lack-some semicolon _ lack-wsp)
 
@@ -137,9 +138,11 @@ lack-a-host u host = let parts = host-parts u host in subst (Lacks semicolon) (s
 
 -- where a byte is no semicolon, and the search finds a branch from it on, the search finds that branch from the byte after it on
 on_without : (ends semi : Bool) (here on : Option (List ℕ)) (b : List ℕ) → semi ≡ false → (if ends then None else if semi then here else on) ≡ Some b → on ≡ Some b
--- a search that ends at the byte finds nothing, and the byte is no semicolon; so the search goes on after it
+-- a search that ends at the byte finds nothing
 on_without true semi here on b is found = absurd (cc)
+-- the byte is no semicolon
 on_without false true here on b is found = absurd (cc)
+-- so the search goes on after it
 on_without false false here on b is found = found
 
 -- a branch that is found from a text without a semicolon on is found after that text
@@ -256,7 +259,7 @@ lower_b : (x : ℕ) → to_ascii_lowercase x ≡ 98 → is_among " \tbB" x ≡ t
 lower_b x is = by (nat_lt x 65) (nat_lt x 91) is
   where
     -- the claim holds whether the byte is below the capital letters, is one, or is above them
-    -- the capital letters are those from 65 up to 91, and each has its small one 32 above it
+    -- the capital letters are 65 to 90, and each has its small one 32 above it
     by : (low high : Bool) → cond low x (cond high (x + 32) x) ≡ 98 → is_among " \tbB" x ≡ true
     by true high e = ap (is_among " \tbB") e
     by false true e = let up : x ≡ 66 = omega (arith, e) in ap (is_among " \tbB") up
@@ -304,8 +307,8 @@ lack-ipv6 u is =
     lacks-front u (93 ∷ []) (lack-a-host (91 ∷ (u ++ 93 ∷ [])) r).1
 
 -- a branch that is found from a parameter's value on is found after the value
-value_passed : (v rest b : List ℕ) → GenValue v → branch_in (v ++ rest) ≡ Some b → branch_in rest ≡ Some b
 -- the value is a token, a quoted string, an IPv6 address, or one in brackets
+value_passed : (v rest b : List ℕ) → GenValue v → branch_in (v ++ rest) ≡ Some b → branch_in rest ≡ Some b
 value_passed v rest b (inl is) found = passed v rest b (lack-token v is) found
 value_passed v rest b (inr (inl is)) found = absurd (quote_ends v rest b is found)
 value_passed v rest b (inr (inr (inl is))) found = passed v rest b (lack-ipv6 v is) found
@@ -410,7 +413,7 @@ first_more p ps b X (inr (is, x)) on = ap (λ q. first_some (q ∷ ps)) is ∙ o
 -- where a search finds b from parameters on, and nothing after them, b is the first branch among the parameters
 params_found : (find : List ℕ → Option (List ℕ)) (params : List (Option (List ℕ))) (text tail b : List ℕ) → Search find b → NoToken tail → (find tail ≡ Some b → ⊥) → (branch_in tail ≡ Some b → ⊥) → Params params text
     → find (text ++ tail) ≡ Some b → first_some params ≡ Some b
--- without a parameter the branch would be found after them, where nothing is
+-- without parameters the branch would be found in what follows, where none is
 params_found find [] text tail b search ends none never is found = absurd (none (subst (λ t. find (t ++ tail) ≡ Some b) is found))
 -- u is the first ";" (m, with its blanks) and its parameter, and v the others
 params_found find (p ∷ ps) text tail b search ends none never (u, v, (m, param, mark, says, u_is), more, whole) found =

@@ -36,9 +36,11 @@ no_stop b one two three = same_stops b ∙ ap (λ x. (x || nat_eq b 59) || nat_e
 
 -- where the first of the three bytes stands at the place k, the text from its first stop on is the text from k on
 pub stop_first : (k : ℕ) (text : List ℕ) → k < length text → Nowhere (Passes (is_byte3 44 59 13) text) 0 k → Passes (is_byte3 44 59 13) text k → from_stop text ≡ drop k text
--- an empty text has no place; a stop at the front is the first one, and else the first one stands in the rest, one place earlier
+-- an empty text has no place
 stop_first k [] within none is = absurd (omega (arith, within))
+-- a stop at the front is the first one
 stop_first zero (b ∷ text) within none is = ap (λ here. if here then b ∷ text else from_stop text) (same_stops b ∙ is)
+-- the first stop stands in the rest, one place earlier than in the text
 stop_first (suc k) (b ∷ text) within none is =
     let other : is_byte3 44 59 13 b ≡ false = false_from_ne_true (is_byte3 44 59 13 b) (none 0 (omega arith) (omega arith)) in
     ap (λ here. if here then b ∷ text else from_stop text) (same_stops b ∙ other)

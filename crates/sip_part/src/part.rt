@@ -19,7 +19,7 @@ pub struct Part {
     count: u32,
 }
 
-// What a contract sees of a part, its `view`, is a value of the definitions, and the `invariant` holds of a part at all times.
+// Contracts see a part as its number and how many parts there are. At all times the number is at least 1, and not more than that.
 impl Model for Part {
     ghost use Rattle.std.specs.Prelude.{◌<◌, ◌≤◌};
     ghost use Rattle.sip_part.specs.Part.{PartOf};
@@ -96,7 +96,7 @@ fn fnv1a(text: &[u8]) -> u32
     if text.starts_with(b"z9hG4bK") {
         return joined(COOKIE_SUM, &text[7..]);
     }
-    // Else the sum begins with the number with which FNV-1a of 32 bits begins.
+    // FNV-1a of 32 bits begins with this number.
     joined(2_166_136_261, text)
 }
 
@@ -107,7 +107,7 @@ fn joined(start: u32, text: &[u8]) -> u32
 {
     let mut sum = start;
     for byte in text {
-        // The number by which FNV-1a of 32 bits multiplies; what goes beyond 32 bits is dropped.
+        // FNV-1a of 32 bits multiplies by this number; what goes beyond 32 bits is dropped.
         sum = (sum ^ u32::from(lower(*byte))).wrapping_mul(16_777_619);
     }
     sum

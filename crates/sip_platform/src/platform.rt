@@ -22,7 +22,7 @@ impl StdPlatform {
 }
 
 impl Platform for StdPlatform {
-    // Of neither the words nor any file is it known what they are, so that contracts say nothing of them.
+    // Neither the words nor any file is known, so that contracts say nothing of what they are.
     ghost words = { λ _. None };
 
     ghost file = { λ _ _. None };

@@ -54,18 +54,18 @@ not-long f words none two three (States file entry) same = three (sym (as-many f
 
 -- two words ask for nothing where the first is neither `check` nor `show`
 -- a and b are both the first word, which the code reads once for each of its two tests, and s and t are its bytes
+-- what asks for the standard input has no words, a file to check or to show has a first word of its own, and an entry to list has three words
 pub not-two : {X : Type 0} (f : X → List ℕ) (words : List X) (a b : X) (s t : List ℕ) → 2 ≤ length words → length words < 3 → a ≡ get_or words 0 a → b ≡ get_or words 0 b → s ≡ f a → t ≡ f b
     → false ≡ bytes_eq s (codes "check") → false ≡ bytes_eq t (codes "show") → (asked : Asked) → map f words ≡ words_for asked → ⊥
--- what asks for the standard input has no words, a file to check or to show has a first word of its own, and an entry to list has three words
 not-two f words a b s t some few is-a is-b told-a told-b check show Input same = let many = as-many f words [] same in omega (arith, many, some)
 not-two f words a b s t some few is-a is-b told-a told-b check show (Check file) same = not-word f words a s (codes "check") (file.now ∷ []) is-a told-a check same
 not-two f words a b s t some few is-a is-b told-a told-b check show (Show file) same = not-word f words b t (codes "show") (file.now ∷ []) is-b told-b show same
 not-two f words a b s t some few is-a is-b told-a told-b check show (States file entry) same = let many = as-many f words (words_for (States file entry)) same in omega (arith, many, few)
 
 -- three words ask for nothing where the first is not `states`; a is the first word, and s its bytes
+-- no words and two words are fewer than three, and what lists an entry has `states` first
 pub not-three : {X : Type 0} (f : X → List ℕ) (words : List X) (a : X) (s : List ℕ) → 3 ≤ length words → a ≡ get_or words 0 a → s ≡ f a → false ≡ bytes_eq s (codes "states") → (asked : Asked)
     → map f words ≡ words_for asked → ⊥
--- no words and two words are fewer than three, and what lists an entry has `states` first
 not-three f words a s some is told states Input same = let many = as-many f words [] same in omega (arith, many, some)
 not-three f words a s some is told states (Check file) same = let many = as-many f words (words_for (Check file)) same in omega (arith, many, some)
 not-three f words a s some is told states (Show file) same = let many = as-many f words (words_for (Show file)) same in omega (arith, many, some)

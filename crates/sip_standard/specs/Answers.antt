@@ -1,5 +1,5 @@
 -- What the program writes of a log, and the status that it ends with. What it reads and writes is spoken of where it is known.
--- `input` is what the log has, `file` what the file of each path has, `before` and `after` what the output has: `None` where it is not known.
+-- `input` is what the log has (beside `file`: the standard input), `file` what each file has, `before` and `after` what the output has; `None`: not known.
 use Rattle.std.specs.Prelude.{◌≡◌, ◌++◌, ◌∷◌, [], ℕ, List, Option, Some, IfSome, codes, string_bytes}
 use Rattle.std.specs.Io.KnownBytes.{Appends}
 use Rattle.sip_standard.specs.LogSays.{line_feed}

@@ -14,7 +14,7 @@ fault_in_line n why = record { unit = place.Line n; reason = why }
 abbrev pub fault_in_body : Reason → Fault
 fault_in_body why = record { unit = place.Body; reason = why }
 
--- the number of the line of the second of these fields, which are told by their lines and values; 0 where there is no second, where no fault cites it
+-- the number of the line of the second of these fields, which are told by their lines and values; 0 where there is none, and then no fault cites it
 abbrev pub second_line : List (ℕ × List ℕ) → ℕ
 second_line (one ∷ two ∷ more) = two.0
 second_line _ = 0

@@ -47,7 +47,7 @@ IsEntryText p number front e [] text = text ≡ codes "no transaction\n"
 IsEntryText p number front e (key ∷ keys) text = AreKeyTexts p number front e (key ∷ keys) text
 
 -- the text of the entry with this number, up to which the log is legal; a message is told by the number of the first entry of the whole log with its bytes
--- the input is a log of `items` and then `rest`; `front` and then e are what is seen in `items`, and so e is the entry
+-- the input is a log of `items` and then `rest`; `front` and then e are what is observed of `items`, so that e is of the entry
 pub record IsTextAt (input : List ℕ) (entry : ℕ) (text : List ℕ) : Type 0 where
   pub times : Times
   pub items : List Item

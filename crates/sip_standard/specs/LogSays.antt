@@ -20,7 +20,7 @@ most_entries = 1000000
 abbrev pub First : Type 0 → LogReason → LogReason → Type 0 → Type 0
 First Case its fault Later = (Case × (fault ≡ its)) ⊎ (¬ Case × Later)
 
--- the front line of the rest, and what is after its LF, which is among the first 32 bytes: the longest line of an entry has 21 bytes before it
+-- the front line of the rest, and what is after its LF; the LF is among the first 32 bytes: the longest line of an entry has 21 bytes before it
 pub record FrontLine (rest line behind : List ℕ) : Type 0 where
   pub whole : rest ≡ line ++ line_feed ∷ behind
   pub first : (k : ℕ) → k < length line → slice_index line k ≢ line_feed

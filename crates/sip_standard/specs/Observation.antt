@@ -32,7 +32,7 @@ direction_of Failed = Some way.Sent
 direction_of Mark = None
 direction_of Restart = None
 
--- what is observed of an entry without a message: a mark concerns no key, a restart each of those before it; its kind and transport stand for nothing
+-- what is observed of an entry without a message: a mark concerns no key, a restart each of these; kind and transport of its event stand for nothing
 abbrev pub silent_observation : Action → ℕ → List KeyParts → Observation KeyParts
 silent_observation Restart moment keys = record { fault = None; event = record { moment = moment; action = Restart; text = []; kind = Request Other; reliable = false }; keys = keys }
 silent_observation action moment keys = record { fault = None; event = record { moment = moment; action = Mark; text = []; kind = Request Other; reliable = false }; keys = [] }

@@ -43,7 +43,7 @@ impl Failure {
 }
 
 impl From<AllocError> for Failure {
-    // A refused growth is told as `Memory`.
+    // Where memory was refused, the failure is `Memory`.
     ghost from_gives = { λ _ failure. failure ≡ Memory };
 
     fn from(_: AllocError) -> Failure {

@@ -17,7 +17,7 @@ pub enum JudgeError {
 }
 
 impl From<AllocError> for JudgeError {
-    // A refused growth is told as `Memory`.
+    // Where memory was refused, the error is `Memory`.
     ghost from_gives = { λ _ e. e ≡ Memory };
 
     fn from(_: AllocError) -> Self {

@@ -1,5 +1,5 @@
 //! Laws of the definitions and of what is read from and written to. The functions do nothing: their contracts are the laws.
-//! In them `⟦<T as Source>⟧` is what the type T has as a source, and `.now.now` is what stands behind two references.
+//! In them `⟦<T as Source>⟧` is what the type T has as a source, and `.now.now` is the value to which a reference to a reference leads.
 ghost use Rattle.std.specs.Prelude.{◌≡◌, ◌≤◌, List, length, Contains};
 ghost use Rattle.sip_standard.specs.Key.{KeyParts};
 ghost use Rattle.sip_standard.specs.Times.{Times};

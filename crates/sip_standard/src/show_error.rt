@@ -44,7 +44,7 @@ impl From<Broken> for ShowError {
 }
 
 impl From<AllocError> for ShowError {
-    // A refused growth is told as `Memory`.
+    // Where memory was refused, the error is `Memory`.
     ghost from_gives = { λ _ e. e ≡ Memory };
 
     fn from(_: AllocError) -> ShowError {

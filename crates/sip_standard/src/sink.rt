@@ -25,7 +25,7 @@ pub trait Sink {
 
 /// A sink through a reference to it.
 impl<S: Sink> Sink for &mut S {
-    // Through the reference it has taken and failed as the sink itself.
+    // Through the reference a sink has taken what it has taken itself, and has failed where it has failed itself.
     ghost written = { λ s. S.written s.now };
 
     ghost has_failed = { λ s. S.has_failed s.now };

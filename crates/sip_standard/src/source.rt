@@ -25,7 +25,7 @@ pub trait Source {
 
 /// A source through a reference to it.
 impl<S: Source> Source for &mut S {
-    // Through the reference it hands out and fails as the source itself.
+    // Through the reference a source has left what it has left itself, and has failed where it has failed itself.
     ghost left = { λ s. S.left s.now };
 
     ghost has_failed = { λ s. S.has_failed s.now };

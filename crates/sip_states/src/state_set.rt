@@ -114,7 +114,7 @@ impl<M: Machine> StateSet<M> {
             (event_in book.now event.now)) }
         ensures err { OnErr result (self.new ≡ self.old) }
     {
-        // Most sets have one state, which takes the event where it stands; any other set goes the long way.
+        // The only state of a set may take the event where it stands. Where that cannot be, each state takes it.
         if !self.take_alone(book, event)? {
             self.take_each(book, event)?;
         }
@@ -166,7 +166,7 @@ impl<M: Machine> StateSet<M> {
             (event_in book.now event.now)) }
         ensures err { OnErr result (self.new ≡ self.old) }
     {
-        // It does nothing: its contract says that the book is in order, which the next call asks for.
+        // This does nothing. Its contract says that the book is one (IsBook), which the next call asks for.
         book.known();
         let before = self.states.len();
         match given_rows(
@@ -201,7 +201,7 @@ impl<M: Machine> StateSet<M> {
     pub fn known(&self)
         ensures { IsKept M.in_range M.until M.ended self.now }
     {
-        // It does nothing: what the contract says holds of each set at all times.
+        // Nothing is done: what the contract says holds of each set at all times.
         let _ = &self.states;
     }
 
@@ -296,7 +296,7 @@ fn given_rows<M: Machine>(
     ensures too_many { IsErrOf result TakeError.TooMany → IsWide (GivesAfter M.seen book.now (M.rules machine.now) states.old from (event_in book.now event.now)) }
     ensures before { take (length states.old) states.new ≡ states.old }
 {
-    // From `first` on stand the states that were found, some of them more than once: each has its first place in `rows`.
+    // From `first` on stand the states that were found, some perhaps more than once. `rows` has the first place of each.
     let first = find_given(machine, book, states, from, event)?;
     let rows = states.first_ones(first)?;
     if rows.len() > WIDEST {

@@ -57,7 +57,7 @@ pub(crate) fn find_given<M: Machine>(
     ensures before { take (length pool.old) pool.new ≡ pool.old }
 {
     let count = pool.len();
-    // Where no state can end before the event, the event leads on from the old states alone.
+    // Where no state can end by the event, the event leads on from the old states alone.
     if !some_can_end(machine, pool, from, event.moment()) {
         step_each(machine, book, pool, count, event)?;
         return Ok(count);
@@ -70,8 +70,8 @@ pub(crate) fn find_given<M: Machine>(
     Ok(first)
 }
 
-/// Puts the states to which the event leads from the first `count` states after the others (`found` in the contract). A state that cannot wait until the
-/// moment of the event leads to none. On an error some may have been put after the others.
+/// Puts the states to which the event leads from the first `count` states after the others; the contract calls them `found`. A state
+/// that cannot wait until the moment of the event leads to none. On an error some may have been put after the others.
 fn step_each<M: Machine>(
     machine: &M,
     book: &Book,

@@ -150,7 +150,7 @@ fn unmark_silent<H: BuildHasher>(
     ensures same { sets.new ≡ sets.old }
 {
     let mut numbers = Vec::new(*sets.allocator());
-    // From the last place on: an index that loses its mark changes places with the last marked one, which was looked at before.
+    // From the last place back: an index that loses its mark changes places with the last marked one, which was looked at before.
     for place in (0..marks.named().len()).rev() {
         if let Some(index) = marks.named().get(place).copied() {
             let index = index as usize;
@@ -175,7 +175,7 @@ fn unmark_quiet<H: BuildHasher>(marks: &mut Marks, sets: &mut IndexMap<Key, AnyS
     ensures moved { AreMoved marks.new.moved marks.new.named (values sets.old) }
     ensures same { sets.new ≡ sets.old }
 {
-    // From the last place on: an index that loses its mark changes places with the last marked one, which was looked at before.
+    // From the last place back: an index that loses its mark changes places with the last marked one, which was looked at before.
     for place in (0..marks.moved().len()).rev() {
         if let Some(index) = marks.moved().get(place).copied() {
             let index = index as usize;
@@ -352,7 +352,7 @@ impl<H: BuildHasher> Tables<H> {
     {
         let alloc = *self.sets.allocator();
         let agenda = self.agenda.kept(alloc, flags)?;
-        // The sets that are kept have new indices: all are marked, since what was marked is not known of these.
+        // The sets that are kept have new indices, so the old marks do not fit them. All are marked.
         let marks = Marks::all(alloc, agenda.len())?;
         keep_entries(&mut self.sets, flags);
         self.agenda = agenda;
@@ -382,7 +382,7 @@ impl<H: BuildHasher> Tables<H> {
         ensures sets { length self.now.sets ≡ length self.now.keys }
         ensures records { length self.now.records ≡ length self.now.keys }
     {
-        // It does nothing: what the contract says holds of all tables at all times.
+        // Nothing is done: what the contract says holds of all tables at all times.
         let _ = self.sets.len();
     }
 

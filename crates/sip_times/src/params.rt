@@ -54,7 +54,6 @@ impl Params {
             (¬ (AreTimes (record { t1 = t1; t2 = t2; t4 = t4; early = early; late = late; rules = R6026 })))
             (λ p. AreTimes p × (p ≡ record { t1 = t1; t2 = t2; t4 = t4; early = early; late = late; rules = R6026 })) }
     {
-        // The limits of T1, T2 and T4 are 10, 60 and 60 seconds, and those of the tolerances 10 seconds.
         let within = (1..=10_000).contains(&t1)
             && (1..=60_000).contains(&t2)
             && (1..=60_000).contains(&t4)
@@ -79,7 +78,7 @@ impl Params {
         ensures within { AreTimes result }
     {
         let late = self.late() as u16;
-        // 0x8000, which is 32,768, is above each lateness, and added to it for the rules of RFC 3261.
+        // 0x8000, which is 32,768, is above each lateness, and is added to it under the rules of RFC 3261.
         let lateness = match rules {
             Rules::R6026 => late,
             Rules::R3261 => late + 0x8000,

@@ -63,7 +63,7 @@ impl Histories {
         ensures noted { OnOk result (Notes entry.now.number entry.now.bytes.items number self.old.each.items self.new.each.items) }
         ensures restart { self.new.restart ≡ self.old.restart }
     {
-        // A transaction with a history gets its last entry; a new one gets a history, of which this is the first entry too.
+        // Of a transaction with a history the entry becomes the last one. A new one gets a history, in which it is the first entry too.
         let index = number as usize - 1;
         if index < self.each.len() {
             self.each[index].last = entry.number;

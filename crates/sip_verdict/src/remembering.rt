@@ -140,7 +140,7 @@ fn forget_due<H: BuildHasher + Drop>(
     if !horizon.are_due(survey.transactions()) {
         return Ok(());
     }
-    // The horizon keeps how many transactions are left, by which it says when it is time again.
+    // The horizon notes how many transactions are left: by this it tells when it is time again.
     survey.forget(horizon.until)?;
     horizon.left = survey.transactions();
     Ok(())

@@ -41,7 +41,7 @@ pub fn show<R: Source, W: Sink>(
             return finish(alloc, writer, Shown::LogFault { entry: 0, reason });
         }
     };
-    // `count` is the number of the last entry that was shown, and `form` has the canonical form of the message in hand.
+    // `count` is the number of the last entry that was shown, and `form` holds the canonical form of the message in hand.
     let mut count = 0;
     let mut buffer = Vec::new(alloc);
     let mut form = Vec::new(alloc);

@@ -303,7 +303,7 @@ impl<H: BuildHasher> Standing<H> {
                     concerned: Concerned::None,
                 })
             }
-            // A message with a fault is a verdict by itself.
+            // The fault of the message is the verdict, and no transaction hears the entry.
             Observed::Fault(fault) => Ok(Taken {
                 verdict: Some(Verdict::Malformed {
                     entry: entry.number,
@@ -311,7 +311,7 @@ impl<H: BuildHasher> Standing<H> {
                 }),
                 concerned: Concerned::None,
             }),
-            // All transactions hear a restart.
+            // A restart concerns all transactions.
             Observed::Restart => {
                 self.tables.known();
                 let event = Event::restart(entry.moment);

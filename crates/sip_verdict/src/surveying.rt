@@ -111,14 +111,13 @@ pub(crate) fn cut_to(
     ensures number { OnOk result (entry.new.number ≡ entry.old.number) }
     ensures moment { OnOk result (entry.new.moment ≡ entry.old.moment) }
 {
-    // The whole log is taken as it is, and of a part what has no message.
+    // Of the whole log each entry stays as it is, and of a part each entry without a message.
     let Some(part) = part else {
         return Ok(());
     };
     if direction_of(entry.action).is_none() {
         return Ok(());
     }
-    // A message that does not fall into the part makes place for a mark.
     if !part.has_message(alloc, entry.bytes.as_slice())? {
         entry.action = Action::Mark;
         entry.bytes.clear();

@@ -115,7 +115,7 @@ fn event_of(alloc: Global, book: &Book, entry: Entry) -> Result<Event, Fail>
     ensures { IfOk result (λ event. (event.moment ≡ entry.0) × FitsBook book.now event) }
 {
     let (moment, action, number) = entry;
-    // That is the last moment that a log can name. A mark is no event, and a restart has no message.
+    // The number is the last moment that a log can name. A mark is no event, and a restart has no message.
     if moment > 9_999_999_999_999 || matches!(action, Action::Mark | Action::Restart) {
         return Err("not an entry".into());
     }

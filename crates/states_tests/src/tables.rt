@@ -36,7 +36,7 @@ struct AllZero;
 impl BuildHasher for AllZero {
     type Hasher = Zero;
 
-    // Contracts see such a hasher as a value without a field, as `Zero` is.
+    // Contracts see the hasher that is built as a value without a field, as `Zero` is.
     ghost build_hasher = { λ _. record {} };
 
     fn build_hasher(&self) -> Zero {

@@ -15,7 +15,7 @@ static FRONTS: &[(&[u8], usize, usize)] = &[
     (b"\r\nx", 0, 0),
     (b" \r\nx", 0, 1),
     (b"\r\n \r\n\t", 0, 6),
-    // All marks of a token, digits and letters, and then an @, which is none of it.
+    // All marks of a token, digits and letters, and then an @, which a token may not have.
     (b"-.!%*_+`'~09azAZ@", 16, 0),
 ];
 

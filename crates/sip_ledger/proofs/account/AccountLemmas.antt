@@ -1,5 +1,4 @@
 -- Accounts stay accounts, and owe what they owed, while gains and strikes grow, are let go or are dropped.
--- `unfolding` names the definitions that the proof of a lemma looks into.
 use Rattle.sip_ledger.proofs.Words.{common_steps, ◌≡◌, ℕ, ◌<◌, ◌≤◌, ◌&&◌, true, false, List, [], ◌∷◌, ◌++◌, length, take, drop, get_or, set, append-nil, refl, sym, ap, ◌∙◌, subst, arith, nat_tests, All, nat_le, cases_eq, cases_lt, le-leb, le-ltb, lt-leb, true≢false, false_from_ne_true, and-false, and-true, drop-map, get_or_append_left, get_or-map, get_or-take, length-map, length-take, length-take-le, map-set, take-map, take-take, All-cons, All-drop, All-get_or, All-head, All-nil, All-set, All-tail, All-take, All-weaker, Debt, Account, Gains, Strike, debts_print, AreAccounts, AreGains, AreSameGains, IsAccount, IsDropped, IsGain, IsKept, IsLetGo, KeepsAccounts, account_debts, accounts_debts, entries_of, entry_at, is_gone, is_left, is_struck, must_at, owes_at, holds}
 use Rattle.sip_ledger.proofs.debts.ListedLemmas.{back-none, front, listed-same, listed-none, parts, back}
 use Rattle.sip_ledger.proofs.gains.LeftLemmas.{entries_long, left-kept, listed-alike, owed-left, left-as}

@@ -1,6 +1,4 @@
 -- The first debt of an account that a send at the moment t pays, of one message or of the messages that stand under a key: k and `at` are places of gains.
--- `unfolding` names the definitions that the proof of a lemma looks into.
--- What holds anyway, as a fact of a value that is not there, holds by `tt`.
 use Rattle.sip_ledger.proofs.Words.{◌≡◌, ◌≢◌, ℕ, ◌<◌, ◌≤◌, ◌==◌, ◌&&◌, Bool, true, false, not, List, length, ◌+◌, refl, sym, ap, ◌∙◌, subst, arith, ◌⊎◌, All, IfNone, IfSome, IsTrue, MatchOption, Option, None, Some, nat_le, nat_lt, cases_lt, lt-ltb, ltb-true, true≢false, nat_tests, Entry, Account, Gains, Strike, IsFirstPaid, PaysSome, is_payable, debts_from, AreGains, IsAccount, IsFirstOf, IsFirstPayable, IsKept, IsWithout, PaysSomeAt, account_debts, entries_of, entry_at, must_at, owes_at, pays_at, sooner, IsFirstFrom, IsNextUnder, NoneFrom, holds, ap₂, and-false, and_right, cases_eq, eq-eqb, le-leb, lt-leb, ne_eqb, paid_by, is_gone, is_struck, strikes_of}
 use Rattle.sip_ledger.proofs.debts.ListedLemmas.{listed-each}
 use Rattle.sip_ledger.proofs.debts.OwedLemmas.{removed, paid-is}

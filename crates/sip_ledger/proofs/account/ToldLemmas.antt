@@ -1,5 +1,4 @@
 -- What an account owes, place by place: its debts, whether another account owes the same, and the least deadline of what it must send.
--- `unfolding` names the definitions that the proof of a lemma looks into.
 use Rattle.sip_ledger.proofs.Words.{max, ◌≡◌, ◌≢◌, ℕ, ◌+◌, ◌<◌, ◌≤◌, ◌==◌, ◌&&◌, Bool, true, false, List, [], ◌∷◌, ◌++◌, length, take, drop, map, refl, sym, ap, ap₂, ◌∙◌, arith, append-nil, nat_tests, IsTrue, Option, Some, None, ◌↔◌, nat_le, option_to_list, OnTrue, and_left, and_right, cases_eq, cases_lt, eq-eqb, eqb-true, le-leb, true≢false, append_cancel_left, get_or-drop, get_or_default, length-append, length-drop, length-take-le, map-append, take-append-le, take_all, All-map, Debt, Entry, Account, Gains, Strike, debt_deadlines, earliest, debt_of, debts_from, IsGap, AreAlike, AreGains, IsAccount, SharesRest, account_debts, entries_of, entry_at, is_struck, must_at, owes_at, strikes_of, holds}
 use Rattle.sip_ledger.proofs.gains.LeftLemmas.{entries_long, gone-same, left-kept, owed-left, rising_kept}
 use Rattle.sip_ledger.proofs.debts.ListedLemmas.{back, back-none, back-same, back-set, earliest-first, earliest-push, front, front-gap, front-next, listed-All, listed-must, listed-none, listed-same, no_entry, parts}
@@ -131,7 +130,7 @@ pub on-true : {P Q : Type 0} (b : Bool) → OnTrue b P → (P → Q) → OnTrue 
 on-true true p more = more p
 on-true false p more = p
 
--- whether what is owed at a place must be sent: o tells which places are owed, and m which must be sent
+-- whether what stands at a place is owed and must be sent: o tells which places are owed, and m which must be sent
 abbrev pub due : (ℕ → Bool) → (ℕ → Bool) → ℕ → Bool
 due o m k = o k && m k
 

@@ -1,5 +1,5 @@
 -- An account loses one of its debts, or gains one: a is the account before and b after it, and `old` and `new` are the strikes before and after it.
--- `unfolding` names the definitions that the proof of a lemma looks into; w is the worth of the debt that is lost, and `print` the print without it.
+-- w is the worth of the debt that is lost, and `print` the print without it, or that the new account has that print.
 use Rattle.sip_ledger.proofs.Words.{◌≡◌, ◌≢◌, ℕ, ◌+◌, ◌<◌, ◌≤◌, ◌%◌, ◌^◌, ◌&&◌, true, false, List, [], ◌∷◌, ◌++◌, length, get_or, sym, ap, ◌∙◌, arith, nat_tests, nat_le, and_right, cases_lt, le-leb, lt-leb, lt-ltb, and-false, or-false, or-true, get_or_push, length-append, sum_by_push, mod-add-mod, Debt, Account, Gains, Strike, debts_print, worth_of, debt_of, IsAccount, IsGain, IsNextGain, IsStruck, KeepsAccounts, account_debts, entries_of, entry_at, is_left, is_struck, must_at, owes_at, strikes_of, holds, common_steps, ◌-◌, Bool, not, refl, lit<, nat_lt, sum_by, eq-eqb, ne_eqb, true≢false, sum_by-append, sum_by-cons, mod_below, add-mod_right, mod-eq_of_lt, IsWithout, is_gone}
 use Rattle.sip_ledger.proofs.debts.OwedLemmas.{gained-debts, IsCut, cut-at}
 use Rattle.sip_ledger.proofs.gains.LeftLemmas.{entries_long, gone-left, gone-same, gone-struck, held_left, left-kept, owed-left}
@@ -15,7 +15,7 @@ pub cut-print : {before after : List Debt} (debt : Debt) (old new : List Debt) �
 unfolding debts_print
 cut-print {before} {after} debt old new cut w is = grind (arith, nat_tests, common_steps, mod-add-mod, sum_by-append, sum_by-cons)
 
--- a print is a number of 64 bits: it is what is left by 2^64, which is not 0 (`lit< tt`)
+-- a print is a number of 64 bits: it is a remainder by 2^64, which is not 0 (`lit< tt`)
 pub print-fits : (debts : List Debt) → debts_print debts < 2 ^ 64
 unfolding debts_print
 print-fits debts = mod_below (worths debts) (2 ^ 64) (lit< tt)
@@ -70,7 +70,7 @@ without-account gains old new a b place w is owed without soft order end first l
 pub owed-from : (gains : Gains) (strikes : List Strike) (a : Account) (k : ℕ) → owes_at gains strikes a k ≡ true → a.start ≤ k
 owed-from gains strikes a k is = grind (arith, nat_tests, cases_lt, true≢false, before-start)
 
--- a worth is a number of 64 bits: it is what is left by 2^64, which is not 0 (`lit< tt`)
+-- a worth is a number of 64 bits: it is a remainder by 2^64, which is not 0 (`lit< tt`)
 pub worth-fits : (m d : ℕ) → worth_of m d < 2 ^ 64
 unfolding worth_of
 worth-fits m d = mod_below _ (2 ^ 64) (lit< tt)
@@ -201,5 +201,5 @@ gain-keeps old new debt gain =
 -- lemmas for the prover under one name: accounts keep what they owe, whether a gain comes or memory is refused
 pub ruleset gains_keep = (gain-keeps, same-keeps)
 
--- lemmas for the prover under one name: what an account owes at a place that it loses
+-- lemmas for the prover under one name: an account without what it owes at one place
 pub ruleset lost_at_place = (entries_long, left-kept, owed-left, owed-within, without-first, without-last, without-middle)

@@ -76,9 +76,9 @@ module _ (message t : ℕ) where
   Unpaid debt = ¬ (IsTrue (is_payable message t debt))
 
   -- a send pays the first debt that it can pay: those before it and after it stay
+  -- the first debt of the list is paid, or the send cannot pay it and pays a later one
   paid-behind : (before : List Debt) (first : Debt) (after : List Debt) → All Unpaid before → IsTrue (is_payable message t first) →
       paid_by message t (before ++ first ∷ after) ≡ before ++ after
-  -- the first debt is paid, or it cannot be and a later one is
   paid-behind [] first after none pays = ap (λ b. cond b after (first ∷ paid_by message t after)) pays
   paid-behind (debt ∷ before) first after none pays = grind (arith, nat_tests, false_from_ne_true, All-head, All-tail, paid-behind before first after (All-tail Unpaid debt before none) pays)
 

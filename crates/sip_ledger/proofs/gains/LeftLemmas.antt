@@ -1,5 +1,4 @@
 -- Which gains are left, whether their deadlines rise, what is known beside each by its flags, and what changes of that when gains come, are let go or are dropped.
--- `unfolding` names the definitions that the proof of a lemma looks into.
 use Rattle.sip_ledger.proofs.Words.{nat_tests, ◌-◌, ◌<◌, ◌≤◌, List, [], ◌∷◌, ◌++◌, length, get_or, arith, cases_lt, cases_eq, get_or_append_left, get_or_push, length_push, Entry, AreRising, ◌≡◌, ℕ, Bool, ◌+◌, true, false, drop, set, ap, ◌∙◌, get_or-drop, get_or-set_other, get_or-set_same, length-append, length-drop, length-set, Debt, Gains, AreFlags, AreSameGains, IsDropped, IsGain, IsKept, IsLetGo, blank, entries_of, entry_at, is_left, no_flags, holds, suc, ◌^◌, ◌==◌, ◌&&◌, ◌||◌, cond, not, refl, sym, ap₂, replicate, eq-eqb, false_from_ne_true, ne_eqb, true≢false, and-false, append_assoc, get_or-append_right, get_or_default, get_or_past, length-replicate, Account, Strike, debts_from, AreGains, IsNoted, IsPlaceOf, is_gone, is_struck, owes_at}
 use Rattle.sip_ledger.proofs.debts.ListedLemmas.{no_entry}
 
@@ -122,8 +121,8 @@ gains-dropped old new place count are here within entries end messages musts ris
     let right = flags dropped in
     (grind (arith, nat_tests, length-drop, cases_lt, entry-kept, get_or-drop, entries_long, true≢false, get_or_past, right), dropped)
 
--- debts that are told over two lists of entries are the same where the entries that are owed are: o and o' tell which places of each are owed, and m and m'
--- which of them must be sent
+-- two lists of entries have the same debts where the same places are owed and have the same entries there: o and o' tell which places of each are owed,
+-- and m and m' which must be sent
 pub listed-alike : (o m o' m' : ℕ → Bool) (i : ℕ) (xs ys : List Entry) → length xs ≡ length ys → ((j : ℕ) → j < length xs → o (i + j) ≡ o' (i + j)) →
     ((j : ℕ) → j < length xs → o (i + j) ≡ true → (get_or xs j no_entry ≡ get_or ys j no_entry) × (m (i + j) ≡ m' (i + j))) →
     debts_from o m i xs ≡ debts_from o' m' i ys

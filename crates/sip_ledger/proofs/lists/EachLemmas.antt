@@ -18,9 +18,9 @@ module _ {X : Type 0} where
   from_to-none from to xs le = grind (arith, nat_tests, drop_all, length-take)
 
   -- where the element at k is changed as well, the elements up to the next index are changed
+  -- an empty list has no element at k; in any other the changes begin at the first element, or at a later one
   changing-next : (f : X → X) (from k : ℕ) (xs : List X) (d : X) → from ≤ k → k < length xs →
       set (changing f from k xs) k (f (get_or (changing f from k xs) k d)) ≡ changing f from (suc k) xs
-  -- an element beyond the list cannot be; else the changes begin at the first element, or at a later one, and reach up to k
   changing-next f from k [] d le low = absurd (omega (arith, low))
   changing-next f zero zero (x ∷ xs) d le low = refl
   changing-next f zero (suc k) (x ∷ xs) d le low = ap (λ ys. f x ∷ ys) (changing-next f zero k xs d (omega arith) (omega (arith, low)))
@@ -49,9 +49,9 @@ module _ {X : Type 0} where
   unchanged-each f from xs each = sym (take-append-drop from xs) ∙ ap (λ l. take from xs ++ l) (sym (map_fixed f (drop from xs) (All-drop (λ x. f x ≡ x) from xs each)))
 
   -- those that pass a test up to the next index are those up to k, and the element at k if it passes
+  -- the elements are those from the first one on; or those from a later one on, and then the first is left out
   passing-next : (p : X → Bool) (from k : ℕ) (xs : List X) (d : X) → from ≤ k → k < length xs →
       filter p (from_to from (suc k) xs) ≡ filter p (from_to from k xs) ++ cond (p (get_or xs k d)) (get_or xs k d ∷ []) []
-  -- the elements are those from the first one on; or those from a later one on, and then the first is left out
   passing-next p zero k xs d le low = let next : suc k ≡ k + 1 = omega arith in ap (λ n. filter p (take n xs)) next ∙ filter_more p xs k d low
   passing-next p (suc from) zero xs d le low = absurd (omega (arith, le))
   passing-next p (suc from) (suc k) [] d le low = absurd (omega (arith, low))

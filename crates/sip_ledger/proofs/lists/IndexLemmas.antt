@@ -1,5 +1,4 @@
 -- Indexes as pairs of a key and a number, the order of the pairs, and how many numbers stand under a key.
--- `unfolding` names the definitions that the proof of a lemma looks into.
 use Rattle.sip_ledger.proofs.Words.{◌≡◌, ◌==◌, ◌&&◌, ◌<◌, ◌≤◌, ℕ, Bool, true, false, List, [], ◌∷◌, cond, refl, sym, ap, ◌∙◌, arith, true≢false, ◌||◌, nat_le, count_by, is_at, nat_tests, sum_by-cons, count_under, holds, pair_cmp, length, is_eq, is_gt, BTreeSet, IsKeyRangeOf, IsLowerBound, IsUpperBound, Included, Unbounded, IsFrom, IsFirstFrom, NoneFrom}
 
 -- two pairs compare as equal exactly if both their numbers are equal

@@ -1,6 +1,5 @@
 -- Many rows gain a debt, lose what is past, place by place, or are paid and put after the others.
--- `unfolding` names the definitions that the proof of a lemma looks into. Of places o tells which are owed at first, o' and o'' which later, and m which must
--- be sent; t is a moment.
+-- Of places o tells which are owed at first, o' and o'' which later, and m which must be sent; t is a moment.
 use Rattle.sip_ledger.proofs.Words.{◌≡◌, ℕ, ◌+◌, ◌<◌, ◌≤◌, ◌&&◌, ◌||◌, Bool, true, false, List, length, take, filter, arith, nat_tests, nat_le, and-false, cases_eq, cases_lt, lt-leb, take-length, get_or_default, Entry, Account, Gains, Strike, counts_at, AreGains, IsAccount, IsExpiredTo, IsKept, IsWithout, account_debts, entries_of, entry_at, must_at, owes_at, [], ◌∷◌, ◌++◌, drop, get_or, set, map, refl, sym, ap, ◌∙◌, All, fold, min, le-leb, or_right, All-filter, All-get_or, All-head, All-map, All-tail, All-weaker, Debt, debt_deadlines, earliest, is_timely, is_within, AreAccounts, KeepsAccounts, accounts_debts, common_steps, cond, Option, Some, None, IfSome, option_to_list, list_any, take-append_seam, append-nil, append_assoc, get_or_append_left, length-append, map-append, owed_in, paid_rows, is_payable, paid_by, from_to}
 use Rattle.sip_ledger.proofs.gains.LeftLemmas.{entries_long, rising_kept, left-kept, owed-left}
 use Rattle.sip_ledger.proofs.debts.ListedLemmas.{listed-counting, listed-same, listed-each}
@@ -156,7 +155,6 @@ module _ {gains : Gains} {message t from k : ℕ} {old : List (List Debt)} {stri
   pub paid-next : (owes : List Debt) (left : Option Account) → ArePaidTo gains message t from k old strikes rows → IfSome left (IsAccount gains strikes) →
       map (account_debts gains strikes) (option_to_list left) ≡ paid_rows message t (owes ∷ []) → owes ≡ owed_in old k → from ≤ k → k < length old →
       ArePaidTo gains message t from (k + 1) old strikes (rows ++ option_to_list left)
-  -- no account is left where nothing is owed any more; else the account b that is left is put after the others
   paid-next owes None are is debts same low within = grind (arith, append-nil, next-left message t from k old owes [])
   paid-next owes (Some b) are is debts same low within =
       let put = pushed-to b (account_debts gains strikes b) are.accounts are.debts is refl in

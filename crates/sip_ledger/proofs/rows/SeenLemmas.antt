@@ -1,5 +1,4 @@
 -- Accounts as contracts see them: a list of what each row owes, and the messages that rows owe.
--- `unfolding` names the definitions that the proof of a lemma looks into.
 use Rattle.sip_ledger.proofs.Words.{◌≡◌, ℕ, ◌+◌, ◌<◌, ◌≤◌, ◌==◌, true, false, List, [], ◌∷◌, ◌++◌, length, get_or, map, refl, sym, ap, ◌∙◌, subst, inl, inr, arith, nat_tests, All, Contains, list_any, and-true, cases_eq, cases_lt, eqb-true, false_from_ne_true, le-leb, true≢false, append_assoc, get_or_append_left, get_or_default, get_or_push, length_push, All-map, Contains-append_left, Contains-push, Contains-push_cases, list_any_at, list_any_none, Debt, Account, Gains, Strike, AppendsOwed, owes_message, some_owes, is_payable, Rise, account_debts, accounts_debts, entries_of, entry_at, must_at, owes_at, holds, common_steps, ◌≢◌, take, set, IsTrue, Option, Some, None, IfSome, IfNone, Result, Ok, Err, IsErr, OnErr, ◌↔◌, is_err, is_some, eq-eqb, drop_min, All-weaker, sum_by-cons, debts_print, owed_in, softened_debt, AreAccounts, AreGains, IsAccount, IsFirstPayable, KeepsAccounts, pays_at, map-append, All-push, ◌^◌}
 use Rattle.sip_ledger.proofs.debts.ListedLemmas.{listed-each, listed-few, listed-same, listed-softened}
 use Rattle.sip_ledger.proofs.account.AccountLemmas.{debts_length, row-debts, changed, empty-debts, kept-all, must-below, over, owed-within, row-account, truncated, without-first_rows}

@@ -50,7 +50,7 @@ pub record IsPlaceOf (gains : Gains) (m k : ℕ) : Type 0 where
 abbrev pub AreRising : List Entry → Type 0
 AreRising entries = (i k : ℕ) (e : Entry) → i ≤ k → k < length entries → (get_or entries i e).deadline ≤ (get_or entries k e).deadline
 
--- the flags that stand for those of a place at which no gain is kept: it need not be sent, it is not left, and it is no newest one
+-- what stands for the flags of a place past the gains: nothing must be sent there, nothing is left, and nothing is newest
 abbrev pub no_flags : Flags
 no_flags = record { must = false; left = false; newest = false }
 
@@ -65,8 +65,8 @@ pub record AreFlags (gains : Gains) : Type 0 where
   pub must : (k : ℕ) → IsKept gains k → (flags_at gains k).must ≡ holds gains.musts 0 k
   pub newest : (j k : ℕ) → j ≤ k → IsKept gains j → IsKept gains k → (flags_at gains k).newest ≡ true → (entry_at (entries_of gains) j).message ≤ (entry_at (entries_of gains) k).message
 
--- what holds of the gains at all times: those that are kept are the last ones, and a place is a number of the code; what stands under a message are gains
--- of it that are kept; what must be sent was gained; deadlines rise where they are said to; no message is above the highest; and the flags are right
+-- what holds of the gains at all times: no more are kept than there were, and a place is a number of the code; what stands under a message are gains
+-- of it that are kept; what must be sent was gained; deadlines never fall where `rises` says so; no message is above the highest; the flags are right
 pub record AreGains (gains : Gains) : Type 0 where
   pub long : length gains.entries.items ≤ gains.end
   pub small : gains.end < 2 ^ 64
@@ -224,24 +224,24 @@ sooner None other = other
 sooner (Some place) None = Some place
 sooner (Some place) (Some other) = Some (min place other)
 
--- the strikes from the first on strike what was gained at the place too, and of what is left nothing else; those before them stay, and past the place
--- nothing more is struck (`bound`)
+-- the strikes from the index `first` on strike what was gained at the place too, and nothing more of what is left; those before them stay, and past
+-- the place nothing more is struck (`bound`)
 pub record StrikeToo (gains : Gains) (place first : ℕ) (old new : List Strike) : Type 0 where
   pub before : take first new ≡ take first old
   pub struck : (k : ℕ) → is_left gains k ≡ true → is_struck (drop first new) (entry_at (entries_of gains) k).message k
       ≡ (is_struck (drop first old) (entry_at (entries_of gains) k).message k || k == place)
   pub bound : (m k : ℕ) → place < k → is_struck (drop first old) m k ≡ false → is_struck (drop first new) m k ≡ false
 
--- the account's strikes that end after its start are written after the others, and strike what was gained from one place up to another too; past the
--- gains they strike nothing that the account did not (`bound`)
+-- strikes are put after the others: from the account's start on they strike, of what is left, what the account's own do, and what was gained from one
+-- place up to another too; past the gains they strike nothing that its own do not (`bound`)
 pub record IsWritten (gains : Gains) (from to : ℕ) (old new : List Strike) (a : Account) : Type 0 where
   pub kept : take (length old) new ≡ old
   pub struck : (k : ℕ) → a.start ≤ k → is_left gains k ≡ true → is_struck (drop (length old) new) (entry_at (entries_of gains) k).message k
       ≡ (is_struck (strikes_of old a) (entry_at (entries_of gains) k).message k || (nat_le from k && nat_lt k to))
   pub bound : (m k : ℕ) → length (entries_of gains) ≤ k → is_struck (strikes_of old a) m k ≡ false → is_struck (drop (length old) new) m k ≡ false
 
--- the new account's strikes are those of the old one that reach past its start, and what was gained from one place up to another is struck too; all else
--- of the account is as it was, and past the gains nothing more is struck (`bound`)
+-- b is the account a with other strikes: from its start on they strike, of what is left, what those of a do, and what was gained from one place up to
+-- another too; past the gains nothing more is struck (`bound`)
 pub record IsStruck (gains : Gains) (from to : ℕ) (old new : List Strike) (a b : Account) : Type 0 where
   pub start : b.start ≡ a.start
   pub end : b.end ≡ a.end
@@ -294,7 +294,7 @@ pub record IsClearedTo (place : ℕ) (strikes : List Strike) (rows : List Accoun
 abbrev pub StartFrom : ℕ → List Account → Type 0
 StartFrom place rows = All (λ a. a.start < a.end → place ≤ a.start) rows
 
--- two accounts begin and end alike, from the same place on they must send what they owe if its gain says so, and their strikes are the same
+-- two accounts begin and end alike, their strikes are the same, and what was gained below the same place (`soft`) neither must send
 pub record AreAlike (strikes : List Strike) (one other : Account) : Type 0 where
   pub start : one.start ≡ other.start
   pub end : one.end ≡ other.end

@@ -205,7 +205,7 @@ pub(crate) fn find_under(
             return Some(first);
         };
         from = left;
-        // Only where they are the same a gain of a message under the key is left.
+        // Where they are the same, a gain of a message under the key is left; otherwise the search goes on from the greater one.
         if left == message {
             let mut seek = Seek::new(gains, message, account.start);
             let place = find(gains, strikes, account, &mut seek, message, moment);
@@ -456,7 +456,7 @@ pub(crate) fn gained(
         .wrapping_add(worth(debt.message, debt.deadline));
     if account.start == account.end {
         return Ok(Account {
-            // An account that owed nothing begins here, and needs no strikes.
+            // An account that owed nothing begins at the place, and needs no strikes.
             start: place,
             end: place + 1,
             soft: account.soft,
@@ -610,7 +610,7 @@ fn is_alike(strikes: &[Strike], one: Account, other: Account) -> bool
     are_same(own(strikes, one), own(strikes, other))
 }
 
-/// Whether the accounts are known to owe the same from the place on: they end alike, and no strike of theirs goes past it.
+/// Whether the accounts are known to owe the same from the place on: they end alike, have the same `soft`, and no strike of theirs goes past it.
 fn shares_rest(strikes: &[Strike], one: Account, other: Account, place: usize) -> bool
     requires first { one.first ≤ one.last }
     requires last { one.last ≤ length strikes.now }

@@ -108,7 +108,7 @@ impl Gains {
         if self.entries.is_empty() {
             return true;
         }
-        // Where deadlines rise, the first of those that are kept is the least.
+        // Where deadlines never fall, the first of those that are kept is the least.
         if self.entry(self.first()).deadline < moment {
             return false;
         }
@@ -125,7 +125,6 @@ impl Gains {
         if self.end == usize::MAX {
             return Err(AllocError);
         }
-        // What can be refused comes first: room for both lists, and the place in the indexes.
         let entry = Entry {
             message: debt.message,
             deadline: debt.deadline,
@@ -133,6 +132,7 @@ impl Gains {
         let place = self.end as u64;
         let rises = rise(&self.entries, self.rises, entry);
         let newest = self.highest <= debt.message;
+        // What can be refused comes before any change: room in both lists, and the place in the indexes.
         self.entries.reserve(1)?;
         self.flags.reserve(1)?;
         note(&mut self.messages, &mut self.musts, place, debt)?;

@@ -12,7 +12,7 @@ pub(crate) fn let_go(gains: &mut Gains, strikes: &[Strike], rows: &[Account], me
     ensures { AreKept strikes.now rows.now gains.old gains.new }
 {
     let mut from = 0;
-    // It stops at the first that is owed: what is not owed after that one goes another time.
+    // It stops at the first gain that is owed: what is not owed after that one goes another time.
     while let Some(place) = gains.next(message, from) {
         if is_owed(gains, strikes, rows, place) {
             return;

@@ -127,7 +127,7 @@ fn none_between(gains: &Gains, message: u64, from: usize, to: usize) -> bool
     if to < from {
         return false;
     }
-    // Few gains that are all kept are looked at one by one, and else the index tells the next one of the message.
+    // Few gains that are all kept are looked at one by one; otherwise the index tells the next one of the message that is left.
     if to - from <= FEW && gains.first() <= from {
         return are_others(gains, message, from, to);
     }

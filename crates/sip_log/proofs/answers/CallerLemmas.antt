@@ -161,7 +161,6 @@ module _ (start left : Option (List ℕ)) (before after : Bool) where
     where
       -- where the header comes first in what was left, it was read
       has : (s : Option (List ℕ)) → IfSome s (λ xs. (ys : List ℕ) × (prepend_known place.held left ≡ Some ys) × Heads place.format xs (gives p ys)) → HasRead s place.format (Some p) [] (prepend_known place.held left)
-      -- of an input that is not known nothing is to be shown
       has None says = tt
       has (Some xs) (ys, left_is, header) = (ys, left_is, Begins-header xs place.format p ys header)
 
@@ -333,7 +332,7 @@ module _ (start : Option (List ℕ)) (items : List Item) (old new : ReaderState)
   fine-at : (s : Stage) (r : Option Entry) → NextsAt s old new (Ok r) → new.has_failed ≡ old.has_failed
   fine-at fresh r steps = steps.says.0
   fine-at entries r steps = steps.says.0
-  -- after the end all stays as it is, and after an error no call answers anything else
+  -- after the end all stays as it is, and after an error each call answers an error
   fine-at ended r again = ap (λ (x : ReaderState). x.has_failed) again.1
   fine-at failed r again = cc
 

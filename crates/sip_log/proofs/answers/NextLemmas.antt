@@ -61,7 +61,7 @@ not_above a b other = elim (cases_lt b a) as (λ _. b < a) [ inl lt ↦ lt | inr
 
 -- What follows leads from what the code reads to the spelling.
 
--- where a message comes, it cannot be read, since it is not whole with its LF (case 6) or the byte after it is no LF (case 7), or it stands there with its LF
+-- what comes by a message is a fault, since it is not whole with its LF (case 6) or the byte after it is no LF (case 7), or the entry with its bytes
 message-told : (action : Action) (moment len : ℕ) (behind : List ℕ) (next : Next Item) → HasMessage action → read.MessageComes action moment len behind next
     → Told (AtBody action len behind) (λ e after. (text : List ℕ) × (e ≡ record { action = action; moment = moment; text = text }) × (length text ≡ len) × (behind ≡ text ++ line_feed ∷ after)) next
 -- too few bytes follow for the message and its LF
@@ -91,7 +91,7 @@ message-whole : (line : List ℕ) (action : Action) (moment len : ℕ) (text beh
     → line ++ line_feed ∷ behind ≡ entry_says (record { action = action; moment = moment; text = text }) ++ after
 message-whole line action moment len text behind after other is size whole =
     let body : body_says action text ++ after ≡ behind = ap (λ (t : List ℕ). t ++ after) (body-message action text other) ∙ append_assoc text (line_feed ∷ []) after ∙ sym whole in
-    -- the line, its length, and then what follows it are put in the places of what they are equal to
+    -- the spelling of the line, its length, and what follows the line are put in their places, one after another
     ap (λ (t : List ℕ). t ++ line_feed ∷ behind) is
     ∙ ap (λ n. line_says action moment n ++ line_feed ∷ behind) (sym size)
     ∙ ap (λ (t : List ℕ). line_says action moment (length text) ++ line_feed ∷ t) (sym body)
@@ -174,7 +174,7 @@ line-read format line action moment len short of is = elim (message-or-not actio
 -- where the front of the rest is read as a line or a fault, the spelling says the same
 front-told : (format : Format) (last : ℕ) (rest : List ℕ) (next : Next Item) → read.LineComes format last rest next
     → Told (AtFront format last rest) (λ e after. (rest ≡ entry_says e ++ after) × (last ≤ e.moment) × IsEntry format e) next
--- there is no front line, with fewer than 32 bytes or with more
+-- there is no front line: fewer than 32 bytes are left, or no fewer
 front-told format last rest next (inl (none, inl (few, same))) = inl (faults.Truncated, same, inl (none, inl (not_above 32 (length rest) few, refl)))
 front-told format last rest next (inl (none, inr (many, same))) = inl (faults.EntryLine, same, inl (none, inr ((λ few. omega arith), refl)))
 -- the front line is read as no head, so it is no line of an entry

@@ -26,7 +26,7 @@ use Rattle.sip_log.proofs.logs.LogExists.{limits-or-not}
 
 -- What follows is of faults.
 
--- a message that cannot be read, since it is not whole with its LF (case 6) or the byte after it is no LF (case 7), is read as that fault
+-- where a message is not whole with its LF (case 6), or the byte after it is no LF (case 7), this fault is read
 message-stops : (action : Action) (moment len : ℕ) (behind : List ℕ) (fault : LogReason) → AtBody action len behind fault → read.MessageComes action moment len behind (stops fault)
 -- too few bytes follow for the message and its LF
 message-stops action moment len behind fault (other, inl (short, same)) = inl ((λ more. omega arith), ap stops same)
@@ -55,7 +55,7 @@ message-numbers last action moment len behind fault other (inr (inside, rest)) =
 plain-numbers : (last : ℕ) (action : Action) (moment len : ℕ) (behind : List ℕ) (fault : LogReason) → ¬ (HasMessage action) → AtNumbers last action moment len behind fault → read.HeadComes last (plain action moment) behind (stops fault)
 -- the moment is outside its limits
 plain-numbers last action moment len behind fault none (inl (outside, same)) = inl ((λ k. outside (k, (λ has. absurd (none has)))), ap stops same)
--- the moment is within them, and before that of the entry before
+-- the moment is within them, and before that of the entry before: no message is there that could be at fault
 plain-numbers last action moment len behind fault none (inr (inside, rest)) = elim (limits-or-not (plain action moment)) [
   | inr outside ↦ absurd (inside (λ w. outside w.0))
   | inl keeps ↦ inr (keeps, order rest)
@@ -83,7 +83,7 @@ line-stops format last line behind fault short (inr (action, moment, len, of, is
 
 -- a rest whose front is at fault is read as that fault
 front-stops : (format : Format) (last : ℕ) (rest : List ℕ) (fault : LogReason) → AtFront format last rest fault → read.LineComes format last rest (stops fault)
--- there is no front line, with fewer than 32 bytes or with more
+-- there is no front line: fewer than 32 bytes are left, or no fewer
 front-stops format last rest fault (inl (none, inl (few, same))) = inl (none, inl ((λ many. omega arith), ap stops same))
 front-stops format last rest fault (inl (none, inr (many, same))) = inl (none, inr (not_below (length rest) 32 many, ap stops same))
 -- there is a front line, which is at fault
@@ -91,14 +91,12 @@ front-stops format last rest fault (inr (line, behind, front, at)) = inr (line, 
 
 -- What follows is of entries.
 
--- a moment in decimals has no line feed
+-- a moment, which is below 10^13 and so below 10^64, has no line feed in decimals
 lacks-decimal : (n : ℕ) → n ≤ last_moment → Lacks line_feed (decimal n)
--- a moment has at most 13 digits
 lacks-decimal n low = IsNumber-no_line_feed (decimal n) n (number-decimal n (omega (arith, low, powers 13 64 (omega arith))))
 
 -- no letter of an entry is a line feed
 letter-lacks : (a : Action) → letter a ≢ line_feed
--- the letters have other codes than the line feed
 letter-lacks Sent same = absurd (omega arith)
 letter-lacks Received same = absurd (omega arith)
 letter-lacks Failed same = absurd (omega arith)

@@ -67,8 +67,8 @@ unfolding fault_of
 fault-first input fault is = (no-header input fault is, header-is is)
   where
     -- a fault of the header is `Header`
-    header-is : read.HeaderComes input (stops fault) → fault ≡ faults.Header
     -- where lines 1 and 2 are both read, no fault comes; where one of them is not, `Header` does
+    header-is : read.HeaderComes input (stops fault) → fault ≡ faults.Header
     header-is (inl (format, rest, title, inl (p, behind, front, (rules, more, line, same)))) = cc
     header-is (inl (format, rest, title, inr (none, same))) = ap fault_of same
     header-is (inr (none, same)) = ap fault_of same
@@ -101,7 +101,7 @@ Says-headed old mid new before between after format p (Ok a) first says = (says.
         let h = subst (λ o. IfSome o (λ xs. (zs : List ℕ) × (new ≡ Some zs) × entry.EntryComes format 0 0 xs (next_of a zs))) is.1 behind in
         (h.0, h.1, header-gives format xs p is.0 (next_of a h.0) is.2 (next-told format 0 0 is.0 (next_of a h.0) h.2))
 Says-headed old mid new before between after format p (Err e) first says =
-    -- the fault that comes after the header comes first in the input, and the source has failed by it if it has not before
+    -- the fault that comes after the header comes first in the input, and no read failed while the header was read (`first.0`)
     subst (λ b. FailsAs b after (λ fault. IfSome old (λ xs. ComesFirst format (Some p) xs (stops fault))) e) first.0
     (FailsAs-map between after _ _ e (λ fault. value old fault first.1) says)
   where
@@ -175,7 +175,7 @@ module _ (old new : ProgressState) (left left2 : Option (List ℕ)) (before afte
         times = always r (IsSome new.times) (subst IsSome (sym times) refl);
         kept = subst (λ o. IfSome o (λ p. (new.times ≡ Some p) × (new.format ≡ old.format))) (sym none) tt;
         -- the header, and then what comes by the entry, come first in what is unread
-        -- each `subst` puts a part of the reader for what it is known to be: its stage, what it held, its times, its format, its count and its last moment
+        -- each `subst` puts what a part of the reader is known to be in its place: the stage, what it held, times, format, count and last moment
         says = subst (λ s. TellsWhatComes (prepend_known old.held left) (prepend_known new.held left2) before after (Comes s (beside_source old left before) (beside_source new left2 after)) next_of r) (sym stage)
             (subst (λ h. TellsWhatComes (prepend_known h left) (prepend_known new.held left2) before after (ComesFirst new.format new.times) next_of r) (sym held)
             (subst (λ t. TellsWhatComes (unread window left) (prepend_known new.held left2) before after (ComesFirst new.format t) next_of r) (sym times)
@@ -197,7 +197,7 @@ module _ (old new : ProgressState) (left left2 : Option (List ℕ)) (before afte
         kept = subst (λ o. IfSome o (λ p. (new.times ≡ Some p) × (new.format ≡ old.format))) (sym none) tt;
         -- the fault of the header comes first in what is unread
         says = subst (λ s. TellsWhatComes {A = Option Entry} (prepend_known old.held left) (prepend_known new.held left2) before after (Comes s (beside_source old left before) (beside_source new left2 after)) next_of (Err e)) (sym stage)
-            -- each `subst` puts a part of the reader for what it is known to be: its stage, what it held and its times
+            -- each `subst` puts what a part of the reader is known to be in its place: its stage, what it held and its times
             (subst (λ h. TellsWhatComes {A = Option Entry} (prepend_known h left) (prepend_known new.held left2) before after (ComesFirst new.format new.times) next_of (Err e)) (sym held)
             (subst (λ t. TellsWhatComes {A = Option Entry} (unread window left) (prepend_known new.held left2) before after (ComesFirst new.format t) next_of (Err e)) (sym no_times)
             (FailsAs-map before after _ _ e (λ fault. IfSome-map (unread window left) (λ xs. read.HeaderComes xs (stops fault)) (λ xs. ComesFirst new.format None xs (stops fault)) (λ xs. header-fault new.format xs fault)) fails)));

@@ -153,7 +153,7 @@ cut_times-within p is =
 -- where times are within their limits as the code keeps them, they are within them
 within-cut_times : (p : Times) → AreTimes (cut_times p) → AreTimes p
 within-cut_times p is = record {
-  -- a number that is cut is above every limit; so each of these is not, and has the limits of the one that is kept
+  -- a number above 10^15 is kept as 10^15, which is above every limit, so none of these was cut
   t1_low = omega (arith, is.t1_low);
   t1_high = omega (arith, is.t1_high);
   t2_low = omega (arith, is.t2_low);

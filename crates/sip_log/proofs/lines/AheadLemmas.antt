@@ -28,10 +28,10 @@ len_of (message action moment len) = len
 len_of (plain action moment) = 0
 
 -- where the line keeps the limits and the order, a message that comes after it comes by the line
+-- h is a head of which the code keeps what the line says, so it is one with a message
 pub HeadComes-ahead : (last : ℕ) (action : Action) (moment len : ℕ) (rest text : List ℕ) → KeepsLimits (message action moment len) → last ≤ moment
     → ((more : List ℕ) → MessageComes action moment len (rest ++ more) (gives (item_ahead action moment text) (drop (len + 1) rest ++ more)))
     → (h : Head) → code.Message action moment len ≡ cut_head h → (more : List ℕ) → HeadComes last h (rest ++ more) (gives (item_ahead action moment text) (drop (len + 1) rest ++ more))
--- h is a head of which the code keeps what the line says; what is kept of one without a message is not what is kept of a message
 HeadComes-ahead last action moment len rest text keeps order comes (plain a m) is more = absurd (cc)
 HeadComes-ahead last action moment len rest text keeps order comes (message a m l) is more =
     let same_action : a ≡ action = sym (ap (λ c. action_of (head_of c)) is) in

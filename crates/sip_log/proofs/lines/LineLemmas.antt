@@ -38,7 +38,7 @@ pub HeadLine-message : (format : Format) (line : List ℕ) (action : Action) (mo
     → get_or line 1 0 ≡ space → Numbers (drop 2 line) moment len → HeadLine format line (message action moment len)
 HeadLine-message format line action moment len has long first second is = (drop 2 line, has, is, lettered line action long first second)
 
--- the action whose letter this is, where 83, 82, 70 and 77 are S, R, F and M
+-- the action whose letter this is: 83, 82, 70 and 77 are S, R, F and M, and any other byte is taken for Z
 action_at : ℕ → Action
 action_at n = if n == 83 then Sent else (if n == 82 then Received else (if n == 70 then Failed else (if n == 77 then Mark else Restart)))
 

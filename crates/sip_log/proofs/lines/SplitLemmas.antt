@@ -120,7 +120,7 @@ first-of-front m most xs k (before, here) =
 -- a list has only one part before its first m, or its end, and only one rest from there on
 pub part-one : (m : ℕ) (front back front2 back2 : List ℕ) → Lacks m front → Lacks m front2 → Begins m back → Begins m back2
     → front ++ back ≡ front2 ++ back2 → (front ≡ front2) × (back ≡ back2)
--- neither goes on to an m, so that both parts are the whole list
+-- after neither part an m follows, so both are the whole list
 part-one m front back front2 back2 lacks lacks2 (inl none) (inl none2) same =
     (sym (append-nil front) ∙ ap (λ (t : List ℕ). front ++ t) (sym none) ∙ same ∙ ap (λ (t : List ℕ). front2 ++ t) none2 ∙ append-nil front2, none ∙ sym none2)
 -- only one of the two parts goes on to an m: this cannot be, since the other part would have that m too

@@ -93,7 +93,7 @@ plain-or-not text = elim (cases_eq (length text) 1) as (λ _. Settled (get_or te
   -- a text of one byte may begin with 0
   | inl one ↦ inl (λ none. one)
   | inr many ↦ elim (cases_eq (get_or text 0 0) digit_zero) as (λ _. Settled (get_or text 0 0 ≡ digit_zero → length text ≡ 1)) [
-    -- a text with other bytes may not begin with 0, and may begin with another byte
+    -- a text of another length may not begin with 0, and may begin with another byte
     | inl none ↦ inr (λ plain. many (plain none))
     | inr other ↦ inl (λ none. absurd (other none))
   ]
@@ -138,7 +138,7 @@ ActionOrNot format b = ((a : Action) × IsOf format a × (b ≡ letter a)) ⊎ (
 -- the letter of a restart is a letter of format 2 and none of format 1
 restart-or-not : (format : Format) (b : ℕ) → b ≢ letter Sent → b ≢ letter Received → b ≢ letter Failed → b ≢ letter Mark → b ≡ letter Restart → ActionOrNot format b
 restart-or-not One b sent received failed mark is =
-    -- in format 1 no action has this letter: those before it have others, and a restart is none of this format
+    -- in format 1 no action has this letter: the first four have others, and a restart is none of this format
     inr (λ a. elim a as (λ a. IsOf One a → b ≢ letter a) [
       | Sent ↦ λ of. sent
       | Received ↦ λ of. received
@@ -305,7 +305,7 @@ Unless-gives Demand reason a behind Follows (inr (holds, follows)) = follows
 -- what is left after the message of an entry is no longer than what was left before it
 body-shorter : (head : Head) (rest : List ℕ) (e : Item) (behind : List ℕ) → BodyComes head rest (gives e behind) → length behind ≤ length rest
 body-shorter (message action moment len) rest e behind is =
-    -- the message and a byte are taken of the rest
+    -- the message and a byte are taken from the rest
     let (text, b, after, whole, size, close) = Unless-gives _ _ e behind _ is in
     let closed = Unless-gives _ _ e behind _ close in
     let same : behind ≡ after = cc in
@@ -369,7 +369,7 @@ NumberOrNot word text = ((n : ℕ) × (behind : List ℕ) × NumberAfter word te
 -- a text with the word has a number before its first blank, or has none
 part-or-not : (word text front back : List ℕ) → text ≡ word ++ (front ++ back) → Lacks space front → Parted back → NumberOrNot word text
 part-or-not word text front back after lacks parted = elim (number-or-not front) [
-  -- the number after the word is what stands before its first blank, so this is a number or there is none
+  -- the number is what stands after the word and before the first blank, so this is a number or there is none
   | inl is ↦ inl (is.0, back, NumberAfter-of word text front back after lacks parted is.0 is.1)
   | inr none ↦ inr (λ n behind is. none n (NumberAfter-part word text front back after lacks parted n behind is))
 ]
@@ -420,7 +420,7 @@ tolerances-or-not One text = elim (last-or-not (codes " tolerance ") text) as (�
 ]
 -- format 2 has two tolerances, one after the other
 tolerances-or-not Two text = elim (number_after-or-not (codes " early ") text) as (λ _. TolerancesOrNot Two text) [
-  -- the text has no `early`, or after it stands `late`, or there is none; `NumberAfter-one`: only one number is read after a word
+  -- the text has no `early`; or it has one, and then `late` follows or does not; `NumberAfter-one`: only one number is read after a word
   | inr none ↦ inr (λ early late is. none early is.0 is.1)
   | inl early ↦ elim (last-or-not (codes " late ") early.1) as (λ _. TolerancesOrNot Two text) [
     | inl late ↦ inl (early.0, late.0, (early.1, early.2, late.1))
@@ -436,7 +436,7 @@ TimesOrNot format line = ((p : Times) × TimesLine format line p) ⊎ ((p : Time
 -- a line is a line 2 of the format, or it is not
 times-or-not : (format : Format) (line : List ℕ) → TimesOrNot format line
 times-or-not format line = elim (number_after-or-not (codes "t1 ") line) as (λ _. TimesOrNot format line) [
-  -- where t1 or t2 does not stand there, no times of a line 2 do, since they would begin with it
+  -- where t1 or t2 does not stand in its place, the line is no line 2
   | inr none ↦ inr (λ p is. none _ _ is.t1_is)
   | inl t1 ↦ elim (number_after-or-not (codes " t2 ") t1.1) as (λ _. TimesOrNot format line) [
     | inr none ↦ inr (λ p is. none _ _ (t2-after format line p is t1.0 t1.1 t1.2))
@@ -523,7 +523,7 @@ rules-some rest = elim (begins-or-not (rules_text R3261) rest) as (λ _. (rules 
 -- something comes after line 1: it is a header, or a fault
 second-some : (format : Format) (rest : List ℕ) → Comes (ComesSecond format rest)
 second-some format rest = elim (second-or-not format rest) as (λ _. Comes (ComesSecond format rest)) [
-  -- without a line 2 the fault is the header; with one the header ends after it, or after a line of rules that follows it
+  -- without a line 2 the fault is `Header`; with one the header ends after it, or after a line of rules that follows it
   | inr none ↦ (stops faults.Header, inr (none, refl))
   | inl front ↦
       let line = rules-some front.1 in
@@ -536,7 +536,6 @@ first-some input = elim (begins-or-not (title_text One) input) as (λ _. Comes (
   -- line 1 is that of format 1, that of format 2, or none
   | inl is ↦ let next = second-some One is.0 in (next.0, inl (One, is.0, is.1, next.1))
   | inr one ↦ elim (begins-or-not (title_text Two) input) as (λ _. Comes (HeaderComes input)) [
-    -- the other format fits, or none does
     | inl is ↦ let next = second-some Two is.0 in (next.0, inl (Two, is.0, is.1, next.1))
     | inr two ↦ (stops faults.Header, inr ((λ format. elim format as (λ format. (rest : List ℕ) → input ≢ title_text format ++ rest) [ One ↦ one | Two ↦ two ]), refl))
   ]
@@ -551,8 +550,8 @@ no-header input fault is format p behind header = absurd (other (ComesFirst-one 
     other same = cc
 
 -- what comes first in an input is not its end
-first-not-ends : (input : List ℕ) → ¬ (HeaderComes input ends)
 -- a header that is read gives something, and where none is read a fault comes
+first-not-ends : (input : List ℕ) → ¬ (HeaderComes input ends)
 first-not-ends input (inl (format, rest, title, inl (p, behind, front, (rules, more, line, same)))) = cc
 first-not-ends input (inl (format, rest, title, inr (none, same))) = cc
 first-not-ends input (inr (none, same)) = cc

@@ -45,7 +45,7 @@ TimesFront-one format rest p p2 behind behind2 a b =
     let parts = cut-one line_feed a.line behind b.line behind2 (TimesLine-lacks format a.line p a.times) (TimesLine-lacks format b.line p2 b.times) (sym a.whole ∙ b.whole) in
     (TimesLine-one format b.line p p2 (subst (λ line. TimesLine format line p) parts.0 a.times) b.times, parts.1)
 
--- the rules whose line has this byte at its sixth place, counted from 0: there `rules 3261` has a 3, which is 51
+-- the rules whose line has this byte at the place 6, counted from 0: there `rules 3261` has a 3, which is 51
 rules_at : ℕ → Rules
 rules_at n = if n == 51 then R3261 else R6026
 
@@ -157,8 +157,8 @@ Unless-one Demand reason n n2 Follows Follows2 one (inr a) (inl b) = absurd (b.0
 Unless-one Demand reason n n2 Follows Follows2 one (inr a) (inr b) = one a.1 b.1
 
 -- where a list is cut in two ways, and the first parts are equally long, the first parts are the same, and so are the second ones
-parts-one : (xs ys xs2 ys2 : List ℕ) → length xs ≡ length xs2 → xs ++ ys ≡ xs2 ++ ys2 → (xs ≡ xs2) × (ys ≡ ys2)
 -- the first parts are equally long, so that both are empty or neither is
+parts-one : (xs ys xs2 ys2 : List ℕ) → length xs ≡ length xs2 → xs ++ ys ≡ xs2 ++ ys2 → (xs ≡ xs2) × (ys ≡ ys2)
 parts-one [] ys [] ys2 len same = (refl, same)
 parts-one [] ys (x2 ∷ xs2) ys2 len same = absurd (omega arith)
 parts-one (x ∷ xs) ys [] ys2 len same = absurd (omega arith)
@@ -238,8 +238,8 @@ next_at-one (Stops reason) Clean same = cc
 next_at-one (Stops reason) (Stops reason2) same = ap Stops (cc)
 
 -- the end of a log is no entry that comes next
-pub next_at-not_gives : (end : LogEnd) (e : Item) (behind : List ℕ) → next_at end ≢ gives e behind
 -- what comes at it is the end of the input, or a fault
+pub next_at-not_gives : (end : LogEnd) (e : Item) (behind : List ℕ) → next_at end ≢ gives e behind
 next_at-not_gives Clean e behind same = cc
 next_at-not_gives (Stops reason) e behind same = cc
 

@@ -201,7 +201,7 @@ no-rules : (rules : Rules) (text behind : List ℕ) → text ≡ behind → Rule
 no-rules rules text behind same (inr is) = is.0
 -- the line that was taken is that of RFC 6026
 no-rules R6026 text behind same (inl is) = refl
--- the line of RFC 3261 would have been taken, which has 11 bytes, but no byte was
+-- the line of RFC 3261, which has 11 bytes, would have been taken, but no byte was
 no-rules R3261 text behind same (inl is) =
     let line : length (rules_text R3261) ≡ 11 = refl in
     absurd (omega (arith, line, ap length (sym same ∙ is), length-append (rules_text R3261) behind))
@@ -232,7 +232,7 @@ restarts-of-one input p q behind items end one is =
 turn-front : (format : Format) (count last : ℕ) (rest : List ℕ) (items : List Item) (end : LogEnd) (read : List Item) (left : List ℕ) → Follow format count last rest items end
     → ComeInTurn format count last rest read left → (more : List Item) × (items ≡ read ++ more)
 turn-front format count last rest items end [] left follow turn = (items, refl)
--- the log ends where an entry came
+-- the log would end where an entry comes, which cannot be
 turn-front format count last rest [] end (e ∷ es) left follow (behind, next, turn) =
     absurd (next_at-not_gives end e behind (ComesNext-one format count last rest (next_at end) (gives e behind) follow (next-read format count last rest (gives e behind) next)))
 -- the first entry of both is the same, and the rest goes on alike

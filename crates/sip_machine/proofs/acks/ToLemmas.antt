@@ -90,7 +90,6 @@ All-picked P bs xs all = grind (arith, get_or_picked)
 
 -- what relates each pair of a list, in order, relates each pair of those that are picked
 pub AllPairs-picked : {X : Type 0} (R : X → X → Type 0) (bs : List Bool) (xs : List X) → AllPairs R xs → AllPairs R (items_where_true bs xs)
--- nothing is picked where the flags or the elements end
 AllPairs-picked R [] xs up = λ i j d lt low. absurd (omega arith)
 AllPairs-picked R (b ∷ bs) [] up = λ i j d lt low. absurd (omega arith)
 -- the first element is picked, and R relates it to each later one; or it is left out
@@ -110,11 +109,11 @@ left_over bs tos left numbers is among = λ k d low.
 pub AllPairs-take : {X : Type 0} (R : X → X → Type 0) (n : ℕ) (xs : List X) → AllPairs R xs → AllPairs R (take n xs)
 AllPairs-take R n xs up = grind (arith, nat_tests, cases_lt, take_all, length-take-le, get_or-take)
 
--- What follows is of the numbers that stand under the hash of a To.
+-- What follows is of the numbers that stand under the hash of a To. Where no hashes are kept nothing is claimed of them, and they are kept after a change just
+-- where they were before.
 
 -- a number that is put under a hash stands there
 pub put-here : (hash number : ℕ) (old new : Option (List (ℕ × ℕ))) → IsChanged hash number true old new → IsUnder new hash number
--- where no hashes are kept, nothing is claimed; and they are not kept after where they were not before
 put-here hash number old None changed = tt
 put-here hash number None (Some new) changed = absurd changed
 -- by the change, the pair that was put is there: both tests of equality pass
@@ -123,7 +122,6 @@ put-here hash number (Some old) (Some new) changed =
 
 -- where a number is put under a hash, what stood under a hash stands there
 pub put-keeps : (hash number : ℕ) (old new : Option (List (ℕ × ℕ))) → IsChanged hash number true old new → (h n : ℕ) → IsUnder old h n → IsUnder new h n
--- where no hashes are kept, nothing is claimed; and they are not kept after where they were not before
 put-keeps hash number old None changed h n is = tt
 put-keeps hash number None (Some new) changed h n is = absurd changed
 put-keeps hash number (Some old) (Some new) changed h n is = changed h n ∙ still (h == hash && n == number) (holds old h n) is
@@ -135,7 +133,6 @@ put-keeps hash number (Some old) (Some new) changed h n is = changed h n ∙ sti
 
 -- where a number is taken from a hash, other numbers stand where they stood
 pub taken-keeps : (hash number : ℕ) (old new : Option (List (ℕ × ℕ))) → IsChanged hash number false old new → (h n : ℕ) → n ≢ number → IsUnder old h n → IsUnder new h n
--- where no hashes are kept, nothing is claimed; and they are not kept after where they were not before
 taken-keeps hash number old None changed h n other is = tt
 taken-keeps hash number None (Some new) changed h n other is = absurd changed
 -- the number is another one than that which is taken, so its pair is as it was

@@ -41,10 +41,9 @@ module _ (message t : ℕ) where
   abbrev Pays : Debt → Type 0
   Pays debt = IsTrue (is_payable message t debt)
 
-  -- where a send pays a debt or can pay one of those after it, it takes the first that it can pay out of all
+  -- where a send can pay a debt or one of those after it, it takes the first that it can pay out of all; b says whether it can pay the debt itself
   some-step : (debt : Debt) (debts : List Debt) (b : Bool) → is_payable message t debt ≡ b → (b || list_any (is_payable message t) debts) ≡ true →
       (list_any (is_payable message t) debts ≡ true → IsWithoutFirst Pays debts (paid_by message t debts)) → IsWithoutFirst Pays (debt ∷ debts) (paid_by message t (debt ∷ debts))
-  -- the debt is the first that is paid, or it is left, and the first is among those after it; b says whether the send can pay the debt
   some-step debt debts true is any more =
       record { before = []; first = debt; after = debts; whole = refl; holds = is; none_before = All-nil (λ x. ¬ (Pays x)); rest = ap (λ b. cond b debts (debt ∷ paid_by message t debts)) is }
   some-step debt debts false is any more =
@@ -56,10 +55,9 @@ module _ (message t : ℕ) where
   pays-some [] any = absurd (true≢false (sym any))
   pays-some (debt ∷ debts) any = some-step debt debts (is_payable message t debt) refl any (pays-some debts)
 
-  -- where a send can pay neither a debt nor one of those after it, it can pay none of all
+  -- where a send can pay neither a debt nor one of those after it, it can pay none of all; b says whether it can pay the debt itself
   none-step : (debt : Debt) (debts : List Debt) (b : Bool) → is_payable message t debt ≡ b → (b || list_any (is_payable message t) debts) ≡ false →
       (list_any (is_payable message t) debts ≡ false → All (λ x. ¬ (Pays x)) debts) → All (λ x. ¬ (Pays x)) (debt ∷ debts)
-  -- b says whether the send can pay the debt: it cannot, since the test finds none that it can pay
   none-step debt debts true is any more = absurd (true≢false any)
   none-step debt debts false is any more = All-cons (λ x. ¬ (Pays x)) debt debts (λ pays. true≢false (sym pays ∙ is)) (more any)
 
@@ -87,11 +85,9 @@ set_none count row debts is = sym (set-get_or (blank_rows count) row []) ∙ ap 
 
 -- without accounts, the first n rows owe nothing
 pub take_none : (count n : ℕ) → blank_rows (min count n) ≡ take n (blank_rows count)
--- where there are no rows, or none is taken, none is left
 take_none zero zero = let e : min 0 0 ≡ 0 = omega arith in ap blank_rows e
 take_none zero (suc n) = let e : min 0 (suc n) ≡ 0 = omega arith in ap blank_rows e
 take_none (suc count) zero = let e : min (suc count) 0 ≡ 0 = omega arith in ap blank_rows e
--- the first row is one of those that are taken
 take_none (suc count) (suc n) =
     let e : min (suc count) (suc n) ≡ suc (min count n) = omega arith in ap blank_rows e ∙ ap (λ rows. [] ∷ rows) (take_none count n)
 

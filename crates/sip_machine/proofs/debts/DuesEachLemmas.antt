@@ -48,7 +48,7 @@ pub kept-none : (count : ℕ) (kept : List ℕ) → blank_rows (length kept) ≡
 kept-none count [] = refl
 kept-none count (row ∷ kept) = ap₂ (λ owes rows. owes ∷ rows) (sym (owed-none count row)) (kept-none count kept)
 
--- rows that owe nothing have no debt of which P holds, so that none of them is the first one that a send pays (`IsFirstPaid`)
+-- of rows that owe nothing, none has a debt of which P holds, and so a send pays none first (`IsFirstPaid`)
 pub unpaid-none : (P : Debt → Type 0) (t count row : ℕ) → IsFirstPaid P t (owed_in (blank_rows count) row) None
 unpaid-none P t count row = subst (All (λ debt. ¬ (P debt))) (sym (owed-none count row)) (All-nil (λ debt. ¬ (P debt)))
 

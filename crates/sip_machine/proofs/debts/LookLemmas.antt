@@ -68,7 +68,7 @@ front-first : (P : Debt → Type 0) (message t n : ℕ) (debts : List Debt) → 
 front-first P message t n debts found =
     let front = take n debts in
     let back = drop n debts in
-    -- the first debts are one fewer without the one that is paid
+    -- without the debt that is paid the first debts are one fewer
     let left = ap length found.rest ∙ length-append found.before found.after in
     let long = ap length found.whole ∙ length-append found.before (found.first ∷ found.after) in
     -- what stands before the debt, and the debt, are the same in the whole list
@@ -86,7 +86,6 @@ front-first P message t n debts found =
 
 -- what is found among the first debts is what all have first
 pub found-front : (P : Debt → Type 0) (t n : ℕ) (debts : List Debt) (found : Option ℕ) → is_some found ≡ true → FindsFirst P t (take n debts) found → FindsFirst P t debts found
--- a debt was found, so the other case cannot be
 found-front P t n debts (Some message) is first = front-first P message t n debts first
 found-front P t n debts None is none = absurd (true≢false (sym is))
 

@@ -26,7 +26,6 @@ named-owed m (debt ∷ debts) there = elim (Contains-cons_cases debt.message (ow
 
 -- where the test finds a debt of a message, the message is among those that the debts name
 owed-named : (m : ℕ) (debts : List Debt) → owes_message m debts ≡ true → Contains (owes_names debts) m
--- of no debts the test finds none
 owed-named m [] is = absurd (true≢false (sym is))
 owed-named m (debt ∷ debts) is = elim (cases_eq debt.message m) [
   | inl same ↦ subst (Contains (owes_names (debt ∷ debts))) same (Contains-get_or (owes_names (debt ∷ debts)) 0 m (omega arith))
@@ -116,7 +115,6 @@ module _ {S : Type 0} (names : S → List ℕ) where
 
   -- what the debts of a pool's states name is what its rows name
   debts-beside : (phases : List S) (rows : List (List Debt)) → length rows ≡ length phases → flat_map debt_names (beside phases rows) ≡ flat_map owes_names rows
-  -- there are as many rows as phases, so that both lists end together
   debts-beside [] [] even = refl
   debts-beside [] (row ∷ rows) even = absurd (omega (arith, even))
   debts-beside (phase ∷ phases) [] even = absurd (omega (arith, even))

@@ -145,7 +145,7 @@ module _ {X S : Type 0} (names : S → List ℕ) (InRange : S → Type 0) (seen 
   pub found-more : (some more all old mid new added : List S) → all ≡ some ++ more → HasFound names InRange seen texts P some old mid → new ≡ mid ++ added →
       Covers names InRange seen texts (FromSome P more) added → HasFound names InRange seen texts P all old new
   found-more some more all old mid new added is (found, mid_is, covers) new_is covers_more = (
-    -- what was found before and what is found now cover together what leads from all
+    -- what was found before and what is found now together cover what leads from all
     found ++ added,
     new_is ∙ ap (λ xs. xs ++ added) mid_is ∙ append_assoc old found added,
     subst (λ xs. Covers names InRange seen texts (FromSome P xs) (found ++ added)) (sym is)
@@ -162,7 +162,6 @@ module _ {X S : Type 0} (names : S → List ℕ) (InRange : S → Type 0) (seen 
 module _ {S : Type 0} where
   -- the first n of the first m elements are the first n, where n is not above m
   take-shorter : (n m : ℕ) (xs : List S) → n ≤ m → take n (take m xs) ≡ take n xs
-  -- the first 0 of any list are none; and n is not above m
   take-shorter zero m xs le = refl
   take-shorter (suc n) zero xs le = absurd (omega (arith, le))
   take-shorter (suc n) (suc m) [] le = refl
@@ -187,7 +186,6 @@ module _ {S : Type 0} where
 
   -- the states up to `to` are those up to `at` and those from there up to `to`
   pub take-slice : (at to : ℕ) (xs : List S) → at ≤ to → take to xs ≡ take at xs ++ from_to at to xs
-  -- before 0 there is none; and `at` is not above `to`
   take-slice zero to xs le = refl
   take-slice (suc at) zero xs le = absurd (omega (arith, le))
   take-slice (suc at) (suc to) [] le = refl

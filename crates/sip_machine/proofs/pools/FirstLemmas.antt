@@ -56,7 +56,7 @@ module _ {X : Type 0} (xs : List X) where
           let here : at ≡ k = omega (arith, behind, high_k) in
           Any-push (λ row. get_or xs row x ≡ get_or xs k x) rows at (ap (λ r. get_or xs r x) here)
     ];
-    -- no two rows have equal elements: the new one has none of those before it
+    -- no two rows have equal elements: that of the new row is none of the others
     apart = λ x. all_pairs_push (λ a b. get_or xs a x ≢ get_or xs b x) rows at (first.apart x) (λ k d low. new x k d low);
   }
 

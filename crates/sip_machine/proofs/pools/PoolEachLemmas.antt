@@ -36,7 +36,6 @@ module _ {S : Type 0} where
 
   -- what the states of phases beside rows owe is the rows
   owes-beside : (phases : List S) (rows : List (List Debt)) → length rows ≡ length phases → rows ≡ map (λ (x : CodeOwing S). x.owes) (beside phases rows)
-  -- there are as many rows as phases, so that both lists end together
   owes-beside [] [] long = refl
   owes-beside [] (row ∷ rows) long = absurd (omega (arith, long))
   owes-beside (phase ∷ phases) [] long = absurd (omega (arith, long))

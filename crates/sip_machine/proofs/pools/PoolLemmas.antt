@@ -21,7 +21,6 @@ module _ {S : Type 0} where
   -- phases and further ones beside their rows are the states of the phases and then those of the further ones
   pub beside-append : (phases more : List S) (rows again : List (List Debt)) → length rows ≡ length phases →
       beside (phases ++ more) (rows ++ again) ≡ beside phases rows ++ beside more again
-  -- there are as many rows as phases, so that both lists end together
   beside-append [] more [] again long = refl
   beside-append [] more (row ∷ rows) again long = absurd (omega (arith, long))
   beside-append (phase ∷ phases) more [] again long = absurd (omega (arith, long))
@@ -34,7 +33,6 @@ module _ {S : Type 0} where
 
   -- the first n phases beside the first n rows are the first n states
   pub beside-take : (phases : List S) (rows : List (List Debt)) (n : ℕ) → length rows ≡ length phases → beside (take n phases) (take n rows) ≡ take n (beside phases rows)
-  -- there are as many rows as phases, so that both lists end together
   beside-take [] rows zero long = refl
   beside-take [] rows (suc n) long = refl
   beside-take (p ∷ phases) [] n long = absurd (omega (arith, long))
@@ -43,7 +41,6 @@ module _ {S : Type 0} where
 
   -- the phases without the first n beside the rows without the first n are the states without the first n
   pub beside-drop : (phases : List S) (rows : List (List Debt)) (n : ℕ) → length rows ≡ length phases → beside (drop n phases) (drop n rows) ≡ drop n (beside phases rows)
-  -- there are as many rows as phases, so that both lists end together
   beside-drop [] [] zero long = refl
   beside-drop [] [] (suc n) long = refl
   beside-drop [] (r ∷ rows) n long = absurd (omega (arith, long))
@@ -54,7 +51,6 @@ module _ {S : Type 0} where
   -- where the phase and the row at k are changed, the state at k is
   pub beside-set : (phases : List S) (rows : List (List Debt)) (k : ℕ) (phase : S) (row : List Debt) → length rows ≡ length phases →
       beside (set phases k phase) (set rows k row) ≡ set (beside phases rows) k (record { phase = phase; owes = row })
-  -- there are as many rows as phases, so that both lists end together
   beside-set [] [] k phase row long = refl
   beside-set [] (r ∷ rows) k phase row long = absurd (omega (arith, long))
   beside-set (p ∷ phases) [] k phase row long = absurd (omega (arith, long))
@@ -126,7 +122,6 @@ module _ {X : Type 0} where
 
   -- a list of one element that is set to x is the list of x
   pub alone-set : (xs : List X) (x : X) → length xs ≡ 1 → set xs 0 x ≡ x ∷ []
-  -- a list of no element, or of two and more, has not the length 1
   alone-set [] x one = absurd (omega (arith, one))
   alone-set (y ∷ []) x one = refl
   alone-set (y ∷ z ∷ xs) x one = absurd (omega (arith, one))

@@ -33,8 +33,8 @@ use Rattle.sip_machine.specs.inner.InviteServer3261.Laws.{turn_within}
 
 -- any other message has the rows of RFC 6026 in a client of RFC 3261
 -- x is the phase, k the kind of the message e, and y where the row leads
-pub other_row : (p : Times) (x : InviteClientPhase) (k : Kind) (e : MachineEvent) (y : After InviteClientPhase) → ¬ (IsEndedBy x k) → client.Receives p x k e y ↔ client_3261.Receives p x k e y
 -- in calling the rows of a provisional response and of one of 300 to 699 are the same, and a 2xx is left out
+pub other_row : (p : Times) (x : InviteClientPhase) (k : Kind) (e : MachineEvent) (y : After InviteClientPhase) → ¬ (IsEndedBy x k) → client.Receives p x k e y ↔ client_3261.Receives p x k e y
 other_row p (Calling w) (Response code) e y other = (
   λ h. elim h [ inl row ↦ inl row | inr final ↦ elim final [ inl success ↦ absurd (other success.0) | inr row ↦ inr (inr row) ] ],
   λ h. elim h [ inl row ↦ inl row | inr final ↦ elim final [ inl success ↦ absurd (other success.0) | inr row ↦ inr (inr row) ] ],
@@ -44,7 +44,7 @@ other_row p (Proceeding reliable request cancel) (Response code) e y other = (
   λ h. elim h [ inl success ↦ absurd (other success.0) | inr row ↦ inr row ],
   λ h. elim h [ inl success ↦ absurd (other success.0) | inr row ↦ inr row ],
 )
--- a request in calling has no row by either, and in any other phase the rows are the same
+-- a request in calling has no row by either; in all other cases the rows are the same
 other_row p (Calling w) (Request method) e y other = (λ h. h, λ h. h)
 other_row p x k e y other = (λ h. h, λ h. h)
 
@@ -71,10 +71,10 @@ within-one texts Row again (Some turn) one =
       in_range = one.in_range;
     }
 
--- a response that is no 2xx has the rows of RFC 6026
+-- a response that is no 2xx has the rows of RFC 6026: in idle and in confirmed nothing is sent, in accepted only a 2xx, and in proceeding and in completed
+-- the rows differ for a 2xx alone
 pub response_row : (p : Times) (x : InviteServerPhase) (again : Bool) (code : ℕ) (e : MachineEvent) (y : After InviteServer3261Phase) → ¬ (IsSuccess code) →
     Within (server.Sends p x (Response code) e) again y ↔ server_3261.Sends p (In x again) (Response code) e y
--- in idle and in confirmed nothing is sent, and in accepted only a 2xx; in proceeding and in completed the row is that of RFC 6026 for a code that is no 2xx
 response_row p server.Idle again code e y other = (λ h. absurd h.1, λ h. absurd h)
 response_row p (server.Proceeding reliable set last) again code e y other = (λ h. inr (other, h), λ h. elim h [ inl success ↦ absurd (other success.0) | inr row ↦ row.1 ])
 response_row p (server.Accepted set) again code e y other = (λ h. absurd (other h.1.0), λ h. absurd h)

@@ -156,11 +156,11 @@ module _ {S X : Type 0} (f : Figure X) (p : Times) (seen : Texts → S → X) (n
         (Some (led_by p e.moment turn (InPhase owes))) (is_timely e.moment owes) refl timers (one owes knows fit)))
 
     -- where a send can pay one message alone, the answer is the state that has paid it where it can, and none where it cannot
+    -- b says whether some debt can be paid: where one can, the state that paid it is the answer, and where none can, there is none
     paid-answers : (message : ℕ) (owes : List Debt) → ¬ (f.Stays (seen texts phase) e.kind) →
         All (λ debt. IsTrue (is_payable message e.moment debt) ↔ PaysFor (f.Satisfies (seen texts phase) e.kind e) texts e.moment debt) owes →
         Knows (owing_names names) texts (InPhase owes) → OwingInRange InRange (InPhase owes) → (b : Bool) → list_any (is_payable message e.moment) owes ≡ b →
         Owings (Rests f e (owing_seen seen texts (unexpired_at e.moment (InPhase owes)))) (cond b (Some (repaid_at e.moment message (InPhase owes))) None)
-    -- b says whether some debt can be paid: where one can, the state that paid it is the answer, and where none can, there is none
     paid-answers message owes moves tells knows fit true is =
         rested-pays f p seen names InRange texts e (InPhase owes) moves (Some message)
         (FindsFirst-same (λ debt. IsTrue (is_payable message e.moment debt)) (PaysFor (f.Satisfies (seen texts phase) e.kind e) texts e.moment) e.moment owes (Some message) tells
@@ -245,10 +245,8 @@ module _ {S X : Type 0} (f : Figure X) (p : Times) (seen : Texts → S → X) (t
 
 -- what holds of all states from one index up to another, at least one, holds of the first of them
 pub slice-first : {S : Type 0} (P : S → Type 0) (from to : ℕ) (xs : List S) (d : S) → from < to → to ≤ length xs → All P (from_to from to xs) → P (get_or xs from d)
--- there is at least one element, so the slice does not end at 0, and the list is not empty
 slice-first P from zero xs d order le all = absurd (omega (arith, order))
 slice-first P from (suc to) [] d order le all = absurd (omega (arith, le))
--- the slice begins at the first element, or later
 slice-first P zero (suc to) (x ∷ xs) d order le all = All-head P x (take to xs) all
 slice-first P (suc from) (suc to) (x ∷ xs) d order le all = slice-first P from to xs d (omega (arith, order)) (omega (arith, le)) all
 

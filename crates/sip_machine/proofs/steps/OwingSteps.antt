@@ -255,13 +255,13 @@ module _ {S X : Type 0} (f : Figure X) (p : Times) (seen : Texts → S → X) (n
   in_range-at t x fits = (fits.0, All-filter (counts_at t) (λ d. d.deadline < 2 ^ 50) x.owes fits.1)
 
   -- where a turn answers the row of a sent message, the state that it gives answers where the row leads without what has expired
+  -- without a turn there is no row; with one, the state that it leads to is that of the row, from the state without what has expired
   pub led-at : (e : MachineEvent) (x : CodeOwing S) (turn : Option (Turn S)) →
       AnswersOne (turn_names names) (TurnInRange InRange) (turn_seen seen) texts (f.Sends p (seen texts x.phase) e.kind e) turn →
       Knows (owing_names names) texts x → OwingInRange InRange x → close_at p e.moment 0 < 2 ^ 50 →
       AnswersOne (owing_names names) (OwingInRange InRange) (owing_seen seen) texts
       (Follows (f.Sends p (seen texts x.phase) e.kind e) p e (owing_seen seen texts (unexpired_at e.moment x)))
       (option_map (λ turn. led_by p e.moment turn x) turn)
-  -- without a turn there is no row; with one, the state that it leads to is that of the row, from the state without what has expired
   led-at e x None none known fits small = λ y row. none row.0 row.1
   led-at e x (Some turn) one known fits small =
       led-one (f.Sends p (seen texts x.phase) e.kind e) e (unexpired_at e.moment x) turn one (known-at e.moment x known) (in_range-at e.moment x fits) small
@@ -290,12 +290,12 @@ module _ {S X : Type 0} (f : Figure X) (p : Times) (seen : Texts → S → X) (n
   rested-stays is e x stays known fits = rests-stays is e (unexpired_at e.moment x) stays (known-at e.moment x known) (in_range-at e.moment x fits)
 
   -- a message that may not leave the state as it is leaves at rest the state that has paid the debt that is found
+  -- where no debt is found nothing is paid, and where the message of one is found, its state has paid it
   pub rested-pays : (e : MachineEvent) (x : CodeOwing S) → ¬ (f.Stays (seen texts x.phase) e.kind) → (paid : Option ℕ) →
       FindsFirst (PaysFor (f.Satisfies (seen texts x.phase) e.kind e) texts e.moment) e.moment x.owes paid →
       Knows (owing_names names) texts x → OwingInRange InRange x →
       AnswersOne (owing_names names) (OwingInRange InRange) (owing_seen seen) texts (Rests f e (owing_seen seen texts (unexpired_at e.moment x)))
       (option_map (λ rest. rests_at e.moment rest x) (option_map resting.Pays paid))
-  -- where no debt is found nothing is paid, and where the message of one is found, its state has paid it
   rested-pays e x moves None finds known fits = rests-repaid e (unexpired_at e.moment x) moves None (repaid-at e x None finds known fits)
   rested-pays e x moves (Some message) finds known fits =
       rests-repaid e (unexpired_at e.moment x) moves (Some (repaid_at e.moment message x)) (repaid-at e x (Some message) finds known fits)
@@ -305,12 +305,12 @@ module _ {S X : Type 0} (f : Figure X) (p : Times) (seen : Texts → S → X) (n
   Gives P t x effect = AnswersBoth (owing_names names) (OwingInRange InRange) (owing_seen seen) texts P (given_by p t x effect)
 
   -- the state to which a received message leads by its row, or else the state itself, is the only one to which it leads
+  -- without a row the state stays as it is, but for what has expired; with one, the row leads on
   pub heard-one : (e : MachineEvent) (x : CodeOwing S) (turn : Option (Turn S)) →
       AnswersOne (turn_names names) (TurnInRange InRange) (turn_seen seen) texts (f.Receives p (seen texts x.phase) e.kind e) turn →
       Knows (owing_names names) texts x → OwingInRange InRange x → close_at p e.moment 0 < 2 ^ 50 →
       IsTheOne (owing_names names) (OwingInRange InRange) (owing_seen seen) texts (Hears f p e (owing_seen seen texts (unexpired_at e.moment x)))
       (led_by p e.moment (unwrap_or turn (record { phase = x.phase; change = code.Keeps })) x)
-  -- without a row the state stays as it is, but for what has expired; with one, the row leads on
   heard-one e x None none known fits small =
       let now = unexpired_at e.moment x in
       stays-one (f.Receives p (seen texts x.phase) e.kind e) e now none (known-at e.moment x known) (in_range-at e.moment x fits)
@@ -375,12 +375,10 @@ module _ {S X : Type 0} (f : Figure X) (p : Times) (seen : Texts → S → X) (n
       (subst (Gives (Emits f p e here) e.moment x) none gives) in
       rw is (subst (Gives (Fails true f p e here) e.moment x) (sym none) left)
 
-  -- where an effect that gives the states of P is not empty, P holds of some state
+  -- where an effect that gives the states of P is not empty, P holds of some state: of the one to which the turn leads, or else of the one that rests
   pub has_step : (P : Owing X → Type 0) (t : ℕ) (x : CodeOwing S) (turn : Option (Turn S)) (rest : Option Rest) →
       ((turn ≡ None) × (rest ≡ None) → ⊥) → Gives P t x (record { turn = turn; rest = rest }) → (z : Owing X) × P z
-  -- an effect with neither a turn nor a rest is empty
   has_step P t x None None some gives = absurd (some (refl, refl))
-  -- P holds of the state that rests, or of the one to which the turn leads
   has_step P t x None (Some rest) some gives =
       let z = owing_seen seen texts (rests_at t rest x) in (z, (gives.members z).0 (0, omega arith, refl))
   has_step P t x (Some turn) rest some gives =

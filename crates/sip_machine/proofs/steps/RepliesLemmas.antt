@@ -31,12 +31,10 @@ Gains-one names InRange seen texts P x must message only known kept fits =
       in_range = fits;
     }
 
--- the answer again to a request that comes again is the last response, which must be sent unless it is a 100
+-- the answer again to a request that comes again is the last response, which must be sent unless it is a 100, as `is` says
 replies-only : {X : Type 0} (x : X) (last : List ℕ) (is : Bool) → IsTrue is ↔ Is100 last → (y : After X) → Replies x last y ↔ (y ≡ (x, gains (not is) last))
--- the last response is a 100, and so it may be sent
 replies-only x last true tells y =
     (λ h. elim h [ inl must ↦ absurd (must.0 (tells.0 refl)) | inr may ↦ may.1 ], λ e. inr (tells.0 refl, e))
--- the last response is no 100, and so it must be sent
 replies-only x last false tells y =
     (λ h. elim h [ inl must ↦ must.1 | inr may ↦ absurd (true≢false (sym (tells.1 may.0))) ], λ e. inl ((λ is. true≢false (sym (tells.1 is))), e))
 

@@ -37,7 +37,6 @@ count-cons p x xs = sum_by-cons (λ x. cond (p x) 1 0) x xs
 
 -- where the elements that pass stand first in a list, as many pass as stand before the first that does not
 pub count-parted : {X : Type 0} (p : X → Bool) (xs : List X) (i : ℕ) → i ≤ length xs → IsPartitionPoint (λ x. p x ≡ true) (λ x. p x ≡ false) xs i → count_by p xs ≡ i
--- of an empty list nothing passes
 count-parted p [] i low parts = omega (arith, low)
 -- the first element does not pass, and so none of the others does
 count-parted p (x ∷ xs) zero low parts =
@@ -53,7 +52,6 @@ count-parted p (x ∷ xs) (suc i) low parts =
 
 -- as many elements have a number that passes as there are numbers that pass
 count-map : {X : Type 0} (f : X → ℕ) (p : ℕ → Bool) (xs : List X) → count_by p (map f xs) ≡ count_by (λ x. p (f x)) xs
--- the first element counts where its number passes, and so do the others
 count-map f p [] = refl
 count-map f p (x ∷ xs) = count-cons p (f x) (map f xs) ∙ ap (λ n. cond (p (f x)) 1 0 + n) (count-map f p xs) ∙ sym (count-cons (λ x. p (f x)) x xs)
 
@@ -150,7 +148,6 @@ all_behind n m ns ms up up' all other =
 
 -- where each number of ms is one of ns, and both rise, no more of ms than of ns are from low up to high
 many-among : (low high : ℕ) (ns ms : List ℕ) → AllPairs (λ a b. a < b) ns → AllPairs (λ a b. a < b) ms → ((x : ℕ) → Contains ms x → Contains ns x) → many low high ms ≤ many low high ns
--- of no numbers none is counted; and where ns is empty, ms is too
 many-among low high [] [] up up' all = omega arith
 many-among low high [] (m ∷ ms) up up' all = absurd (Contains-nil m (all m (head_in m ms)))
 many-among low high (n ∷ ns) [] up up' all = omega arith
@@ -171,9 +168,9 @@ many-among low high (n ∷ ns) (m ∷ ms) up up' all =
     ]
 
 -- where ms are a part of ns, both rise, and as many of both lie from low up to high, each of ns from low up to high is one of ms
+-- x is one of ns that lies there, so one of ms does too, and neither list is empty
 pub among-all : (low high : ℕ) (ns ms : List ℕ) → AllPairs (λ a b. a < b) ns → AllPairs (λ a b. a < b) ms → ((x : ℕ) → Contains ms x → Contains ns x) →
     many low high ns ≤ many low high ms → (x : ℕ) → Contains ns x → low ≤ x → x ≤ high → Contains ms x
--- x is one of ns, so ns is not empty; and where ms is empty, nothing of ns lies from low up to high, but x does
 among-all low high [] ms up up' all few x has le le' = absurd (Contains-nil x has)
 among-all low high (n ∷ ns) [] up up' all few x has le le' = absurd (let some = many-some low high (n ∷ ns) x has le le' in omega (arith, some, few))
 among-all low high (n ∷ ns) (m ∷ ms) up up' all few x has le le' =

@@ -188,11 +188,10 @@ module _ (texts : Texts) (number : ℕ) (bytes : List ℕ) (book : IsBook (texts
     where
       -- the book without the newest message has a number that is below the next one, since that number is not the newest
       go : Keeps texts (get_or numbers k d) ⊎ (number ≡ get_or numbers k d) → Keeps texts (get_or numbers (k + 1) d) ⊎ (number ≡ get_or numbers (k + 1) d) → get_or numbers k d < get_or numbers (k + 1) d → Keeps texts (get_or numbers k d)
-      -- the number is of a message before the newest, as it has to be
       go (inl keeps) next less = keeps
-      -- it is that of the newest message, and the next number is of an older one, so it would not be above it
+      -- the number is that of the newest message and the next one that of an older message, so the next one would be lower
       go (inr same) (inl keeps) less = absurd (let above = newest_above texts number bytes book (get_or numbers (k + 1) d) keeps in omega (arith, above, same, less))
-      -- both numbers are that of the newest message, so the next one would not be above it
+      -- both are the number of the newest message, so the next one would not be above the first
       go (inr same) (inr next) less = absurd (omega (arith, same, next, less))
 
   -- the numbers without the last rise
@@ -228,17 +227,16 @@ split_last texts last size = grind (arith, take_all, take_more)
 pub placed_texts : (loose : Bool) (kept : List KeptMessage) → texts_of (placed loose kept) ≡ placed loose (texts_of kept)
 placed_texts false kept = refl
 placed_texts true kept =
-    -- to leave the last message out and then to see each as the book has it comes to the same in either order
+    -- to leave the last message out, and to see each as the book has it, comes to the same in either order
     let text : KeptMessage → ℕ × List ℕ = λ k. (k.number, k.bytes.items) in
     sym (take-map text (length kept - 1) kept) ∙ ap (λ n. take (n - 1) (map text kept)) (sym (length-map kept text))
 
--- where some messages stay, the places of those that have one are in order
+-- where some messages stay, the places of those that have one are in order; `loose` says whether the newest message has none
 pub retained_order : (loose : Bool) (texts : Texts) (numbers : List ℕ) → IsBook texts → AllPairs (λ a b. a < b) numbers → All (Keeps texts) numbers → (places : List Place)
     → IsOrder (placed loose texts) places → IsOrder (placed loose (only numbers texts)) (filter_map (moved (placed loose texts) (placed loose numbers)) places)
--- all messages have a place; or the newest has none, and then a book without messages is left as it is
 retained_order false texts numbers book up kept places order = IsOrder-only texts numbers book up kept places order
 retained_order true [] [] book up kept places order = IsOrder-only [] [] book up kept places order
--- a number that stays is that of a message, so there is one
+-- a number that stays is that of a message, so the book is not empty
 retained_order true [] (n ∷ ns) book up kept places order = absurd (Contains-nil n (All-head (Keeps []) n ns kept))
 retained_order true (x ∷ xs) numbers book up kept places order =
     let texts : Texts = x ∷ xs in

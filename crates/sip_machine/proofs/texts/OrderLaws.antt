@@ -71,7 +71,6 @@ searchable texts places key rising =
 
 -- an answer that two things are equal is neither that the one is less nor that it is greater
 never-equal : (o : Ordering) → o ≡ Equal → (o ≡ Less) ⊎ (o ≡ Greater) → ⊥
--- the ordering is `Less` or `Greater`, which is not `Equal`, or it is `Equal`, and then it is neither of the two
 never-equal Less equal other = absurd (omega (arith, ap ordering_index equal))
 never-equal Equal equal (inl less) = absurd (omega (arith, ap ordering_index less))
 never-equal Equal equal (inr greater) = absurd (omega (arith, ap ordering_index greater))

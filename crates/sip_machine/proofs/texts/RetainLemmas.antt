@@ -115,7 +115,6 @@ place_none (m ∷ ms) n none =
 -- number
 found_later : (m : ℕ) (ms : List ℕ) (n i d : ℕ) (o : Option ℕ) → ((j : ℕ) → place_among ms n ≡ Some j → (j < length ms) × (get_or ms j d ≡ n))
     → place_among ms n ≡ o → option_map suc (place_among ms n) ≡ Some i → (i < suc (length ms)) × (get_or (m ∷ ms) i d ≡ n)
--- where the number has no place among the others, it has none among all, so this cannot be
 found_later m ms n i d None found is next = absurd (let none : None ≡ Some i = sym (ap (option_map suc) is) ∙ next in cc)
 found_later m ms n i d (Some j) found is next =
     -- the place among all is one more than the place among the others
@@ -174,7 +173,7 @@ module _ {X Y : Type 0} (f : X → Option Y) where
   -- u is the first element of the list, xs are the others, and o is what f gives of u
   contains_step : (u x : X) (xs : List X) (y : Y) → f x ≡ Some y → (Contains xs x → Contains (filter_map f xs) y) → (o : Option Y) → f u ≡ o → (u ≡ x) ⊎ Contains xs x
       → Contains (cons_option o (filter_map f xs)) y
-  -- u is the first element, and f gives nothing of it: so it is not x
+  -- f gives nothing of u: so u is not x
   contains_step u x xs y gives rest None is (inl same) = absurd (let never : None ≡ Some y = sym is ∙ ap f same ∙ gives in cc)
   -- x is one of the others, and so y is in what f gives of them
   contains_step u x xs y gives rest None is (inr has) = rest has
@@ -398,7 +397,6 @@ module _ (texts : Texts) (numbers : List ℕ) (book : IsBook texts) (up : AllPai
       -- where the place is moved to q, q keeps its hash and has the position of the number of its message
       go : (o : Option ℕ) → place_among numbers (number_at texts p.position) ≡ o → option_map (λ i. record { hash = p.hash; position = i }) (place_among numbers (number_at texts p.position)) ≡ Some q
           → (q.hash ≡ p.hash) × (q.position < length numbers) × (get_or numbers q.position 0 ≡ number_at texts p.position)
-      -- the number has no place among those that stay, so the place is not moved at all
       go None is out = absurd (let never : None ≡ Some q = sym (ap (option_map (λ i. record { hash = p.hash; position = i })) is) ∙ out in cc)
       -- the place is among the numbers at i, so it is moved there
       go (Some i) is out =

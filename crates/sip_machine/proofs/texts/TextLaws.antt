@@ -30,7 +30,6 @@ text_of-other number bytes texts n e = rw (ne_eqb number n e)
 -- the bytes of the number of the message at an index are its bytes
 pub text_of-at : (texts : Texts) (i : ℕ) (x : ℕ × List ℕ) → AllPairs (λ a b. a.0 < b.0) texts → i < length texts →
     x ≡ get_or texts i x → text_of texts x.0 ≡ x.1
--- a book without messages has no index
 text_of-at [] i x rising low e = absurd (omega arith)
 -- the message is the first one
 text_of-at (kept ∷ texts) zero x rising low e = text_of-same kept.0 kept.1 texts x.0 (ap (λ k. k.0) (sym e)) ∙ ap (λ k. k.1) (sym e)

@@ -140,17 +140,15 @@ fold-append : (a : ℕ) (xs ys : List ℕ) → fold min a (xs ++ ys) ≡ fold mi
 fold-append a [] ys = refl
 fold-append a (x ∷ xs) ys = fold-append (min a x) xs ys
 
--- the earliest of two lists is the earlier of the earliest of each
+-- the earliest of two lists is the earlier of the earliest of each; that of the first is m, so the list is not empty
 pub earliest-some : (m : ℕ) (xs ys : List ℕ) → Some m ≡ earliest xs → earliest (m ∷ option_to_list (earliest ys)) ≡ earliest (xs ++ ys)
--- the first list has an earliest moment, so it is not empty
 earliest-some m [] ys e = cc
 earliest-some m (x ∷ xs) ys e =
     let same : m ≡ fold min x xs = cc in
     earliest-option m ys ∙ ap (λ n. Some (fold min n ys)) same ∙ ap Some (sym (fold-append x xs ys))
 
--- where the first list has no least element, the least of both lists is that of the second
+-- where the first list has no least element, and so is empty, the least of both lists is that of the second
 pub earliest-none : (xs ys : List ℕ) → None ≡ earliest xs → earliest ys ≡ earliest (xs ++ ys)
--- only an empty list has no earliest moment
 earliest-none [] ys e = refl
 earliest-none (x ∷ xs) ys e = cc
 

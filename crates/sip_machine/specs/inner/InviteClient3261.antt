@@ -2,7 +2,6 @@
 use Rattle.sip_standard.specs.InviteClient.{InviteClientPhase}
 use Rattle.sip_machine.specs.inner.InviteClient.{invite_client_coded}
 use Rattle.sip_machine.specs.inner.Coded.{Coded}
--- The laws that a machine has to show of these phases stand in a file of their own.
 pub mod Laws
 
 -- how the code has the phases of the INVITE client of RFC 3261: as those of `InviteClient`

@@ -7,7 +7,6 @@ use Rattle.sip_standard.specs.Times.{last_moment}
 use Rattle.sip_machine.specs.Texts.{Texts, text_of}
 use Rattle.sip_machine.specs.inner.Coded.{Coded}
 use Rattle.sip_standard.specs.InviteServer.{InviteServerPhase, Idle, Proceeding, Accepted, Completed, Confirmed}
--- The laws that a machine has to show of these phases stand in a file of their own.
 pub mod Laws
 
 -- the phase of the figure that a phase of the code stands for beside a book

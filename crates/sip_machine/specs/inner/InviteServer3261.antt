@@ -7,7 +7,6 @@ use Rattle.sip_machine.specs.Texts.{Texts}
 use Rattle.sip_machine.specs.inner.InviteServer.{invite_server_seen, invite_server_names, InviteServerInRange}
 use Rattle.sip_machine.specs.inner.Coded.{Coded}
 use Rattle.sip_standard.specs.InviteServer3261.{In, InviteServer3261Phase, Passed}
--- The laws that a machine has to show of these phases stand in a file of their own.
 pub mod Laws
 
 -- the phase of the figure that a phase of the code stands for beside a book

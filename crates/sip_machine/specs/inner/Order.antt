@@ -24,11 +24,11 @@ abbrev pub placed : {X : Type 0} → Bool → List X → List X
 placed false all = all
 placed true all = take (length all - 1) all
 
--- the hash of all of these bytes: what the hasher of the standard library gives at its end, to which the bytes were written
+-- the hash of all of these bytes: what the hasher of the standard library gives once they were written to it
 abbrev pub full_hash : List ℕ → ℕ
 full_hash bytes = finish (write initial bytes)
 
--- the hash of these bytes, by the first 256 of them, by which ordinary messages differ
+-- the hash of the first 256 of these bytes, in which ordinary messages differ
 abbrev pub hash_of : List ℕ → ℕ
 hash_of bytes = full_hash (take 256 bytes)
 

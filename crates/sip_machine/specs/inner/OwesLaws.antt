@@ -25,10 +25,9 @@ debt_same : (c d : Debt) → c.message ≡ d.message → c.deadline ≡ d.deadli
 debt_same c d message deadline must =
     let e : record { message = c.message; deadline = c.deadline; must = c.must } ≡ d = rw (message, deadline, must) in e
 
--- debts that stand for the same beside one book are the same
+-- debts that stand for the same beside one book are the same; lists of different lengths never stand for the same
 pub owes_apart : (texts : Texts) (xs ys : List Debt) → IsBook texts → All (Keeps texts) (owes_names xs) →
     All (Keeps texts) (owes_names ys) → owes_seen texts xs ≡ owes_seen texts ys → xs ≡ ys
--- lists of different lengths stand for different ones
 owes_apart texts [] [] book x_known y_known e = refl
 owes_apart texts [] (y ∷ ys) book x_known y_known e = cc
 owes_apart texts (x ∷ xs) [] book x_known y_known e = cc

@@ -99,7 +99,6 @@ fn set_aside(kept: &mut Vec<KeptMessage>, spare: &mut Vec<Vec<u8>>, left: usize)
 {
     let most = left.saturating_add(MORE);
     spare.truncate(most);
-    // There are to be `most` spare buffers at most, and no memory is taken for more of them.
     for _ in spare.len()..most.min(spare.capacity()) {
         if kept.len() <= left {
             return;

@@ -35,14 +35,14 @@ pub(crate) fn first_acked(
     if dues.owes_nothing(row) {
         return Ok(None);
     }
-    // Bytes that are no message are no ACK, and no ACK is for them.
+    // Bytes that are no message are no ACK, and no ACK belongs to them.
     let Some(ack) = book.message(alloc, event.number())? else {
         return Ok(None);
     };
     let Some(invite) = book.message(alloc, request)? else {
         return Ok(None);
     };
-    // The two tell whether it is an ACK for the INVITE; to which response it belongs, its To tells alone.
+    // The two tell whether it is an ACK for the INVITE. To which response it belongs, its To alone tells.
     if !is_ack_for(&ack, &invite) {
         return Ok(None);
     }
@@ -73,7 +73,7 @@ fn first_with_to(
         if found.is_some() {
             return Ok(found);
         }
-        // All debts were looked at, and none has the To.
+        // All debts were looked at, and none that can still be paid has the To.
         if debts.len() < most {
             return Ok(None);
         }
@@ -109,7 +109,7 @@ fn first_under(
         book.count_steps(most);
         return Ok(None);
     };
-    // None of the messages under the hash is owed, and so none that is owed has the To.
+    // No debt that can still be paid is of a message under the hash, and so none is of one with the To.
     let Some(message) = first else {
         return Ok(Some(None));
     };

@@ -14,7 +14,7 @@ unfoldable pub the : {X : Type 0} {R : X → Type 0} → ExactlyOne R → X
 the one = one.0
 
 -- there is at most one value of which alone R holds, where values are coded
+-- two such values are the same, and by which proofs makes no difference
 pub One-prop : {X : Type 0} → Coded X → (R : X → Type 0) → IsProp (ExactlyOne R)
--- two values of which alone R holds are the same, and which proofs say so makes no difference
 One-prop c R u v =
     Σ_prop_path (λ _. ∥∥₁_prop) (∥∥₁_elim u.1 (Coded-set c u.0 v.0) (λ p. ∥∥₁_elim v.1 (Coded-set c u.0 v.0) (λ q. q.only u.0 p.is)))

@@ -39,7 +39,7 @@ SomeUri text = (parts : UriParts) × UriText text parts
 abbrev pub Opening : List ℕ → Type 0
 Opening text = (display : Option (List ℕ)) × IfSome display DisplayName × BeforeUri display text
 
--- SEMI generic-param without blanks
+-- ";" and then a generic-param, with no blank between them
 abbrev pub PlainParam : List ℕ × Option (List ℕ) → List ℕ → Type 0
 PlainParam param = Byte semicolon then (λ t. ParamText t param)
 

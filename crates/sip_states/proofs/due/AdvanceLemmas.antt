@@ -1,6 +1,5 @@
 -- Sets that wait, one after another, and what the marked sets name.
 -- In the lemmas i and n are indices of sets or places of a list, d is what stands beyond its end, and r the result of a call, whose errors are of the type E.
--- What holds anyway, as a fact of a value that is not there, holds by `tt`.
 use Rattle.std.proofs.Common.{cond, zero, suc, Bool, true, false, true≢false, Result, Ok, Err, OnOk, OnErr, AllPairs, Contains, ◌↔◌, ◌++◌, [], ◌∷◌, ◌≡◌, ◌≢◌, ◌≤◌, ◌<◌, ◌⊎◌, inl, inr, ℕ, Option, Some, None, List, ◌+◌, map, take, option_copied, All, length, get_or, slice_get, slice_set, refl, sym, ap, ◌∙◌, subst, arith}
 use Rattle.std.specs.List.{flat_map}
 use Rattle.std.specs.Result.{is_ok}
@@ -155,7 +154,7 @@ pub marked_push : (P : AnySet → Type 0) (marks : List Bool) (sets : List AnySe
     → ElseHolds P (marks ++ false ∷ []) (sets ++ set ∷ [])
 marked_push P marks sets set long are silent n other at mark =
     elim (push_place sets set n other at) [
-      -- a set at an index is one of before with its mark of before, or the new one
+      -- the set at the index is an old one with its old mark, or the new one
       | inl old ↦ elim (push_place marks false n false mark) [
         | inl was ↦ are n other old was
         | inr new ↦ (let low = slice_get_within sets n other old in absurd (omega (arith, long, low, new.0)))

@@ -1,5 +1,4 @@
 -- Lemmas of the agenda: the last moment of each index as records, and as lines in the order of the moments.
--- What holds anyway, as a fact of a value that is not there, holds by `tt`.
 use Rattle.std.proofs.Common.{◌≡◌, ◌↔◌, ◌≤◌, ◌<◌, ℕ, Bool, true, false, cond, ◌==◌, ◌&&◌, List, [], ◌∷◌, length, Option, Some, None, IfSome, position, slice_get, get_or, refl, sym, ap, subst, ◌∙◌, true≢false, arith, ◌⊎◌, inl, inr}
 use Rattle.std.proofs.lemmas.Grind.{common_steps}
 use Rattle.std.proofs.lemmas.List.Quantifiers.{position-Some}
@@ -39,15 +38,14 @@ not_above a b = by (nat_cmp a.0 b.0) (ranks a.0 b.0)
     by Equal h e = omega (arith, h)
     by Greater h e = absurd (true≢false e)
 
--- an order with one line more has a line exactly where it had the line, or the line is the new one
+-- an order with one line more has a line exactly where it had the line, or the line is the new one; `own` says whether it is that one, `had` whether it was
+-- there
 with_line : (P : Type 0) (own had : Bool) → Decides own P → (cond own true had ≡ true → (had ≡ true) ⊎ P) × ((had ≡ true) ⊎ P → cond own true had ≡ true)
--- the line compares as equal with the new one, or it does not and is looked for among the old ones
 with_line P true had decides = (λ e. inr (decides.0 refl), λ e. refl)
 with_line P false had decides = (λ e. inl e, λ h. elim h [ inl e ↦ e | inr p ↦ absurd (true≢false (sym (decides.1 p))) ])
 
--- an order from which a line was taken has a line exactly where it had the line, and the line is another one
+-- an order from which a line was taken has a line exactly where it had the line, and the line is another one; `own` says whether it is the one that was taken
 without_line : (P : Type 0) (own had : Bool) → Decides own P → (cond own false had ≡ true → (had ≡ true) × (P → ⊥)) × ((had ≡ true) × (P → ⊥) → cond own false had ≡ true)
--- the line compares as equal with the one that was taken, or it does not and is looked for among the old ones
 without_line P true had decides = (λ e. absurd (true≢false (sym e)), λ h. absurd (h.1 (decides.0 refl)))
 without_line P false had decides = (λ e. (e, λ p. true≢false (sym (decides.1 p))), λ h. h.0)
 

@@ -1,5 +1,4 @@
 -- What `AnySet` says of its start, of waiting and of taking an event, put together from the clauses of `StateSet`.
--- What holds anyway, as a fact of a value that is not there, holds by `tt`.
 use Rattle.std.proofs.Common.{◌≡◌, ◌≤◌, ◌+◌, ℕ, Result, Ok, Err, OnOk, length, refl, sym, ap, ◌∙◌}
 use Rattle.sip_standard.specs.KeyMachine.{MachineKind, machine_of_key}
 use Rattle.sip_standard.specs.Key.{KeyParts}

@@ -14,7 +14,6 @@ coded_holds machine = (code_of machine).are_coded
 
 -- `of`, asked by the machine of a set, is `of` of this machine where the set is made for it
 pub by_machine_is {ℓ} : {A : Type ℓ} (of : (machine : MachineKind) → Held Times (StateOf machine) → A) (machine : MachineKind) (s : Held Times (StateOf machine)) → by_machine of (set_of machine s) ≡ of machine s
--- it is so of each machine by the definition of `by_machine`
 by_machine_is of OfInviteClient s = refl
 by_machine_is of OfPlainClient s = refl
 by_machine_is of OfInviteServer s = refl

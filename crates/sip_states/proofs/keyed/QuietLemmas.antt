@@ -18,9 +18,8 @@ use Rattle.sip_states.proofs.keyed.ByMachine.{first_of, last_of, first_is_of, la
 use Rattle.sip_states.proofs.lists.Listed.{Contains-single}
 
 -- a state that a restart led to is left as it is by a second restart
--- the first restart leads from x to y, and the second one from y to z
+-- the first restart leads from x to y, which is the idle state or the ended one, and the second one from y to z
 pub restarts_once : {X : Type 0} (f : Figure X) (x y z : Owing X) → Restarts f x y → Restarts f y z → z ≡ y
--- y is the idle state or the ended one, as x is idle or not; the second restart finds y idle and leaves it so, or ends it
 restarts_once f x y z (inl (idle, y_is)) (inl (same, z_is)) = z_is ∙ sym y_is
 restarts_once f x y z (inl (idle, y_is)) (inr (other, z_is)) = absurd (other (ap (λ s. s.phase) y_is))
 restarts_once f x y z (inr (busy, y_is)) (inl (same, z_is)) = z_is ∙ ap quiet (sym same ∙ ap (λ s. s.phase) y_is) ∙ sym y_is

@@ -1,5 +1,4 @@
 -- A key that starts anew: the set with which it comes can wait for ever and needs no mark.
--- What holds anyway, as a fact of a value that is not there, holds by `tt`.
 use Rattle.std.proofs.Common.{ℕ, Bool, List, None, Contains, inl, inr, map, slice_set, refl, sym, subst}
 use Rattle.sip_standard.specs.Key.{KeyParts}
 use Rattle.sip_standard.specs.Times.{Times}

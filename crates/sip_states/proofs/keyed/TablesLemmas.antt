@@ -15,11 +15,11 @@ use Rattle.sip_key.specs.inner.KeyLaws.{same_key-decides}
 some-is-none : {X : Type 0} (x : X) → Some x ≡ None → ⊥
 some-is-none x e = cc
 
--- one step of the next lemma: the first of the pairs has the key (b says so), or the key is found among the others, at the place n
+-- one step of the next lemma: the first of the pairs has the key (b says whether), or the key is found among the others, at the place n
+-- the first pair has the key, which stands at 0 then; or it is found one place further than among the others
 found-step : {X : Type 0} (e : KeyParts × X) (es : List (KeyParts × X)) (key : KeyParts) (n : ℕ) (b : Bool) → same_key key e.0 ≡ b
     → (b ≡ false → (slice_get (keys_of es) n ≡ Some key) × (n < length es))
     → (slice_get (e.0 ∷ keys_of es) (cond (not b) (1 + n) 0) ≡ Some key) × (cond (not b) (1 + n) 0 < length (e ∷ es))
--- the first pair has the key, which stands at 0 then; or it is found one place further than among the others
 found-step e es key n true p rest = (ap Some (sym ((same_key-decides key e.0).0 p)), omega arith)
 found-step e es key n false p rest =
     let found = rest refl in
@@ -39,7 +39,7 @@ pub All-absent : {X : Type 0} (es : List (KeyParts × X)) (key : KeyParts) → l
 All-absent [] key none = λ k d l. absurd (omega (arith, l))
 All-absent {X} (e ∷ es) key none = at (same_key key e.0) refl (All-absent es key)
   where
-    -- none of the keys is the one that is looked for: b says whether the first is, and if it is the look-up would have found it
+    -- none of the keys is the one that is looked for: b says whether the first is, which the look-up would have found
     at : (b : Bool) → same_key key e.0 ≡ b → (lookup (same_key key) es ≡ None → All (λ k. k ≢ key) (keys_of es)) → All (λ k. k ≢ key) (e.0 ∷ keys_of es)
     at true p rest k d l = absurd (some-is-none e.1 (subst (λ b. cond b (Some e.1) (lookup (same_key key) es) ≡ None) p none))
     at false p rest zero d l = λ same. true≢false (sym ((same_key-decides key e.0).1 (sym same)) ∙ p)

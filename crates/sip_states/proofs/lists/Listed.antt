@@ -49,7 +49,7 @@ module _ {X : Type 0} (test : X → Bool) (x : X) where
   kept [] h = absurd (Contains-none x h)
   kept (y ∷ ys) h = step (test y) refl (kept ys) h
     where
-      -- x is in the list and passes the test, whether or not y passes it, which b says
+      -- x is in the list and passes the test, whether or not y passes it; b says whether y does
       step : (b : Bool) → test y ≡ b → (Contains (filter test ys) x → Contains ys x × (test x ≡ true)) → Contains (cond b (y ∷ filter test ys) (filter test ys)) x →
           Contains (y ∷ ys) x × (test x ≡ true)
       -- the first element passes and is kept, or it is left out
@@ -65,7 +65,7 @@ module _ {X : Type 0} (test : X → Bool) (x : X) where
   keeps [] h passes = absurd (Contains-none x h)
   keeps (y ∷ ys) h passes = step (test y) refl (Contains-cons y ys x h) (λ later. keeps ys later passes)
     where
-      -- x is among the elements that pass, whether or not y passes the test, which b says
+      -- x is among the elements that pass, whether or not y passes the test; b says whether y does
       step : (b : Bool) → test y ≡ b → (y ≡ x) ⊎ Contains ys x → (Contains ys x → Contains (filter test ys) x) → Contains (cond b (y ∷ filter test ys) (filter test ys)) x
       step true e (inl same) rest = rw (← same) (Contains-here y (filter test ys))
       step true e (inr later) rest = Contains-there y (filter test ys) x (rest later)

@@ -14,7 +14,6 @@ set_place (u ∷ xs) (suc i) (suc n) a x at =
 
 -- the element at a place, where one more was put after all
 pub push_place : {A : Type 0} (xs : List A) (a : A) (n : ℕ) (x : A) → slice_get (xs ++ a ∷ []) n ≡ Some x → (slice_get xs n ≡ Some x) ⊎ ((n ≡ length xs) × (a ≡ x))
--- place by place: in an empty list the new element stands first, and else the first element and the places after it are looked at
 push_place [] a zero x at = inr (refl, cc)
 push_place [] a (suc n) x at = absurd cc
 push_place (u ∷ xs) a zero x at = inl at
@@ -29,7 +28,6 @@ set_here (x ∷ xs) (suc i) a low = set_here xs i a (omega arith)
 -- what stood at another place is still there
 -- a is written at the place i, and x stands at the place n
 pub set_other : {A : Type 0} (xs : List A) (i n : ℕ) (a x : A) → n ≢ i → slice_get xs n ≡ Some x → slice_get (slice_set xs i a) n ≡ Some x
--- place by place: the write and the other place are both first, which cannot be, or one of them, or both are later
 set_other [] i n a x differ at = absurd cc
 set_other (u ∷ xs) zero zero a x differ at = absurd (differ refl)
 set_other (u ∷ xs) zero (suc n) a x differ at = at

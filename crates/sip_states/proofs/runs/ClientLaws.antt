@@ -1,9 +1,8 @@
 -- What runs of the clients send.
 -- In the lemmas x is the phase or the state before the event e, k the kind of its message, and y where the row or the step leads.
--- In cases of `Emits` a message that is sent has a row (`row`, `is_row`, `to`), or pays a debt (`left`, `pays`), or changes nothing (`stays`,
--- `same`), which only the INVITE server by RFC 3261 alone lets it (Stays). In cases of `Steps` a message that is received has a row, or has none and
--- changes nothing (`none`, `same`), and a restart leaves idle as it is (`idle`) and ends any other phase (`other`).
--- ⊤ holds anyway, by `tt`.
+-- In cases of `Emits` a message that is sent has a row (`row`, `is_row`, `to`), or pays a debt (`left`, `pays`), or changes nothing (`stays`, `same`): only
+-- the INVITE server of RFC 3261 has such messages (Stays). In cases of `Steps` a message that is received has a row, or has none and changes nothing (`none`,
+-- `same`); a restart leaves idle as it is (`idle`) and ends any other phase (`other`).
 use Rattle.std.proofs.Common.{◌≡◌, ◌≤◌, ◌⊎◌, inl, inr, ℕ, Bool, true, false, Some, None, List, [], ◌∷◌, ◌++◌, ◌∙◌, refl, sym, subst, arith}
 use Rattle.std.specs.Prelude.{⊤}
 use Rattle.std.proofs.Math.Decide.{dec_le}
@@ -144,8 +143,8 @@ invite_rank invite.Ended = 2
 
 -- no row of a message that the INVITE client receives leads to a lower rank
 -- x is the phase, k the kind of the message e, and y where its row leads
-invite_received : (p : Times) (x : invite.InviteClientPhase) (k : Kind) (e : MachineEvent) (y : Row invite.InviteClientPhase) → invite.Receives p x k e y → invite_rank x ≤ invite_rank y.0
 -- in calling a response leads to proceeding, to accepted or to completed, and in proceeding to one of the last two
+invite_received : (p : Times) (x : invite.InviteClientPhase) (k : Kind) (e : MachineEvent) (y : Row invite.InviteClientPhase) → invite.Receives p x k e y → invite_rank x ≤ invite_rank y.0
 invite_received p (invite.Calling w) (Response code) e y (inl h) = rw h.1 (omega arith)
 invite_received p (invite.Calling w) (Response code) e y (inr (inl h)) = rw h.1 (omega arith)
 invite_received p (invite.Calling w) (Response code) e y (inr (inr h)) = rw h.1 (omega arith)
@@ -173,18 +172,16 @@ invite_sent p x k e y h = absurd h
 invite_ranked : (p : Times) → IsRanked invite.invite_client p invite_rank
 invite_ranked p = record { ended = refl; received = invite_received p; sent = invite_sent p }
 
--- an INVITE that is sent by its row leads to rank 1 or 2
+-- an INVITE that is sent by its row leads to rank 1 or 2: it has a row in idle and in calling alone, which leads to calling
 invite_opens_row : (p : Times) (x : invite.InviteClientPhase) (e : MachineEvent) (y : Row invite.InviteClientPhase) → invite.Sends p x (Request Invite) e y → 1 ≤ invite_rank y.0
--- in idle and in calling the INVITE has a row, which leads to calling, and in no later phase it has one
 invite_opens_row p invite.Idle e y h = rw h (omega arith)
 invite_opens_row p (invite.Calling w) e y h = rw h.1 (omega arith)
 invite_opens_row p (invite.Proceeding reliable request None) e y h = absurd h
 invite_opens_row p (invite.Proceeding reliable request (Some first)) e y h = absurd h
 invite_opens_row p x e y h = absurd h
 
--- only an ACK pays what the INVITE client owes
+-- only an ACK pays what the INVITE client owes, and only in completed
 pays_ack : (x : invite.InviteClientPhase) (k : Kind) (e : MachineEvent) (response : List ℕ) → invite.Satisfies x k e response → k ≡ Request Ack
--- in completed an ACK alone satisfies, and in no other phase anything does
 pays_ack (invite.Completed reliable request set) (Request Ack) e response h = refl
 pays_ack x k e response h = absurd h
 
@@ -192,9 +189,8 @@ pays_ack x k e response h = absurd h
 no_invite : Request Invite ≡ Request Ack → ⊥
 no_invite same = cc
 
--- an INVITE that is sent leads to rank 1 or 2, from whatever state
+-- an INVITE that is sent leads to rank 1 or 2, from whatever state: it has a row, since only an ACK pays a debt
 invite_opens : (p : Times) (e : MachineEvent) (x y : Owing invite.InviteClientPhase) → Emits invite.invite_client p e x y → e.kind ≡ Request Invite → 1 ≤ invite_rank y.phase
--- the INVITE has a row; it pays no debt, since an ACK alone does
 invite_opens p e x y (inl (row, is_row, to)) is = rw to (invite_opens_row p x.phase e row (subst (λ k. invite.Sends p x.phase k e row) is is_row))
 invite_opens p e x y (inr (inl (left, pays, to))) is = absurd (no_invite (sym is ∙ pays_ack x.phase e.kind e pays.first.message pays.holds.0))
 invite_opens p e x y (inr (inr (stays, same))) is = absurd stays
@@ -205,9 +201,8 @@ module _ (p : Times) (code : ℕ) (e : MachineEvent) (y : Owing invite.InviteCli
   still_over : (phase : invite.InviteClientPhase) (owes : List Owed) → 2 ≤ invite_rank phase → Steps invite.invite_client p Received e (record { phase = phase; owes = owes }) y → 2 ≤ invite_rank y.phase
   still_over phase owes over h = steps_keep invite.invite_client p (λ x. 2 ≤ invite_rank x) (rank_kept invite.invite_client p invite_rank (invite_ranked p) 2 (omega arith)) Received e _ y h over
 
-  -- a final response leads from rank 1 or 2 to rank 2
+  -- a final response leads from rank 1 or 2 to rank 2: in calling and in proceeding a 2xx has one row and a 300 to 699 another; later phases keep their rank
   invite_finishes : (phase : invite.InviteClientPhase) (owes : List Owed) → 1 ≤ invite_rank phase → Steps invite.invite_client p Received e (record { phase = phase; owes = owes }) y → 2 ≤ invite_rank y.phase
-  -- idle has a lower rank; in calling and in proceeding a 2xx has one row and a 300 to 699 another; later phases keep their rank
   invite_finishes invite.Idle owes low h = absurd (omega arith)
   invite_finishes (invite.Calling w) owes low h = by_code (dec_le code 299)
     where
@@ -238,8 +233,8 @@ module _ (p : Times) (code : ℕ) (e : MachineEvent) (y : Owing invite.InviteCli
 
 -- what a row sends from rank 2 is an ACK or a CANCEL
 -- x is the phase, k the kind of the message e, and y where its row leads
-invite_sends_row : (p : Times) (x : invite.InviteClientPhase) (k : Kind) (e : MachineEvent) (y : Row invite.InviteClientPhase) → 2 ≤ invite_rank x → invite.Sends p x k e y → (k ≡ Request Ack) ⊎ (k ≡ Request Cancel)
 -- idle, calling and proceeding have a lower rank than 2; later phases send a CANCEL alone
+invite_sends_row : (p : Times) (x : invite.InviteClientPhase) (k : Kind) (e : MachineEvent) (y : Row invite.InviteClientPhase) → 2 ≤ invite_rank x → invite.Sends p x k e y → (k ≡ Request Ack) ⊎ (k ≡ Request Cancel)
 invite_sends_row p invite.Idle k e y low h = absurd (omega arith)
 invite_sends_row p (invite.Calling w) k e y low h = absurd (omega arith)
 invite_sends_row p (invite.Proceeding reliable request cancel) k e y low h = absurd (omega arith)
@@ -277,8 +272,8 @@ module _ (p : Times) (one : MachineEvent) where
 
   -- no message that the client receives makes Awaits false
   -- x is the phase, k the kind of the message e, and y where its row leads
-  awaits_received : (x : invite.InviteClientPhase) (k : Kind) (e : MachineEvent) (y : Row invite.InviteClientPhase) → invite.Receives p x k e y → Awaits x → Awaits y.0
   -- in calling, in proceeding and in completed a response leads on; no other phase receives
+  awaits_received : (x : invite.InviteClientPhase) (k : Kind) (e : MachineEvent) (y : Row invite.InviteClientPhase) → invite.Receives p x k e y → Awaits x → Awaits y.0
   awaits_received (invite.Calling w) (Response code) e y (inl h) holds = rw h.1 tt
   awaits_received (invite.Calling w) (Response code) e y (inr (inl h)) holds = rw h.1 tt
   awaits_received (invite.Calling w) (Response code) e y (inr (inr h)) holds = rw h.1 tt
@@ -361,19 +356,18 @@ plain_rank (plain.Proceeding w) = 1
 plain_rank (plain.Completed reliable set) = 2
 plain_rank plain.Ended = 2
 
--- no row of a message that the non-INVITE client receives leads to a lower rank
+-- no row of a message that the non-INVITE client receives leads to a lower rank: in trying a response leads to proceeding or to completed, and in proceeding
+-- a final one to completed
 -- x is the phase, k the kind of the message e, and y where its row leads
 plain_received : (p : Times) (x : plain.PlainClientPhase) (k : Kind) (e : MachineEvent) (y : Row plain.PlainClientPhase) → plain.Receives p x k e y → plain_rank x ≤ plain_rank y.0
--- in trying a response leads to proceeding or to completed, and in proceeding a final one to completed
 plain_received p (plain.Trying w) (Response code) e y (inl h) = rw h.1 (omega arith)
 plain_received p (plain.Trying w) (Response code) e y (inr h) = rw h.1 (omega arith)
 plain_received p (plain.Proceeding w) (Response code) e y h = rw h.1 (omega arith)
 plain_received p x k e y h = absurd h
 
--- no row of a message that the non-INVITE client sends leads to a lower rank
+-- no row of a message that the non-INVITE client sends leads to a lower rank: idle has the lowest one, and a repeat of the request leaves the rank as it is
 -- x is the phase, k the kind of the message e, and y where its row leads
 plain_sent : (p : Times) (x : plain.PlainClientPhase) (k : Kind) (e : MachineEvent) (y : Row plain.PlainClientPhase) → plain.Sends p x k e y → plain_rank x ≤ plain_rank y.0
--- idle has the lowest rank, and a repeat of the request leaves the rank as it is
 plain_sent p plain.Idle k e y h = omega arith
 plain_sent p (plain.Trying w) (Request method) e y h = rw h.1 (omega arith)
 plain_sent p (plain.Proceeding w) (Request method) e y h = rw h.1 (omega arith)
@@ -387,9 +381,8 @@ plain_ranked p = record { ended = refl; received = plain_received p; sent = plai
 abbrev IsRequest : Kind → Type 0
 IsRequest k = (method : Method) × (k ≡ Request method)
 
--- a request that is sent by its row leads to rank 1 or 2
+-- a request that is sent by its row leads to rank 1 or 2: in idle to trying; in trying and in proceeding it is sent again, and no later phase sends one
 plain_opens_row : (p : Times) (x : plain.PlainClientPhase) (method : Method) (e : MachineEvent) (y : Row plain.PlainClientPhase) → plain.Sends p x (Request method) e y → 1 ≤ plain_rank y.0
--- in idle the request leads to trying; in trying and in proceeding it is sent again, and no later phase sends
 plain_opens_row p plain.Idle method e y h = rw h (omega arith)
 plain_opens_row p (plain.Trying w) method e y h = rw h.1 (omega arith)
 plain_opens_row p (plain.Proceeding w) method e y h = rw h.1 (omega arith)
@@ -407,9 +400,8 @@ module _ (p : Times) (code : ℕ) (e : MachineEvent) (y : Owing plain.PlainClien
   plain_still_over : (phase : plain.PlainClientPhase) (owes : List Owed) → 2 ≤ plain_rank phase → Steps plain.plain_client p Received e (record { phase = phase; owes = owes }) y → 2 ≤ plain_rank y.phase
   plain_still_over phase owes over h = steps_keep plain.plain_client p (λ x. 2 ≤ plain_rank x) (rank_kept plain.plain_client p plain_rank (plain_ranked p) 2 (omega arith)) Received e _ y h over
 
-  -- a final response leads from rank 1 or 2 to rank 2
+  -- a final response leads from rank 1 or 2 to rank 2: in trying and in proceeding it has a row, and in completed and ended none
   plain_finishes : (phase : plain.PlainClientPhase) (owes : List Owed) → 1 ≤ plain_rank phase → Steps plain.plain_client p Received e (record { phase = phase; owes = owes }) y → 2 ≤ plain_rank y.phase
-  -- idle has a lower rank; in trying and in proceeding a final response has a row, and in completed and ended none
   plain_finishes plain.Idle owes low h = absurd (omega arith)
   plain_finishes (plain.Trying w) owes low h = leads_on plain.plain_client p plain_rank _ y e _ (Response code) is (inr (final, refl)) all h
     where
@@ -424,7 +416,6 @@ module _ (p : Times) (code : ℕ) (e : MachineEvent) (y : Owing plain.PlainClien
 -- no row sends a message from rank 2
 -- x is the phase, k the kind of the message e, and y where its row leads
 plain_sends_row : (p : Times) (x : plain.PlainClientPhase) (k : Kind) (e : MachineEvent) (y : Row plain.PlainClientPhase) → 2 ≤ plain_rank x → plain.Sends p x k e y → ⊥
--- idle, trying and proceeding have a lower rank than 2; completed and ended have no row for what is sent
 plain_sends_row p plain.Idle k e y low h = omega arith
 plain_sends_row p (plain.Trying w) k e y low h = omega arith
 plain_sends_row p (plain.Proceeding w) k e y low h = omega arith

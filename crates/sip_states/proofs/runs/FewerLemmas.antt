@@ -79,7 +79,7 @@ module _ {X : Type 0} (r : MachineRules X) where
       by_end : Dec (t ≤ m) → (t ≤ m → Stands z t events m) → Stands x h events m
       by_end (yes early) later = hides x h t z events m after does (later early)
       by_end (no late) later = of_events (omega (arith, late)) events is low
-  -- a step that takes an event takes one of the two lists, so that not both are empty
+  -- a step that takes an event takes it from one of the two lists, so not both are empty
   Goes-fewer x h (Takes f ∷ steps) y last [] [] m n (z, after, does, goes) waits is low high from to = absurd (cc)
   -- the event comes after m, so the state stays until m
   Goes-fewer x h (Takes f ∷ steps) y last [] (e ∷ more) m n (z, after, does, goes) waits is low high from to =

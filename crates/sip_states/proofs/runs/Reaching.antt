@@ -58,7 +58,7 @@ module _ {S : Type 0} (window : S → Option (ℕ × Option ℕ)) (until : S →
   pub last_all : (xs : List S) (last : ℕ) → xs ≢ [] → All (λ x. IsWithin h (until x)) xs → IsLastSoFar xs last →
       IsLastOf (λ m. SomeCanReach window until h m xs) h (Some last)
   last_all [] last some waiting so_far = absurd (some refl)
-  -- a moment that is reached is no later than the last one; and until the last one some state can wait; up to h the first one can
+  -- a moment that some state can reach is no later than the last one; and up to the last one some state can wait: up to h the first one can
   last_all (x ∷ xs) last some waiting so_far = λ m low. (
     λ reach. (so_far m low).0 (inr reach),
     λ high. elim ((so_far m low).1 high) [

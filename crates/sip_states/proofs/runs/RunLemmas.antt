@@ -13,7 +13,6 @@ taken-hides (t ∷ ends) = taken-hides ends
 
 -- steps that take no event are all hidden
 pub none_taken : (steps : List Step) → taken steps ≡ [] → (ends : List ℕ) × (steps ≡ map Hides ends)
--- no step, a hidden step before others, or a step that takes an event, which cannot be
 none_taken [] e = ([], refl)
 none_taken (Hides t ∷ steps) e = let (ends, is) = none_taken steps e in (t ∷ ends, ap (λ s. Hides t ∷ s) is)
 none_taken (Takes f ∷ steps) e = absurd (cc)
@@ -41,8 +40,8 @@ later : (steps : List Step) (g k : MachineEvent) (fs : List MachineEvent) (f : M
 later steps g k fs f first s = record { front = Takes g ∷ s.front; ends = s.ends; is = ap (λ more. Takes g ∷ more) s.is; takes = rw (first, s.takes) }
 
 -- steps that take the events fs and then f are split at the one that takes f
-pub split_last : (steps : List Step) (fs : List MachineEvent) (f : MachineEvent) → taken steps ≡ fs ++ f ∷ [] → SplitAt steps fs f
 -- no events are as long as one or more; a hidden step changes no event; where f alone is left, the first step that takes an event takes f
+pub split_last : (steps : List Step) (fs : List MachineEvent) (f : MachineEvent) → taken steps ≡ fs ++ f ∷ [] → SplitAt steps fs f
 split_last [] [] f e = absurd (cc)
 split_last [] (g ∷ fs) f e = absurd (cc)
 split_last (Hides t ∷ steps) fs f e =
@@ -61,7 +60,6 @@ module _ {X : Type 0} (r : MachineRules X) where
   -- steps pass through the state before each step
   -- the steps lead from x at the moment h to y at the moment m
   pub Goes-split : (x : X) (h : ℕ) (front : List Step) (step : Step) (rest : List Step) (y : X) (m : ℕ) → Goes r x h (front ++ step ∷ rest) y m → Passes x h front step rest y m
-  -- the step comes first, or after the first of `front`, over which the rest is split
   Goes-split x h [] step rest y m (z, low, does, goes) = record { middle = z; goes = (z, low, does, (refl, refl)); then = goes }
   Goes-split x h (s ∷ front) step rest y m (z, low, does, goes) =
       let p = Goes-split z (moment_of_step s) front step rest y m goes in record { middle = p.middle; goes = (z, low, does, p.goes); then = p.then }
@@ -86,7 +84,6 @@ module _ {X : Type 0} (r : MachineRules X) where
   -- steps to the moment of the last one are those before it and that one
   -- the steps lead from x at the moment h to y at the moment of the last one; z is the state after the first
   pub Goes-last : (x : X) (h : ℕ) (front : List Step) (step : Step) (y : X) → Goes r x h (front ++ step ∷ []) y (moment_of_step step) → Lasts x h front step y
-  -- the last step is the only one, or comes after the first of `front`
   Goes-last x h [] step y (z, low, does, last) = record { before = x; at = h; goes = (refl, refl); low = low; does = rw last.0 does }
   Goes-last x h (s ∷ front) step y (z, low, does, goes) =
       let l = Goes-last z (moment_of_step s) front step y goes in record { before = l.before; at = l.at; goes = (z, low, does, l.goes); low = l.low; does = l.does }

@@ -1,7 +1,7 @@
 -- What runs of the servers send.
--- In cases of `Emits` a message that is sent has a row (`row`, `is_row`, `to`), or pays a debt (`left`, `pays`), or changes nothing (`stays`,
--- `same`), which only the INVITE server by RFC 3261 alone lets it (Stays). In cases of `Steps` a message that is received has a row, or has none and
--- changes nothing (`none`, `same`), and a restart leaves idle as it is (`idle`) and ends any other phase (`other`).
+-- In cases of `Emits` a message that is sent has a row (`row`, `is_row`, `to`), or pays a debt (`left`, `pays`), or changes nothing (`stays`, `same`): only
+-- the INVITE server of RFC 3261 has such messages (Stays). In cases of `Steps` a message that is received has a row, or has none and changes nothing (`none`,
+-- `same`); a restart leaves idle as it is (`idle`) and ends any other phase (`other`).
 use Rattle.std.proofs.Common.{◌≡◌, ◌⊎◌, inl, inr, ℕ, suc, Bool, true, false, None, List, [], ◌∷◌, ◌++◌, refl, subst, arith}
 use Rattle.std.specs.List.{Any}
 use Rattle.sip_standard.specs.declared.action.Action.{Action}
@@ -102,9 +102,9 @@ abbrev server : (rules : Rules) (invite : Bool) → Figure (transaction_of (mach
 server rules invite = (transaction_of (machine_of rules Server invite)).figure
 
 -- a message for which the idle phase of a server has a row is a request
+-- a request is one; no server has a row in idle for a response
 woken : (rules : Rules) (invite : Bool) (p : Times) (k : Kind) (e : MachineEvent) (y : Row (transaction_of (machine_of rules Server invite)).Phase) →
     (server rules invite).Receives p (server rules invite).idle k e y → (method : Method) × (k ≡ Request method)
--- a request is one; no server has a row in idle for a response
 woken rules invite p (Request method) e y h = (method, refl)
 woken R6026 true p (Response code) e y h = absurd h
 woken R6026 false p (Response code) e y h = absurd h

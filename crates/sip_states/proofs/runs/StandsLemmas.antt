@@ -1,6 +1,5 @@
 -- A run told in the words of the standard is a run by the rules of its figure.
 -- In the lemmas y is the state in which one stands at the moment m.
--- What holds anyway, as a fact of a value that is not there, holds by `tt`.
 use Rattle.std.proofs.Common.{◌≡◌, ◌≤◌, ◌↔◌, ℕ, Option, Some, None, IfSome, IsSomeAnd, Bool, true, false, List, [], ◌∷◌, ◌++◌, All, if◌then◌else◌, refl, sym, ◌∙◌, subst, arith}
 use Rattle.std.specs.List.{list_any}
 use Rattle.std.proofs.lemmas.List.{append_assoc, append-nil}
@@ -25,14 +24,12 @@ use Rattle.sip_states.proofs.runs.FewerLemmas.{Run-fewer}
 
 -- a moment is past no close of a window exactly where it is not past the one close that the window may have
 closes-within : (h : ℕ) (window : Option (ℕ × Option ℕ)) → All (λ m. h ≤ m) (closes_of window) ↔ IfSome window (λ w. IfSome w.1 (λ close. h ≤ close))
--- no window, and a window without a close, have no close; else there is one
 closes-within h None = (λ _. tt, λ _. All-nil (λ m. h ≤ m))
 closes-within h (Some (from, None)) = (λ _. tt, λ _. All-nil (λ m. h ≤ m))
 closes-within h (Some (from, Some to)) = (λ all. All-head (λ m. h ≤ m) to [] all, λ low. All-cons (λ m. h ≤ m) to [] low (All-nil (λ m. h ≤ m)))
 
 -- a window that has opened by h, and has not closed before h, is open at h
 open-within : (h : ℕ) (window : Option (ℕ × Option ℕ)) → IsSomeAnd window (λ w. w.0 ≤ h) → IfSome window (λ w. IfSome w.1 (λ close. h ≤ close)) → IsOpenAt h window
--- without a window none has opened; with one it is open, whether it has a close or not
 open-within h None opening low = opening
 open-within h (Some (from, None)) opening low = (opening, tt)
 open-within h (Some (from, Some to)) opening low = (opening, low)

@@ -1,5 +1,4 @@
 -- Lemmas of how the code lets a list of states wait.
--- What holds anyway, as a fact of a value that is not there, holds by `tt`.
 use Rattle.std.proofs.Common.{◌≡◌, ◌≢◌, ◌↔◌, inl, inr, ℕ, true, Option, Some, None, List, [], ◌∷◌, ◌++◌, All, AllPairs, Contains, filter, refl, sym, arith}
 use Rattle.std.proofs.lemmas.List.Elements.{All-filter, All-push, Contains-push, Contains-push_cases, Contains-append_left, Contains-get_or}
 use Rattle.std.proofs.lemmas.Bool.{leb-true, le-leb}

@@ -48,7 +48,7 @@ few_narrow names InRange seen texts P new stands few w =
     let wide = w.wide in
     omega (arith, fits, length-map new (seen texts))
 
--- What follows is of the states of a set by the rules r of a machine: `names` gives the messages that a state names, InRange says that its numbers are in
+-- What follows is of the states of a set by the rules r of a machine: `names` gives the messages that a state names, InRange says that its moments are in
 -- range, and `seen` gives what it stands for beside the book `texts`.
 module _ {X S : Type 0} (names : S → List ℕ) (InRange : S → Type 0) (seen : Texts → S → X) (texts : Texts) (r : MachineRules X) where
   -- each state that an event gave can wait at the moment of the event

@@ -1,5 +1,4 @@
 -- Lemmas of waits: since the ended state has no end, a wait takes one hidden step at most.
--- What holds anyway, as a fact of a value that is not there, holds by `tt`.
 use Rattle.std.proofs.Common.{◌≡◌, ◌≤◌, ◌↔◌, ◌⊎◌, inl, inr, ℕ, Option, Some, None, List, [], ◌∷◌, map, refl, sym, subst, arith}
 use Rattle.sip_machine.specs.Limits.{IsWithin, IsOpenAt}
 use Rattle.sip_standard.specs.MachineEvent.{MachineEvent}

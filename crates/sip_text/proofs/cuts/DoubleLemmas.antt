@@ -28,7 +28,7 @@ pub double-nowhere : (text : List ℕ) → ((k : ℕ) → k + 1 < length text �
 double-nowhere [] none = (refl, refl)
 double-nowhere (b ∷ []) none = (ap (front_onto b []) (double-last b), ap (rest_onto []) (double-last b))
 double-nowhere (b ∷ a ∷ text) none =
-    -- no "::" begins at the first byte, so that the text is cut as what follows it is
+    -- no "::" begins at the first byte, and none in what follows it
     let here : is_double_at (b ∷ a ∷ text) 0 ≡ false = none 0 (omega arith) in
     let rest = double-nowhere (a ∷ text) (λ k within. sym (double-later b k (a ∷ text)) ∙ none (suc k) (omega (arith, within))) in
     (ap (front_onto b (a ∷ text)) here ∙ ap (λ t. b ∷ t) rest.0, ap (rest_onto (a ∷ text)) here ∙ rest.1)

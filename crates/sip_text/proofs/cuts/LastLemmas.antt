@@ -24,7 +24,7 @@ last-place mark k [] within none is = absurd (omega (arith, within))
 last-place mark zero (b ∷ text) within none is =
     ap (onto mark b) (last-nowhere mark text (λ k low high. none (suc k) (omega arith) (omega arith)))
     ∙ ap (λ same. cond same (Some []) None) is
--- the mark stands later, so that the rest is cut there, with the first byte before it
+-- the last mark stands later: what follows the first byte is cut there, and the first byte stands before the cut
 last-place mark (suc k) (b ∷ text) within none is =
     ap (onto mark b) (last-place mark k text (omega (arith, within)) (λ j low high. none (suc j) (omega arith) (omega arith)) is)
 
@@ -65,7 +65,7 @@ last-split mark (b ∷ text) u is = later (before_last mark text) (last-split ma
     here true same at =
         let empty : [] ≡ u = cc in
         ap (λ x. x ∷ text) (eqb-true b mark same) ∙ ap (λ t. t ++ (mark ∷ drop (suc (length t)) (b ∷ text))) empty
-    -- where the first byte is another one, nothing stands before a mark here
+    -- where the first byte is another one too, the text is not cut
     here false same at = cc
 
     -- the claim holds whether or not the mark stands in the text after the first byte

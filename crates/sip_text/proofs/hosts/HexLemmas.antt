@@ -103,7 +103,7 @@ single-none (b ∷ text) single = ap (rest_onto text) here ∙ single-none text 
     -- no "::" stands at the front
     here : is_double_at (b ∷ text) 0 ≡ false
     here = elim (and_cases (nat_eq b colon) (nat_eq (slice_index_or text 0 colon) colon) single.0) [
-      -- either the first byte is no colon, or the one after it is none; `slice_index_or t 0 colon` takes a colon for the byte of an empty text
+      -- either the first byte is no colon, or the one after it is none; `slice_index_or text 0 colon` takes a colon for the byte of an empty text
       | inl other ↦ and_left (nat_eq b colon) (nat_eq (slice_index text 0) colon) other
       | inr other ↦ and_right (nat_eq b colon) (nat_eq (slice_index text 0) colon) (next_default text other)
     ]
@@ -117,7 +117,7 @@ single-double (b ∷ u) v single =
       ap (rest_onto (u ++ (double_colon ++ v))) here ∙ rest.1,
     )
   where
-    -- a text whose first byte is no colon begins so also with "::" after it; an empty one counts here as a colon, and so it is ruled out
+    -- a text that begins with no colon does so also with "::" after it; an empty text is ruled out, since the test takes a colon for its byte
     next : (t : List ℕ) → nat_eq (slice_index_or t 0 colon) colon ≡ false → nat_eq (slice_index (t ++ (double_colon ++ v)) 0) colon ≡ false
     next [] other = cc
     next (a ∷ t) other = other

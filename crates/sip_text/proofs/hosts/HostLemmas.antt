@@ -40,14 +40,14 @@ no_dot b letter = ne_eqb dot b (λ same. both_ways (is_ascii_alphabetic dot) ref
 
 -- a label whose first byte is a letter is a letter and what follows it
 starts_with : (text : List ℕ) → Label is_ascii_alphabetic text → (b : ℕ) × (rest : List ℕ) × (is_ascii_alphabetic b ≡ true) × (text ≡ b ∷ rest)
--- the label is the letter alone, or more bytes follow it
+-- the label is the letter alone
 starts_with text (inl one) = (one.0, [], one.1, one.2)
 starts_with text (inr more) = (more.2.0, more.1, more.2.1, more.4 ∙ ap (λ t. t ++ more.1) more.2.2)
 
 -- no hostname is an IPv4 address
 lettered : (text : List ℕ) → Hostname text → Ipv4 text → ⊥
 lettered text (u, t, many, (top, end, is_top, optional, t_is), whole) address =
-    -- the last label begins with a letter b, which would stand in an IPv4 address too
+    -- the last label begins with a letter b, but no letter stands in an IPv4 address
     let first = starts_with top is_top in
     let b = first.0 in
     let spelled : text ≡ u ++ (b ∷ (first.1 ++ end)) = whole ∙ ap (λ x. u ++ x) (t_is ∙ ap (λ x. x ++ end) first.3) in

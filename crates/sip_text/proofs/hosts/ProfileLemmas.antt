@@ -87,7 +87,7 @@ pub uri-parts : (text : List ℕ) → Uri text → (p : UriParts) × UriText tex
 -- s is the scheme, c the colon, i the userinfo, h the host, o the port, and a and b the parameters and the headers; r1 to r5 are what follows each, and e0 to
 -- e5 say so
 uri-parts text (inl (s, r1, scheme, (c, r2, c_is, (i, r3, info, (h, r4, host, (o, r5, port, (a, b, params, headers, e5), e4), e3), e2), e1), e0)) =
-    -- each part of the text is a part of the URI
+    -- what each text is: the scheme, a user and a password, a host, and a port and headers if there are any
     let named = named-scheme s scheme in
     let info_parts = optional-userinfo i info in
     let host_is = host-parts h host in

@@ -59,7 +59,7 @@ tail-yes text pass = at (before_last colon text) refl pass
         elim (or_cases (is_hexpart front) (is_open front) both.1) [
           -- a hexpart stands before the colon
           | inl hexpart ↦ inl (front, colon ∷ v4, hexpart-yes front hexpart, inr (colon ∷ [], v4, refl, address, refl), whole)
-          -- what stands before the colon ends with a colon, so that both make "::"
+          -- what stands before the colon ends with a colon, and the two are "::"
           | inr ends ↦ inr (front ++ (colon ∷ []), v4, open-yes front ends, address, whole ∙ sym (append_assoc front (colon ∷ []) v4))
         ]
 

@@ -23,7 +23,6 @@ IsPlain b = (is_quoted_byte b ≡ false) × (nat_eq b backslash ≡ false)
 -- a WSP is no byte of qdtext, and begins no quoted pair
 plain_wsp : (b : ℕ) → is_wsp b ≡ true → IsPlain b
 plain_wsp b wsp = elim (or_cases (nat_eq b space) (nat_eq b tab) wsp) [
-  -- a WSP is SP or HTAB
   | inl is ↦ subst IsPlain (sym (eqb-true b space is)) (refl, refl)
   | inr is ↦ subst IsPlain (sym (eqb-true b tab is)) (refl, refl)
 ]
@@ -31,7 +30,7 @@ plain_wsp b wsp = elim (or_cases (nat_eq b space) (nat_eq b tab) wsp) [
 -- where a blank stands at the front of a text, `item_len` gives what `blank_len` gives
 item-blank : (u v : List ℕ) → Blank u → item_len (u ++ v) ≡ blank_len (u ++ v)
 item-blank u v (front, b, inl none, one, whole) =
-    -- the blank is SP or HTAB, which is a piece of one byte by both
+    -- the blank is SP or HTAB, for which both give 1
     let text : u ≡ one.0 ∷ [] = whole ∙ ap (λ t. t ++ b) none ∙ one.2 in
     let plain = plain_wsp one.0 one.1 in
     ap (λ t. item_len (t ++ v)) text

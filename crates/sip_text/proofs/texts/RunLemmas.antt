@@ -41,7 +41,7 @@ run-front test (b ∷ text) = at (run-front test text) (test b) refl
       ap (λ t. b ∷ t) rest.3,
       omega (arith, rest.4),
     )
-    -- the first byte fails
+    -- the first byte fails, and the run has no byte
     at rest false is = ([], b ∷ text, many-nil (One test), refl, refl)
 
 -- no run of bytes of the class at the front of a text is longer than `prefix_len`

@@ -174,7 +174,7 @@ chars-stop class text [] no_percent run is = (
 chars-stop class text (b ∷ stop) no_percent run is = (
   λ empty. absurd (omega (arith, eqb-true (length (b ∷ stop)) 0 empty)),
   λ many.
-      -- if the text were characters, a character would stand after the run: a byte of the class does not, since the run stops, and an escape does not
+      -- if the text were characters, a character would stand after the run
       let here : Many (ClassChar class) (b ∷ stop) =
       chars-behind class run.run _ no_percent run.all (subst (Many (ClassChar class)) run.whole many) in
       elim (chars-cons class b stop here) [

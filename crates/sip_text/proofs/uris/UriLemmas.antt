@@ -42,7 +42,7 @@ scheme-lacks =
 one-scheme : (scheme : List ℕ) (a b : Bool) → SameText scheme (scheme_name a) → SameText scheme (scheme_name b) → a ≡ b
 one-scheme scheme true true same also = refl
 one-scheme scheme false false same also = refl
--- a scheme cannot be both names, since they have not as many letters
+-- a scheme cannot have both names, since one has more letters than the other
 one-scheme scheme true false same also = let names = sym same ∙ also in cc
 one-scheme scheme false true same also = let names = sym same ∙ also in cc
 
@@ -92,7 +92,7 @@ sip-uri secure text scheme rest (sip p) cut same (secure_is, fits, rest_is) = (
   fits,
   scheme-whole text scheme rest cut ∙ ap (λ t. scheme ++ colon ∷ t) rest_is,
 )
--- what follows the scheme of a SIP URI has no parts of another URI
+-- what follows the scheme of a SIP URI is not read as the rest of another URI
 sip-uri secure text scheme rest (other name tail) cut same none = absurd none
 
 -- where the scheme is "sip" or "sips", what is read of the rest is the one value that the text has as a URI

@@ -83,8 +83,8 @@ decides-param text name value r name_is value_is =
     (subst ParamWord (sym name_is) both.0, subst (λ o. IfSome o ParamWord) (sym value_is) both.1))
 
 -- what decides the name and the value of a header, cut at the first "=", decides the header
+-- the text is a header where its name is one character or more and its value, which has to be there, is characters, and only there, since a name has no "="
 pub decides-header : (text name : List ℕ) (value : Option (List ℕ)) (r : Bool) → name ≡ before equals text → value ≡ behind equals text → Decides r (OneOrMore HeaderChar name × IsSomeAnd value (Many HeaderChar)) → Decides r (Header text)
--- the text is a header where its name has characters and its value is of characters, and only there, since a name has no "="
 decides-header text name value r name_is value_is =
     Decides-like r
     (λ both.
@@ -147,7 +147,6 @@ each-past mark P text part rest part_is rest_is one =
         λ each. subst (AllByRecursion P) (sym split) (one, each),
         λ each. (subst (AllByRecursion P) split each).1,
       ),
-      -- the rest is shorter than the text
       omega (arith, ap length whole, length-append part (mark ∷ rest)),
     )
 
@@ -217,7 +216,6 @@ joined-params text (p, v, one, more, whole) =
 pub params-led : (text : List ℕ) → UriParameters text → (rest : Option (List ℕ)) × (text ≡ led semicolon rest)
 params-led text many =
     elim (some-many (Byte semicolon then UriParameter) text many) [
-      -- there are no parameters
       | inl empty ↦ (None, empty)
       -- u is the ";" (m) and the first parameter p, and v the others
       | inr (u, v, (m, p, is_mark, one, both), more, whole) ↦

@@ -83,7 +83,7 @@ lack-port = lack-between colon 1 5 (One is_ascii_digit) (lack-one colon is_ascii
 -- where no port stands after the last ":", the text does not end with ":" and a port
 pub no-port : (text : List ℕ) → ((u : List ℕ) → before_last colon text ≡ Some u → Port (behind_last colon text) → ⊥) → IsPortCut text text None
 no-port text none = (
-  -- the text is cut as having no port; and where it were u, ":" and a port v, that ":" would be its last, since a port has none
+  -- the whole text is what is cut off as the host; and if it were u, ":" and a port v, that ":" would be its last one, since a port has none
   refl,
   λ u v port whole.
       let lacks = lack-port v port.0 in

@@ -42,16 +42,16 @@ module _ (texts : Texts) (t : Tabled) (es : List (Observation KeyParts)) (from :
     low = let h = All-place (λ x. moment_of x ≤ from) t.sets n s here may.order in omega (arith, h, later)
 
     -- a key whose last moment on record is past has no run that stands at the moment
-    late : (r : Option (Option ℕ)) → slice_get t.records n ≡ Some r → is_overdue moment r ≡ true → ¬ Runs key
     -- a key without a record is not overdue
+    late : (r : Option (Option ℕ)) → slice_get t.records n ≡ Some r → is_overdue moment r ≡ true → ¬ Runs key
     late None on is = absurd (false≢true is)
     late (Some limit) on is = λ run.
         overdue_none texts t.times (machine_of_key t.times.rules key) (events_for key es) (newest_moment es) s leads limit (recorded.each n s (Some limit) here on) moment newest low is
         (stands-run t.times (machine_of_key t.times.rules key) (events_for key es) moment run)
 
     -- a key whose last moment on record is not past has a run that stands at the moment
-    in_time : (r : Option (Option ℕ)) → slice_get t.records n ≡ Some r → is_overdue moment r ≡ false → Runs key
     -- each key has a last moment on record
+    in_time : (r : Option (Option ℕ)) → slice_get t.records n ≡ Some r → is_overdue moment r ≡ false → Runs key
     in_time None on is = absurd (false≢true (recorded.each n s None here on))
     in_time (Some limit) on is =
         run-stands t.times (machine_of_key t.times.rules key) (events_for key es) moment

@@ -28,11 +28,10 @@ pub legal_is : (j : Judging) (es : List (Observation KeyParts)) → StandsFor j 
 legal_is j es stands long count many counts keys =
     ap (λ n. Some (Legal n many)) (counts ∙ stands.number) ∙ ap (λ n. Some (Legal (length es) n)) (keys ∙ followed_keys j.texts j.tables es long stands.follows.tracks)
 
--- a key that a judge finds under a number is the key of the entries with that number, and where it finds none there is none
+-- a key that a judge finds under a number is the key of the entries with that number; where it finds none, nothing is said of one
 pub key_named : {R : Type 0} (j : Judging) (es : List (Observation KeyParts)) → StandsFor j es → length j.tables.sets ≡ length j.tables.keys → (now : R → KeyParts) (number : ℕ) (found : Option R)
     → MatchOption found (¬ (IsGiven j.tables number)) (λ key. IsGiven j.tables number × HasNumber j.tables (now key) number)
     → IfSome found (λ key. slice_get (keys_in es) (number - 1) ≡ Some (now key))
--- where the judge finds no key, nothing is said of one
 key_named j es stands long now number None has = tt
 key_named j es stands long now number (Some key) has =
     subst (λ keys. slice_get keys (number - 1) ≡ Some (now key)) (sym (keys_are j.tables long) ∙ stands.follows.tracks.keys) has.1.1

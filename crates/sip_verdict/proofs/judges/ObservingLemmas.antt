@@ -151,10 +151,9 @@ event_kept item r texts event number bytes is keeps text = let same : number ≡
 
 -- What follows is of messages that concern no key.
 
--- where there is no branch there is no key
+-- where there is no branch there is no key, neither an own one nor a cancelled one
 pub no_keys : {A B : Type 0} (own other : A → B) (cancels : Bool) (branch : Option A) → branch ≡ None
     → option_to_list (option_map own branch) ++ option_to_list (if cancels then option_map other branch else None) ≡ []
--- there is no branch, and so neither an own key nor a cancelled one
 no_keys own other cancels (Some x) none = absurd cc
 no_keys own other true None none = refl
 no_keys own other false None none = refl

@@ -72,7 +72,7 @@ module _ (old new : Texts) (number : ℕ) (bytes : List ℕ) where
   grown_may grown t moment may = record { order = may.order; known = All-weaker (IsKnownSet old) (IsKnownSet new) (grown_known grown) t.sets may.known; long = may.long }
 
   -- each number of a book that has grown is above 0
-  -- the book is as before, or one message more has the number
+  -- the book is as before, or it has one message more, under `number`
   grown_some : IsGrown old number bytes new → 0 < number → ((n : ℕ) → Keeps old n → 0 < n) → (n : ℕ) → Keeps new n → 0 < n
   grown_some (inl same) some above n keeps = above n (subst (λ texts. Keeps texts n) same keeps)
   grown_some (inr more) some above n keeps = elim (Keeps-grow_cases old number bytes n (subst (λ texts. Keeps texts n) more keeps)) [ inl k ↦ above n k | inr e ↦ omega (arith, some, e) ]
@@ -122,8 +122,8 @@ module _ (ks : List KeyParts) (ns : List ℕ) (old new : Tabled) (touched : Touc
       touches_recorded ns ks ns old new (λ n waiting. waiting) long (record { long = recorded.long; each = λ n set r at here. waits_more n set r (recorded.each n set r at here) }) touched
     where
       -- a last moment that is on record is so, too, where those of the entry's keys may be missing
-      waits_more : (n : ℕ) (set : AnySet) (r : Option (Option ℕ)) → IsOnRecord [] (n + 1) set r → IsOnRecord ns (n + 1) set r
       -- no last moment is missing, where no set is still to hear
+      waits_more : (n : ℕ) (set : AnySet) (r : Option (Option ℕ)) → IsOnRecord [] (n + 1) set r → IsOnRecord ns (n + 1) set r
       waits_more n set None h = absurd (false≢true h)
       waits_more n set (Some limit) h = h
 
@@ -155,14 +155,14 @@ text_of_none [] n none = refl
 text_of_none (kept ∷ texts) n none = go (kept.0 == n) refl (text_of_none texts n (λ has. none (Contains-there kept.0 (map (λ k. k.0) texts) n has)))
   where
     -- a number that the book does not keep has no text, whether or not the first message has the number
+    -- if the first message had the number, the book would keep it
     go : (b : Bool) → (kept.0 == n) ≡ b → text_of texts n ≡ [] → cond b kept.1 (text_of texts n) ≡ []
-    -- the book would keep the number, which it does not
     go true same rest = absurd (none (subst (Contains (map (λ k. k.0) (kept ∷ texts))) ((unsigned_Decides kept.0 n).0 same) (Contains-here kept.0 (map (λ k. k.0) texts))))
     go false differ rest = rest
 
 -- where an entry does not concern all, those that it names are listed
-pub listed_each : (count : ℕ) (numbers : Concerned ℕ) → is_all numbers ≡ false → listed count numbers ≡ each numbers
 -- each case but that of all has the same list by both
+pub listed_each : (count : ℕ) (numbers : Concerned ℕ) → is_all numbers ≡ false → listed count numbers ≡ each numbers
 listed_each count concerned.None some = refl
 listed_each count (concerned.Own own) some = refl
 listed_each count (concerned.OwnAndCancelled own cancelled) some = refl
@@ -194,9 +194,9 @@ have_all all = subst (HaveNumbers all (up_to (length all))) (take_all (length al
 
 -- after an entry without trouble the next entry may be taken, by the tables and the book that the entry leaves
 -- the book is `old`, then `mid` with the entry's message, then `last`; t, u and v are the tables with each
+-- without trouble the numbers of the book and the limits are as the next entry asks; with a verdict nothing is asked
 pub may_next : (verdict : Option Verdict) (old mid last : Texts) (t u v : Tabled) (number moment : ℕ) (bytes : List ℕ) → MayTake old t number moment → IsGrown old number bytes mid
     → length u.keys ≤ length t.keys + 2 → v.keys ≡ u.keys → last ≡ mid → MayPass last v moment → IfNone verdict (AllAreOnRecord v) → IfNone verdict (MayTake last v (number + 1) moment)
--- without trouble each number and each limit stands as after the entry; with a verdict nothing more is asked
 may_next None old mid last t u v number moment bytes may grown few keys book passes recorded = record {
   passes = passes;
   recorded = recorded;
@@ -222,7 +222,7 @@ module _ (verdict : Option Verdict) (old mid last : Texts) (number : ℕ) (bytes
   Tells told = (es : List (Observation KeyParts)) → (e : Observation KeyParts) × Sees es i e × IsObserved mid es i told e
 
   -- an entry that no transaction hears is judged as what is observed of it
-  -- `judged` is what the passing promises: whatever entries es came before, and whatever e is observed as it was told, e is judged rightly
+  -- `judged` is what the passing promises: after any entries es, an observation e that agrees with what was told is judged rightly
   pub unheard_judged : (t v : Tabled) → i.moment ≡ moment → Tells Unheard
       → ((es : List (Observation KeyParts)) (e : Observation KeyParts) → e.fault ≡ None → newest_moment es ≤ moment → AreTold mid t.keys moment None e → TablesTrackBefore mid es e t → count ≡ length es + 1
       → IsJudged t.times (key_keeping last t.times) es e (transactions_of v) verdict)
@@ -241,7 +241,7 @@ module _ (verdict : Option Verdict) (old mid last : Texts) (number : ℕ) (bytes
   -- a message that transactions hear is judged as what is observed of it, with the keys that it concerns
   -- t are the tables before, u those with the entry's keys looked up, and v those after the event
   -- mid is the book with the message of the entry, last the book that is kept in the end, and i the item of the entry
-  -- `judged` is what the passing promises: whatever entries es came before, and whatever e is observed as it was told, e is judged rightly
+  -- `judged` is what the passing promises: after any entries es, an observation e that agrees with what was told is judged rightly
   pub heard_judged : (event : NumberedEvent) (concerned : Concerned KeyParts) (numbers : Concerned ℕ) (t u v : Tabled) → length t.sets ≡ length t.keys → TouchesEach (each concerned) (each numbers) t u
       → AllPairs (λ a b. a ≢ b) u.keys → v.keys ≡ u.keys → event.moment ≡ moment → is_all numbers ≡ false
       → Tells (Heard event concerned)
@@ -277,7 +277,7 @@ module _ (verdict : Option Verdict) (old mid last : Texts) (number : ℕ) (bytes
 
   -- a restart is judged as what is observed of it, with all keys so far
   -- t and v are the tables before and after the restart
-  -- `judged` is what the passing promises: whatever entries es came before, and whatever e is observed as it was told, e is judged rightly
+  -- `judged` is what the passing promises: after any entries es, an observation e that agrees with what was told is judged rightly
   pub restart_judged : (event : NumberedEvent) (t v : Tabled) → length t.sets ≡ length t.keys → AllPairs (λ a b. a ≢ b) t.keys → v.keys ≡ t.keys
       → event ≡ record { moment = moment; action = Restart; number = 0; kind = Request Other; reliable = false } → ((n : ℕ) → Keeps mid n → 0 < n) → i.moment ≡ moment
       → Tells told.Restart
@@ -306,8 +306,8 @@ module _ (verdict : Option Verdict) (old mid last : Texts) (number : ℕ) (bytes
 
 -- the number at a place of the numbers stands for the key at the same place of the keys
 -- ns are the numbers of the keys ks among all keys, i is the place, and k the key there; d stands for no number
-number_at : (all : List KeyParts) (ns : List ℕ) (ks : List KeyParts) → HaveNumbers all ns ks → (i d : ℕ) → i < length ns → (k : KeyParts) × (slice_get ks i ≡ Some k) × (slice_get all (get_or ns i d - 1) ≡ Some k)
 -- no place is in an empty list, and there are as many numbers as keys; the place is the first or a later one
+number_at : (all : List KeyParts) (ns : List ℕ) (ks : List KeyParts) → HaveNumbers all ns ks → (i d : ℕ) → i < length ns → (k : KeyParts) × (slice_get ks i ≡ Some k) × (slice_get all (get_or ns i d - 1) ≡ Some k)
 number_at all [] ks h i d low = absurd (omega arith)
 number_at all (n ∷ ns) [] h i d low = absurd h
 number_at all (n ∷ ns) (k ∷ ks) h zero d low = (k, refl, h.1)
@@ -333,7 +333,7 @@ may_hear texts moment event concerned numbers t u touched fits at differ some =
 pub may_restart : (texts : Texts) (moment : ℕ) (event : NumberedEvent) (t : Tabled) → event ≡ record { moment = moment; action = Restart; number = 0; kind = Request Other; reliable = false } → moment ≤ last_moment
     → MayHear texts t moment (record { event = event; concerned = concerned.All })
 may_restart texts moment event t is limit = subst (λ e. MayHear texts t moment (record { event = e; concerned = concerned.All })) (sym is) (record {
-  -- a restart has no message, and names no transaction by its number, since all hear it
+  -- a restart has no message, and names no transaction by its number, since it concerns all
   fits = record { keeps = λ other. absurd (other refl); limit = limit };
   at = refl;
   given = All-nil (IsGiven t);

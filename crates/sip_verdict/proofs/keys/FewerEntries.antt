@@ -58,8 +58,8 @@ newest-before last (e ∷ front) more from order =
     newest-before e.event.moment front more (AllPairs-head IsNotAfter e (front ++ more) order) (AllPairs-tail IsNotAfter e (front ++ more) order)
 
 -- the newest moment of more entries is no earlier
-newest-more : (last : ℕ) (front more : List (Observation KeyParts)) → All (IsFrom last) (front ++ more) → AllPairs IsNotAfter (front ++ more) → newest last front ≤ newest last (front ++ more)
 -- there is no entry; or the first of all is one of those that come after; or it is one of the first ones
+newest-more : (last : ℕ) (front more : List (Observation KeyParts)) → All (IsFrom last) (front ++ more) → AllPairs IsNotAfter (front ++ more) → newest last front ≤ newest last (front ++ more)
 newest-more last [] [] from order = omega arith
 newest-more last [] (e ∷ more) from order =
     let here : last ≤ e.event.moment = All-head (IsFrom last) e more from in

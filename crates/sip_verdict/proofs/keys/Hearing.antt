@@ -14,7 +14,7 @@ use Rattle.sip_verdict.proofs.keys.OneMachine.{none_runs, some_runs, took_after,
 use Rattle.sip_states.proofs.sets.Taking.{took_waits}
 
 -- What follows is of the set of one transaction, which leads to its runs over the events; `new` is the set after one event more.
--- `seen` gives what a state stands for beside the book, `names` the messages that it names, and InRange says that its numbers are in range.
+-- `seen` gives what a state stands for beside the book, `names` the messages that it names, and InRange says that its moments are within the limits.
 module _ {M X S : Type 0} (names : S → List ℕ) (InRange : S → Type 0) (seen : Texts → S → X) (rules : M → MachineRules X) (lawful : (machine : M) → IsLawful (rules machine))
     (texts : Texts) (machine : M) (events : List MachineEvent) (from : ℕ) (set new : Held M S) (leads : LeadsTo names seen rules texts machine set events from) where
   -- P holds of where a run can stand at a moment after it waited from the states of the set, by the rules of this machine

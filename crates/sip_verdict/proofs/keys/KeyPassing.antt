@@ -45,11 +45,11 @@ module _ (texts : Texts) (p : Times) (es : List (Observation KeyParts)) (e : Obs
   Steps f after outcome = IsStepped (key_rules p machine) events f (λ fs. LeadsOf texts p machine fs f.moment after) (λ g. StandsOf texts p machine events g after) outcome
 
   -- where the set has heard the entry's event, what the event leaves of the set's runs is what the entry leaves of the key's
+  -- `stepped` says so of the set beside any times, machine and events to which it leads
   pub heard_left : (event : NumberedEvent) → e.event ≡ event_in texts event → concerns key e ≡ true → (after : AnySet) (outcome : Outcome)
       → ((q : Times) (kind : MachineKind) (fs : List MachineEvent) (from : ℕ) → from ≤ event.moment → LeadsOf texts q kind fs from s
       → IsStepped (key_rules q kind) fs (event_in texts event) (λ gs. LeadsOf texts q kind gs event.moment after) (λ g. StandsOf texts q kind fs g after) outcome)
       → IsPassed p k es e (key, after) outcome
-  -- `stepped` says so of the set beside any times, machine and events to which it leads
   heard_left event is concerned after outcome stepped =
       own_passed p k es e (key, after) concerned outcome
       (subst (λ f. Steps f after outcome) (sym is) (stepped p machine events (newest_moment es) (subst (λ f. newest_moment es ≤ f.moment) is late) ready))

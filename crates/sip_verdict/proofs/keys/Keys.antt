@@ -16,8 +16,8 @@ use Rattle.sip_verdict.specs.Entries.{newest_moment}
 use Rattle.sip_verdict.specs.inner.Keyed.{with_key, concerns}
 
 -- where the disjunction of two tests is false, both are false
-pub or_false : (a b : Bool) → (a || b) ≡ false → (a ≡ false) × (b ≡ false)
 -- where the first test is true, so is the disjunction
+pub or_false : (a b : Bool) → (a || b) ≡ false → (a ≡ false) × (b ≡ false)
 or_false true b h = absurd (false≢true (sym h))
 or_false false b h = (refl, h)
 
@@ -53,8 +53,8 @@ pub events_for-other : (key : KeyParts) (es : List (Observation KeyParts)) (e : 
 events_for-other key es e h = events_for-push key es e ∙ ap (λ b. events_for key es ++ map (λ f. f.event) (cond b (e ∷ []) [])) h ∙ append-nil (events_for key es)
 
 -- a key that is found among keys is one of them
-pub among-contains : (key : KeyParts) (keys : List KeyParts) → list_any (same_key key) keys ≡ true → Contains keys key
 -- in an empty list no key is found
+pub among-contains : (key : KeyParts) (keys : List KeyParts) → list_any (same_key key) keys ≡ true → Contains keys key
 among-contains key [] h = absurd (false≢true h)
 among-contains key (k ∷ keys) h = go (same_key key k) refl (among-contains key keys) h
   where

@@ -82,7 +82,7 @@ module _ {X S : Type 0} (names : S → List ℕ) (seen : Texts → S → X) wher
       (All-weaker (Knows names texts) (AgreeOn names texts (texts ++ (number, bytes) ∷ [])) (AgreeOn-grow names texts number bytes) states leads.known) leads
 
 -- What follows is of states of the code by the rules r of a machine: `seen` gives what each stands for beside the book `texts`, `names` the messages that
--- it names, and InRange says that its numbers are in range.
+-- it names, and InRange says that its moments are within the limits.
 module _ {X S : Type 0} (names : S → List ℕ) (InRange : S → Type 0) (seen : Texts → S → X) (texts : Texts) (r : MachineRules X) where
   -- the states that the event e gives from a set that leads to the runs over the events lead to the runs over the events and e
   pub Leads-take : (events : List MachineEvent) (from moment : ℕ) (states : List S) → Leads names seen texts r events from moment states →

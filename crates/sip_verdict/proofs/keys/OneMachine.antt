@@ -30,12 +30,11 @@ module _ {X S : Type 0} (names : S → List ℕ) (seen : Texts → S → X) (tex
     where
       -- a list that is not empty has an element
       first_of_some : (xs : List S) → xs ≢ [] → (s : S) × Contains xs s
-      -- the list is not empty, by what is given
       first_of_some [] some = absurd (some refl)
       first_of_some (x ∷ xs) some = (x, Contains-here x xs)
 
 -- What follows is of a set of states that leads to the runs over the events, and an event e that comes then or later. `seen` gives what a state stands for,
--- `names` the messages that it names, InRange says that its numbers are in range, and r are the rules.
+-- `names` the messages that it names, InRange says that its moments are within the limits, and r are the rules.
 module _ {X S : Type 0} (names : S → List ℕ) (InRange : S → Type 0) (seen : Texts → S → X) (texts : Texts) (r : MachineRules X)
     (events : List MachineEvent) (from moment : ℕ) (states : List S) (leads : Leads names seen texts r events from moment states) (e : MachineEvent) (late : from ≤ e.moment) (low : moment ≤ e.moment) where
   -- after the event the set holds just the last states of the runs that end with it

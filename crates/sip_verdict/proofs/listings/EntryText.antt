@@ -37,8 +37,8 @@ use Rattle.sip_verdict.proofs.listings.ListingLemmas.{TellsBook, told_set, stand
 -- What follows shows that the keys of an entry have methods in ASCII.
 
 -- the keys that are observed of a message have methods in ASCII
-message_ascii : (i : Item) (e : Observation KeyParts) (d : Direction) → ObservesMessage d i e → All (λ k. IsAscii k.method) e.keys
 -- a message with a fault, or without the cookie, concerns no key; of one that is heard the keys are those of the message that was read
+message_ascii : (i : Item) (e : Observation KeyParts) (d : Direction) → ObservesMessage d i e → All (λ k. IsAscii k.method) e.keys
 message_ascii i e d (has_fault fault has is) = subst (All (λ k. IsAscii k.method)) (sym (ap (λ x. x.keys) is)) (All-nil (λ k. IsAscii k.method))
 message_ascii i e d (has_no_cookie s says lacks is) = subst (All (λ k. IsAscii k.method)) (sym (ap (λ x. x.keys) is)) (All-nil (λ k. IsAscii k.method))
 message_ascii i e d (is_heard s keys says has concerns is) =
@@ -140,9 +140,9 @@ module _ (number : List ℕ → ℕ) (texts : Texts) (tells : TellsBook number t
       (one.0 ++ others.0, (one.0, others.0, one.1, others.1, refl), others.2 ∙ ap (λ z. z ++ others.0) one.2 ∙ append_assoc old one.0 others.0)
 
   -- the text of the transactions with these numbers is what is asked for of an entry that concerns their keys
+  -- where the entry concerns no key, the text says that there is no transaction; there are as many numbers as keys
   texts_of : (ks : List KeyParts) (ns : List ℕ) (text : List ℕ) → All (λ k. (concerns k e ≡ true) × IsAscii k.method) ks → HaveNumbers t.keys ns ks → IsTextOf t ns text
       → IsEntryText p number es e ks text
-  -- where the entry concerns no key, the text says that there is no transaction; there are as many numbers as keys
   texts_of [] [] text good have is = is
   texts_of [] (n ∷ ns) text good have is = absurd have
   texts_of (k ∷ ks) [] text good have is = absurd have

@@ -33,8 +33,8 @@ chosen true number x y more some = refl
 chosen false number x y more some = more some
 
 -- bytes that an item carries keep the number of their first entry when more entries come
+-- where there is no item, none carries the bytes; the first item that carries them is the same with more items after it
 pub entry_from-kept : (number : ℕ) (items more : List Item) (text : List ℕ) → entry_from number items text ≢ 0 → entry_from number (items ++ more) text ≡ entry_from number items text
--- no item carries the bytes where there is none; the first item that carries them is the same with more items after it
 entry_from-kept number [] more text some = absurd (some refl)
 entry_from-kept number (i ∷ items) more text some =
     chosen (carries i text) number (entry_from (number + 1) items text) (entry_from (number + 1) (items ++ more) text) (λ found. entry_from-kept (number + 1) items more text found) some
@@ -114,9 +114,9 @@ numbered_none i number old new none same items a counts =
     subst (AreNumbered (items ++ i ∷ [])) (sym same) (same_book items i old a (λ some. absurd (some none)))
 
 -- where an entry is heard, a book that has its message, or takes it in under the entry's number, is numbered on
+-- the book is as before, and has the message already; or it has taken it in
 pub numbered_heard : (i : Item) (number name : ℕ) (old new : Texts) → has_message i.action ≡ true → ¬ ConcernsNone i → Keeps new name → text_of new name ≡ i.text → ((n : ℕ) → Keeps old n → n < number) → IsBook new
     → (new ≡ old) ⊎ (new ≡ old ++ (number, i.text) ∷ []) → StaysNumbered i number old new
--- the book is as before, and has the message already; or it has taken it in
 numbered_heard i number name old new says some keeps is below book (inl same) items a counts =
     subst (AreNumbered (items ++ i ∷ [])) (sym same) (same_book items i old a (λ has. (name, subst (λ t. Keeps t name) same keeps, subst (λ t. text_of t name ≡ i.text) same is)))
 numbered_heard i number name old new says some keeps is below book (inr more) items a counts =
@@ -137,6 +137,5 @@ appends_more t (m ∷ ns) n old mid new (between, first, rest) one = (between, f
 
 -- the listings of one transaction or more, appended to nothing, are the text of these transactions
 pub text_of_some : (t : Tabled) (ns : List ℕ) (text : List ℕ) → ns ≢ [] → AppendsEach t ns [] text → IsTextOf t ns text
--- there is a transaction, by what is given
 text_of_some t [] text some appends = absurd (some refl)
 text_of_some t (n ∷ ns) text some appends = appends

@@ -18,8 +18,8 @@ use Rattle.sip_log.specs.Reading as log
 use Rattle.sip_standard.specs.declared.log_reason.LogReason.TheVariants as reasons
 
 -- an error that is told as the reason of a fault is a fault of the input, and no read failed
-pub told-fault : (before after : Bool) (P : LogReason → Type 0) (e : LogError) (reason : LogReason) → Ok reason ≡ told_as e → FailsAs before after (λ fault. P fault) e → (after ≡ before) × P reason
 -- the first five errors are faults of a log; the others are told as no reason, but as why there is no answer
+pub told-fault : (before after : Bool) (P : LogReason → Type 0) (e : LogError) (reason : LogReason) → Ok reason ≡ told_as e → FailsAs before after (λ fault. P fault) e → (after ≡ before) × P reason
 told-fault before after P errors.Header reason is fails = let same : reasons.Header ≡ reason = cc in (fails.0, subst P same fails.1)
 told-fault before after P errors.EntryLine reason is fails = let same : reasons.EntryLine ≡ reason = cc in (fails.0, subst P same fails.1)
 told-fault before after P errors.Truncated reason is fails = let same : reasons.Truncated ≡ reason = cc in (fails.0, subst P same fails.1)

@@ -1,5 +1,5 @@
 -- What a walk adds to the entries that were judged, and what it answers.
--- In the lemmas `says` is what a judge promises of the entry in hand, whatever entries came before it.
+-- In the lemmas `says` is what a judge promises of the entry in hand, whatever entries come before it; of a listing, also whatever items come after it.
 use Rattle.std.proofs.Common.{◌≡◌, inl, inr, ◌<◌, ◌≤◌, ◌+◌, ◌∙◌, ℕ, Option, Some, None, Result, Ok, Err, IsSomeAnd, IfSome, IfNone, IfOk, OnOk, List, [], ◌∷◌, ◌++◌, length, refl, sym, ap, subst, arith}
 use Rattle.std.proofs.lemmas.List.{append-nil, length_push}
 use Rattle.sip_standard.specs.Key.{KeyParts}
@@ -80,7 +80,7 @@ module _ (old new : Texts) (t u : Tabled) (left rest : ℕ) (e : Entry) where
       → JudgesOn way old t left new u rest e verdict
   judges_end way is verdict says =
       subst (λ a. JudgesOn a old t left new u rest e verdict) (sym is)
-      -- h is what is seen of the entry, and that it is followed, or its verdict
+      -- h is what is seen of the entry, that it is seen so, and that it is followed, or its verdict
       (λ items es follows long next order. let h = says es follows next order in (h.0, h.1, end_on items es h.0 verdict h.2))
 
   -- a book that numbers the messages of the entries numbers those of the entry too, where the aim is an entry, or the verdict of the entry is given
@@ -107,8 +107,8 @@ module _ (old new : Texts) (t u : Tabled) (left rest : ℕ) (e : Entry) where
 -- What follows is of verdicts.
 
 -- the verdict of trouble at the entry e after these entries names the number of e
-trouble_at : (p : Times) (es : List (Observation KeyParts)) (e : Observation KeyParts) (v : Verdict) → HasTrouble p es e v → trouble_of v ≡ Some (length es + 1)
 -- only the fault of a message, a breach and what is undecided tell of trouble at an entry, each with the entry's number
+trouble_at : (p : Times) (es : List (Observation KeyParts)) (e : Observation KeyParts) (v : Verdict) → HasTrouble p es e v → trouble_of v ≡ Some (length es + 1)
 trouble_at p es e (Legal whole transactions) is = absurd is
 trouble_at p es e (Malformed entry fault) is = ap Some is.0
 trouble_at p es e (Breach entry transaction) is = ap Some is.0
@@ -116,8 +116,8 @@ trouble_at p es e (Undecided entry transaction) is = ap Some is.0
 trouble_at p es e (FaultOfLog entry reason) is = absurd is
 
 -- where a walk ends with the verdict of trouble before its aim, this verdict is what is listed
-listed_trouble : (v : Verdict) (k : ℕ) → trouble_of v ≡ Some k → listed_after v ≡ Stopped v
 -- a legal log has no trouble, and every other verdict is listed as it is
+listed_trouble : (v : Verdict) (k : ℕ) → trouble_of v ≡ Some k → listed_after v ≡ Stopped v
 listed_trouble (Legal whole transactions) k at = cc
 listed_trouble (Malformed entry fault) k at = refl
 listed_trouble (Breach entry transaction) k at = refl
@@ -201,7 +201,7 @@ module _ (way : Aim) (start : Option (List ℕ)) (now : log.ReaderState) (count 
           es = walks.es ++ h.0 ∷ [];
           observed = seen-push [] walks.items walks.es (item e) h.0 walks.observed h.1;
           follows = h.2;
-          -- one entry more was read, and the judge stands after it
+          -- one entry more was read and counted, and none is later than the place of the reader
           long = length_push walks.items (item e) ∙ ap (λ n. n + 1) walks.long ∙ sym (length_push walks.es h.0);
           counts = number_is ∙ sym (length_push walks.es h.0);
           read = subst (λ p. HasRead start p (walks.items ++ item e ∷ []) new) (sym times) read;
@@ -221,7 +221,7 @@ module _ (way : Aim) (start : Option (List ℕ)) (now : log.ReaderState) (count 
     listed_at : (listing : Listing)
         → ((more : List Item) → (seen : Observation KeyParts) × Sees walks.es (item e) seen × IsListedEntry t.times (first_entry ((walks.items ++ item e ∷ []) ++ more)) walks.es seen listing)
         → IfSome start (λ input. IsListingOf input e.number listing)
-    -- what is listed of an entry that stands in the log is never that it is not there
+    -- an entry that stands in the log is never listed as one that is not there
     listed_at NoEntry says = absurd (says []).2
     -- an entry in trouble: the verdict on the log is what is listed
     listed_at (Stopped v) says =

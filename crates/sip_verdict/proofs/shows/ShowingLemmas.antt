@@ -23,7 +23,7 @@ use Rattle.sip_log.specs.Reading as log
 -- where entries are shown, and one entry more with its number and its canonical form, all of these are shown
 AreShown-push : (count : ℕ) (items : List Item) (text : List ℕ) (e : Item) (form : List ℕ) (n : ℕ) → n ≡ count + length items + 1 → AreShown count items text → IsCanonOf e.action e.text form
     → AreShown count (items ++ e ∷ []) (text ++ shown_entry n e form)
--- no entry was shown before, so that this one is the first after `count` others
+-- no item comes before this entry, so that it is the next one after `count` others
 AreShown-push count [] text e form n number none is =
     let one : n ≡ count + 1 = omega (arith, number) in (
       form,
@@ -112,8 +112,8 @@ module _ (start : Option (List ℕ)) (now : log.ReaderState) (old w : Option (Li
 
     -- where the log ends, what was written with the last line is right, and the answer is how many entries there are
     pub showed_end : (n : ℕ) → n ≡ now.count → Nexts now new (Ok None) → Appends w w2 (last_text (End n) ++ line_feed ∷ []) → Answers start old w2 (End n)
-    -- the reader told the end after the items that were read, and the times of the header
     showed_end n many nexts last =
+        -- the reader still has the times of the header, and has told that the log ends after the items
         ends Clean (End n) (ap End (many ∙ count_is)) new.times (Nexts-times now new (Ok None) s.times s.on s.times_are nexts) (Stands-ends start s.items now new (inr s.on) s.stands nexts) last
 
     -- where the next entry cannot be read, what was written with the last line is right, and the answer is the fault of the log

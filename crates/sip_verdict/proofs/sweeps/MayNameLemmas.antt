@@ -1,5 +1,5 @@
 -- When a message may be named by the transactions that an entry concerns.
--- An `Any` gives the element (.1), its place (.0, with .2 and .3, that it stands there), and that P holds of it (.4).
+-- What `Any P xs` says: a place (.0), an element (.1), that the place is in the list (.2), that the element stands there (.3), and that P holds of it (.4).
 use Rattle.std.proofs.Common.{◌≡◌, ◌-◌, ◌⊎◌, inl, inr, ℕ, true, false, Some, [], ◌∷◌, List, Contains, slice_get, refl, sym, ◌∙◌, subst, arith}
 use Rattle.std.specs.Prelude.{◌↔◌}
 use Rattle.std.specs.List.{Any}

@@ -29,7 +29,7 @@ abbrev pub RunNames : {X : Type 0} → MachineRules X → (X → List (List ℕ)
 RunNames {X} r messages events moment text = (y : X) × RuledRun r events moment y × Contains (messages y) text
 
 -- What follows is of one machine: `names` is what its states name by number, and `messages` what the phases for which they stand name by text.
--- `seen` gives what a state stands for beside the book `texts`, and InRange says that its numbers are in range.
+-- `seen` gives what a state stands for beside the book `texts`, and InRange says that its moments are within the limits.
 module _ {X S : Type 0} (names : S → List ℕ) (InRange : S → Type 0) (seen : Texts → S → X) (messages : X → List (List ℕ))
     (named : (texts : Texts) (x : S) → messages (seen texts x) ≡ map (text_of texts) (names x)) (texts : Texts) (r : MachineRules X) (events : List MachineEvent) where
   -- once a set that leads to the runs has waited until a moment, its states name just what the states of the runs name there

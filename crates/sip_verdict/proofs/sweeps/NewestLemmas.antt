@@ -44,7 +44,7 @@ others_known texts concerned hearing t u known leaves apart some n set among at 
 -- a set names no message whose number is above all that are kept
 pub known_unnamed : (texts : Texts) (number : ℕ) → ((n : ℕ) → Keeps texts n → n < number) → (set : AnySet) → IsKnownSet texts set → ¬ Contains (numbers_of set) number
 known_unnamed texts number below set known has =
-    -- s is the set as one of its machine: x would be a state of it that names the number, which the book would keep, so that it were below itself
+    -- s is the set as one of its machine: x would be a state of it that names the number, which the book would keep, so that it would be below itself
     let (machine, s, is) = some_machine set in
     let names = (meaning_of machine).names in
     let (x, among, named) = Contains-from_flat_map names s.states number (subst (λ ns. Contains ns number) (ap numbers_of is ∙ numbers_are machine s) has) in
@@ -82,7 +82,7 @@ module _ (number : ℕ) (bytes : List ℕ) (new : Texts) where
   -- a set that does not name the dropped message names only messages that are kept still
   pub unnamed_known : (set : AnySet) → ¬ Contains (numbers_of set) number → IsKnownSet old set → IsKnownSet new set
   unnamed_known set unnamed known =
-      -- s is the set as one of its machine: what each of its states names is kept beside both books
+      -- s is the set as one of its machine: both books have what each of its states names
       let (machine, s, is) = some_machine set in
       let m = meaning_of machine in
       let knows = of_set (λ X M S m s. IsKnown m old s) machine s (subst (IsKnownSet old) is known) in
@@ -165,9 +165,9 @@ dropped_within sets number texts_before new (inr (bytes, is, unnamed)) = λ k d 
     subst (λ texts. Contains texts (get_or new k d)) (sym is) (Contains-append_left new ((number, bytes) ∷ []) (get_or new k d) (Contains-get_or new k d low))
 
 -- where none of the transactions with these numbers names a message, none of their sets does
+-- an empty list has no number; a set is that of the first number, or of one of the others
 these_unnamed : (message : ℕ) (t : Tabled) (numbers : List ℕ) → All (NamesNot t message) numbers → (n : ℕ) (set : AnySet) → is_among numbers (n + 1) ≡ true → slice_get t.sets n ≡ Some set
     → ¬ Contains (numbers_of set) message
--- no number is among none; a set is that of the first number, or of one of the others
 these_unnamed message t [] none n set among at = absurd (false≢true among)
 these_unnamed message t (m ∷ ms) none n set among at =
     elim (eqb_tells (n + 1) m) [

@@ -118,7 +118,6 @@ module _ {X S : Type 0} (seen : Texts → S → X) (r : MachineRules X) (lawful 
               among = Contains-map (seen b) states x among;
               -- it ends at the same moment, in the same window
               at = ends.at;
-              -- the state ends at the same moment
               after = ends.after;
               before = ends.before;
               hides = record {
@@ -153,9 +152,9 @@ until_of : (machine : MachineKind) (p : Times) (a b : Texts) (x : StateOf machin
 until_of machine p a b x = until_same (transaction_of machine).figure (coded_of machine).seen a b p x ((coded_holds machine).closes_same a b p x.phase)
 
 -- where a last moment is on record of a set, it is that of the set after a sweep
+-- the set was not made to wait, and is as it was; or it has waited
 pub swept_agenda : (texts : Texts) → IsBook texts → (moment : ℕ) (old new : AnySet) → moment_of old ≤ moment → IsAdvanced moment old new
     → IsKnownSet texts old → (limit : Option ℕ) → IsAgendaOf limit old → IsAgendaOf limit new
--- the set was not made to wait, and is as it was; or it has waited
 swept_agenda texts book moment old new low (inr (same, silent)) known limit agenda = subst (IsAgendaOf limit) (sym same) agenda
 swept_agenda texts book moment old new low (inl waits) known limit agenda =
     let (machine, s, is) = some_machine old in

@@ -136,8 +136,8 @@ module _ (texts : Texts) (p : Times) (es : List (Observation KeyParts)) (e : Obs
     mine_is n key at same = let both : Some mine.0 ≡ Some key = sym mine.1 ∙ ap (slice_get keys) (sym same) ∙ at in cc
 
     -- of the one key, its own outcome says what the event left of its runs
-    own_says : (o : Outcome) → IsOwnOutcome number o → IsPassed p k es e (mine.0, own.after) o → Says HasOne (IsWideAt p es e) keys (λ n. n ≡ place) o
     -- g says how the key passed, and the claim is of the key at this place alone: no key before it is at the place
+    own_says : (o : Outcome) → IsOwnOutcome number o → IsPassed p k es e (mine.0, own.after) o → Says HasOne (IsWideAt p es e) keys (λ n. n ≡ place) o
     own_says all.Fine is g = λ n key at same. (subst HasOne (mine_is n key at same) g.runs, λ wide. g.narrow (subst (IsWideAt p es e) (sym (mine_is n key at same)) wide))
     own_says (all.NoRun told) is g = record { place = place; counts = is ∙ sym next; key = mine.0; at = mine.1; holds = g; earlier = λ n key low at same. absurd (omega (arith, low, same)) }
     own_says (all.TooWide told) is g = (
@@ -219,16 +219,16 @@ module _ (texts : Texts) (p : Times) (es : List (Observation KeyParts)) (e : Obs
     at_moment = (told n key at).at
 
     -- a key whose last moment on record is past has no run over the entries and e
-    late : (r : Option (Option ℕ)) → slice_get t.records n ≡ Some r → is_overdue moment r ≡ true → ¬ RunsOver p (es ++ e ∷ []) key
     -- a key without a record is not overdue
+    late : (r : Option (Option ℕ)) → slice_get t.records n ≡ Some r → is_overdue moment r ≡ true → ¬ RunsOver p (es ++ e ∷ []) key
     late None on is = absurd (false≢true is)
     late (Some limit) on is = λ run.
         overdue_none texts p (machine_of_key p.rules key) (events_for key es) (newest_moment es) s leads limit (recorded.each n s (Some limit) here on) moment newest low is
         (subst (RunsUntil (key_rules p (machine_of_key p.rules key)) (events_for key es)) at_moment (run_still p (key_keeping texts p) es e (key, s) run))
 
     -- a key whose last moment is not past, and that is not to hear the event, goes on over e
-    in_time : (r : Option (Option ℕ)) → slice_get t.records n ≡ Some r → is_overdue moment r ≡ false → is_among numbers (n + 1) ≡ false → GoesOn p (key_keeping texts p) es e (key, s)
     -- only a key that is to hear the event lacks a record
+    in_time : (r : Option (Option ℕ)) → slice_get t.records n ≡ Some r → is_overdue moment r ≡ false → is_among numbers (n + 1) ≡ false → GoesOn p (key_keeping texts p) es e (key, s)
     in_time None on is other = absurd (false≢true (sym other ∙ recorded.each n s None here on))
     in_time (Some limit) on is other = elim (others n key s at here other) [ inl apart ↦ waits_on apart | inr goes ↦ goes ]
       where
@@ -342,7 +342,7 @@ quiet_others texts p es e moment h t may told ready newest hear numbers hearers 
         let low = All-place (λ x. moment_of x ≤ moment) t.sets n s here may.order in
         let machine = machine_of_key p.rules key in
         let events = events_for key es in
-        -- the set is quiet, since the restart need not be heard by it, and passes as it is
+        -- the set is quiet, since it need not hear the restart, and so it passes it as it is
         let stepped = quiet_stepped texts p machine events (newest_moment es) s leads (hearers.others every n s here none) h.event (hear.restart every) (omega (arith, newest, hear.at)) (omega (arith, low, hear.at)) in
         own_passed p k es e (key, s) ((told n key at).concerned ∙ ap (λ b. b || is_among (each h.concerned) (n + 1)) every) all.Fine
         (subst (λ f. IsStepped (key_rules p machine) events f (λ fs. LeadsOf texts p machine fs f.moment s) (λ g. StandsOf texts p machine events g s) all.Fine) (sym (told n key at).event) stepped)

@@ -28,8 +28,8 @@ use Rattle.sip_verdict.specs.inner.Concerned.{each, is_all}
 use Rattle.sip_verdict.proofs.verdicts.Outcomes.{both_fine}
 
 -- a list has an element at each place
-pub at_place : {A : Type 0} (xs : List A) (n : ℕ) → n < length xs → (x : A) × (slice_get xs n ≡ Some x)
 -- no place is in an empty list; the place is the first, or a later one
+pub at_place : {A : Type 0} (xs : List A) (n : ℕ) → n < length xs → (x : A) × (slice_get xs n ≡ Some x)
 at_place [] n low = absurd (omega arith)
 at_place (x ∷ xs) zero low = (x, refl)
 at_place (x ∷ xs) (suc n) low = at_place xs n (omega arith)
@@ -43,8 +43,8 @@ pub All-places : {A : Type 0} (P : A → Type 0) (xs : List A) → ((n : ℕ) (x
 All-places P xs each n d low = let x = at_place xs n low in subst P (sym (get_or_from_slice_get xs n x.0 d x.1)) (each n x.0 x.1)
 
 -- where x and y stand at the same place of two lists, the pair of them stands there in both lists side by side
-pub zip-place : {A B : Type 0} (xs : List A) (ys : List B) (n : ℕ) (x : A) (y : B) → slice_get xs n ≡ Some x → slice_get ys n ≡ Some y → slice_get (zip xs ys) n ≡ Some (x, y)
 -- a list that ends before the place has no element there
+pub zip-place : {A B : Type 0} (xs : List A) (ys : List B) (n : ℕ) (x : A) (y : B) → slice_get xs n ≡ Some x → slice_get ys n ≡ Some y → slice_get (zip xs ys) n ≡ Some (x, y)
 zip-place [] ys n x y a b = absurd cc
 zip-place (u ∷ xs) [] n x y a b = absurd cc
 zip-place (u ∷ xs) (v ∷ ys) zero x y a b = cc
@@ -52,8 +52,8 @@ zip-place (u ∷ xs) (v ∷ ys) (suc n) x y a b = zip-place xs ys n x y a b
 
 -- a pair at a place of two lists side by side has the two elements that stand there
 -- z is the pair at the place n of the lists xs and ys
-pub place-zip : {A B : Type 0} (xs : List A) (ys : List B) (n : ℕ) (z : A × B) → slice_get (zip xs ys) n ≡ Some z → (slice_get xs n ≡ Some z.0) × (slice_get ys n ≡ Some z.1)
 -- a list that ends before the place has no element there
+pub place-zip : {A B : Type 0} (xs : List A) (ys : List B) (n : ℕ) (z : A × B) → slice_get (zip xs ys) n ≡ Some z → (slice_get xs n ≡ Some z.0) × (slice_get ys n ≡ Some z.1)
 place-zip [] ys n z at = absurd cc
 place-zip (u ∷ xs) [] n z at = absurd cc
 place-zip (u ∷ xs) (v ∷ ys) zero z at = let same : (u, v) ≡ z = cc in (ap (λ w. Some w.0) same, ap (λ w. Some w.1) same)
@@ -108,8 +108,8 @@ first_apart number ns apart = list_any_none (nat_eq number) ns (λ k d low. diff
         go false same = refl
 
 -- a set that has heard leaves the keys as they were
-pub leaves_keys : (number : ℕ) (after : AnySet) (outcome : Outcome) (t u : Tabled) → Leaves number after outcome t u → u.keys ≡ t.keys
 -- in trouble or not, only the place of the set is written, and its record where it goes on
+pub leaves_keys : (number : ℕ) (after : AnySet) (outcome : Outcome) (t u : Tabled) → Leaves number after outcome t u → u.keys ≡ t.keys
 leaves_keys number after all.Fine t u h = ap (λ x. x.keys) h.2
 leaves_keys number after (all.NoRun told) t u h = ap (λ x. x.keys) h
 leaves_keys number after (all.TooWide told) t u h = ap (λ x. x.keys) h
@@ -130,7 +130,6 @@ settles_leaves number after t u s = (s.limit, subst (IsAgendaOf s.limit) same s.
 
 -- where its transaction is in trouble, a set that has heard stands with its number, and nothing else changes
 pub trouble_leaves : (number : ℕ) (after : AnySet) (outcome : Outcome) (t : Tabled) → outcome ≢ all.Fine → Leaves number after outcome t (with_set t number after)
--- the outcome is trouble, by what is given; then only the set is written
 trouble_leaves number after all.Fine t trouble = absurd (trouble refl)
 trouble_leaves number after (all.NoRun told) t trouble = refl
 trouble_leaves number after (all.TooWide told) t trouble = refl
@@ -148,9 +147,9 @@ module _ (t : Tabled) (number : ℕ) (ns : List ℕ) (low : 0 < number) (after :
   recorded_at n s r at here = go (set_place t.sets (number - 1) n after s at) (set_place t.records (number - 1) n (Some limit) r here)
     where
       -- the last moment of the set is on record, whether the set stands at the place of the number or elsewhere
+      -- at the place of the number set and record are the new ones, elsewhere both are the old ones, and a mixture cannot be
       go : ((n ≡ number - 1) × (after ≡ s)) ⊎ ((n ≢ number - 1) × (slice_get t.sets n ≡ Some s)) → ((n ≡ number - 1) × (Some limit ≡ r)) ⊎ ((n ≢ number - 1) × (slice_get t.records n ≡ Some r))
           → IsOnRecord ns (n + 1) s r
-      -- at the place of the number set and record are the new ones, elsewhere both are the old ones, and a mixture cannot be
       go (inl a) (inl b) = subst (IsOnRecord ns (n + 1) s) b.1 (subst (IsAgendaOf limit) a.1 agenda)
       go (inl a) (inr b) = absurd (b.0 a.0)
       go (inr a) (inl b) = absurd (a.0 b.0)
@@ -227,8 +226,8 @@ named_hearers t c some given apart = record {
 }
 
 -- a number that is an element of numbers is among them
-pub is_among-of : (ns : List ℕ) (n : ℕ) → Contains ns n → is_among ns n ≡ true
 -- an empty list has no element; n is the first number, or one of the others
+pub is_among-of : (ns : List ℕ) (n : ℕ) → Contains ns n → is_among ns n ≡ true
 is_among-of [] n has = absurd (Contains-none n has)
 is_among-of (m ∷ ns) n has = elim (Contains-cons m ns n has) [ inl same ↦ among_first n m ns (sym same) | inr rest ↦ among_rest n m ns (is_among-of ns n rest) ]
 
@@ -256,8 +255,8 @@ hears_more texts event (m ∷ ns) n t u v before mid one (between, first, hears,
 -- What follows is of sets that do not hear an event.
 
 -- the element at a place stays where the element at another place is replaced
-pub set-other : {A : Type 0} (xs : List A) (i n : ℕ) (a : A) → n ≢ i → slice_get (set xs i a) n ≡ slice_get xs n
 -- the place that is written and the place that is looked at are each the first or a later one, and not both the first
+pub set-other : {A : Type 0} (xs : List A) (i n : ℕ) (a : A) → n ≢ i → slice_get (set xs i a) n ≡ slice_get xs n
 set-other [] i n a other = refl
 set-other (x ∷ xs) zero zero a other = absurd (other refl)
 set-other (x ∷ xs) zero (suc n) a other = refl

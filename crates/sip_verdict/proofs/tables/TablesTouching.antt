@@ -39,8 +39,8 @@ touched_elim Q more key number old new holds (inr h) = subst Q (sym h.2) (more o
 
 -- what holds of tables, and of them with any key more, holds after several keys were looked up
 -- Q is what holds of tables, and ns are the numbers of the keys ks
-pub touches_elim : (Q : Tabled → Type 0) → ((t : Tabled) (key : KeyParts) → Q t → Q (with_key t key)) → (ks : List KeyParts) (ns : List ℕ) (old new : Tabled) → Q old → TouchesEach ks ns old new → Q new
 -- no key is left, or one is looked up and then the others; there are as many numbers as keys
+pub touches_elim : (Q : Tabled → Type 0) → ((t : Tabled) (key : KeyParts) → Q t → Q (with_key t key)) → (ks : List KeyParts) (ns : List ℕ) (old new : Tabled) → Q old → TouchesEach ks ns old new → Q new
 touches_elim Q more [] [] old new holds same = subst Q (sym same) holds
 touches_elim Q more [] (n ∷ ns) old new holds h = absurd h
 touches_elim Q more (k ∷ ks) [] old new holds h = absurd h
@@ -55,8 +55,8 @@ long_more : (t : Tabled) (key : KeyParts) → length t.sets ≡ length t.keys �
 long_more t key long = length-append t.sets (start_of t.times key ∷ []) ∙ ap (λ n. n + 1) long ∙ sym (length-append t.keys (key ∷ []))
 
 -- keys that are looked up bring at most one new key each
-pub touches_few : (ks : List KeyParts) (ns : List ℕ) (old new : Tabled) → TouchesEach ks ns old new → length new.keys ≤ length old.keys + length ks
 -- no key is left; there are as many numbers as keys; a key that is known brings none, and a new one brings itself
+pub touches_few : (ks : List KeyParts) (ns : List ℕ) (old new : Tabled) → TouchesEach ks ns old new → length new.keys ≤ length old.keys + length ks
 touches_few [] [] old new same = let long = ap (λ t. length t.keys) same in omega arith
 touches_few [] (n ∷ ns) old new h = absurd h
 touches_few (k ∷ ks) [] old new h = absurd h
@@ -97,8 +97,8 @@ touches_may texts moment ks ns old new may h = touches_elim (λ t. MayPass texts
 module _ (waits : List ℕ) where
   -- where a key comes that is to hear the event, the last moments of the sets that are to hear alone may be missing
   -- the new key has no last moment on record, as one that waits for its event may
-  with_key_recorded : (key : KeyParts) (number : ℕ) (old : Tabled) → length old.sets ≡ length old.keys → number ≡ length old.keys + 1 → is_among waits number ≡ true → AreOnRecord waits old → AreOnRecord waits (with_key old key)
   -- `counts` says that the number is the one after all others, and `waiting` that the new key is to hear the event
+  with_key_recorded : (key : KeyParts) (number : ℕ) (old : Tabled) → length old.sets ≡ length old.keys → number ≡ length old.keys + 1 → is_among waits number ≡ true → AreOnRecord waits old → AreOnRecord waits (with_key old key)
   with_key_recorded key number old long counts waiting h = record {
     long = length-append old.records (None ∷ []) ∙ ap (λ i. i + 1) h.long ∙ sym (length-append old.keys (key ∷ []));
     each = λ i s r at here. go i s r (push_place old.sets (start_of old.times key) i s at) (push_place old.records None i r here);
@@ -170,9 +170,9 @@ module _ (texts : Texts) (p : Times) where
       absent (i, low, is) = h.0 i key low is
 
   -- what is kept of keys is kept when keys are looked up one after another, and of these too
+  -- no key is left, or one is looked up and then the others; there are as many numbers as keys
   pub kept_each : (es : List (Observation KeyParts)) (keys ks : List KeyParts) (ns : List ℕ) (old new : Tabled) → old.times ≡ p → length old.sets ≡ length old.keys → TouchesEach ks ns old new
       → AreKept (key_keeping texts p) es keys (transactions_of old) → AreKept (key_keeping texts p) es (fold keyed.with_key keys ks) (transactions_of new)
-  -- no key is left, or one is looked up and then the others; there are as many numbers as keys
   kept_each es keys [] [] old new times long same kept = subst (λ t. AreKept (key_keeping texts p) es keys (transactions_of t)) (sym same) kept
   kept_each es keys [] (n ∷ ns) old new times long h kept = absurd h
   kept_each es keys (k ∷ ks) [] old new times long h kept = absurd h
@@ -183,8 +183,8 @@ module _ (texts : Texts) (p : Times) where
 
 -- an element of a list stays at its place when more elements come after it
 -- x is the element at the place n of xs, and ys are those that come after
-pub slice_get-more : {A : Type 0} (xs ys : List A) (n : ℕ) (x : A) → slice_get xs n ≡ Some x → slice_get (xs ++ ys) n ≡ Some x
 -- an empty list has no element; the place is the first, or a later one
+pub slice_get-more : {A : Type 0} (xs ys : List A) (n : ℕ) (x : A) → slice_get xs n ≡ Some x → slice_get (xs ++ ys) n ≡ Some x
 slice_get-more [] ys n x at = absurd cc
 slice_get-more (u ∷ xs) ys zero x at = at
 slice_get-more (u ∷ xs) ys (suc n) x at = slice_get-more xs ys n x at
@@ -195,8 +195,8 @@ slice_get-last [] x = refl
 slice_get-last (u ∷ xs) x = slice_get-last xs x
 
 -- keys that were looked up have their numbers
-pub have_numbers : (ks : List KeyParts) (ns : List ℕ) (old new : Tabled) → TouchesEach ks ns old new → HaveNumbers new.keys ns ks
 -- there are as many numbers as keys; the first has its number, and keeps it when the others are looked up
+pub have_numbers : (ks : List KeyParts) (ns : List ℕ) (old new : Tabled) → TouchesEach ks ns old new → HaveNumbers new.keys ns ks
 have_numbers [] [] old new h = tt
 have_numbers [] (n ∷ ns) old new h = absurd h
 have_numbers (k ∷ ks) [] old new h = absurd h
@@ -219,8 +219,8 @@ same_test false false f g = refl
 
 -- where all elements of a list differ, no element stands at two places
 -- x is the element that would stand at the places i and k
-pub same_place : {A : Type 0} (xs : List A) → AllPairs (λ a b. a ≢ b) xs → (i k : ℕ) (x : A) → slice_get xs i ≡ Some x → slice_get xs k ≡ Some x → i ≡ k
 -- an empty list has no element; both places are the first, or one of them is, or both are later ones
+pub same_place : {A : Type 0} (xs : List A) → AllPairs (λ a b. a ≢ b) xs → (i k : ℕ) (x : A) → slice_get xs i ≡ Some x → slice_get xs k ≡ Some x → i ≡ k
 same_place [] apart i k x a b = absurd cc
 same_place (u ∷ xs) apart zero zero x a b = refl
 same_place (u ∷ xs) apart zero (suc k) x a b =

@@ -14,8 +14,8 @@ use Rattle.sip_standard.specs.declared.verdict.Verdict.{Verdict}
 use Rattle.sip_standard.specs.VerdictOf.{IsVerdictOf, IsVerdictAfter}
 
 -- a verdict of an input is a verdict on the log that the input says
-judges_log : (input : List ℕ) (p : Times) (items : List Item) (end : LogEnd) (v : Verdict) → LogSays input p items end → IsVerdictOf input v → IsVerdictAfter p [] items end v
 -- the input has a header, since it says a log; and it says one log alone
+judges_log : (input : List ℕ) (p : Times) (items : List Item) (end : LogEnd) (v : Verdict) → LogSays input p items end → IsVerdictOf input v → IsVerdictAfter p [] items end v
 judges_log input p items end v log (inl (none, is)) = absurd (log_has_header input p items end none log)
 judges_log input p items end v log (inr (q, ys, fin, other, judges)) =
     let same = log_is_one input p q items ys end fin log other in

@@ -115,8 +115,8 @@ sees_entry before item = by_action item.action refl
     Seen e a = MatchOption (direction_of a) (e ≡ silent_observation a item.moment keys) (λ d. ObservesMessage d item e)
 
     -- something is observed, whichever action the entry has
+    -- what was sent, received or refused has a message that went some way, and a mark and a restart have none
     by_action : (a : Action) → item.action ≡ a → Weakly ((e : Observation KeyParts) × Sees before item e)
-    -- what was sent, received or refused is observed as a message that went its way, a mark and a restart without one
     by_action Sent is never = observes_message way.Sent item (λ seen. never (seen.0, subst (Seen seen.0) (sym is) seen.1))
     by_action Received is never = observes_message way.Received item (λ seen. never (seen.0, subst (Seen seen.0) (sym is) seen.1))
     by_action Failed is never = observes_message way.Sent item (λ seen. never (seen.0, subst (Seen seen.0) (sym is) seen.1))

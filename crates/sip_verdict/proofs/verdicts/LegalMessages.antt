@@ -9,8 +9,8 @@ use Rattle.sip_standard.specs.Seen.{AreSeen}
 use Rattle.sip_verdict.specs.LegalLog.{IsFormed}
 
 -- a message that is observed without a fault is of the grammar
-formed : (direction : Direction) (item : Item) (e : Observation KeyParts) → e.fault ≡ None → ObservesMessage direction item e → IsFormed direction item.text
 -- with a fault of the bytes, or without the cookie, the observation would have a fault; so the message was heard
+formed : (direction : Direction) (item : Item) (e : Observation KeyParts) → e.fault ≡ None → ObservesMessage direction item e → IsFormed direction item.text
 formed direction item e none (has_fault fault has is) = let h : Some fault ≡ None = sym (ap (λ x. x.fault) is) ∙ none in cc
 formed direction item e none (has_no_cookie s says lacks is) = let h : Some no_cookie ≡ None = sym (ap (λ x. x.fault) is) ∙ none in cc
 formed direction item e none (is_heard s keys says fine concerns is) = (s, says, fine)
@@ -22,9 +22,9 @@ formed_going None item silent e none seen = tt
 formed_going (Some direction) item silent e none seen = formed direction item e none seen
 
 -- the messages of all entries are of the grammar, where none of them has a fault
+-- no item is left; there are as many entries as items; the first message is of the grammar, and so are the others
 pub all_formed : (before : List (Observation KeyParts)) (items : List Item) (es : List (Observation KeyParts)) → AreSeen before items es → All (λ e. e.fault ≡ None) es
     → All (λ item. IfSome (direction_of item.action) (λ d. IsFormed d item.text)) items
--- no item is left; there are as many entries as items; the first message is of the grammar, and so are the others
 all_formed before [] es seen none = All-nil (λ item. IfSome (direction_of item.action) (λ d. IsFormed d item.text))
 all_formed before (item ∷ items) [] seen none = absurd seen
 all_formed before (item ∷ items) (e ∷ es) seen none =

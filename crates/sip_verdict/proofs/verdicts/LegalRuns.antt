@@ -76,7 +76,7 @@ module _ (input : List ℕ) (entries transactions : ℕ) (p : Times) where
       (seen-push [] done es item e seen sees) (good-push p es e good (record { formed = formed; runs = runs; narrow = narrow })) left
 
 -- a log with a legal verdict has messages of the grammar, and a run of each transaction
-pub legal_log : (input : List ℕ) (entries transactions : ℕ) → IsVerdictOf input (Legal entries transactions) → IsLegalLog input entries transactions
 -- an input without a header has another verdict
+pub legal_log : (input : List ℕ) (entries transactions : ℕ) → IsVerdictOf input (Legal entries transactions) → IsLegalLog input entries transactions
 legal_log input entries transactions (inl faulty) = let e = faulty.1 in cc
 legal_log input entries transactions (inr (p, items, end, log, left)) = legal_end input entries transactions p [] [] items end log tt (good-nil p) left

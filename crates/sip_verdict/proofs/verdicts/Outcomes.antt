@@ -10,9 +10,9 @@ use Rattle.sip_standard.specs.Key.{KeyParts}
 use Rattle.sip_verdict.specs.inner.Tracking.{first_of}
 
 -- a key of which P holds, and before which P holds of none, is the first of which it holds
+-- no key stands in an empty list; the key is the first, or it is the first of those after the first
 pub first_at : (P : KeyParts → Type 0) (keys : List KeyParts) (place : ℕ) (key : KeyParts) → slice_get keys place ≡ Some key → P key
     → ((n : ℕ) (k : KeyParts) → n < place → slice_get keys n ≡ Some k → ¬ P k) → IsFirstKey P keys (place + 1)
--- no key stands in an empty list; the key is the first, or it is the first of those after the first
 first_at P [] place key at holds earlier = absurd cc
 first_at P (x ∷ xs) zero key at holds earlier = ([], x, xs, refl, (let same : key ≡ x = cc in subst P same holds), All-nil (λ k. ¬ P k), refl)
 first_at P (x ∷ xs) (suc place) key at holds earlier =

@@ -54,8 +54,8 @@ module _ (p : Times) (front : List (Observation KeyParts)) (e : Observation KeyP
   Wide key = IsWideAt p front e key
 
   -- an entry that is in no trouble has no verdict of trouble
-  pub fine_no_trouble : (v : Verdict) → IsFine p front e → HasTrouble p front e v → ⊥
   -- only a breach, what is undecided and the fault of a message are verdicts of trouble, and each denies what an entry in no trouble has
+  pub fine_no_trouble : (v : Verdict) → IsFine p front e → HasTrouble p front e v → ⊥
   fine_no_trouble (Legal n t) f h = h
   fine_no_trouble (Malformed n fault) f h = let a : None ≡ Some fault = sym f.formed ∙ h.1 in cc
   fine_no_trouble (Breach n t) f h = first_not_run Runs keys t h.2 f.runs
@@ -85,8 +85,8 @@ module _ (p : Times) (front : List (Observation KeyParts)) (e : Observation KeyP
 -- What follows is of whole logs by the times p.
 module _ (p : Times) where
   -- the empty log has no entry in trouble
-  pub good-nil : IsGood p []
   -- an empty list is no list with an entry in it
+  pub good-nil : IsGood p []
   good-nil [] e rest is = cc
   good-nil (f ∷ front) e rest is = cc
 

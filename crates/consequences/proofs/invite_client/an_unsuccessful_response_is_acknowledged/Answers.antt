@@ -80,7 +80,6 @@ module _ (p : Times) (before between after : List MachineEvent) (invite response
       unbroken g calm (inr (inl refused)) = calm.1 refused
       unbroken g calm (inr (inr restarted)) = calm.2 restarted
 
-      -- false is not true
       false-true : ¬ (false ≡ true)
       false-true same = cc
 

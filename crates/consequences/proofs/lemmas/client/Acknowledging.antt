@@ -4,7 +4,7 @@
 -- es are the events so far; w is what a client that calls has: its request, when it was first sent, and when it is sent again.
 -- In cases of `Emits` a message that is sent has a row (`row`, `is_row`, `to`), or pays a debt (`left`, `pays`), or changes nothing (`stays`,
 -- `same`), which only the INVITE server by RFC 3261 alone lets it (Stays). In cases of `Steps` a message that is received has a row, or has none and
--- changes nothing (`none`, `same`), and a restart leaves idle as it is (`idle`) and ends any other phase (`other`).
+-- changes nothing (`none`, `same`).
 use Rattle.std.proofs.Common.{◌≡◌, ◌≤◌, ◌<◌, ◌*◌, ◌⊎◌, inl, inr, ℕ, Bool, true, false, Some, None, List, [], ◌∷◌, ◌++◌, All, Contains, refl, sym, subst, ◌∙◌, arith}
 use Rattle.std.specs.List.{Any}
 use Rattle.std.proofs.lemmas.List.Elements.{Contains-push}
@@ -84,9 +84,9 @@ module _ (R : Receiving) (is : IsReceiving R) (p : Times) (invite : MachineEvent
     Now = es ++ e ∷ []
 
     -- a response to the INVITE leads to a phase of which Waits holds, or Over holds
+    -- a provisional response leads to proceeding, after a 2xx Over holds, and a 300 to 699 leads to completed
     answered : (reliable : Bool) (request : List ℕ) (row : Row) → e.action ≡ Received → invite.moment ≤ e.moment → request ≡ invite.text → reliable ≡ invite.reliable → Answers reliable request e.kind e row
         → Waits Now row.0 ⊎ Over Now e.moment
-    -- a provisional response leads to proceeding, a 2xx ends the matter, and a 300 to 699 leads to completed
     answered reliable request row was low text transport (code, kind, inl h) = inl (rw h.1 (text, transport))
     answered reliable request row was low text transport (code, kind, inr (inl h)) = inr (inl (any-last IsBroken es e (inl (was, (code, kind, h.0)))))
     answered reliable request row was low text transport (code, kind, inr (inr h)) = inl (rw h.1 (text, transport, low, any-last (GetsResponse IsUnsuccessful) es e (was, (code, kind, h.0))))
@@ -135,8 +135,8 @@ module _ (R : Receiving) (is : IsReceiving R) (p : Times) (invite : MachineEvent
     waits-steps Restart x owes y was low waits h = inr (inl (any-last IsBroken es e (inr (inr was))))
 
   -- a client that waits and may end need not acknowledge any more
-  waits-ends : (es : List MachineEvent) (h : ℕ) (x : InviteClientPhase) (owes : List Owed) → Waits es x → MayEnd f p (record { phase = x; owes = owes }) h → Over es h
   -- calling ends by timer B; proceeding without a CANCEL never, and with one 64*T1 after it; completed by timer D, at once over a reliable transport
+  waits-ends : (es : List MachineEvent) (h : ℕ) (x : InviteClientPhase) (owes : List Owed) → Waits es x → MayEnd f p (record { phase = x; owes = owes }) h → Over es h
   waits-ends es h (Calling w) owes waits may = inr (inl (subst (λ m. open_at p m (64 * p.t1) ≤ h) waits.0 may.0))
   waits-ends es h (Proceeding reliable request None) owes waits may = absurd may.0
   waits-ends es h (Proceeding reliable request (Some first)) owes waits may = let opening = may.0 in inr (inl (omega (arith, waits.2, opening)))
@@ -181,17 +181,17 @@ module _ (R : Receiving) (is : IsReceiving R) (p : Times) (invite : MachineEvent
     Owes y = IsCompleted y.phase × Contains y.owes debt
 
     -- the row of a 300 to 699 makes the client completed, and owes the ACK of the response
+    -- the response is of one code, a 300 to 699, so its row is neither that of a provisional response nor that of a 2xx
     owes-answer : (reliable : Bool) (request : List ℕ) (k : Kind) (row : Row) (owes : List Owed) (code : ℕ) → k ≡ Response code → IsUnsuccessful code → request ≡ invite.text → Answers reliable request k response row
         → IsCompleted row.0 × Contains (changed p response.moment row.1 owes) debt
-    -- the response is of one code, a 300 to 699, so its row is neither that of a provisional response nor that of a 2xx
     owes-answer reliable request k row owes code kind bad text (other, again, inl h) = absurd (omega (arith, codes-are-one code other (sym kind ∙ again), bad.0, h.0.1))
     owes-answer reliable request k row owes code kind bad text (other, again, inr (inl h)) = absurd (omega (arith, codes-are-one code other (sym kind ∙ again), bad.0, h.0.1))
     owes-answer reliable request k row owes code kind bad text (other, again, inr (inr h)) = rw h.1 (text, Contains-push owes debt)
 
     -- the row of the response makes a client that waits completed, and owes the ACK of the response
+    -- in calling and in proceeding the response leads to completed with its ACK owed; in completed the ACK is owed once more
     taken : (es : List MachineEvent) (x : InviteClientPhase) (row : Row) (owes : List Owed) (code : ℕ) → response.kind ≡ Response code → IsUnsuccessful code → Waits es x → R p x response.kind response row
         → IsCompleted row.0 × Contains (changed p response.moment row.1 owes) debt
-    -- in calling and in proceeding the response leads to completed with its ACK owed; in completed the ACK is owed once more
     taken es (Calling w) row owes code kind bad waits h = owes-answer w.reliable w.request response.kind row owes code kind bad waits.1 (is.calling p w response.kind response row h)
     taken es (Proceeding reliable request None) row owes code kind bad waits h = owes-answer reliable request response.kind row owes code kind bad waits.0 (is.proceeding p reliable request None response.kind response row h)
     taken es (Proceeding reliable request (Some first)) row owes code kind bad waits h =

@@ -62,8 +62,8 @@ pub record IsReceiving (R : Receiving) : Type 0 where
 
 -- by RFC 6026 a row in calling is one of a response, and leads where `Answers` says
 -- w is the data of calling, k the kind of the message e, and y the row
-calling_6026 : (p : Times) (w : Waiting) (k : Kind) (e : MachineEvent) (y : Row) → Receives p (Calling w) k e y → Answers w.reliable w.request k e y
 -- the response is provisional, a 2xx, or one of 300 to 699: one case for each; no request has a row
+calling_6026 : (p : Times) (w : Waiting) (k : Kind) (e : MachineEvent) (y : Row) → Receives p (Calling w) k e y → Answers w.reliable w.request k e y
 calling_6026 p w (Response code) e y (inl h) = (code, refl, inl h)
 calling_6026 p w (Response code) e y (inr (inl h)) = (code, refl, inr (inl (h.0, rw h.1 tt)))
 calling_6026 p w (Response code) e y (inr (inr h)) = (code, refl, inr (inr h))
@@ -100,8 +100,8 @@ receives_6026 = record {
 
 -- by RFC 3261 alone a row in calling is one of a response, and leads where `Answers` says
 -- w is the data of calling, k the kind of the message e, and y the row
-calling_3261 : (p : Times) (w : Waiting) (k : Kind) (e : MachineEvent) (y : Row) → without.Receives p (Calling w) k e y → Answers w.reliable w.request k e y
 -- the response is provisional, a 2xx, or one of 300 to 699: one case for each; no request has a row
+calling_3261 : (p : Times) (w : Waiting) (k : Kind) (e : MachineEvent) (y : Row) → without.Receives p (Calling w) k e y → Answers w.reliable w.request k e y
 calling_3261 p w (Response code) e y (inl h) = (code, refl, inl h)
 calling_3261 p w (Response code) e y (inr (inl h)) = (code, refl, inr (inl (h.0, rw h.1 tt)))
 calling_3261 p w (Response code) e y (inr (inr h)) = (code, refl, inr (inr h))

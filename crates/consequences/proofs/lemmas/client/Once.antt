@@ -150,8 +150,8 @@ module _ (R : Receiving) (is : IsReceiving R) (p : Times) where
   done-invited x done = absurd done
 
   -- the row of a response leads to a phase after the INVITE
-  answers-invited : (reliable : Bool) (request : List ℕ) (k : Kind) (e : MachineEvent) (row : Row) → Answers reliable request k e row → IsInvited row.0
   -- a provisional response leads to proceeding, a 2xx to a phase that is done, and a 300 to 699 to completed
+  answers-invited : (reliable : Bool) (request : List ℕ) (k : Kind) (e : MachineEvent) (row : Row) → Answers reliable request k e row → IsInvited row.0
   answers-invited reliable request k e row (code, kind, inl h) = rw h.1 tt
   answers-invited reliable request k e row (code, kind, inr (inl h)) = done-invited row.0 h.1
   answers-invited reliable request k e row (code, kind, inr (inr h)) = rw h.1 tt
@@ -223,16 +223,16 @@ abbrev pub IsAnyRequest : Kind → Type 0
 IsAnyRequest k = (method : Method) × (k ≡ Request method)
 
 -- the row of a received message leads from a phase after the request to a phase after the request
-plain-received : (p : Times) (x : plain.PlainClientPhase) (k : Kind) (e : MachineEvent) (row : plain.PlainClientPhase × Change) → IsAsked x → plain.Receives p x k e row → IsAsked row.0
 -- a response leads to proceeding or to completed, which come after the request
+plain-received : (p : Times) (x : plain.PlainClientPhase) (k : Kind) (e : MachineEvent) (row : plain.PlainClientPhase × Change) → IsAsked x → plain.Receives p x k e row → IsAsked row.0
 plain-received p (plain.Trying w) (Response code) e row asked (inl h) = rw h.1 tt
 plain-received p (plain.Trying w) (Response code) e row asked (inr h) = rw h.1 tt
 plain-received p (plain.Proceeding w) (Response code) e row asked h = rw h.1 tt
 plain-received p x k e row asked h = absurd h
 
 -- the row of a sent message leads to a phase after the request
+-- the request leads to trying, and a repeat leaves the phase as it is
 plain-sent : (p : Times) (x : plain.PlainClientPhase) (k : Kind) (e : MachineEvent) (row : plain.PlainClientPhase × Change) → plain.Sends p x k e row → IsAsked row.0
--- the request leads to trying, and a repeat leaves the phase
 plain-sent p plain.Idle (Request method) e row h = rw h tt
 plain-sent p (plain.Trying w) (Request method) e row h = rw h.1 tt
 plain-sent p (plain.Proceeding w) (Request method) e row h = rw h.1 tt

@@ -3,7 +3,6 @@
 -- In cases of `Emits` a message that is sent has a row (`row`, `is_row`, `to`), or pays a debt (`left`, `pays`), or changes nothing (`stays`,
 -- `same`), which only the INVITE server by RFC 3261 alone lets it (Stays). In cases of `Steps` a message that is received has a row, or has none and
 -- changes nothing (`none`, `same`), and a restart leaves idle as it is (`idle`) and ends any other phase (`other`).
--- What holds anyway, as a fact of a value that is not there, holds by `tt`.
 use Rattle.std.proofs.Common.{◌≡◌, ◌≤◌, ◌*◌, ◌⊎◌, inl, inr, ℕ, Bool, true, false, Some, List, [], ◌∷◌, ◌++◌, filter, map, min, refl, sym, ap, subst, ◌∙◌, arith, if◌then◌else◌}
 use Rattle.sip_standard.specs.declared.action.Action.{Action}
 use Rattle.sip_standard.specs.declared.action.Action.TheVariants.{Sent, Received, Failed, Mark, Restart}
@@ -111,8 +110,8 @@ module _ (R : Receiving) (is : IsReceiving R) (p : Times) where
   Invited ms x = IsSpaced p next ms
 
   -- where Invited holds of a phase, the moments lie apart
+  -- in idle there are no moments, in calling Begins holds of them, and elsewhere Invited says just this
   invited-spaced : (ms : List ℕ) (x : invite.InviteClientPhase) → Invited ms x → IsSpaced p next ms
-  -- in idle there are no moments, and in calling they begin the intervals of the phase (Begins); elsewhere Invited says just this
   invited-spaced ms invite.Idle invited = rw invited tt
   invited-spaced ms (invite.Calling w) invited = begins-spaced p next ms w.set w.interval invited
   invited-spaced ms (invite.Proceeding reliable request cancel) invited = invited
@@ -127,8 +126,8 @@ module _ (R : Receiving) (is : IsReceiving R) (p : Times) where
   done-invited ms x done spaced = absurd done
 
   -- the row of a response leads to a phase in which Invited asks only that the moments lie apart
-  answers-invited : (ms : List ℕ) (reliable : Bool) (request : List ℕ) (k : Kind) (e : MachineEvent) (row : Row) → IsSpaced p next ms → Answers reliable request k e row → Invited ms row.0
   -- a provisional response leads to proceeding, a 2xx to a phase that is done, and a 300 to 699 to completed
+  answers-invited : (ms : List ℕ) (reliable : Bool) (request : List ℕ) (k : Kind) (e : MachineEvent) (row : Row) → IsSpaced p next ms → Answers reliable request k e row → Invited ms row.0
   answers-invited ms reliable request k e row spaced (code, kind, inl h) = rw h.1 spaced
   answers-invited ms reliable request k e row spaced (code, kind, inr (inl h)) = done-invited ms row.0 h.1 spaced
   answers-invited ms reliable request k e row spaced (code, kind, inr (inr h)) = rw h.1 spaced
@@ -273,8 +272,8 @@ module _ (p : Times) where
 
   -- the row of a received message keeps what is known of the moments
   -- x is the phase, k the kind of the message e, and ms the moments at which the request was sent until then
-  asked-received : (ms : List ℕ) (x : plain.PlainClientPhase) (k : Kind) (e : MachineEvent) (row : plain.PlainClientPhase × Change) → Asked ms x → plain.Receives p x k e row → Asked ms row.0
   -- a provisional response leaves timer E as it is, and a final one ends the sending
+  asked-received : (ms : List ℕ) (x : plain.PlainClientPhase) (k : Kind) (e : MachineEvent) (row : plain.PlainClientPhase × Change) → Asked ms x → plain.Receives p x k e row → Asked ms row.0
   asked-received ms (plain.Trying w) (Response code) e row asked (inl h) = rw h.1 asked
   asked-received ms (plain.Trying w) (Response code) e row asked (inr h) = rw h.1 (asked-spaced ms (plain.Trying w) asked)
   asked-received ms (plain.Proceeding w) (Response code) e row asked h = rw h.1 (asked-spaced ms (plain.Proceeding w) asked)

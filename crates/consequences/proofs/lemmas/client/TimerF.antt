@@ -42,8 +42,8 @@ module _ (p : Times) where
   began-later (Completed reliable set) h m low began = tt
 
   -- the row of a received message keeps BeganBy
+  -- a provisional response leaves the wait as it is, and after a final one the client waits no more
   began-received : (x : PlainClientPhase) (k : Kind) (e : MachineEvent) (row : PlainClientPhase × Change) → BeganBy e.moment x → Receives p x k e row → BeganBy e.moment row.0
-  -- a provisional response leaves the wait, and after a final one the client waits no more
   began-received (Trying w) (Response code) e row began (inl h) = rw h.1 began
   began-received (Trying w) (Response code) e row began (inr h) = rw h.1 tt
   began-received (Proceeding w) (Response code) e row began h = rw h.1 tt
@@ -62,8 +62,8 @@ module _ (p : Times) where
   waits-began x m waits = absurd waits
 
   -- the row of a request that is sent leads to a client that waits
+  -- the request begins the wait at its moment, and a repeat leaves the moment at which it began
   sent-waits : (x : PlainClientPhase) (k : Kind) (e : MachineEvent) (row : PlainClientPhase × Change) → BeganBy e.moment x → Sends p x k e row → WaitsBy e.moment row.0
-  -- the request begins the wait at its moment, and a repeat leaves when it began
   sent-waits Idle (Request method) e row began h = rw h (omega arith)
   sent-waits (Trying w) (Request method) e row began h = rw h.1 began
   sent-waits (Proceeding w) (Request method) e row began h = rw h.1 began
@@ -120,8 +120,8 @@ module _ (p : Times) where
     waits-received es e x k owes row was kind waits h = absurd h
 
     -- the row of a sent message leaves a client that waits waiting
+    -- a repeat of the request leaves the wait as it is; a client sends no response
     sent-still : (x : PlainClientPhase) (k : Kind) (e : MachineEvent) (row : PlainClientPhase × Change) → WaitsBy moment x → Sends p x k e row → WaitsBy moment row.0
-    -- a repeat of the request leaves the wait; a client sends no response
     sent-still (Trying w) (Request method) e row waits h = rw h.1 waits
     sent-still (Proceeding w) (Request method) e row waits h = rw h.1 waits
     sent-still (Trying w) (Response code) e row waits h = absurd h

@@ -60,8 +60,8 @@ module _ (R : Receiving) (is : IsReceiving R) (p : Times) where
   Before es m y = All (λ g. ¬ (SendsRequest Invite g)) es → IsUnasked y.phase
 
   -- what is sent, unless it is an INVITE, leads from idle or ended to idle or ended
+  -- a debt that is paid leaves the phase as it is; so does what is no INVITE in idle, and a CANCEL in ended
   unasked-emits : (e : MachineEvent) (x : InviteClientPhase) (owes : List Owed) (y : Owing InviteClientPhase) → IsUnasked x → ¬ (e.kind ≡ Request Invite) → Emits f p e (record { phase = x; owes = owes }) y → IsUnasked y.phase
-  -- a debt that is paid leaves the phase; in idle what is no INVITE stays there, and in ended a CANCEL does
   unasked-emits e x owes y from never (inr (inl (left, pays, to))) = rw to from
   unasked-emits e x owes y from never (inr (inr (stays, same))) = absurd stays
   unasked-emits e Idle owes y from never (inl (row, is_row, to)) = by (sends-idle p e.kind e row is_row)
@@ -122,8 +122,8 @@ module _ (R : Receiving) (is : IsReceiving R) (p : Times) where
       by_row row owes (inr (other, leads)) = absurd (other sent.1)
 
       -- after the INVITE the client calls with it: an INVITE is sent by a row, since nothing is owed before it
-      by : (phase : InviteClientPhase) (owes : List Owed) → IsUnasked phase → Emits f p invite (record { phase = phase; owes = owes }) y → CallsFrom invite y.phase
       -- in idle the INVITE has its row; the ended phase sends a CANCEL alone, and from any other phase it does not come
+      by : (phase : InviteClientPhase) (owes : List Owed) → IsUnasked phase → Emits f p invite (record { phase = phase; owes = owes }) y → CallsFrom invite y.phase
       by Idle owes from (inl (row, is_row, to)) = rw to (by_row row owes (sends-idle p invite.kind invite row is_row))
       by Ended owes from (inl (row, is_row, to)) = absurd (no-cancel (sym sent.1 ∙ (sends-ended p invite.kind invite row is_row).0))
       by phase owes from (inr (inl (left, pays, to))) = absurd (no-ack (sym sent.1 ∙ (pays-nothing phase invite.kind invite pays.first.message pays.holds.0).4))
@@ -171,9 +171,9 @@ module _ (R : Receiving) (is : IsReceiving R) (p : Times) where
     calls-ends es h x owes calls may = absurd calls
 
     -- what is sent in calling is the INVITE, and the phase stays calling
+    -- a debt is paid in completed alone, and so not in calling, where the INVITE is sent again by its row
     calls-emits : (es : List MachineEvent) (e : MachineEvent) (x : InviteClientPhase) (owes : List Owed) (y : Owing InviteClientPhase) → CallsFrom invite x
         → Emits f p e (record { phase = x; owes = owes }) y → (e.kind ≡ Request Invite) × CallsFrom invite y.phase
-    -- a debt is paid in completed alone, and so not in calling, where the INVITE is sent again by its row
     calls-emits es e x owes y calls (inr (inl (left, pays, to))) =
         let pay = pays-nothing x e.kind e pays.first.message pays.holds.0 in not-calling x pay.0 pay.1 pay.2 invite pay.3 calls
     calls-emits es e x owes y calls (inr (inr (stays, same))) = absurd stays
@@ -218,7 +218,6 @@ module _ (R : Receiving) (is : IsReceiving R) (p : Times) where
         SendsRequest Cancel e → StandsAfter f p (before ++ invite ∷ after) e y → Over after e.moment
     cancel-waits before after e y none sent cancels (x, stands, take) = by-cut (cut f p (quiet Idle) 0 before invite after e.moment x (stands-run f p (before ++ invite ∷ after) e.moment x stands))
       where
-        -- a CANCEL is no INVITE
         no-invite : ¬ (Request Cancel ≡ Request Invite)
         no-invite is = cc
 
@@ -240,8 +239,8 @@ module _ (R : Receiving) (is : IsReceiving R) (p : Times) where
 
   -- what began by a moment began by every later one
   -- x is the phase, and h and m are the two moments
-  began-later : (x : InviteClientPhase) (h m : ℕ) → h ≤ m → BeganBy h x → BeganBy m x
   -- only of calling BeganBy says something: that it began by the moment
+  began-later : (x : InviteClientPhase) (h m : ℕ) → h ≤ m → BeganBy h x → BeganBy m x
   began-later (Calling w) h m low began = omega (arith, low, began)
   began-later Idle h m low began = tt
   began-later Ended h m low began = tt
@@ -256,8 +255,8 @@ module _ (R : Receiving) (is : IsReceiving R) (p : Times) where
   done-began x m done = absurd done
 
   -- the row of a response leads to a phase of which BeganBy holds
-  answers-began : (reliable : Bool) (request : List ℕ) (k : Kind) (e : MachineEvent) (row : Row) → Answers reliable request k e row → BeganBy e.moment row.0
   -- a provisional response leads to proceeding, a success to a phase that is done, and any other final response to completed
+  answers-began : (reliable : Bool) (request : List ℕ) (k : Kind) (e : MachineEvent) (row : Row) → Answers reliable request k e row → BeganBy e.moment row.0
   answers-began reliable request k e row (code, kind, inl h) = rw h.1 tt
   answers-began reliable request k e row (code, kind, inr (inl h)) = done-began row.0 e.moment h.1
   answers-began reliable request k e row (code, kind, inr (inr h)) = rw h.1 tt

@@ -33,7 +33,6 @@ module _ (debt : Owed) (must : debt.must ≡ true) where
   pub no-end : {X : Type 0} (f : Figure X) (p : Times) (x : Owing X) (h : ℕ) → Contains x.owes debt → ¬ (MayEnd f p x h)
   no-end f p x h owed may = true-false (sym (list_any-from_Any (λ o. o.must) x.owes (owed.0, debt, owed.1, owed.2, must)) ∙ may.1)
     where
-      -- true is not false
       true-false : ¬ (true ≡ false)
       true-false same = cc
 

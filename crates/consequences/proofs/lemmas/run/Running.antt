@@ -57,8 +57,8 @@ module _ {X : Type 0} (f : Figure X) (p : Times) where
   run-takes x h (g ∷ es) e y z (a, b, rest, taken, run) take = (a, b, rest, taken, run-takes b g.moment es e y z run take)
 
   -- where a run stands, a run leads from the idle state at moment 0
+  -- what the run does last the run from idle does last too: it begins, waits, ends, or takes an event
   pub stands-run : (es : List MachineEvent) (m : ℕ) (y : Owing X) → Stands f p es m y → Runs f p (quiet f.idle) 0 es m y
-  -- the run begins, or waits, or ends, or takes an event: so the run from idle does it last
   stands-run _ _ _ begins = rests
   stands-run _ _ _ (waits es h m x stands low lasts) = run-waits (quiet f.idle) 0 es h m x (stands-run es h x stands) low lasts
   stands-run _ _ _ (ends es h x stands may) = run-ends (quiet f.idle) 0 es h x (stands-run es h x stands) may
@@ -73,9 +73,9 @@ module _ {X : Type 0} (f : Figure X) (p : Times) where
     pub goes : Runs f p to e.moment after m y
 
   -- a run over events can be cut at each of them
+  -- the event is the first, or comes after the first, g, and then the run from there is cut
   pub cut : (x : Owing X) (h : ℕ) (before : List MachineEvent) (e : MachineEvent) (after : List MachineEvent) (m : ℕ) (y : Owing X) →
       Runs f p x h (before ++ e ∷ after) m y → Cut x h before e after m y
-  -- the event is the first, or comes after the first, g, and then the run from there is cut
   cut x h [] e after m y (a, b, rest, take, run) = record { from = a; to = b; leads = rest; step = take; goes = run }
   cut x h (g ∷ before) e after m y (a, b, rest, take, run) =
       let later = cut b g.moment before e after m y run in
@@ -84,8 +84,8 @@ module _ {X : Type 0} (f : Figure X) (p : Times) where
   -- What follows is of a fact P that a run keeps: it speaks of the events so far, the moment, and the state.
   module _ (P : List MachineEvent → ℕ → Owing X → Type 0) (kept : IsKept f p P) where
     -- a run keeps the fact while it waits and ends
-    rest-keeps : (es : List MachineEvent) (x : Owing X) (h m : ℕ) (y : Owing X) → P es h x → Rests f p x h m y → P es m y
     -- nothing has happened yet, or a wait comes last, or an end
+    rest-keeps : (es : List MachineEvent) (x : Owing X) (h m : ℕ) (y : Owing X) → P es h x → Rests f p x h m y → P es m y
     rest-keeps es x h _ _ holds rests = holds
     rest-keeps es x h _ _ holds (rest_waits k m y rest low lasts) = kept.as_it_waits es k m y (rest-keeps es x h k y holds rest) low lasts
     rest-keeps es x h _ _ holds (rest_ends m y rest may) = kept.as_it_ends es m y (rest-keeps es x h m y holds rest) may

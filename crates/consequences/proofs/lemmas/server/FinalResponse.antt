@@ -95,9 +95,9 @@ module _ {X : Type 0} (f : Figure X) (p : Times) (held : InviteServerPhase → X
     opens-received _ _ _ owes opens (acknowledged _ reliable final set repeat interval) = absurd opens
 
     -- the row of a message that is no final response keeps Opens
+    -- a provisional response is said now, and becomes the last; a final one is ruled out, and later phases are none in which Opens holds
     opens-sent : (x : InviteServerPhase) (k : Kind) (row : Row) (owes : List Owed) → IsOut e → e.kind ≡ k → ¬ (SendsResponse IsFinal e) → Opens es e.moment x owes → SentRow p x k e row
         → Opens Now e.moment row.0 (changed p e.moment row.1 owes)
-    -- a provisional response is said now, and becomes the last; a final one is ruled out, and later phases are none in which Opens holds
     opens-sent _ _ _ owes out kind never opens (provisional _ reliable set last code is_provisional) =
         (any-last (λ g. SendsResponse IsProvisional g × (g.text ≡ e.text)) es e ((out, (code, kind, is_provisional)), refl), are-said-later es (e ∷ []) e.moment e.moment owes (omega arith) opens.1)
     opens-sent _ _ _ owes out kind never opens (success _ reliable set last code is_success) = absurd (never (out, (code, kind, (is_success.0, omega (arith, is_success.1)))))
@@ -250,9 +250,9 @@ module _ {X : Type 0} (f : Figure X) (p : Times) (held : InviteServerPhase → X
     -- What follows is of one event e that comes after the events es.
     module _ (es : List MachineEvent) (e : MachineEvent) where
       -- the row of a sent message sends what may be sent after the final response, and keeps Closes
+      -- proceeding is no phase after the final response; accepted sends a 2xx again, and completed its final response
       closes-sent : (x : InviteServerPhase) (k : Kind) (row : Row) (owes : List Owed) → e.kind ≡ k → Closes es e.moment x owes → SentRow p x k e row
           → IsAllowed e × Closes (es ++ e ∷ []) e.moment row.0 (changed p e.moment row.1 owes)
-      -- proceeding is no phase after the final response; accepted sends a 2xx again, and completed its final response
       closes-sent _ _ _ owes kind closes (provisional _ reliable set last code is_provisional) = absurd closes
       closes-sent _ _ _ owes kind closes (success _ reliable set last code is_success) = absurd closes
       closes-sent _ _ _ owes kind closes (unsuccessful _ reliable set last code is_unsuccessful) = absurd closes
@@ -286,7 +286,6 @@ module _ {X : Type 0} (f : Figure X) (p : Times) (held : InviteServerPhase → X
         where
           -- the debt that is paid is the message that was sent
           bytes : pays.first.message ≡ e.text
-          -- the server pays only the debt that has the bytes of what it sends
           bytes = is.paid x e.kind e pays.first.message pays.holds.0
 
           -- the debt that is paid is the final response, or a provisional one that was owed before it
@@ -336,8 +335,8 @@ module _ {X : Type 0} (f : Figure X) (p : Times) (held : InviteServerPhase → X
       closes-steps Restart x owes y was never closes (inr (other, to)) = (Idle, [], rw (to, is.ended), (refl, inr (inr (any-last IsRestart es e was))))
 
     -- where the phase may end, the transaction may be over
+    -- accepted ends by timer L, completed by timer H, both set at the final response, and confirmed after an ACK
     closes-ends : (es : List MachineEvent) (h : ℕ) (x : InviteServerPhase) (owes : List Owed) → Closes es h x owes → IsSomeAnd (corrected.timer_window p x) (λ window. window.0 ≤ h) → Past es h
-    -- accepted ends by timer L, completed by timer H, both set with the final response, and confirmed after an ACK
     closes-ends es h Idle owes closes opening = closes.1
     closes-ends es h (Proceeding reliable set last) owes closes opening = absurd closes
     closes-ends es h (Accepted set) owes closes opening = inl (subst (λ m. open_at p m (64 * p.t1) ≤ h) closes.1 opening)
@@ -410,9 +409,9 @@ module _ {X : Type 0} (f : Figure X) (p : Times) (held : InviteServerPhase → X
       -- What follows needs the row of the final response to be that of the corrected machine, as it is unless it is a 2xx by RFC 3261.
       module _ (sent_final : (x : InviteServerPhase) (y : X × Change) → f.Sends p (held x) final.kind final y → (row : Row) × corrected.Sends p x final.kind final row × (y ≡ (held row.0, row.1))) where
         -- the row of the final response leads to a phase of which Closes holds
+        -- the response is final, so its row is one of two in proceeding: a 2xx leads to accepted, and any other to completed
         final-sent : (x : InviteServerPhase) (k : Kind) (row : Row) (owes : List Owed) → final.kind ≡ k → Opens before final.moment x owes → SentRow p x k final row
             → Closes [] final.moment row.0 (changed p final.moment row.1 owes)
-        -- the response is final, so it has one of the two rows of proceeding for such, which leads to accepted or to completed
         final-sent _ _ _ owes kind opens (provisional _ reliable set last code is_provisional) = absurd (not-provisional before final is_final one_kind code kind is_provisional)
         final-sent _ _ _ owes kind opens (success _ reliable set last code is_success) = ((code, kind, is_success), refl, old-softened owes opens.1)
         final-sent _ _ _ owes kind opens (unsuccessful _ reliable set last code is_unsuccessful) = ((code, kind, is_unsuccessful), refl, refl, old-softened owes opens.1)

@@ -3,7 +3,7 @@
 -- h is a moment or what is known of a row.
 -- In cases of `Emits` a message that is sent has a row (`row`, `is_row`, `to`), or pays a debt (`left`, `pays`), or changes nothing (`stays`,
 -- `same`), which only the INVITE server by RFC 3261 alone lets it (Stays). In cases of `Steps` a message that is received has a row, or has none and
--- changes nothing (`none`, `same`), and a restart leaves idle as it is (`idle`) and ends any other phase (`other`).
+-- changes nothing (`none`, `same`).
 use Rattle.std.proofs.Common.{◌≡◌, ◌≤◌, ◌<◌, ◌⊎◌, inl, inr, ℕ, Bool, true, false, Option, None, IsSomeAnd, List, [], ◌∷◌, ◌++◌, All, refl, sym, ap, subst, ◌∙◌, arith}
 use Rattle.std.specs.List.{Any}
 use Rattle.std.proofs.lemmas.List.Elements.{All-head}
@@ -40,8 +40,8 @@ module _ {X : Type 0} (f : Figure X) (p : Times) (held : InviteServerPhase → X
       ⊎ Any (InTime (SendsResponse IsAnyCode)) es ⊎ Any (InTime IsRestart) es
 
   -- while the server has sent nothing, no received message has a row
-  no-row : (reliable : Bool) (set : ℕ) (x : InviteServerPhase) (k : Kind) (e : MachineEvent) (row : Row) → x ≡ Proceeding reliable set None → ¬ (ReceivedRow x k e row)
   -- each row is of another phase: idle, proceeding with a response before, or completed
+  no-row : (reliable : Bool) (set : ℕ) (x : InviteServerPhase) (k : Kind) (e : MachineEvent) (row : Row) → x ≡ Proceeding reliable set None → ¬ (ReceivedRow x k e row)
   no-row reliable set x k e row here (comes _) = cc
   no-row reliable set x k e row here (again _ r s last must) = cc
   no-row reliable set x k e row here (again_after _ r final s repeat interval) = cc

@@ -102,9 +102,9 @@ module _ (p : Times) where
     is_final = (sends.0, (sends.1.0, sends.1.1, (sends.1.2.0, omega (arith, sends.1.2.1))))
 
     -- the row of the 2xx leads to `Passed`, and drops the debts
+    -- in proceeding a 2xx has the row that leads to `Passed`, and not that of another response; no other phase before the final response sends one
     success-row : (x : InviteServerPhase) (k : Kind) (row : InviteServer3261Phase × Change) (owes : List Owed) → Opens f p first_in (is-server-3261 p) before final.moment x owes → IsResponse IsSuccess final → final.kind ≡ k
         → Sends p (first_in x) k final row → row ≡ (Passed, drops)
-    -- in proceeding a 2xx has the row that leads to `Passed`, and not that of another response; no other phase before the final response sends one
     success-row (Proceeding reliable set last) (Response code) row owes opens (other, kind, success) here (inl h) = h.1
     success-row (Proceeding reliable set last) (Response code) row owes opens (other, kind, success) here (inr h) = absurd (h.0 (subst IsSuccess (codes-are-one other code (sym kind ∙ here)) success))
     success-row (Proceeding reliable set last) (Request method) row owes opens success here h = absurd h

@@ -62,8 +62,8 @@ module _ (p : Times) where
   Opens es x owes = ⊥
 
   -- Opens stays true after more events
-  opens-later : (es more : List MachineEvent) (x : PlainServerPhase) (owes : List Owed) → Opens es x owes → Opens (es ++ more) x owes
   -- what was said before is said after more events too
+  opens-later : (es more : List MachineEvent) (x : PlainServerPhase) (owes : List Owed) → Opens es x owes → Opens (es ++ more) x owes
   opens-later es more Idle owes opens = opens
   opens-later es more (Trying reliable) owes opens = (opens.0, are-said-later es more owes opens.1)
   opens-later es more (Proceeding reliable last) owes opens = (opens.0, said-later es more last opens.1, are-said-later es more owes opens.2)
@@ -179,8 +179,8 @@ module _ (p : Times) where
     Past es m = (open_at p final.moment (64 * p.t1) ≤ m) ⊎ Any IsRestart es
 
     -- the row of the final response leads to completed, by that response
-    final-sent : (x : PlainServerPhase) (k : Kind) (row : Row) (owes : List Owed) → final.kind ≡ k → Opens before x owes → Sends p x k final row → IsCompleted row.0
     -- the response is final, so its row is not that of a provisional one
+    final-sent : (x : PlainServerPhase) (k : Kind) (row : Row) (owes : List Owed) → final.kind ≡ k → Opens before x owes → Sends p x k final row → IsCompleted row.0
     final-sent (Trying reliable) (Response code) row owes kind opens (inl h) = absurd (not-provisional before final is_final one_kind code kind h.0)
     final-sent (Trying reliable) (Response code) row owes kind opens (inr h) = rw h.1 (opens.0, refl, refl)
     final-sent (Proceeding reliable last) (Response code) row owes kind opens (inl h) = absurd (not-provisional before final is_final one_kind code kind h.0)
@@ -210,8 +210,8 @@ module _ (p : Times) where
         by (inr refused) = final-emits x.phase (left_at final x) y (opens-left before final x opens) (step-of f p Failed final x y refused take)
 
     -- the row of a received message leaves the server completed by the final response
-    completed-received : (x : PlainServerPhase) (k : Kind) (e : MachineEvent) (row : Row) → IsCompleted x → Receives p x k e row → IsCompleted row.0
     -- a request leaves the server completed, and it receives no response
+    completed-received : (x : PlainServerPhase) (k : Kind) (e : MachineEvent) (row : Row) → IsCompleted x → Receives p x k e row → IsCompleted row.0
     completed-received (Completed reliable message set) (Request method) e row done h = rw h done
     completed-received (Completed reliable message set) (Response code) e row done h = absurd h
     completed-received x k e row done h = absurd done
@@ -312,8 +312,8 @@ module _ (p : Times) where
       Owes es m y = (IsCompleted y.phase × Contains y.owes debt) ⊎ Any IsPaid es ⊎ Any IsRestart es
 
       -- the row of a received message leaves the final response owed
-      owes-received : (x : PlainServerPhase) (owes : List Owed) (k : Kind) (e : MachineEvent) (row : Row) → IsCompleted x → Contains owes debt → Receives p x k e row → Contains (changed p e.moment row.1 owes) debt
       -- a request makes one more debt, after which the others are still owed
+      owes-received : (x : PlainServerPhase) (owes : List Owed) (k : Kind) (e : MachineEvent) (row : Row) → IsCompleted x → Contains owes debt → Receives p x k e row → Contains (changed p e.moment row.1 owes) debt
       owes-received (Completed reliable message set) owes (Request method) e row done owed h = rw h (more-owed debt refl owes (record { message = message; deadline = close_at p e.moment 0; must = true } ∷ []) owed)
       owes-received (Completed reliable message set) owes (Response code) e row done owed h = absurd h
       owes-received x owes k e row done owed h = absurd done

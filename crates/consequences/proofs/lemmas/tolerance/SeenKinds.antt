@@ -29,16 +29,16 @@ abbrev IsKnown : Observation KeyParts → Type 0
 IsKnown e = (e.keys ≡ []) ⊎ HasItsKind e.event
 
 -- IsKnown holds of the observation of an entry with a message
+-- an entry whose message has a fault, or lacks the cookie, concerns no key; any other has the kind that its bytes say
 observed-known : (direction : Direction) (item : Item) (e : Observation KeyParts) → 1 ≤ length item.text → ObservesMessage direction item e → IsKnown e
--- a message with a fault, or without the cookie, concerns no key; any other has the kind that its bytes say
 observed-known direction item e long (has_fault fault says is) = inl (rw is refl)
 observed-known direction item e long (has_no_cookie s says lacks is) = inl (rw is refl)
 observed-known direction item e long (is_heard s keys says has concerns is) = inr (rw is (inr (s, says, refl, long)))
 
 -- IsKnown holds of the observation of each entry of a log
+-- an entry with a message is one of `observed-known`; a mark concerns no key, and a restart has no bytes
 seen-known : (action : Action) (front : List (Observation KeyParts)) (item : Item) (e : Observation KeyParts) → (HasMessage action → 1 ≤ length item.text)
     → MatchOption (direction_of action) (e ≡ silent_observation action item.moment (keys_in front)) (λ direction. ObservesMessage direction item e) → IsKnown e
--- an entry with a message is as above; a mark concerns no key, and a restart has no bytes
 seen-known Sent front item e long sees = observed-known _ item e (long (λ is. cc, λ is. cc)) sees
 seen-known Received front item e long sees = observed-known _ item e (long (λ is. cc, λ is. cc)) sees
 seen-known Failed front item e long sees = observed-known _ item e (long (λ is. cc, λ is. cc)) sees
@@ -58,7 +58,6 @@ all-known format last front (item ∷ items) [] order seen = absurd seen
 no-keys : (key : KeyParts) (keys : List KeyParts) → keys ≡ [] → ¬ (list_any (same_key key) keys ≡ true)
 no-keys key keys none some = by (subst (λ ks. list_any (same_key key) ks ≡ true) none some)
   where
-    -- false is not true
     by : ¬ (false ≡ true)
     by same = cc
 
@@ -78,8 +77,8 @@ events-known key (e ∷ es) known = by (list_any (same_key key) e.keys) refl (ev
     by false is later = later
 
 -- events that have the kind that their bytes say are of one kind where they have the same bytes
+-- neither has bytes, or both have the same and so say the same; where one has bytes and the other none, they are not equal
 two-kinds : (a b : MachineEvent) → HasItsKind a → HasItsKind b → a.text ≡ b.text → a.kind ≡ b.kind
--- neither has bytes, or one has none while the other has some, which are not equal, or both have the same bytes and so say the same
 two-kinds a b (inl silent) (inl quiet) same = silent.1 ∙ sym quiet.1
 two-kinds a b (inl silent) (inr (s, says, kind, long)) same = absurd (omega (arith, long, ap length (sym same ∙ silent.0)))
 two-kinds a b (inr (s, says, kind, long)) (inl quiet) same = absurd (omega (arith, long, ap length (same ∙ quiet.0)))

@@ -33,7 +33,6 @@ use Rattle.consequences.proofs.lemmas.tolerance.Wider.{IsSorted}
 pub same-bytes : (a b : List ℕ) → Dec (a ≡ b)
 same-bytes a b = by (bytes_eq a b) (bytes_eq-Decides a b)
   where
-    -- false is not true
     false-true : ¬ (false ≡ true)
     false-true same = cc
 
@@ -106,7 +105,6 @@ module _ {X : Type 0} (f : Figure X) (p : Times) (firm : AreFirm f p) where
   true-false : (o : Owed) → o.must ≡ true → ¬ (o.must ≡ false)
   true-false o must may = by (sym must ∙ may)
     where
-      -- true is not false
       by : ¬ (true ≡ false)
       by same = cc
 
@@ -219,8 +217,8 @@ soft (o ∷ os) = All-push-front o os (soft os)
 -- What follows is of the INVITE server by RFC 6026, with the times p.
 module _ (p : Times) where
   -- debts stay sorted where some are left out
+  -- of no debts none is left; of others each that is left still has what all had
   sorted-left : (x : server.InviteServerPhase) (e : MachineEvent) (owes : List Owed) (test : Owed → Bool) → AreSorted x owes → AreSorted x (filter test owes)
-  -- what is left of no debts is none; of others each still has what all had
   sorted-left server.Idle e owes test sorted = rw sorted refl
   sorted-left (server.Proceeding reliable set last) e owes test sorted = All-filter test IsTold owes sorted
   sorted-left (server.Accepted set) e owes test sorted = All-filter test (λ o. o.must ≡ false) owes sorted
@@ -228,8 +226,8 @@ module _ (p : Times) where
   sorted-left (server.Confirmed reliable set) e owes test sorted = All-filter test (λ o. o.must ≡ false) owes sorted
 
   -- debts stay sorted where one is paid
-  sorted-without : (P : Owed → Type 0) (x : server.InviteServerPhase) (owes left : List Owed) → IsWithoutFirst P owes left → AreSorted x owes → AreSorted x left
   -- in idle there is no debt to pay; elsewhere each debt that is left still has what all had
+  sorted-without : (P : Owed → Type 0) (x : server.InviteServerPhase) (owes left : List Owed) → IsWithoutFirst P owes left → AreSorted x owes → AreSorted x left
   sorted-without P server.Idle owes left pays sorted = absurd (nothing-to-pay P left (subst (λ os. IsWithoutFirst P os left) sorted pays))
   sorted-without P (server.Proceeding reliable set last) owes left pays sorted = All-without P IsTold owes left pays sorted
   sorted-without P (server.Accepted set) owes left pays sorted = All-without P (λ o. o.must ≡ false) owes left pays sorted
@@ -249,8 +247,8 @@ module _ (p : Times) where
   sorted-received x k e row owes sorted h = absurd h
 
   -- the row of a sent message keeps the debts sorted
+  -- a provisional response leaves the debts as they are, a final one softens them; in accepted and in completed all only may be sent already
   sorted-sent : (x : server.InviteServerPhase) (k : Kind) (e : MachineEvent) (row : server.InviteServerPhase × Change) (owes : List Owed) → AreSorted x owes → server.Sends p x k e row → AreSorted row.0 (changed p e.moment row.1 owes)
-  -- a provisional response leaves the debts, and a final one softens them; in accepted and in completed they only may be sent already
   sorted-sent (server.Proceeding reliable set last) (Response code) e row owes sorted (inl h) = rw h.1 sorted
   sorted-sent (server.Proceeding reliable set last) (Response code) e row owes sorted (inr (inl h)) = rw h.1 (soft owes)
   sorted-sent (server.Proceeding reliable set last) (Response code) e row owes sorted (inr (inr h)) = rw h.1 (soft owes)
@@ -329,9 +327,9 @@ module _ (p : Times) where
   MayIn3261 (server_3261.In x again) message = MayIn x message
 
   -- the row of a received message keeps the debts sorted
+  -- after a 2xx nothing is owed, and an INVITE begins anew; else the row is one of the corrected server
   received-3261 : (x : server_3261.InviteServer3261Phase) (k : Kind) (e : MachineEvent) (row : server_3261.InviteServer3261Phase × Change) (owes : List Owed) → AreSorted3261 x owes → server_3261.Receives p x k e row
       → AreSorted3261 row.0 (changed p e.moment row.1 owes)
-  -- after a 2xx nothing is owed, and an INVITE begins anew; else the row is one of the corrected server
   received-3261 server_3261.Passed (Request Invite) e row owes sorted h = rw (h, sorted) (All-nil IsTold)
   received-3261 (server_3261.In x again) k e row owes sorted (after, is_row, to) = rw to (sorted-received x k e after owes sorted is_row)
   received-3261 server_3261.Passed k e row owes sorted h = absurd h

@@ -62,8 +62,8 @@ yes-must : ¬ (true ≡ false)
 yes-must same = cc
 
 -- debts stay sorted after more events
+-- in idle and in trying nothing is owed; what was said before is said after more events too
 sorted-later : (es more : List MachineEvent) (x : PlainServerPhase) (owes : List Owed) → AreSorted es x owes → AreSorted (es ++ more) x owes
--- in idle and in trying nothing is owed; what was said of events before is said after more events too
 sorted-later es more Idle owes sorted = sorted
 sorted-later es more (Trying reliable) owes sorted = sorted
 sorted-later es more (Proceeding reliable last) owes sorted =
@@ -74,16 +74,16 @@ sorted-later es more (Completed reliable final set) owes sorted = (
 )
 
 -- debts stay sorted where some are left out
+-- of no debts none is left; of others each that is left still has what all had
 sorted-left : (es : List MachineEvent) (x : PlainServerPhase) (owes : List Owed) (test : Owed → Bool) → AreSorted es x owes → AreSorted es x (filter test owes)
--- what is left of no debts is none; of others each still has what all had
 sorted-left es Idle owes test sorted = rw sorted refl
 sorted-left es (Trying reliable) owes test sorted = rw sorted refl
 sorted-left es (Proceeding reliable last) owes test sorted = (sorted.0, All-filter test (IsTold es) owes sorted.1)
 sorted-left es (Completed reliable final set) owes test sorted = (sorted.0, All-filter test (IsFinalOr es final) owes sorted.1)
 
 -- debts stay sorted where one is paid
-sorted-without : (P : Owed → Type 0) (es : List MachineEvent) (x : PlainServerPhase) (owes left : List Owed) → IsWithoutFirst P owes left → AreSorted es x owes → AreSorted es x left
 -- in idle and in trying there is no debt to pay; elsewhere each debt that is left still has what all had
+sorted-without : (P : Owed → Type 0) (es : List MachineEvent) (x : PlainServerPhase) (owes left : List Owed) → IsWithoutFirst P owes left → AreSorted es x owes → AreSorted es x left
 sorted-without P es Idle owes left pays sorted = absurd (nothing-to-pay P left (subst (λ os. IsWithoutFirst P os left) sorted pays))
 sorted-without P es (Trying reliable) owes left pays sorted = absurd (nothing-to-pay P left (subst (λ os. IsWithoutFirst P os left) sorted pays))
 sorted-without P es (Proceeding reliable last) owes left pays sorted = (sorted.0, All-without P (IsTold es) owes left pays sorted.1)
@@ -181,8 +181,8 @@ module _ (p : Times) where
           let codes : a ≡ b = codes-are-one a b (sym g-kind ∙ same ∙ h-kind) in absurd (omega (arith, codes, final_code.0, provisional_code.1))
 
   -- the bytes of a debt tell whether it must be sent, where the debts are sorted
-  told : (es : List MachineEvent) (x : PlainServerPhase) (owes : List Owed) → AreOneKind es → AreSorted es x owes → All (λ o. (o.must ≡ true → ¬ (May es x o.message)) × (o.must ≡ false → May es x o.message)) owes
   -- in idle and in trying nothing is owed; in proceeding this is what sorted means; in completed a message is not both final and provisional
+  told : (es : List MachineEvent) (x : PlainServerPhase) (owes : List Owed) → AreOneKind es → AreSorted es x owes → All (λ o. (o.must ≡ true → ¬ (May es x o.message)) × (o.must ≡ false → May es x o.message)) owes
   told es Idle owes one sorted = rw sorted (All-nil (λ o. (o.must ≡ true → ¬ (Unit {0})) × (o.must ≡ false → Unit {0})))
   told es (Trying reliable) owes one sorted = rw sorted (All-nil (λ o. (o.must ≡ true → ¬ (Unit {0})) × (o.must ≡ false → Unit {0})))
   told es (Proceeding reliable last) owes one sorted =

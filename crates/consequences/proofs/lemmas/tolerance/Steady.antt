@@ -1,6 +1,5 @@
 -- The figures by a wider tolerance: their rows stay, and their windows open earlier and close later.
 -- In the lemmas x is a phase, k the kind of a message, and h a moment or what is known of a row.
--- What holds anyway, as a fact of a value that is not there, holds by `tt`.
 use Rattle.std.proofs.Common.{◌≤◌, ◌*◌, ℕ, Bool, true, false, Some, None, IsSomeAnd, IfSome, List, [], ◌∷◌, All, arith, if◌then◌else◌}
 use Rattle.std.proofs.lemmas.List.Elements.{All-nil, All-cons, All-head}
 use Rattle.sip_standard.specs.declared.kind.Kind.{Kind}
@@ -48,7 +47,7 @@ module _ (p : Times) (early late : ℕ) (earlier : p.early ≤ early) (later : p
 
   -- a row of a message that is sent by the times p is one by the wider times q
   client-sent : (x : client.InviteClientPhase) (k : Kind) (e : MachineEvent) (row : client.InviteClientPhase × Change) → client.Sends p x k e row → client.Sends q x k e row
-  -- of the rows of idle and calling only that of the INVITE again, by timer A, speaks of times
+  -- of the rows of idle and calling only that of the INVITE again, by timer A, depends on the tolerance
   client-sent client.Idle (Request Invite) e row h = h
   client-sent client.Idle (Request Ack) e row h = h
   client-sent client.Idle (Request Cancel) e row h = h
@@ -62,8 +61,8 @@ module _ (p : Times) (early late : ℕ) (earlier : p.early ≤ early) (later : p
   client-sent x k e row h = absurd h
 
   -- a window that has opened by the times p has opened by the wider times q
-  client-opens : (x : client.InviteClientPhase) (h : ℕ) → IsSomeAnd (client.timer_window p x) (λ w. w.0 ≤ h) → IsSomeAnd (client.timer_window q x) (λ w. w.0 ≤ h)
   -- each timer that p lets fire q lets fire: B, the wait after a CANCEL, M, and D; other phases have no window
+  client-opens : (x : client.InviteClientPhase) (h : ℕ) → IsSomeAnd (client.timer_window p x) (λ w. w.0 ≤ h) → IsSomeAnd (client.timer_window q x) (λ w. w.0 ≤ h)
   client-opens (client.Calling w) h opening = opens-earlier w.start (64 * p.t1) h opening
   client-opens (client.Proceeding reliable request (Some first)) h opening = opens-earlier first (64 * p.t1) h opening
   client-opens (client.Accepted set) h opening = opens-earlier set (64 * p.t1) h opening
@@ -120,16 +119,16 @@ module _ (p : Times) (early late : ℕ) (earlier : p.early ≤ early) (later : p
   -- What follows is of the client of any other method.
 
   -- a row of a message that is sent by the times p is one by the wider times q
+  -- only the rows of a repeat, by timer E, depend on the tolerance
   plain-sent : (x : plain.PlainClientPhase) (k : Kind) (e : MachineEvent) (row : plain.PlainClientPhase × Change) → plain.Sends p x k e row → plain.Sends q x k e row
-  -- only the rows of a repeat, by timer E, speak of times
   plain-sent plain.Idle (Request method) e row h = h
   plain-sent (plain.Trying w) (Request method) e row h = (retransmits w.reliable w.request w.set w.interval e h.0, h.1)
   plain-sent (plain.Proceeding w) (Request method) e row h = (retransmits w.reliable w.request w.set w.interval e h.0, h.1)
   plain-sent x k e row h = absurd h
 
   -- a window that has opened by the times p has opened by the wider times q
+  -- each timer that p lets fire q lets fire: F and K; other phases have no window
   plain-opens : (x : plain.PlainClientPhase) (h : ℕ) → IsSomeAnd (plain.timer_window p x) (λ w. w.0 ≤ h) → IsSomeAnd (plain.timer_window q x) (λ w. w.0 ≤ h)
-  -- each timer that p lets fire q lets fire: F, and K; other phases have no window
   plain-opens (plain.Trying w) h opening = opens-earlier w.start (64 * p.t1) h opening
   plain-opens (plain.Proceeding w) h opening = opens-earlier w.start (64 * p.t1) h opening
   plain-opens (plain.Completed reliable set) h opening = opens-earlier set (if reliable then 0 else p.t4) h opening
@@ -168,16 +167,16 @@ module _ (p : Times) (early late : ℕ) (earlier : p.early ≤ early) (later : p
   -- What follows is of the INVITE servers.
 
   -- a row of a message that is sent by the times p is one by the wider times q
+  -- only the row of completed, the final response again by timer G, depends on the tolerance
   server-sent : (x : server.InviteServerPhase) (k : Kind) (e : MachineEvent) (row : server.InviteServerPhase × Change) → server.Sends p x k e row → server.Sends q x k e row
-  -- only the row of completed, the final response again by timer G, speaks of times
   server-sent (server.Proceeding reliable set last) (Response code) e row h = h
   server-sent (server.Accepted set) (Response code) e row h = h
   server-sent (server.Completed reliable final set repeat interval) (Response code) e row h = (retransmits reliable final repeat interval e h.0, h.1)
   server-sent x k e row h = absurd h
 
   -- a window that has opened by the times p has opened by the wider times q
+  -- each timer that p lets fire q lets fire: L, H and I; other phases have no window
   server-opens : (x : server.InviteServerPhase) (h : ℕ) → IsSomeAnd (server.timer_window p x) (λ w. w.0 ≤ h) → IsSomeAnd (server.timer_window q x) (λ w. w.0 ≤ h)
-  -- each timer that p lets fire q lets fire: L, H, and I; other phases have no window
   server-opens (server.Accepted set) h opening = opens-earlier set (64 * p.t1) h opening
   server-opens (server.Completed reliable final set repeat interval) h opening = opens-earlier set (64 * p.t1) h opening
   server-opens (server.Confirmed reliable set) h opening = opens-earlier set (if reliable then 0 else p.t4) h opening
@@ -217,8 +216,8 @@ module _ (p : Times) (early late : ℕ) (earlier : p.early ≤ early) (later : p
   }
 
   -- a row of a message that the server by RFC 3261 alone sends by the times p is one by the wider times q
+  -- only the row of completed, the final response again by timer G, depends on the tolerance
   server-3261-sent : (x : server_3261.InviteServer3261Phase) (k : Kind) (e : MachineEvent) (row : server_3261.InviteServer3261Phase × Change) → server_3261.Sends p x k e row → server_3261.Sends q x k e row
-  -- only the row of completed, the final response again by timer G, speaks of times
   server-3261-sent server_3261.Passed (Response code) e row h = h
   server-3261-sent (server_3261.In (server.Proceeding reliable set last) again) (Response code) e row h = h
   server-3261-sent (server_3261.In (server.Completed reliable final set repeat interval) again) (Response code) e row h =

@@ -1,7 +1,7 @@
 -- A run has one with a wider tolerance, in the same phase, whose debts are owed for longer, and with perhaps more debts that only may be sent.
 -- In the lemmas os are debts of the run and ns those by the wider tolerance, o and n one of each; x is a phase, k the kind of a message, and h a moment or
 -- what is known of a row.
--- In cases of `Emits` a message that is sent has a row (`row`, `is_row`, `to`), or pays a debt (`left`, `pays`), or changes nothing (`stays`,
+-- In cases of `Emits` a message that is sent has a row (`row`, `is_row`, `to`), or pays a debt (`left`, `paid`), or changes nothing (`stays`,
 -- `same`), which only the INVITE server by RFC 3261 alone lets it (Stays). In cases of `Steps` a message that is received has a row, or has none and
 -- changes nothing (`none`, `same`), and a restart leaves idle as it is (`idle`) and ends any other phase (`other`).
 use Rattle.std.proofs.Common.{◌≡◌, ◌≤◌, ◌||◌, inl, inr, ℕ, Bool, true, false, IsSomeAnd, IfSome, List, [], ◌∷◌, ◌++◌, All, Contains, filter, refl, sym, ap, subst, ◌∙◌, arith, if◌then◌else◌}
@@ -80,14 +80,13 @@ later-left t _ _ (both o n os ns message must deadline rest) = by (keep_at t o) 
         by-must true is = is
         by-must false is = refl
 
-    -- true is not false
     true-false : ¬ (true ≡ false)
     true-false same = cc
 
     -- the second list of what is kept is later than the first, whether or not each of the first debts is kept, which a and b say
+    -- both debts are kept, or the second alone, which then only may be sent, or neither; the first is not kept alone
     by : (a : Bool) → keep_at t o ≡ a → (b : Bool) → keep_at t n ≡ b → Later (filter (keep_at t) os) (filter (keep_at t) ns)
         → Later (if a then o ∷ filter (keep_at t) os else filter (keep_at t) os) (if b then n ∷ filter (keep_at t) ns else filter (keep_at t) ns)
-    -- both debts are kept, or the second alone, which then only may be sent, or neither; the first is not kept alone
     by true is true same later = both o n (filter (keep_at t) os) (filter (keep_at t) ns) message must deadline later
     by true is false same later = absurd (true-false (sym (kept is) ∙ same))
     by false is true same later = extra n (filter (keep_at t) os) (filter (keep_at t) ns) (may is) later
@@ -110,7 +109,6 @@ later-due t _ _ (both o n os ns message must deadline rest) due =
 -- n may be sent, and so is never due
 later-due t _ _ (extra n os ns may rest) due = All-cons (λ o. o.must ≡ true → t ≤ o.deadline) n ns (λ is. absurd (true-false (sym is ∙ may))) (later-due t os ns rest due)
   where
-    -- true is not false
     true-false : ¬ (true ≡ false)
     true-false same = cc
 

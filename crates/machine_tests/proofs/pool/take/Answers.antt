@@ -5,7 +5,7 @@ use Rattle.machine_tests.proofs.Picked.{all_moved}
 use Rattle.machine_tests.proofs.pool.take.Goals as goal
 
 -- `ok` says what the call `successors` has left: the old states, and after them `ok.0`, those that it gave (`ok.1`), of which `ok.2` tells.
--- `given` is both, `count` how many the old states are, and `first` stands for a place that is not in a list.
+-- `given` is both, `count` how many the old states are, and `first` is what is taken at a place that is not in a list.
 
 -- the first state that was given is moved to the last old place, and the others are dropped: the book has all that those that are left name
 pub returns-then-len-count-clause-known : goal.returns-then-len-count-clause-known

@@ -5,7 +5,7 @@ use Rattle.machine_tests.proofs.Picked.{all_picked}
 use Rattle.machine_tests.proofs.runs.step.Goals as goal
 
 -- `ok` says what the call `successors` has left: the states before it, and after them `ok.0`, those that it gave (`ok.1`, `ok.2`).
--- `first` stands for a place that is not in a list.
+-- `first` is what is taken at a place that is not in a list.
 
 -- after one state more was asked, the book has all that the states name, and all are in range
 pub loop-at-preserved : goal.loop-at-preserved

@@ -5,7 +5,7 @@ use Rattle.machine_tests.proofs.Picked.{all_first_ones}
 use Rattle.machine_tests.proofs.runs.step_beside.Goals as goal
 
 -- `added` are the states that `successors_each` has put after the others, `is` says so, and `covers` tells what holds of each of them. `found` are
--- all states then, and `first` stands for a place that is not in a list.
+-- all states then, and `first` is what is taken at a place that is not in a list.
 
 -- the book has what the first states name
 pub successors_each-requires-clause-known : goal.successors_each-requires-clause-known

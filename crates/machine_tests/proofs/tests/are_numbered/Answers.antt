@@ -2,7 +2,7 @@ use Rattle.std.proofs.Common.{◌+◌, inl, inr, arith}
 use Rattle.sip_machine.proofs.texts.TextLaws.{Keeps-grow_cases}
 use Rattle.machine_tests.proofs.tests.are_numbered.Goals as goal
 
--- Of each number `n` of the book it is shown that it is below `first` and how many messages were added. `same`: the bytes were there already.
+-- Of each number `n` of the book it is shown that it is below the sum of `first` and how many messages were added. `same`: the bytes were there.
 -- `more`: the book has one message more, and `n` is an old number (`old`) or that of the new message (`new`).
 
 -- the messages of the book have numbers below the first one

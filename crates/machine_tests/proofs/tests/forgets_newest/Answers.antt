@@ -14,8 +14,8 @@ pub add-requires : goal.add-requires
 add-requires g c = λ n keeps. let low : n ≤ 5 = c.forget-3.ensures n keeps in omega (arith, low)
 
 -- each number of the book is below the one that comes next
--- Its bytes were kept before (`same`), or 8 is the number of the newest message (`grown`), and each number an old one (`old`) or 8 (`is`).
--- In either way 9 is above all numbers.
+-- The bytes of the ACK were kept before (`same`), or it is the newest message, with the number 8 (`grown`): each number is an old one (`old`) or
+-- 8 (`is`). Either way 9 is above all numbers.
 pub add-requires-2 : goal.add-requires-2
 add-requires-2 g c = λ n keeps.
     elim c.in_ok-add.ensures.grows [

@@ -1,4 +1,5 @@
--- `reads-more`: the byte at the index is a digit (`low`), the number with it is at most 65535 (`value`), and the digits after it can be read on (`more`).
+-- `reads-more`: the byte at the index is at least `0` (`low`), the number with it is at most 65535 (`value`), and the bytes up to it are digits that write
+-- this number (`more`).
 use Rattle.std.proofs.Common.{sym, subst, ◌+◌, ◌*◌, ℕ, arith}
 use Rattle.sip_text.proofs.uris.UriPortLemmas.{ReadsDigits}
 use Rattle.sip_key.proofs.SentByLemmas.{reads-more}

@@ -16,7 +16,7 @@ returns c =
     -- all states were pushed, and sorting keeps which lines there are
     let all_passed : length states ≤ c.loop-state.state-index = c.loop-state-test.false in
     let pushed : map string_bytes unsorted ≡ map state_line states = c.loop-state.invariant ∙ ap (λ xs. map state_line xs) (take_all c.loop-state.state-index states all_passed) in
-    -- `same`: the sorted lines are those of the states, in another order; `ascending`: they ascend by their bytes
+    -- `same`: the sorted lines are those of the states, in some order; `ascending`: they ascend by their bytes
     record {
       same = subst (λ ys. IsPermutation ys (map string_bytes sorted)) pushed (IsPermutation-map string_bytes unsorted sorted c.in_ok-sort.ensures.permutation);
       ascending = IsSortedBy-map string_bytes (λ x y. is_lt (slice_cmp nat_cmp x y)) sorted c.in_ok-sort.ensures.sorted;

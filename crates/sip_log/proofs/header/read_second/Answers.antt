@@ -1,5 +1,5 @@
 -- `Says-fault` and `Says-step` take what comes by the bytes that are held and those left, ys, to the whole input: a fault, and what an inner call answers.
--- `ComesSecond-..` say what comes after line 1: no line that ends, one that tells no times, or one that tells times.
+-- `ComesSecond-..` say what comes after line 1: a fault, where no line ends or the line tells no times within their limits; or what comes after line 2.
 use Rattle.std.proofs.Common.{◌+◌, inl, inr, drop}
 use Rattle.sip_standard.specs.declared.log_reason.LogReason.TheVariants as faults
 use Rattle.sip_log.specs.inner.Header.{ComesSecond, ComesThird}

@@ -12,7 +12,7 @@ returns c =
     let low = c.args.low in
     let high = c.args.high in
     let up = rises_weakly (λ k. k.number) kept (AllPairs-of_map (λ k. (k.number, k.bytes.items)) (λ t. t.0) kept c.requires) in
-    -- the first search finds where the numbers reach `low`, and the second where they pass `high`; each call of their closures makes this test of a
+    -- the first search finds where the numbers reach `low`, and the second where they pass `high`; each call of its closure makes its test of a
     -- number, and changes nothing (`always_returns_same`)
     let parts = c.partition_point-from.ensures.partitioned (λ k. nat_lt k.number low) (always_returns_same _ _ _ (λ a r g called. search rules))
     (IsPartitionedBy-ltb (λ k. k.number) kept low up) in

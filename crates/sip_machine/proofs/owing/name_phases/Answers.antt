@@ -1,3 +1,4 @@
+-- At each turn of the loop (`c.loop-at.invariant`) part 0 says that `at` is not past the states, and 1 that what the phases before it name is appended.
 use Rattle.std.specs.Prelude.{◌≡◌, ◌≤◌, ◌++◌, flat_map, get_or, length, option_to_list}
 use Rattle.std.proofs.Common.{ap, subst, ◌∙◌, arith}
 use Rattle.std.proofs.lemmas.List.{take_all}

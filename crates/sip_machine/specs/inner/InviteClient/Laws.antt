@@ -19,9 +19,8 @@ use Rattle.sip_machine.specs.inner.FigureLaws.{keeps_them}
 use Rattle.sip_machine.specs.inner.MessageLaws.{option_exact, message_apart}
 use Rattle.sip_machine.specs.inner.WaitingLaws.{waiting_exact, waiting_apart, waiting_by_names, timer_starts, repeat_starts, patience_lasts}
 
--- phases of the code that the test finds equal are the same one
+-- phases of the code that the test finds equal are the same one: it compares their names and all their data
 pub invite_client_exact : (x y : CodePhase) → derived.ghosts.eq x y ≡ true → x ≡ y
--- of two phases of one name the test compares all data, and of two names it fails
 invite_client_exact code.Idle code.Idle e = refl
 invite_client_exact (code.Calling w) (code.Calling w') e = ap code.Calling (waiting_exact w w' e)
 invite_client_exact (code.Proceeding reliable request cancel) (code.Proceeding reliable' request' cancel') e =
@@ -31,9 +30,8 @@ invite_client_exact (code.Completed reliable request set) (code.Completed reliab
 invite_client_exact code.Ended code.Ended e = refl
 invite_client_exact x y e = cc
 
--- phases that stand for the same beside one book are the same
+-- phases that stand for the same beside one book are the same: they have one name and the same data, and the book keeps no message twice
 pub invite_client_apart : AreApart invite_client_seen invite_client_names
--- phases of one name stand for the same exactly if their data do, and the book tells their messages apart; phases of two names never do
 invite_client_apart texts code.Idle code.Idle book x_known y_known e = refl
 invite_client_apart texts (code.Calling w) (code.Calling w') book x_known y_known e = ap code.Calling (waiting_apart texts w w' book x_known y_known cc)
 invite_client_apart texts (code.Proceeding reliable request cancel) (code.Proceeding reliable' request' cancel') book x_known y_known e =
@@ -52,15 +50,13 @@ invite_client_by_names a b (code.Completed reliable request set) agree = ap (λ 
 -- a phase that names no message stands for the same beside any book
 invite_client_by_names a b x agree = refl
 
--- the timers of a phase of the code are the same beside each book
+-- the timers of a phase of the code are the same beside each book, since the figure asks for no bytes of a message
 pub invite_client_window_same : SameWindow invite_client invite_client_seen
--- the definition asks for no bytes of a message, so both sides are the same by it
 invite_client_window_same a b p (code.Proceeding reliable request None) = refl
 invite_client_window_same a b p x = refl
 
--- until when a phase can be waited in does not depend on the book
+-- until when a phase can be waited in does not depend on the book, for the same reason
 pub invite_client_closes_same : SameCloses invite_client invite_client_seen
--- the definition asks for no bytes of a message, so both sides are the same by it
 invite_client_closes_same a b p code.Idle = refl
 invite_client_closes_same a b p x = refl
 
@@ -98,8 +94,8 @@ sent p x (Request Cancel) e y running h = rw h running
 sent p x k e y running h = absurd h
 
 -- a sent message whose row drops the debts, or that may leave the state as it is, leads to another phase; here there is no such message
-leaves : LeadAway invite_client
 -- each row of a message that is sent keeps the debts, and so none drops them
+leaves : LeadAway invite_client
 leaves p Idle (Request Invite) e y h (inl drop) = absurd (keeps_them h drop)
 leaves p Idle (Request Ack) e y h (inl drop) = absurd (keeps_them h drop)
 leaves p (Calling w) (Request Invite) e y h (inl drop) = absurd (keeps_them h.1 drop)
@@ -129,7 +125,6 @@ invite_client_is_figure =
 
 -- the messages that a phase of the code names are those that its words tell
 invite_client_named : TellNames invite_client_seen invite_client_names invite_client_told
--- both sides are the same by the definitions of the words and of the names
 invite_client_named texts code.Idle = refl
 invite_client_named texts x = refl
 
@@ -137,7 +132,6 @@ invite_client_named texts x = refl
 pub invite_client_is_coded : IsCoded invite_client invite_client_told invite_client_coded
 invite_client_is_coded =
     record {
-      -- each of these is told by a lemma above
       is_figure = invite_client_is_figure;
       apart = invite_client_apart;
       by_names = invite_client_by_names;

@@ -20,8 +20,8 @@ IsEndedBy (Proceeding reliable request cancel) (Response code) = IsSuccess code
 IsEndedBy x k = ⊥
 
 -- the row of a received message leads to a phase whose timers are not past
-received : LeadOn invite_client_3261 Receives
 -- a provisional response, and a 2xx, which ends the transaction, start no timer; any other final one starts timer D, which goes on in completed
+received : LeadOn invite_client_3261 Receives
 received p (Calling w) (Response code) e y running (inl provisional) = rw provisional.1 (All-nil (λ m. e.moment ≤ m))
 received p (Calling w) (Response code) e y running (inr (inl success)) = rw success.1 (All-nil (λ m. e.moment ≤ m))
 received p (Calling w) (Response code) e y running (inr (inr unsuccessful)) = rw unsuccessful.1 (timer_d_starts p w.reliable e.moment)
@@ -52,7 +52,6 @@ invite_client_3261_is_figure =
 pub invite_client_3261_is_coded : IsCoded invite_client_3261 invite_client_told invite_client_3261_coded
 invite_client_3261_is_coded =
     record {
-      -- each of these is told by a lemma above, or by one of the corrected machine
       is_figure = invite_client_3261_is_figure;
       apart = invite_client_is_coded.apart;
       by_names = invite_client_is_coded.by_names;

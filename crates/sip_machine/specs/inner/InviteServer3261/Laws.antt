@@ -33,9 +33,8 @@ use Rattle.sip_machine.specs.inner.InviteServer.Laws.{invite_server_exact, invit
 abbrev pub turn_within : Bool → Turn CodeCorrected → Turn CodePhase
 turn_within again turn = record { phase = code.In turn.phase again; change = turn.change }
 
--- phases of the code that the test finds equal are the same one
+-- phases of the code that the test finds equal are the same one: it compares the phases of the corrected server and their flags
 pub invite_server_3261_exact : (x y : CodePhase) → derived.ghosts.eq x y ≡ true → x ≡ y
--- passed is equal to itself alone; two phases of the corrected server are the same where both they and their flags are
 invite_server_3261_exact code.Passed code.Passed e = refl
 invite_server_3261_exact code.Passed (code.In phase again) e = cc
 invite_server_3261_exact (code.In phase again) code.Passed e = cc
@@ -54,9 +53,8 @@ invite_server_3261_exact (code.In phase again) (code.In phase' again') e =
     same_within : (a b : CodeCorrected) (again again' : Bool) → a ≡ b → again ≡ again' → code.In a again ≡ code.In b again'
     same_within a b again again' phase flag = rw (phase, flag) refl
 
--- phases that stand for the same beside one book are the same
+-- phases that stand for the same beside one book are the same: so are phases of the corrected server, and the flags are the same
 pub invite_server_3261_apart : AreApart invite_server_3261_seen invite_server_3261_names
--- two phases of the corrected server stand for the same exactly if they are the same with one flag; passed stands for passed alone
 invite_server_3261_apart texts code.Passed code.Passed book x_known y_known e = refl
 invite_server_3261_apart texts (code.In phase again) (code.In phase' again') book x_known y_known e =
     let same_again : again ≡ again' = cc in
@@ -68,29 +66,26 @@ pub invite_server_3261_by_names : StandByNames invite_server_3261_seen invite_se
 invite_server_3261_by_names a b code.Passed agree = refl
 invite_server_3261_by_names a b (code.In phase again) agree = ap (λ x. In x again) (invite_server_by_names a b phase agree)
 
--- the timers of a phase of the code are the same beside each book
+-- the timers of a phase of the code are the same beside each book: passed has none, and the other phases have those of the corrected server
 pub invite_server_3261_window_same : SameWindow invite_server_3261 invite_server_3261_seen
--- passed has no timer, and the other phases have those of the corrected server
 invite_server_3261_window_same a b p code.Passed = refl
 invite_server_3261_window_same a b p (code.In phase again) = invite_server_window_same a b p phase
 
--- until when a phase can be waited in does not depend on the book
+-- until when a phase can be waited in does not depend on the book, for the same reason
 pub invite_server_3261_closes_same : SameCloses invite_server_3261 invite_server_3261_seen
--- passed has no timer, and the other phases have those of the corrected server
 invite_server_3261_closes_same a b p code.Passed = refl
 invite_server_3261_closes_same a b p (code.In phase again) = invite_server_closes_same a b p phase
 
--- the row of a received message leads to a phase whose timers are not past
+-- the row of a received message leads to a phase whose timers are not past: in passed an INVITE begins anew, with its first response due within 200 ms, and
+-- nothing else has a row; in any other phase the row is one of the corrected server
 received : LeadOn invite_server_3261 Receives
--- in passed an INVITE begins anew, with its first response due within 200 ms, and nothing else has a row;
--- before a 2xx, or after an INVITE came again, the row is one of the corrected server
 received p Passed (Request Invite) e y running h = rw h (timer_starts p e.moment 200)
 received p Passed k e y running h = absurd h
 received p (In x again) k e y running (after, row, is) = rw is (invite_server_is_figure.received_waits p x k e after running row)
 
 -- the row of a sent message leads to a phase whose timers are not past
-sent : LeadOn invite_server_3261 Sends
 -- a 2xx starts no timer, and any other response is a row of the corrected server
+sent : LeadOn invite_server_3261 Sends
 sent p Passed (Response code) e y running h = rw h.1 (All-nil (λ m. e.moment ≤ m))
 sent p (In (Proceeding reliable set last) again) (Response code) e y running (inl success) = rw success.1 (All-nil (λ m. e.moment ≤ m))
 sent p (In (Proceeding reliable set last) again) (Response code) e y running (inr (other, within)) =
@@ -108,8 +103,8 @@ in_same : (a b : InviteServerPhase) (again : Bool) → In a again ≡ In b again
 in_same a b again same = cc
 
 -- the row of a sent message that drops the debts, or may leave the state as it is, leads to another phase
+-- in passed there is none: the row of a 2xx keeps the debts, and no send may leave the state as it is
 leaves : LeadAway invite_server_3261
--- in passed the row of a 2xx keeps the debts, and no send may leave the state as it is
 leaves p Passed (Response code) e y h (inl drop) = absurd (keeps_them h.1 drop)
 leaves p Passed (Response code) e y h (inr stays) = absurd stays
 -- a 2xx leads to passed, which is another phase than proceeding; any other response is a row of the corrected server, which leads away where it drops
@@ -128,9 +123,8 @@ leaves p (In (Completed reliable final set repeat interval) again) (Response cod
 -- no other message has a row
 leaves p x k e y h other = absurd h
 
--- a send that may leave a state as it is pays nothing
+-- a send that may leave a state as it is pays nothing: it is a 2xx
 unpaid : (x : InviteServer3261Phase) (k : Kind) (e : MachineEvent) (message : List ℕ) → Stays x k → ¬ (Satisfies x k e message)
--- the send is a 2xx, which pays nothing; no other send may leave a state as it is
 unpaid (In x again) (Response code) e message stays = λ pays. pays.0 stays.2
 unpaid x k e message stays = absurd stays
 
@@ -153,7 +147,6 @@ invite_server_3261_is_figure =
 
 -- the messages that a phase of the code names are those that its words tell
 invite_server_3261_named : TellNames invite_server_3261_seen invite_server_3261_names invite_server_3261_told
--- both sides are the same by the definitions of the words and of the names
 invite_server_3261_named texts code.Passed = refl
 invite_server_3261_named texts (code.In (code_phase.Proceeding reliable set None) again) = refl
 invite_server_3261_named texts (code.In phase again) = refl
@@ -162,7 +155,6 @@ invite_server_3261_named texts (code.In phase again) = refl
 pub invite_server_3261_is_coded : IsCoded invite_server_3261 invite_server_3261_told invite_server_3261_coded
 invite_server_3261_is_coded =
     record {
-      -- each of these is told by a lemma above, or by one of the corrected machine
       is_figure = invite_server_3261_is_figure;
       apart = invite_server_3261_apart;
       by_names = invite_server_3261_by_names;

@@ -15,9 +15,8 @@ use Rattle.sip_machine.specs.inner.Coded.{IsCoded, AreApart, StandByNames, TellN
 use Rattle.sip_machine.specs.inner.FigureLaws.{keeps_them}
 use Rattle.sip_machine.specs.inner.WaitingLaws.{waiting_exact, waiting_apart, waiting_by_names, timer_starts, repeat_starts, patience_lasts}
 
--- phases of the code that the test finds equal are the same one
+-- phases of the code that the test finds equal are the same one: it compares their names and all their data
 pub plain_client_exact : (x y : CodePhase) → derived.ghosts.eq x y ≡ true → x ≡ y
--- of two phases of one name the test compares all data, and of two names it fails
 plain_client_exact code.Idle code.Idle e = refl
 plain_client_exact (code.Trying w) (code.Trying w') e = ap code.Trying (waiting_exact w w' e)
 plain_client_exact (code.Proceeding w) (code.Proceeding w') e = ap code.Proceeding (waiting_exact w w' e)
@@ -25,9 +24,8 @@ plain_client_exact (code.Completed reliable set) (code.Completed reliable' set')
 plain_client_exact code.Ended code.Ended e = refl
 plain_client_exact x y e = cc
 
--- phases that stand for the same beside one book are the same
+-- phases that stand for the same beside one book are the same: they have one name and the same data, and the book keeps no message twice
 pub plain_client_apart : AreApart plain_client_seen plain_client_names
--- phases of one name stand for the same exactly if their data do, and the book tells their messages apart; phases of two names never do
 plain_client_apart texts code.Idle code.Idle book x_known y_known e = refl
 plain_client_apart texts (code.Trying w) (code.Trying w') book x_known y_known e = ap code.Trying (waiting_apart texts w w' book x_known y_known cc)
 plain_client_apart texts (code.Proceeding w) (code.Proceeding w') book x_known y_known e = ap code.Proceeding (waiting_apart texts w w' book x_known y_known cc)
@@ -42,21 +40,19 @@ plain_client_by_names a b (code.Proceeding w) agree = ap Proceeding (waiting_by_
 -- a phase that names no message stands for the same beside any book
 plain_client_by_names a b x agree = refl
 
--- the timers of a phase of the code are the same beside each book
+-- the timers of a phase of the code are the same beside each book, since the figure asks for no bytes of a message
 pub plain_client_window_same : SameWindow plain_client plain_client_seen
--- the definition asks for no bytes of a message, so both sides are the same by it
 plain_client_window_same a b p code.Idle = refl
 plain_client_window_same a b p x = refl
 
--- until when a phase can be waited in does not depend on the book
+-- until when a phase can be waited in does not depend on the book, for the same reason
 pub plain_client_closes_same : SameCloses plain_client plain_client_seen
--- the definition asks for no bytes of a message, so both sides are the same by it
 plain_client_closes_same a b p code.Idle = refl
 plain_client_closes_same a b p x = refl
 
--- the row of a received message leads to a phase whose timers are not past
+-- the row of a received message leads to a phase whose timers are not past: a provisional response leaves timers E and F as they are, and a final one starts
+-- timer K
 received : LeadOn plain_client Receives
--- a provisional response leaves timers E and F as they are, and a final one starts timer K; no other message has a row
 received p (Trying w) (Response code) e y running h =
     elim h [ inl provisional ↦ rw provisional.1 running | inr final ↦ rw final.1 (timer_starts p e.moment (if w.reliable then 0 else p.t4)) ]
 received p (Proceeding w) (Response code) e y running h = rw h.1 (timer_starts p e.moment (if w.reliable then 0 else p.t4))
@@ -74,14 +70,13 @@ sent p (Proceeding w) (Request method) e y running h =
 -- no other phase sends anything
 sent p x k e y running h = absurd h
 
--- a sent message whose row drops the debts, or that may leave the state as it is, leads to another phase; here there is no such message
+-- a sent message whose row drops the debts, or that may leave the state as it is, leads to another phase; here there is no such message, since each row of
+-- a request keeps the debts
 leaves : LeadAway plain_client
--- each row of a request that is sent keeps the debts, and so none drops them
 leaves p Idle (Request method) e y h (inl drop) = absurd (keeps_them h drop)
 leaves p (Trying w) (Request method) e y h (inl drop) = absurd (keeps_them h.1 drop)
 leaves p (Proceeding w) (Request method) e y h (inl drop) = absurd (keeps_them h.1 drop)
 leaves p x k e y h (inl drop) = absurd h
--- no request that is sent may leave the state as it is
 leaves p x k e y h (inr stays) = absurd stays
 
 -- the non-INVITE client keeps what a figure keeps
@@ -103,7 +98,6 @@ plain_client_is_figure =
 
 -- the messages that a phase of the code names are those that its words tell
 plain_client_named : TellNames plain_client_seen plain_client_names plain_client_told
--- both sides are the same by the definitions of the words and of the names
 plain_client_named texts code.Idle = refl
 plain_client_named texts x = refl
 
@@ -111,7 +105,6 @@ plain_client_named texts x = refl
 pub plain_client_is_coded : IsCoded plain_client plain_client_told plain_client_coded
 plain_client_is_coded =
     record {
-      -- each of these is told by a lemma above
       is_figure = plain_client_is_figure;
       apart = plain_client_apart;
       by_names = plain_client_by_names;

@@ -1,6 +1,6 @@
 -- The lemmas of the bits are given, after the three masks and the length, what holds of them: each byte is below 256, those of the name are plain,
 -- and bit i of the masks says whether byte i is beyond the bytes of names, a dot, or a hyphen.
--- `c.NAME.branch` is the test by which a branch was taken that has several: `via-then-A` by A, `via-else-A+then-B` by B, after A failed.
+-- `c.NAME.branch` says which of several tests led to this place: `via-then-A` that A passed, `via-else-A+then-B` that A failed and B passed.
 use Rattle.std.proofs.Common.{◌≡◌, ◌<◌, ◌≤◌, ◌==◌, ℕ, get_or, length, take, sym, ap, ◌∙◌, subst, arith, zero-add}
 use Rattle.std.proofs.lemmas.Bool.{and_parts, eqb-true, eq-eqb, false≢true}
 use Rattle.std.proofs.lemmas.List.{length-take-le}

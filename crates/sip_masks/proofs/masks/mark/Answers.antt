@@ -1,3 +1,5 @@
+-- `l.invariant`, of the loop: .0 and .1, the two masks are right for the words so far; .2, these lie within the text; .3 and .4, both masks are as long as
+-- they were.
 use Rattle.std.proofs.Common.{◌≡◌, ℕ, ◌+◌, ◌*◌, ◌<◌, ◌≤◌, Bool, true, List, length, get_or, set, refl, sym, ap, ◌∙◌, subst, arith}
 use Rattle.std.proofs.lemmas.List.{length-set, take_all}
 use Rattle.std.proofs.lemmas.Simd.{get_or-chunk}

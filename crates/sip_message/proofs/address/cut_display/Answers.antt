@@ -14,12 +14,10 @@ returns-in_err-name c =
 -- where no "<" follows the display name, nothing is cut off
 pub returns-in_err-inner : goal.returns-in_err-inner
 returns-in_err-inner c =
-    -- a display name stands at the front, but no "<" after its blanks
     subst (IsOnlyValue DisplayFront display_parts c.args.text.now) (sym c.from_residual-in_err-inner.ensures)
     (display-no_angle c.args.text.now c.in_ok-name.name.now c.in_ok-name.rest.now c.skip_blanks.result.now (sym c.in_default.ensures) c.in_ok-name.ensures c.skip_blanks.ensures (sym c.in_err-inner.ensures))
 
 -- a display name, blanks and "<" stand at the front, and are read as that name
 pub returns : goal.returns
 returns c =
-    -- a display name stands at the front, and "<" after its blanks
     display-some c.args.text.now c.in_ok-name.name.now c.in_ok-name.rest.now c.skip_blanks.result.now c.in_ok-inner.inner.now c.in_ok-name.ensures c.skip_blanks.ensures (sym c.in_ok-inner.ensures)

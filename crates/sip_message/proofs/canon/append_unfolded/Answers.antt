@@ -13,7 +13,6 @@ returns-in_default c = subst (λ t. Appends c.args.out.now.items c.append.new.ou
 -- where a blank is read, the run goes on, and nothing is appended yet
 pub bytes-preserved-then-is_blank : goal.bytes-preserved-then-is_blank
 bytes-preserved-then-is_blank c =
-    -- the byte at the place of the loop is a blank
     unfold-blank c.args.out.now.items c.args.text.now c.bytes.out.items c.bytes.from c.bytes.at c.bytes-test.true (sym c.is_blank.ensures ∙ c.if-is_blank.true) c.bytes.invariant
 
 -- where memory is refused, a part of the text was appended

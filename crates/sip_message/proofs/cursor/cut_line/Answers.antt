@@ -15,7 +15,7 @@ ends-init c = record { within = omega arith; scanned = scan-nothing c.args.text.
 pub returns-in_err-rest : goal.returns-in_err-rest
 returns-in_err-rest c =
     subst (IsOnlyValue LineFront pair_parts c.args.text.now) (sym c.from_residual.ensures)
-    -- in what is left after the place `at` no LF stands
+    -- from the place `at` on no LF stands
     (cut-none c.args.text.now c.ends.at c.ends.invariant.scanned
     (sym (ap option_copied c.in_err-rest.was) ∙ c.cut.ensures.rest ∙ ap (behind line_feed) (take_rest c.args.text.now c.ends.at)))
 

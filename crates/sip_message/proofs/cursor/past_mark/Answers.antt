@@ -7,13 +7,11 @@ use Rattle.sip_message.proofs.cursor.past_mark.Goals as goal
 -- where the mark does not stand after the blanks, no mark is read
 pub returns-in_err-inner : goal.returns-in_err-inner
 returns-in_err-inner c =
-    -- after the blanks the mark's byte does not stand
     subst (IsOnlyValue (MarkFront c.args.mark) text_parts c.args.text.now) (sym c.from_residual.ensures)
     (no-mark c.args.mark c.args.text.now c.skip_blanks.result.now c.requires c.skip_blanks.ensures (sym c.in_err-inner.ensures))
 
 -- where the mark stands after the blanks, it is read with the blanks after it
 pub returns : goal.returns
 returns c =
-    -- after the blanks the mark's byte stands, and the blanks after it are skipped too
     one-mark c.args.mark c.args.text.now c.skip_blanks.result.now c.in_ok-inner.inner.now c.skip_blanks-2.result.now c.requires
     c.skip_blanks.ensures (sym c.in_ok-inner.ensures) c.skip_blanks-2.ensures

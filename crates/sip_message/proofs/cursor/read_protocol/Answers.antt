@@ -49,7 +49,7 @@ returns-then-blanks-eq0 c =
 -- a name, a slash, a version, a slash, a transport and blanks are a protocol
 pub returns : goal.returns
 returns c =
-    -- each step after the other was read: `go` for each, and `last` for the parts put together
+    -- each step reads: `go` for each of them, and `last` for the parts that are made of what they read
     let rest = c.in_ok-transport.rest.now in
     go c.in_ok-protocol.ensures (go c.in_ok-past_mark.ensures (go c.in_ok-version.ensures (go c.in_ok-past_mark-2.ensures (go c.in_ok-transport.ensures
     (go (subst (ReadAs (BlanksFront rest)) (sym (take_rest rest c.skip_lws-blanks.result)) (longest-blanks_front rest c.skip_lws-blanks.result c.skip_lws-blanks.ensures.reads c.if-blanks-eq0.false)) (last _))))))

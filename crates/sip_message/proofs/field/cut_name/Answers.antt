@@ -22,6 +22,5 @@ returns-in_err-rest c =
 -- a name before blanks and a colon is the name of the field
 pub returns : goal.returns
 returns c =
-    -- after the token and its blanks a colon stands
     subst (λ n. ReadAs (HasName c.args.line.now) (n, c.in_ok-rest.rest.now)) (sym c.read_name.ensures)
     (named-read c.args.line.now c.in_ok-name.name.now c.in_ok-name.rest.now c.in_ok-rest.rest.now c.in_ok-name.ensures (ap (past colon) (sym c.past_wsp.ensures) ∙ sym c.in_ok-rest.ensures))

@@ -1,3 +1,5 @@
+-- `c.lines.invariant`: .0, the fields are those of the lines that were read, whatever lines the text is; .1, what is kept is what the first Via and the first
+-- CSeq of these fields say.
 use Rattle.std.proofs.Common.{◌+◌, ◌∷◌, [], map, sym, ap, ◌∙◌, subst, arith}
 use Rattle.std.proofs.lemmas.List.{map-append, length-map}
 use Rattle.sip_standard.specs.Outcome.{stops}

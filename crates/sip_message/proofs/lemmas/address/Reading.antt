@@ -2,7 +2,8 @@
 -- The first step is a cut of the text (`AddressCut`): `named`, with the URI in "<" and ">", or `plain`, without them. `make d u r` is the cut into the
 -- display name d, the URI u and the rest r. In a row of two steps, `both v one other` is what the first step gives, v, that it gives it, and the next step.
 -- In the lemmas u and w are the URI and what follows it, c and d two cuts, a and b two addresses, ps parameters by their names and values.
--- `HasScheme` says that a text begins with a token and a colon; `NameFront` is a display name at the front, and `DisplayFront` that, if there is one, and "<".
+-- `HasScheme` says that a text begins with bytes of tokens, or none, and a colon; `NameFront` is a display name at the front, and `DisplayFront` that, if
+-- there is one, and "<" after its blanks.
 use Rattle.std.proofs.Common.{◌≡◌, ℕ, zero, suc, ◌<◌, ◌≤◌, Bool, true, false, ◌||◌, not, nat_eq, nat_lt, List, [], ◌∷◌, ◌++◌, Option, Some, None, IfSome, length, take, drop, get_or, slice_index, refl, sym, ap, ◌∙◌, subst, inl, inr, arith}
 use Rattle.std.specs.Bool.{Decides}
 use Rattle.std.specs.List.{prefix_len}
@@ -42,13 +43,13 @@ use Rattle.sip_message.proofs.lemmas.address.Uri.{uri-scheme, uri-lacks, one-uri
 token-all : (text : List ℕ) (n : ℕ) → IsLongestFront Token text n → All is_token_byte (take n text)
 -- there is no token, and so no byte
 token-all text zero longest = tt
--- the token is not empty, and is all of the first n bytes
+-- the first bytes are a token, and each of them is a byte of a token
 token-all text (suc n) longest = each-token _ (token-cut text (suc n) longest (λ none. absurd (omega (arith, none)))).0
 
 -- where a text begins with a scheme, a colon stands after its longest token
 scheme-behind : (text : List ℕ) (n : ℕ) → IsLongestFront Token text n → HasScheme text → (rest : List ℕ) × (drop n text ≡ colon ∷ rest)
 scheme-behind text n longest (scheme, rest, all, whole) =
-    -- both are the longest run of bytes of tokens at the front, so they are the same, and so is what follows them
+    -- the scheme and the first n bytes are both the longest run of bytes of tokens at the front, so they and what follows them are the same
     let same = same_front is_token_byte scheme (colon ∷ rest) (take n text) (drop n text) all (token-all text n longest) refl (longest-stops text n longest) (sym whole ∙ sym (take-append-drop n text)) in
     -- what follows the token is the colon and what the text has after it
     (rest, sym same.1)
@@ -57,7 +58,6 @@ scheme-behind text n longest (scheme, rest, all, whole) =
 pub decides-scheme : (text : List ℕ) (n : ℕ) → IsLongestFront Token text n → n < length text → Decides (nat_eq (get_or text n 0) colon) (HasScheme text)
 decides-scheme text n longest within = (
   -- if: the token and the colon after it are a scheme, up to the rest
-  -- the text is its first n bytes, the colon and the rest
   λ same.
       (take n text, drop (suc n) text, token-all text n longest, sym (take-append-drop n text) ∙ ap (λ t. take n text ++ t) (drop-cons text n 0 within ∙ ap (λ b. b ∷ drop (suc n) text) (eqb-true (get_or text n 0) colon same))),
   -- only if: what stands after the scheme's token is its colon
@@ -163,7 +163,7 @@ name-angle text x (inr is) angle = first-fails is_token_byte (slice_index text 0
 -- the display name, if there is one, and "<" at the front of a text are read in one way
 pub one-display : (text : List ℕ) → AtMostOne (DisplayFront text)
 -- i and j are what follows "<" by the two readings; m and n are the names, and r and s what is left after them
--- none has a display name, so what follows "<" is the same
+-- neither reading has a display name, so what follows "<" is the same
 one-display text (None, i) (None, j) a b =
     let wholes : left_angle ∷ i ≡ left_angle ∷ j = sym a ∙ b in
     let same : i ≡ j = cc in
@@ -229,7 +229,7 @@ one-cut text c d (plain has none all stops whole) (plain has_too none_too all_to
 -- a text that begins with a scheme is cut after the bytes that a URI without "<" may hold
 pub cut-plain : (text rest : List ℕ) (n : ℕ) → HasScheme text → n ≡ prefix_len is_unmarked_byte text → rest ≡ drop n text → ReadAs (AddressCut text) (make None (take n text) rest)
 cut-plain text rest n has n_is rest_is =
-    -- `cut` says that the first n bytes may stand in a URI without "<", and that none follows that may
+    -- `cut` says that the first n bytes may stand in a URI without "<", and that the next one, if any, may not
     let cut = prefix-at is_unmarked_byte text n n_is in
     read-one (AddressCut text) (make None (take n text) rest) (one-cut text)
     (plain has refl cut.0 (subst (Stops is_unmarked_byte) (sym rest_is) cut.1) (sym (take-append-drop n text) ∙ ap (λ t. take n text ++ t) (sym rest_is)))
@@ -257,7 +257,7 @@ cut-open text inner d no_has is missing c (plain has none all stops whole) = no_
 
 -- the parameters after an address are what is left after its blanks
 tail-behind : (text params : List ℕ) → TailText text params → Behind text params
--- no parameters are left only where nothing follows at all; others begin with ";" after the blanks
+-- the parameters are empty only where the text is; else they begin with ";" after the blanks
 tail-behind text [] (is, part) = (refl, ([], [], inl refl, refl, is))
 tail-behind text (b ∷ params) (is, (ps, (opens, whole))) = (stops-byte b params opens, is)
 
@@ -271,7 +271,6 @@ tail-is text params behind some part = read-one (TailText text) params (one-tail
   where
     -- the parameters are not empty, so they are what is left after the blanks
     at : (p : List ℕ) → Behind text p → nat_eq (length p) 0 ≡ false → BehindBlanks p text
-    -- an empty text is excluded; another one is what is left after the blanks
     at [] is full = absurd (both_ways true full refl)
     at (b ∷ p) is full = is.1
 
@@ -295,7 +294,7 @@ tail-no_params text params behind none p is =
 -- where the grammar has a display name, or none, before a URI in angles, the reader cuts it off there
 before-display : (display : Option (List ℕ)) (d text inner : List ℕ) → IfSome display DisplayName → BeforeUri display d → text ≡ d ++ inner → DisplayFront text (display, inner)
 before-display None d text inner fits is whole = whole ∙ ap (λ t. t ++ inner) is
--- the name, blanks and "<" stand at the front: what follows the name, that the name is read there, and that "<" stands after its blanks
+-- what follows the name; that the name is read at the front; and that "<" stands after the blanks that follow it
 -- e is the name and t what stands before the URI after it: blanks s and the "<", l
 before-display (Some name) d text inner fits (e, t, e_is, (s, l, sws, l_is, t_is), d_is) whole = (
   s ++ (left_angle ∷ inner),
@@ -448,7 +447,6 @@ steps-address text x (both c (plain has none all stops whole) (both uri is_uri (
 pub one-steps : (text : List ℕ) → AtMostOne (AddressSteps text)
 -- each step is read in one way: the cut, the URI, the parameters
 one-steps text =
-    -- the URI, and the parameters, are read in what the cut has left
     one-seq (AddressCut text) _ (one-cut text) (λ c.
     one-seq (UriText c.uri) _ (one-uri c.uri) (λ uri.
     one-seq (TailText c.rest) _ (one-tail c.rest) (λ params.

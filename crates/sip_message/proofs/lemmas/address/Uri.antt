@@ -69,7 +69,7 @@ scheme-token : (b : ℕ) → is_scheme_byte b ≡ true → is_token_byte b ≡ t
 scheme-token b is = elim (or_cases (is_ascii_alphanumeric b) (is_among "+-." b) is) [
   -- letters and digits are bytes of tokens
   | inl alnum ↦ or_left (is_ascii_alphanumeric b) (is_among "-.!%*_+`'~" b) alnum
-  -- 43, 45 and 46 are `+`, `-` and `.`: which of them the byte is, is asked one after another
+  -- 43, 45 and 46 are `+`, `-` and `.`: the byte is compared with each in turn
   | inr one ↦ elim (or_cases (nat_eq 43 b) _ one) [
     | inl e ↦ subst (λ x. is_token_byte x ≡ true) (eqb-true 43 b e) refl
     | inr two ↦ elim (or_cases (nat_eq 45 b) _ two) [
@@ -110,7 +110,7 @@ scheme-one text (s, r, s_all, whole) (t, q, t_all, whole_too) =
 
 -- the byte ">" stands in no host
 angle-foreign : IsForeign right_angle
--- ">" is in no class of bytes that a host has, and none of its marks
+-- ">" is in no class of bytes that a host has, and is none of its marks
 angle-foreign = record { label = refl; alphanumeric = refl; alphabetic = refl; hexdigit = refl; digit = refl; of_colon = refl; of_dot = refl; of_left = refl; of_right = refl }
 
 -- an optional part with its separator lacks ">"
@@ -138,7 +138,7 @@ lack-parameters = lack-many right_angle _ (lack-then right_angle _ _ (lack-byte 
 -- headers lack ">"
 lack-headers : AllLack right_angle Headers
 lack-headers =
-    -- names and values, with "=" between them, and "&" between two of them
+    -- a header is a name, "=" and a value, and "&" stands between two of them
     lack-joined right_angle ampersand Header refl
     (lack-then right_angle _ _ (lack-some right_angle _ (lack-char right_angle is_hnv_unreserved refl))
     (lack-then right_angle _ _ (lack-byte right_angle equals refl) (lack-many right_angle _ (lack-char right_angle is_hnv_unreserved refl))))
@@ -206,7 +206,7 @@ port-cut text = at (before_last colon text) refl
         none-some_is : {u : List ℕ} → None ≡ Some u → ⊥
         none-some_is e = cc
     -- the text after the last colon is a port, or it is no port
-    -- before the last colon stands the host, and after it the port, if that is one
+    -- a port there is the port, and the host stands before the colon; without one all of the text is the host
     at (Some u) is = elim (decide-port (behind_last colon text)) [
       | inl port ↦ (u, Some (behind_last colon text), port-there text u (behind_last colon text) is refl port)
       | inr none ↦ (text, None, no-port text (λ v some port. none port))
@@ -220,7 +220,7 @@ info-cut text = at (behind at_sign text) refl
     at : (o : Option (List ℕ)) → behind at_sign text ≡ o → (user : Option (List ℕ)) × (password : Option (List ℕ)) × (rest : List ℕ) × IsInfoCut text user password rest
     -- without "@" there is no user
     at None is = (None, None, text, (is, refl, refl))
-    -- before the first "@" stands the user, and after its first colon the password
+    -- what stands before the first "@" is the user up to its first colon, and then the password
     at (Some rest) is = (Some (before colon (before at_sign text)), behind colon (before at_sign text), rest, (is, refl, refl))
 
 -- any text is cut into the parts of a SIP URI, which need not be texts of their productions

@@ -38,7 +38,6 @@ found-more n k (g ∷ fields) f = let later = found-more (n + 1) k fields f in (
     -- the claim holds whether or not the first field has the name
     -- b is whether it has the name; xs are what is found of the other fields, which are ys and then zs
     at : (b : Bool) (xs ys zs : List (ℕ × List ℕ)) → xs ≡ ys ++ zs → cond b ((n, g.value) ∷ xs) xs ≡ cond b ((n, g.value) ∷ ys) ys ++ zs
-    -- it has the name, or it has not
     at true xs ys zs is = ap (λ t. (n, g.value) ∷ t) is
     at false xs ys zs is = is
 
@@ -101,7 +100,7 @@ asks-other f a (via, from, to, call_id, cseq, content_length) fields of = record
 
 -- where o has no value, the first of o and p is p
 pub or-none : {X : Type 0} (o p : Option X) → is_some o ≡ false → p ≡ option_or o p
--- of nothing and p it is p
+-- the first of None and p is p
 or-none None p none = refl
 -- o has a value, which was excluded
 or-none (Some x) p none = absurd (false≢true (sym none))

@@ -68,7 +68,6 @@ map-or parts (Some a) p = refl
 pub via-row : (text : List ℕ) (r : Option Via) (b : Bool) → b ≡ is_some r → IsOnlyValue FirstVia element text r → IsTrue b ↔ Row (known known_name.Via) text
 -- nothing is read, so it is no value of Via
 via-row text None b is none = (λ so. absurd (false≢true (sym is ∙ so)), λ row. absurd (first-none text none row))
--- an element is read
 via-row text (Some v) b is read = (λ _. read.0.0, λ _. is)
 
 -- with a further Via, what the first one says is kept
@@ -85,7 +84,6 @@ via-keeps f (Some v) b old new named is read via cseq so fields kept = record {
 pub cseq-row : (text : List ℕ) (r : Option CSeq) (b : Bool) → b ≡ is_some r → IsOnlyValue CSeqValue cseq_parts text r → IsTrue b ↔ Row (known known_name.CSeq) text
 -- nothing is read, so it is no value of CSeq
 cseq-row text None b is none = (λ so. absurd (false≢true (sym is ∙ so)), λ row. absurd (none (row.0, row.1) row.2))
--- a number and a method are read
 cseq-row text (Some c) b is read = (λ _. (c.number, c.method.now, read.0), λ _. is)
 
 -- with a further CSeq, what the first one says is kept
@@ -101,7 +99,7 @@ cseq-keeps f (Some c) b old new named is read cseq via so fields kept = record {
 -- a field that is neither a Via nor a CSeq changes nothing of what is kept
 pub other-keeps : (f : Field) (kept : Kept) → (is_name_of known_name.Via f.name ≡ false) × (is_name_of known_name.CSeq f.name ≡ false) → KeepsMore f kept kept
 other-keeps f kept other fields of = record {
-  -- the field has neither name, so what its first one says stays
+  -- the field has neither name, so what the first field of each says stays
   via = says-passed FirstVia known_name.Via fields f (option_map element kept.via) (option_map element kept.via) other.0 refl of.via;
   cseq = says-passed CSeqValue known_name.CSeq fields f (option_map cseq_parts kept.cseq) (option_map cseq_parts kept.cseq) other.1 refl of.cseq;
 }
@@ -124,7 +122,7 @@ is-some parts (Some a) x is = refl
 -- where o holds a, and parts makes of it an x of which R holds, R holds of what parts makes of a
 some-is : {A X : Type 0} (R : X → Type 0) (parts : A → X) (o : Option A) (a : A) (x : X) → o ≡ Some a → option_map parts o ≡ Some x → R x → R (parts a)
 some-is R parts o a x o_is is said =
-    -- the parts of what o holds are both
+    -- x and the parts of a are both the parts of what o holds
     let same : Some x ≡ Some (parts a) = sym is ∙ ap (option_map parts) o_is in
     subst R (same_Some x (parts a) same) said
 

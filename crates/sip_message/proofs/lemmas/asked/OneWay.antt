@@ -73,7 +73,7 @@ same-now text (e ∷ es) (f ∷ fs) (via, (u, x, u_is, more, is)) (via_too, (w, 
 
 -- the elements of several values of Via are read in one way
 same-elements : (texts : List (List ℕ)) (es fs : List Element) → AreElements texts es → AreElements texts fs → es ≡ fs
--- no values have no elements
+-- of no values there are no elements
 same-elements [] es fs a b = a ∙ sym b
 same-elements (text ∷ texts) es fs (now, more, is, are, whole) (now_too, more_too, is_too, are_too, whole_too) =
     -- the elements of the first value are the same, and so are those of the others

@@ -28,7 +28,7 @@ named-known k (other text) is = absurd (both_ways false refl is)
 
 -- where each field is of its row, the values of a name are of the row of the name
 pub row-values : (k : Known) (fs : List Field) → AllByRecursion (λ f. Row f.name f.value) fs → AllByRecursion (Row (known k)) (values k fs)
--- no fields have no values
+-- without fields there are no values
 row-values k [] rows = tt
 row-values k (f ∷ fs) rows = at (is_name_of k f.name) refl (row-values k fs rows.1)
   where
@@ -42,7 +42,7 @@ row-values k (f ∷ fs) rows = at (is_name_of k f.name) refl (row-values k fs ro
 -- the values of a name are those of the fields of the name that are found
 -- k is the name, fs are the fields, and n is the number of the first one's line
 pub found-values : (n : ℕ) (k : Known) (fs : List Field) → values k fs ≡ map (λ x. x.1) (found_from n k fs)
--- no fields have no values
+-- without fields there are no values
 found-values n k [] = refl
 found-values n k (f ∷ fs) = at (is_name_of k f.name) (found-values (n + 1) k fs)
   where
@@ -59,7 +59,7 @@ first-value k fs one first = (map (λ x. x.1) first.0, found-values 1 k fs ∙ a
 
 -- further elements of Via by their parts are further elements with their texts
 pub more-elements : (vias : List ViaParts) (text : List ℕ) → MoreVias vias text → (es : List Element) × MoreElements es text
--- no further elements have the empty text
+-- the text of no further elements is empty
 more-elements [] text is = ([], is)
 -- u is the comma and w what follows: x the text of v, and y that of the other elements
 more-elements (v ∷ vias) text (u, w, mark, (x, y, via, more, w_is), text_is) =
@@ -77,7 +77,7 @@ via-elements text (v, vias, (x, y, via, more, text_is)) =
 
 -- values of Via, one after another, are elements
 are-elements : (texts : List (List ℕ)) → AllByRecursion (Row (known known_name.Via)) texts → (es : List Element) × AreElements texts es
--- no values have no elements
+-- of no values there are no elements
 are-elements [] rows = ([], refl)
 are-elements (text ∷ texts) rows =
     -- `now` is the elements of the first value, and `later` those of the others

@@ -29,9 +29,9 @@ fields-same false fields are = each fields (are refl)
   where
     -- a value that is not folded is written as it is
     each : (fs : List Field) → AreUnfolded fs → fields_text false fs ≡ fields_text true fs
-    -- no fields have no text
+    -- without fields there is no text
     each [] all = refl
-    -- the value of the first field is itself, unfolded
+    -- the value of the first field, unfolded, is the value itself
     each (f ∷ fs) all = ap₂ (λ (value more : List ℕ). after_end (name_text f.name ++ colon ∷ space ∷ value) ++ more) (sym all.0) (each fs all.1)
 
 -- lines with their ends are the first line, then each other one after the end of the line before it, and then the end of the last one

@@ -1,6 +1,6 @@
 -- The law of the canonical form.
 -- In the lemmas fs are fields, and n is the number of the first of them; as Bools, x and y are what two tests of a byte say.
--- A text is inner (`Inner`) where it has neither CR nor LF. `unfolded_field` is a field with its value unfolded, and `message_of` a message with all of them.
+-- A text is inner (`Inner`) where it has neither CR nor LF. `unfolded_field` is a field with its value unfolded, and `message_of` a message with such fields.
 use Rattle.std.proofs.Common.{◌≡◌, ℕ, ◌+◌, ◌≤◌, ◌<◌, Bool, true, false, not, ◌&&◌, List, [], ◌∷◌, ◌++◌, length, take, map, cond, nat_eq, Option, Some, None, refl, sym, ap, ◌∙◌, subst, inl, inr, arith}
 use Rattle.std.specs.Prelude.{is_some, get_or, ◌^◌, codes, decimal, IsTrue, bytes_eq}
 use Rattle.std.specs.Char.{is_ascii_digit}
@@ -144,7 +144,7 @@ name-text (other t) spelled token is =
 
 -- a code of three digits is written as it was spelled
 pub code-decimal : (text : List ℕ) (code : ℕ) → CodeText text code → decimal code ≡ text
--- the decimal of the number that digits write is those digits, since they are few, and do not begin with 0
+-- the decimal of the number that digits write is those digits, since the number is small, and they do not begin with 0
 code-decimal text code is =
     ap decimal is.code_is
     ∙ decimal-digits_value (numerals_by_value (λ ds. all_ascii_digits ds ≡ true) tells_all_ascii_digits) text digits
@@ -281,7 +281,7 @@ field-cut line f is =
 
 -- the canonical forms of fields, one after another, are lines that are the fields with their values unfolded
 fields-canon : (lines : List (List ℕ)) (fs : List Field) → FieldsText lines fs → FieldsText (map field_text (map unfolded_field fs)) (map unfolded_field fs)
--- no fields have no lines; else the first field is its line, and the others are theirs
+-- without fields there are no lines; else the first field is its line, and the others are theirs
 fields-canon [] fs is = subst (λ gs. FieldsText (map field_text (map unfolded_field gs)) (map unfolded_field gs)) (sym is) refl
 fields-canon (line ∷ lines) fs (f, more, is, are, whole) =
     subst (λ gs. FieldsText (map field_text (map unfolded_field gs)) (map unfolded_field gs)) (sym whole)
@@ -289,21 +289,21 @@ fields-canon (line ∷ lines) fs (f, more, is, are, whole) =
 
 -- the canonical forms of fields have no CR and no LF, and none is empty
 fields-inner : (lines : List (List ℕ)) (fs : List Field) → FieldsText lines fs → AreInner (map field_text (map unfolded_field fs))
--- no fields have no lines; else the first line has no CR and no LF, and neither have the others
+-- without fields there are no lines; else the first line has no CR and no LF, and neither have the others
 fields-inner [] fs is = subst (λ gs. AreInner (map field_text (map unfolded_field gs))) (sym is) tt
 fields-inner (line ∷ lines) fs (f, more, is, are, whole) =
     subst (λ gs. AreInner (map field_text (map unfolded_field gs))) (sym whole) (field-inner line f is, fields-inner lines more are)
 
 -- no canonical form of a field begins with a blank
 fields-cut : (lines : List (List ℕ)) (fs : List Field) → FieldsText lines fs → AllByRecursion (λ line. ¬ (OpensBlank line)) (map field_text (map unfolded_field fs))
--- no fields have no lines; else the first line begins with no blank, and neither do the others
+-- without fields there are no lines; else the first line begins with no blank, and neither do the others
 fields-cut [] fs is = subst (λ gs. AllByRecursion (λ line. ¬ (OpensBlank line)) (map field_text (map unfolded_field gs))) (sym is) tt
 fields-cut (line ∷ lines) fs (f, more, is, are, whole) =
     subst (λ gs. AllByRecursion (λ line. ¬ (OpensBlank line)) (map field_text (map unfolded_field gs))) (sym whole) (field-cut line f is, fields-cut lines more are)
 
 -- where lines are fields, each field has a value of its row
 pub fields-rows : (lines : List (List ℕ)) (fs : List Field) → FieldsText lines fs → AllByRecursion (λ f. Row f.name f.value) fs
--- no fields have no rows; else the first field is of its row, and so are the others
+-- of no fields nothing is asked; else the first field is of its row, and so are the others
 fields-rows [] fs is = subst (AllByRecursion (λ f. Row f.name f.value)) (sym is) tt
 fields-rows (line ∷ lines) fs (f, more, is, are, whole) =
     subst (AllByRecursion (λ g. Row g.name g.value)) (sym whole) (is.row, fields-rows lines more are)

@@ -35,7 +35,7 @@ run-inner run = at (list_any is_end_byte run) refl
 
     -- where neither test passes, the second does not
     right : (x y : Bool) → (x || y) ≡ false → y ≡ false
-    -- with the first test both would pass
+    -- the first test fails too
     right true y is = absurd (both_ways true is refl)
     right false y is = is
 
@@ -92,7 +92,7 @@ inner-run run inner = ap (λ folds. cond folds (space ∷ []) run) (none run inn
 
     -- in a text with neither CR nor LF no byte ends a line
     none : (text : List ℕ) → Inner text → list_any is_end_byte text ≡ false
-    -- no byte ends a line; else neither the first byte nor a later one does
+    -- in an empty text no byte ends a line; in another one neither the first byte does nor a later one
     none [] all = refl
     none (b ∷ text) all = ap (λ x. x || list_any is_end_byte text) (no_end (nat_eq b carriage_return) (nat_eq b line_feed) all.0) ∙ none text all.1
 
@@ -122,7 +122,7 @@ AreInner = AllByRecursion (λ line. Inner line × (line ≡ [] → ⊥))
 
 -- in lines without CR and LF, none of them empty, no empty line stands before the one after them
 no_empty : (lines : List (List ℕ)) (u v body : List ℕ) → AreInner lines → flat_map with_end lines ++ (crlf ++ body) ≡ u ++ (crlf ++ (crlf ++ v)) → length (flat_map with_end lines) ≤ length u + 2
--- no lines have no bytes
+-- the text of no lines is empty
 no_empty [] u v body inner is = omega arith
 no_empty (l ∷ ls) u v body inner is = at (λ z z_is. no_empty ls z v body inner.1 z_is) (two_cuts l (crlf ++ (flat_map with_end ls ++ (crlf ++ body))) u (crlf ++ (crlf ++ v)) whole)
   where

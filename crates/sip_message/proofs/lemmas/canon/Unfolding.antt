@@ -31,7 +31,7 @@ unfold-blank old text out from at below blank u = record {
   done = u.done;
   appended = u.appended;
   within = omega (arith, u.within);
-  -- the byte of the run is taken from the rest, which comes to the same
+  -- the byte at the index goes over from the rest to the run, which comes to the same
   rest = ap (λ r. u.done ++ unfolded_from r (drop (at + 1) text)) (run-more text from at u.within below) ∙ ap (λ x. u.done ++ x) (sym step) ∙ u.rest;
 }
   where
@@ -91,7 +91,7 @@ part-more out mid new front mid_is is = (front ++ is.0, is.1 ∙ ap (λ x. x ++ 
 
 -- '0' and a number below ten make a digit
 digit-is : (a : ℕ) → a < 10 → is_ascii_digit (48 + a) ≡ true
--- 48 is "0" and 57 "9", which is the digit of 9
+-- 48 is "0", and 57 is "9"
 digit-is a small = and_from _ _ (le-leb 48 (48 + a) (omega arith)) (le-leb (48 + a) 57 (omega (arith, small)))
 
 -- the three digits of a status code are its decimal

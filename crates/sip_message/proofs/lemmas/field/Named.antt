@@ -61,9 +61,9 @@ once-absent name fields fault none = passes tt (few (found name fields) none.0) 
   where
     -- a list without a first element is empty
     few : (fs : List (ℕ × List ℕ)) → ((x : ℕ × List ℕ) → (more : List (ℕ × List ℕ)) × (fs ≡ x ∷ more) → ⊥) → length fs ≤ 1
-    -- the list has no first element
+    -- the list is empty
     few [] none_is = omega arith
-    -- a list with a first element has one
+    -- a list with an element has a first one, which was excluded
     few (f ∷ fs) none_is = absurd (none_is f (fs, refl))
 
 -- where a name has two fields, the demand for its one field stops at the line of the second

@@ -62,7 +62,7 @@ same_name line r s n m one other =
 -- a text that does not end with a blank does not end with blanks
 -- b and z are the blanks, and u is the text before them
 pub ends_blank : (u : List ℕ) (b : ℕ) (z : List ℕ) → EndsSolid (u ++ b ∷ z) → All is_lws_byte (b ∷ z) → ⊥
--- the last byte of the blanks is the last of the text, and no blank
+-- the last of the blanks is the last byte of the text, which is no blank
 ends_blank [] b [] ends all = both_ways (is_lws_byte b) ends all.0
 -- what stands before the last byte is left out, byte by byte
 ends_blank [] b (c ∷ z) ends all = ends_blank [] c z ends all.1
@@ -75,12 +75,11 @@ same_solid u v x y us xs vs ys same = at (two_cuts u v x y same)
   where
     -- u and x are the same: neither is longer, since what follows would begin with a byte that is no blank
     at : Cuts u v x y → u ≡ x
-    -- both end at the same place
     at (same_length left right) = left
-    -- u would be longer, and end with the blanks b and z, of which y begins
+    -- u would be longer, and end with the blanks b and z, with which y begins
     at (first_longer b z longer is) =
         absurd (ends_blank x b z (subst EndsSolid longer us) (all_left is_lws_byte (b ∷ z) v (subst (All is_lws_byte) is ys)))
-    -- x would be longer, and end with the blanks b and z, of which v begins
+    -- x would be longer, and end with the blanks b and z, with which v begins
     at (second_longer b z longer is) =
         absurd (ends_blank u b z (subst EndsSolid longer xs) (all_left is_lws_byte (b ∷ z) y (subst (All is_lws_byte) is vs)))
 

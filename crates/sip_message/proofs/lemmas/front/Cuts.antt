@@ -24,7 +24,7 @@ use Rattle.sip_message.proofs.lemmas.params.Closed.{some-run}
 -- the first n bytes of a text, which are a front of P, are the text of that front
 front-take : (P : List ℕ → Type 0) (text : List ℕ) (n : ℕ) (front : HasFront P text n) → take n text ≡ front.0
 front-take P text n front =
-    -- the front is as long as n, and stands first in the text
+    -- the front has n bytes, and stands first in the text
     ap (λ m. take m text) front.4 ∙ ap (take (length front.0)) front.3 ∙ take-append_seam front.0 front.1
 
 -- where the longest token at the front of a text is not empty, the text is read as that token and what is left after it
@@ -89,7 +89,7 @@ same-token text t r u s one other =
 pub same-behind : (text r s : List ℕ) → Behind text r → Behind text s → r ≡ s
 -- u and x are the blanks, and v and y what follows them, by the two readings
 same-behind text r s (r_stops, (u, v, u_is, v_is, whole)) (s_stops, (x, y, x_is, y_is, whole_too)) =
-    -- both runs of blanks are as many blanks as stand there, since none follows
+    -- both runs are all the blanks at the front, since none follows either of them
     (same_many Blank blank_len u r x s blank-step (many u u_is) (many x x_is)
     (ap (λ t. u ++ t) (sym v_is) ∙ sym whole ∙ whole_too ∙ ap (λ t. x ++ t) y_is) r_stops s_stops).1
   where
@@ -101,7 +101,7 @@ same-behind text r s (r_stops, (u, v, u_is, v_is, whole)) (s_stops, (x, y, x_is,
 -- what is left after the longest run of blanks is the one rest after the blanks
 pub longest-behind : (text : List ℕ) (n : ℕ) → IsLongestFront Blanks text n → IsOnlyBehind text (drop n text)
 longest-behind text n longest =
-    -- `blanks` is the longest run, after which no blank stands, and `front` the text of it
+    -- `blanks` says that the first n bytes are blanks (`front`), and that none follows them
     let blanks = blanks-longest text n longest in
     let front = blanks.0 in
     let rest_is = front-rest (Many Blank) text n front in
@@ -192,7 +192,7 @@ NotRead {X = X} R = (x : X) → ¬ (R x)
 
 -- where the first of two steps gives nothing, both together give nothing
 pub stop : {X Y : Type 0} {R : X → Type 0} {S : X → Y → Type 0} → NotRead R → NotRead (Seq R S)
--- y would be given by the first step, which gives nothing
+-- the first step would give x, but it gives nothing
 stop none y (both x r s) = none x r
 
 -- where the first of two steps gives one value, and the second nothing after it, both together give nothing

@@ -51,7 +51,7 @@ pub next-other : (these : ℕ → Bool) (mark : ℕ) (text : List ℕ) → is_lw
 -- the text is empty, where no mark stands
 next-other these mark text solid fails (inl none) rest is = no_mark-nil mark rest (subst (λ t. MarkFront mark t rest) none is)
 next-other these mark text solid fails (inr (b, inner, pass, behind)) rest is =
-    -- by both, the first byte after the blanks is one, so the mark would be b
+    -- by both readings one byte is the first after the blanks, so the mark would be b
     let parts = mark-parts mark text rest solid is in
     let same : ◌≡◌ {A = List ℕ} (mark ∷ parts.0) (b ∷ inner) = same-behind text (mark ∷ parts.0) (b ∷ inner) parts.1 behind in
     let bytes : mark ≡ b = cc in
@@ -84,7 +84,7 @@ ends-next these text pass (inr (next, mark)) =
 -- what is left after a mark is shorter than the text
 pub mark-shorter : (mark : ℕ) (text rest : List ℕ) → is_lws_byte mark ≡ false → MarkFront mark text rest → length rest < length text
 mark-shorter mark text rest solid is =
-    -- `outer` is the text with the blanks before the mark's byte, and `inner` what follows that byte
+    -- `outer` says that the text is blanks and then the mark's byte, and `inner` that what follows that byte is blanks and the rest
     let parts = mark-parts mark text rest solid is in
     let outer = parts.1.1 in
     let inner = parts.2.1 in

@@ -76,9 +76,9 @@ one-blanks text r s one other = same-blanks text r s one other
 -- [ mark part ] at the front of a text is read in one way where the part is
 pub one-led : (mark : ℕ) (Part : List ℕ → List ℕ × List ℕ → Type 0) (text : List ℕ) → is_lws_byte mark ≡ false → ((t : List ℕ) → AtMostOne (Part t)) → AtMostOne (LedFront mark Part text)
 -- the mark stands at the front for both readings, or for none
--- by neither reading the mark stands there: all of the text is left
+-- the mark stands there by neither reading: all of the text is left
 one-led mark Part text solid one (None, r) (None, s) a b = ap (λ x. (None, x)) (a.1 ∙ sym b.1)
--- by one reading the mark stands there, and by the other not
+-- the mark stands there by one reading, and does not by the other
 one-led mark Part text solid one (None, r) (Some w, s) a b = absurd (a.0 b.0 b.1)
 one-led mark Part text solid one (Some v, r) (None, s) a b = absurd (b.0 a.0 a.1)
 -- v and w are the parts after the mark, which is the same
@@ -158,12 +158,10 @@ each-hostname =
   where
     -- the byte of a letter or digit is a byte of a token
     alnum : Each T (One is_ascii_alphanumeric)
-    -- each such byte is a byte of a token
     alnum = each-one T is_ascii_alphanumeric token-alnum
 
     -- the byte of a letter is a byte of a token
     alpha : Each T (One is_ascii_alphabetic)
-    -- each such byte is a byte of a token
     alpha = each-one T is_ascii_alphabetic token-alpha
 
     -- the inner bytes of a label are bytes of tokens
@@ -221,7 +219,7 @@ each-bare = each-or B _ _ (λ u is. bare-all u (each-token u is)) each-v6
 
 -- a token or an IPv6 address is not empty
 pub some-bare : (u : List ℕ) → (Token or Ipv6) u → u ≡ [] → ⊥
--- a token has a byte, and the test of an IPv6 address fails of the empty text
+-- a token is not empty, and the empty text does not pass the test of an IPv6 address
 some-bare u (inl token) none = some-run is_token_byte u token none
 some-bare u (inr address) none = both_ways (is_v6 u) (ap is_v6 none) (v6-is u address)
 
@@ -249,7 +247,7 @@ items-contents text many = many-flat (Qdtext or QuotedPair) QuotedItem text each
   where
     -- blanks are pieces, and so is each other content
     each : (u : List ℕ) → (Qdtext or QuotedPair) u → Many QuotedItem u
-    -- a blank run of several bytes, a byte of text, or a backslash with its byte
+    -- the contents are a blank run, which may have several pieces, a byte of text, or a backslash with its byte
     each u (inl (inl lws)) = many-map Blank QuotedItem u (λ w blank. inr (inr blank)) (blanks-lws u lws)
     each u (inl (inr byte)) = many-one QuotedItem u (inl byte)
     each u (inr pair) = many-one QuotedItem u (inr (inl pair))
@@ -272,7 +270,7 @@ one-quoted text (v, r) (w, s) (q, v_is) (p, w_is) = same_pair v r w s text v_is 
 
     -- two contents before the closing quote leave the same rest
     rests : (i j : List ℕ) → Many (Qdtext or QuotedPair) i → Many (Qdtext or QuotedPair) j → dquote ∷ (i ++ dquote ∷ r) ≡ dquote ∷ (j ++ dquote ∷ s) → r ≡ s
-    -- pieces of a quoted string are told apart byte by byte, and a quote is none, so both contents end at the same quote
+    -- pieces of a quoted string are cut off one after another, and none begins with a quote, so both contents end at the same quote
     rests i j is js both_whole =
         let inners : i ++ dquote ∷ r ≡ j ++ dquote ∷ s = cc in
         let tails : dquote ∷ r ≡ dquote ∷ s = (same_many QuotedItem item_len i (dquote ∷ r) j (dquote ∷ s) item-step (items-contents i is) (items-contents j js) inners refl refl).1 in

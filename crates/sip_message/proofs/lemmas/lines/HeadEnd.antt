@@ -56,7 +56,6 @@ inner_end = line_feed ∷ carriage_return ∷ line_feed ∷ []
 -- where CRLF CRLF occurs at place k, LF CR LF occurs at place k + 1
 double-inner : (t : List ℕ) (k : ℕ) → OccursAt t double_end k → OccursAt t inner_end (k + 1)
 double-inner t k at = record {
-  -- LF CR LF is what CRLF CRLF has from its second byte on
   fits = omega (arith, at.fits);
   reads = λ j below. ap (λ i. get_or t i 0) (omega arith) ∙ at.reads (suc j) (omega (arith, below));
 }
@@ -68,7 +67,7 @@ NoneSoFar t from = (j : ℕ) → j + 1 < from → ¬ (OccursAt t double_end j)
 -- where LF CR LF occurs in a text at place from + k, it occurs in the rest from `from` on at place k
 inner-rest : (t rest : List ℕ) (from k : ℕ) → from ≤ length t → rest ≡ drop from t → OccursAt t inner_end (from + k) → OccursAt rest inner_end k
 inner-rest t rest from k within is at = record {
-  -- the rest begins `from` bytes later than the text, so its places are by so much less
+  -- the byte at place k of the rest is the one at place from + k of the text
   fits = omega (arith, at.fits, ap length is, length-drop from t, within);
   reads = λ j below. ap (λ r. get_or r (k + j) 0) is ∙ get_or-drop from t (k + j) 0 ∙ ap (λ i. get_or t i 0) (omega arith) ∙ at.reads j below;
 }
@@ -76,7 +75,7 @@ inner-rest t rest from k within is at = record {
 -- where LF CR LF occurs in the rest from `from` on at place k, it occurs in the text at place from + k
 rest-inner : (t rest : List ℕ) (from k : ℕ) → from ≤ length t → rest ≡ drop from t → OccursAt rest inner_end k → OccursAt t inner_end (from + k)
 rest-inner t rest from k within is at = record {
-  -- the rest begins `from` bytes later than the text, so its places are by so much less
+  -- the byte at place k of the rest is the one at place from + k of the text
   fits = omega (arith, at.fits, ap length is, length-drop from t, within);
   reads = λ j below. ap (λ i. get_or t i 0) (omega arith) ∙ sym (get_or-drop from t (k + j) 0) ∙ sym (ap (λ r. get_or r (k + j) 0) is) ∙ at.reads j below;
 }
@@ -131,7 +130,7 @@ first-double t rest from k within is none first at some cr = (
 -- where no CR stands before the LF CR LF at a place, CRLF CRLF does not begin there either
 pub none-more : (t : List ℕ) (at : ℕ) → NoneSoFar t at → ((0 < at) × (get_or t (at - 1) 0 ≡ carriage_return) → ⊥) → NoneSoFar t (at + 1)
 none-more t at none other j below double =
-    -- j is before the place, where nothing was found, or is the place before it, where no CR stands
+    -- j lies before the byte before the place, where no CRLF CRLF begins, or is the place of that byte, which is no CR
     elim (cases_lt (j + 1) at) [
       | inl low ↦ none j low double
       | inr high ↦ other (omega (arith, below, high), ap (λ i. get_or t i 0) (omega (arith, below, high)) ∙ double.reads zero (omega arith))
@@ -249,7 +248,7 @@ paired-each a (b ∷ t) each = (each 0 (omega arith), paired-each b t (λ k with
 
 -- where a LF stands rightly after a and each byte of a text, it does so at each place
 each-paired : (a : ℕ) (t : List ℕ) → Paired a t → (k : ℕ) → k ≤ length t → IsPaired (a ∷ t) k
--- at the place 0 it is of a, and at a later one of the text without a
+-- at place 0 it does so for a, and at a later one for the text without a
 each-paired a [] paired zero within = paired
 each-paired a [] paired (suc k) within = absurd (omega (arith, within))
 each-paired a (b ∷ t) paired zero within = paired.0
@@ -284,7 +283,7 @@ clean-paired a (b ∷ c ∷ t) no_end clean = at (clean-first b (c ∷ t) clean)
     at : ((is_inner_byte b ≡ true) × HasNoBareEnd (c ∷ t)) ⊎ ((v : List ℕ) × (b ∷ c ∷ t ≡ crlf ++ v) × HasNoBareEnd v)
         → (nat_eq b carriage_return ≡ false → HasNoBareEnd (c ∷ t) → Paired b (c ∷ t))
         → (nat_eq c carriage_return ≡ false → HasNoBareEnd t → Paired c t) → Paired a (b ∷ c ∷ t)
-    -- b is one within a line: the rest is clean after it
+    -- b stands within a line: what follows it has no bare line end
     at (inl (inner, rest)) one two = (no_end ∙ sym (inner-parts b inner).1, one (inner-parts b inner).0 rest)
     -- CR and LF stand there, one after the other
     at (inr (v, same, rest)) one two =
@@ -301,7 +300,7 @@ clean-paired a (b ∷ c ∷ t) no_end clean = at (clean-first b (c ∷ t) clean)
 
 -- a text in which a LF stands after each CR, and after no other byte, has no bare line end
 paired-clean : (a : ℕ) (t : List ℕ) → nat_eq a carriage_return ≡ false → Paired a t → HasNoBareEnd t
--- the text is empty, has one byte b, or two or more: in each case what it begins with is a piece of a clean text
+-- the text is empty, has one byte b, or more: what it begins with is a piece, CRLF or a byte within a line
 paired-clean a [] no_end paired = many-nil CleanPiece
 paired-clean a (b ∷ []) no_end paired =
     many-cons CleanPiece (b ∷ []) [] (inr (b, parts-inner b paired.1 (sym paired.0 ∙ no_end), refl)) (many-nil CleanPiece)
@@ -329,7 +328,6 @@ clean-each (b ∷ t) clean k below = each-paired b t (clean-paired 0 (b ∷ t) r
 
 -- a test that does not hold fails
 pub is_not : (b : Bool) → (b ≡ true → ⊥) → not b ≡ true
--- the test would hold
 is_not true none = absurd (none refl)
 is_not false none = refl
 
@@ -357,7 +355,7 @@ lines-front head first others are = (are.folded.0, no_blank others are.cut, are.
 -- the line that is read at the front of a head is its first line, and the rest is the text of the others
 pub first-cut : (head line rest : List ℕ) → ReadAs (LineFront head) (line, rest) → (first : List ℕ) (others : List (List ℕ)) → LinesSay head first others → (first ≡ line) × AreLines rest others
 first-cut head line rest read first others are =
-    -- the first line with its end stands at the front, and so is the one that is read there
+    -- the first line with its end stands at the front, and so it is the one that is read there
     let same = read.1 (first, flat_map with_end others) (lines-front head first others are) in
     (ap (λ x. x.0) same, record { whole = sym (ap (λ x. x.1) same); folded = are.folded.1; cut = are.cut })
 

@@ -24,11 +24,11 @@ same_head bytes h b i c one other =
 
 -- lines that begin with no blank make a text that begins with none
 pub no_blank : (lines : List (List ℕ)) → AllByRecursion (λ line. ¬ (OpensBlank line)) lines → OpensBlank (flat_map with_end lines) → ⊥
--- no lines have no bytes
+-- the text of no lines is empty
 no_blank [] none begins = begins
 -- an empty line begins with the CR of its end
 no_blank ([] ∷ lines) none begins = both_ways (is_wsp carriage_return) refl begins
--- another line begins with its own first byte
+-- another line begins with its own first byte, which is no blank
 no_blank ((b ∷ line) ∷ lines) none begins = none.0 begins
 
 -- a text that begins with a blank does so whatever follows it
@@ -39,7 +39,7 @@ begins-append (b ∷ u) v begins = begins
 
 -- where two lines with their ends begin one text, and no blank follows, the first is not longer than the second
 no_longer : (z line other rest more : List ℕ) (b : ℕ) → IsFolded line → (OpensBlank more → ⊥) → line ≡ other ++ b ∷ z → crlf ++ more ≡ b ∷ z ++ (crlf ++ rest) → ⊥
--- the first line would be longer by the CR alone, so that its own end, a CR first, would begin with the LF
+-- the first line would be longer by a CR alone, and the CR of its own end would be the LF of the other one
 no_longer [] line other rest more b folded none longer is =
     let tails : line_feed ∷ more ≡ carriage_return ∷ (line_feed ∷ rest) = cc in
     let heads : line_feed ≡ carriage_return = cc in
@@ -63,13 +63,10 @@ same_first l m rest more l_folded m_folded l_cut m_cut same = at (two_cuts l (cr
 
     -- both lines are the same, and so are the rests: neither line is longer, since the CRLF in it would have a blank after it
     at : Cuts l (crlf ++ rest) m (crlf ++ more) → (l ≡ m) × (rest ≡ more)
-    -- both lines end at the same place
     at (same_length left right) =
         let ends : carriage_return ∷ line_feed ∷ rest ≡ carriage_return ∷ line_feed ∷ more = right in
         (left, cc)
-    -- the first line is longer
     at (first_longer b z longer is) = absurd (no_longer z l m rest more b l_folded m_cut longer is)
-    -- the second line is longer
     at (second_longer b z longer is) = absurd (no_longer z m l more rest b m_folded l_cut longer is)
 
 -- a line with its end is not empty
@@ -140,13 +137,11 @@ lines-cons b text (a ∷ l) ls is = at l refl (nat_eq b carriage_return) (nat_eq
     -- the claim holds whether or not the byte and the next one are CR and LF
     -- x says whether the byte is CR, and y whether the next one is LF; t is the rest of the first line
     at : (t : List ℕ) → t ≡ l → (x y : Bool) → nat_eq b carriage_return ≡ x → nat_eq a line_feed ≡ y → (m : List ℕ) × (ms : List (List ℕ)) × LinesSay (b ∷ text) m ms
-    -- the byte is no CR
     at t same false y x_is y_is = longer (λ v e. let head : b ≡ carriage_return = cc in absurd (both_ways (nat_eq b carriage_return) x_is (eq-eqb b carriage_return head)))
-    -- the next byte is no LF
     at t same true false x_is y_is = longer (λ v e. let head : a ≡ line_feed = cc in absurd (both_ways (nat_eq a line_feed) y_is (eq-eqb a line_feed head)))
-    -- both stand there, and the first line has nothing after them
+    -- CR and LF stand there, and the first line has nothing after them
     at [] same true true x_is y_is = ends (eqb-true b carriage_return x_is) (eqb-true a line_feed y_is) (λ begins. subst OpensBlank (sym same) begins)
-    -- both stand there, and c follows them
+    -- CR and LF stand there, and c follows them
     at (c ∷ t) same true true x_is y_is = blank (is_wsp c) refl
       where
         -- the claim holds whether or not a blank follows the CR and LF

@@ -31,13 +31,13 @@ pub record SoFar (lines : List (List ℕ)) (rest : List ℕ) (fields : List Fiel
 
 -- lines that are fields are as many as the fields
 length-fields : (lines : List (List ℕ)) (fields : List Field) → FieldsText lines fields → length fields ≡ length lines
--- no lines are no fields
+-- without lines there are no fields
 length-fields [] fields are = ap length are
 length-fields (line ∷ lines) fields (f, fs, is, are, whole) = omega (arith, ap length whole, length-fields lines fs are)
 
 -- where the rest is some lines, the first stands at its front, and what is left is the others
 lines-front : (rest line : List ℕ) (left : List (List ℕ)) → AreLines rest (line ∷ left) → LineFront rest (line, flat_map with_end left) × AreLines (flat_map with_end left) left
--- the first line is folded as it should be, the others begin with no blank, and the text is its own
+-- the first line is folded as it should be, and what follows it begins with no blank, and is the text of the others
 lines-front rest line left are = ((are.folded.0, no_blank left are.cut.1, are.whole), record { whole = refl; folded = are.folded.1; cut = are.cut.1 })
 
 -- where no further line is read of the rest, the fields so far are those of all lines

@@ -262,7 +262,6 @@ line-on text front rest at within scanned front_is rest_is line = (
     -- the text is what was scanned, the front, the LF and the rest
     whole : text ≡ (take at text ++ (front ++ line_feed ∷ [])) ++ rest
     whole =
-        -- what was scanned, and the front with its LF, stand first, and the rest follows
         sym (take-append-drop at text) ∙ ap (λ t. take at text ++ t) (both.0 ∙ sym (append_assoc front (line_feed ∷ []) rest))
         ∙ sym (append_assoc (take at text) (front ++ line_feed ∷ []) rest)
 

@@ -80,7 +80,7 @@ length-some fields one more is = ap length_in is
 module _ (start : StartLine) (cseq : ℕ × List ℕ) (via : List ℕ) (len : Option ℕ) (rest : List ℕ) where
   -- where the method does not fit, the reading stops with that fault at the line of CSeq
   pub body-method : (MethodFits start (cseq.1) → ⊥) → BodyOf start cseq via len rest (stops (fault_in_line (cseq.0) reason.MethodMismatch))
-  -- no proof that the method fits is left
+  -- the method does not fit, so the first demand is not met
   body-method none = stopped _ ((λ _ fits. none fits), refl) refl
 
   -- where a stream has no Content-Length, the reading stops with that fault

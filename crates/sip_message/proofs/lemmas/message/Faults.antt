@@ -1,7 +1,7 @@
 -- Bytes are read as a message exactly if they are one, and as at most one message or one fault.
 -- In the lemmas f and fs are the first field and the others, z and zs the first element of a list and the others, and n is the number of a line.
--- `IsOne` says that a reading has one outcome. `NamesOf` is the demands on the named fields, `BodyOf` those on the method and the body, and `LinesOf` and
--- `HeadOf` are the reading of the lines of a head, and of a head.
+-- `IsOne` says that a reading has one outcome at most. `NamesOf` is the demands on the named fields, `BodyOf` those on the method and the body, and `LinesOf`
+-- and `HeadOf` are the reading of the lines of a head, and of a head, each with the body after it.
 use Rattle.std.proofs.Common.{◌≡◌, ℕ, ◌+◌, List, [], ◌∷◌, Option, refl, sym, ap, ◌∙◌, subst}
 use Rattle.sip_message.specs.declared.name.Known.{Known}
 use Rattle.sip_message.specs.declared.name.Known.TheVariants as known_name
@@ -30,7 +30,7 @@ one-field n line =
 
 -- the reading of field lines has one outcome
 one-fields : (n : ℕ) (lines : List (List ℕ)) → IsOne (FieldsOf n lines)
--- no lines have no fields
+-- without lines there are no fields
 one-fields n [] = one-gives []
 -- the first line has one outcome, and so have the others
 one-fields n (line ∷ lines) = one-then (one-field n line) (λ f. one-then (one-fields (n + 1) lines) (λ fs. one-gives (f ∷ fs)))
@@ -66,7 +66,7 @@ one-names fields =
 -- the reading of the body has one outcome
 one-body : (start : StartLine) (cseq : ℕ × List ℕ) (via : List ℕ) (len : Option ℕ) (rest : List ℕ) → IsOne (BodyOf start cseq via len rest)
 one-body start cseq via len rest =
-    -- four demands come first: on the method, the length, that the body is long enough, and that nothing follows it; then the body is cut
+    -- four demands come first: on the method, the length, that the body is long enough, and that in a stream nothing follows it; then the body is cut
     one-then (one-holds _ _) (λ _. one-then (one-holds _ _) (λ _. one-then (one-holds _ _) (λ _. one-then (one-holds _ _) (λ _. one-gives (cut_body len rest)))))
 
 -- the reading of the lines of a head, and of its body, has one outcome
@@ -92,7 +92,7 @@ one-read bytes =
 
 -- lines that are read are fields
 pub read-fields : (n : ℕ) (lines : List (List ℕ)) (fields : List Field) → FieldsOf n lines (gives fields) → FieldsText lines fields
--- no lines give no fields
+-- without lines there are no fields
 read-fields n [] fields is = given is
 read-fields n (line ∷ lines) fields is =
     -- `one` is the field of the first line, and `more` are those of the others; `named` is its name and `valued` its value
@@ -111,7 +111,7 @@ read-fields n (line ∷ lines) fields is =
 
 -- lines that are fields are read as them
 pub fields-read : (n : ℕ) (lines : List (List ℕ)) (fields : List Field) → FieldsText lines fields → FieldsOf n lines (gives fields)
--- no lines are no fields
+-- without lines there are no fields
 fields-read n [] fields is = ap (λ fs. gives fs) is
 fields-read n (line ∷ lines) fields (f, fs, is, are, whole) =
     -- the first line is read as its name and its value, and then the others

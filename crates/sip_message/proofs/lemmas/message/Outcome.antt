@@ -55,7 +55,7 @@ one-demand R fault same (stops f) (stops g) one other = ap (λ z. stops z) (one.
 
 -- the demand that A holds has one outcome, where it holds and where it does not
 pub one-holds : (A : Type 0) (fault : Fault) → IsOne (Holds A fault)
--- the demand that A holds gives nothing but its value
+-- the demand that A holds can give one value alone
 one-holds A fault = one-demand (λ _. A) fault (λ x y _ _. refl)
 
 -- where each of two steps has one outcome, both together have

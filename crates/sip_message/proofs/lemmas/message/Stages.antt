@@ -1,6 +1,7 @@
 -- The stages of reading, one after another.
 -- In the lemmas n is the named fields that were found, e the first element of Via, and s the CSeq by its number and method.
--- `LinesOf`, `NamesOf` and `BodyOf` are the readings of a head's lines, of the named fields and of the body; `KeepsRead` says what a message keeps of them.
+-- `LinesOf` is the reading of a head's lines and of the body after them, `NamesOf` that of the named fields, and `BodyOf` that of the body; `KeepsRead` says
+-- what a message keeps of them.
 use Rattle.std.proofs.Common.{◌≡◌, ℕ, List, false, refl, sym, ap, subst}
 use Rattle.std.specs.Prelude.{Result, Ok, Err, IsErr, IsErrAnd}
 use Rattle.std.proofs.lemmas.Bool.{both_ways}
@@ -63,7 +64,7 @@ settled parts S bytes e (Err x) err same settles go = at x (subst (λ y. Settles
     -- the claim holds whether the stage has failed for want of memory or by a fault of the bytes
     at : (y : ReadError) → Settles S parts (Err y) → ReadsTo bytes (Err y)
     at error.Memory is = tt
-    -- memory is missing, of which nothing is said; or the bytes have the fault
+    -- the stage has failed by a fault, which the bytes say
     at (error.Fault fault) is = fault-says bytes fault (go fault is)
 
 -- where the reading of the bytes stops with a fault, and the result is that fault, the bytes are read as it

@@ -48,7 +48,7 @@ comes-field n line = comes-then _ _ (comes-demand _ _) (λ named _. comes-then _
 
 -- the reading of field lines comes to an outcome
 comes-fields : (n : ℕ) (lines : List (List ℕ)) → Comes (FieldsOf n lines)
--- no lines come to no fields
+-- without lines there are no fields, which is an outcome
 comes-fields n [] = comes-gives []
 -- the first line comes to an outcome, and after its field so do the others
 comes-fields n (line ∷ lines) = comes-then _ _ (comes-field n line) (λ f _. comes-then _ _ (comes-fields (n + 1) lines) (λ fs _. comes-gives _))

@@ -31,7 +31,6 @@ use Rattle.sip_message.proofs.lemmas.says.Told.{tells-text}
 pub some-read : {A X : Type 0} (R : List ℕ → X → Type 0) (parts : A → X) (text : List ℕ) {x : X} (r : Option A) → IsOnlyValue R parts text r → R text x → IsSome r
 -- nothing is read, so R relates no value to the text
 some-read R parts text None none is = absurd (none _ is)
--- a value is read
 some-read R parts text (Some a) read is = refl
 
 -- what the reader of R reads of a text is the value that R relates to it
@@ -93,7 +92,7 @@ only-elements {m = m} {p = p} {v = v} k = (p.via ∷ p.others, record { is = k.p
 
 -- where es are the only elements of these values, and the values are those of the message's Via fields, es are the elements of the message
 pub same-elements : {m : Message} {p : Parts} {v f t i c : List ℕ} → Keeps m p v f t i c → (vals : List (List ℕ)) (es : List Element) → vals ≡ values known_name.Via m.fields → IsOnly (AreElements vals) es → es ≡ p.via ∷ p.others
--- the top Via and the others are the elements of the values, and so es
+-- the top Via and the others are the elements of the values, and so they are es
 same-elements {p = p} k vals es same only = sym (only.only (p.via ∷ p.others) (subst (λ x. AreElements x (p.via ∷ p.others)) (sym same) k.parts.is.vias))
 
 -- bytes are the text of one message, as it is spelled
@@ -114,5 +113,5 @@ same_reading bytes r s one other =
 -- the parts of a message's fields, which are the only ones, keep what was read, whatever proves that they are
 pub kept-one : {m : Message} {p : Parts} {e : Element} {f t i : List ℕ} {s : ℕ × List ℕ} → KeepsRead m p e f t i s → (one : ExactlyOne (HasParts m.fields)) → KeepsRead m (the one) e f t i s
 kept-one {m = m} {p = p} {e = e} {f = f} {t = t} {i = i} {s = s} k one =
-    -- the parts of which alone that holds are p, so what holds of p holds of them
+    -- p is the parts that `one` has, so what holds of p holds of them
     subst (λ q. KeepsRead m q e f t i s) (sym (One-is parts_code (HasParts m.fields) one p k.keeps.parts.is)) k

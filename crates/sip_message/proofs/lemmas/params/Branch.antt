@@ -16,9 +16,9 @@ use Rattle.sip_message.proofs.lemmas.params.Reading.{one-all_params, front-param
 
 -- a parameter has one branch at most
 one-branch_of : (p : Param) (a b : Option (List ℕ)) → BranchOf p a → BranchOf p b → a ≡ b
--- by neither reading the parameter has a branch
+-- the parameter has a branch by neither reading
 one-branch_of (name, value) None None x y = refl
--- it is named branch by one reading, and is not so by the other
+-- it is named branch by one reading, and has another name by the other
 one-branch_of (name, value) None (Some b) x y = absurd (x y.0)
 one-branch_of (name, value) (Some a) None x y = absurd (y x.0)
 -- the branch is the value of the parameter
@@ -100,7 +100,7 @@ decides-more text rest more p first found read is so x = ((λ whole. to x ((so x
 -- where a parameter named branch has no token for value, the text has no parameters of a Via
 pub decides-not : (text rest more : List ℕ) (p : Param) (first : Option (List ℕ)) → ReadAs (ParamFront rest) (p, more) → NotRead (BranchOf p) → Decides text rest first → NotRead (BranchFront text)
 decides-not text rest more p first read none so (b, left) is =
-    -- `after` is the branch of the rest with its parameters, of which the first would have a branch
+    -- `after` is the branch of the rest with its parameters, of which p is the first: p would have a branch, or another name
     let after = (so (b, left)).0 is in
     let others = behind-one rest more left p after.1.0 read after.1.1 in
     let cons = branch-cons p others.0 after.0 (subst (λ qs. IsBranch qs after.0) others.1 after.1.2) in
@@ -113,7 +113,7 @@ decides-all text rest first none so =
   where
     -- an option is the same where nothing is found after it
     or-none : (o : Option (List ℕ)) → o ≡ option_or o None
-    -- there is no option; or it has v
+    -- the option is None, or it has v
     or-none None = refl
     or-none (Some v) = refl
 

@@ -183,7 +183,7 @@ pub closed-param : (Ok : List ℕ → Option (List ℕ) → Type 0) → IsDemand
 -- without a value the parameter is a name, which has no blanks
 closed-param Ok demand u v b w ends opens blanks (name, None, ok, (token, is)) =
     (name, None, ok, (token, closed-solid (Exactly name) (λ t same. subst (All is_solid) (sym same) (solid-token name token)) u v b w ends opens blanks is))
--- with a value it is still a parameter, whatever its value is
+-- with a value: its kind tells whether blanks can lie in it
 closed-param Ok demand u v b w ends opens blanks (name, Some value, ok, (token, kind, whole)) = at kind
   where
     -- where its value has no blanks, the parameter stays one
@@ -238,7 +238,7 @@ AllOk Ok params = AllByRecursion (λ p. Ok (p.0) (p.1)) params
 
 -- where Ok holds of each parameter of a list, the text of the list is parameters of which Ok holds
 pub params-set : (Ok : List ℕ → Option (List ℕ) → Type 0) (ps : List (List ℕ × Option (List ℕ))) (text : List ℕ) → AllOk Ok ps → ParamsText text ps → ParamsSet Ok text
--- no parameters have the empty text
+-- the text of no parameters is empty
 params-set Ok [] text all is = subst (ParamsSet Ok) (sym is) (many-nil _)
 -- p is the first parameter: m is the ";" with its blanks, x its text, and y that of the others; t is x and y
 params-set Ok (p ∷ ps) text all (m, t, mark, (x, y, param, more, t_is), whole) =
@@ -247,7 +247,7 @@ params-set Ok (p ∷ ps) text all (m, t, mark, (x, y, param, more, t_is), whole)
 
 -- texts that are each ";" and a parameter of which Ok holds are the text of a list of such parameters
 pub set-params : (Ok : List ℕ → Option (List ℕ) → Type 0) (us : List (List ℕ)) → AllByRecursion (Mark semicolon then ParamSet Ok) us → (ps : List (List ℕ × Option (List ℕ))) × AllOk Ok ps × ParamsText (concat us) ps
--- no texts, joined, are the text of no parameters
+-- the empty text is that of no parameters
 set-params Ok [] all = ([], tt, refl)
 -- m is the ";" with its blanks, and x the parameter's text
 set-params Ok (u ∷ us) ((m, x, mark, (name, value, ok, param), u_is), all) =
@@ -261,7 +261,7 @@ TailSet Ok text =
 
 -- blanks before a text, where both together begin with no blank, are none
 pub no_blanks : (u v : List ℕ) → All is_lws_byte u → OpensSolid (u ++ v) → u ≡ []
--- blanks that are not empty would be the first byte
+-- the first of the blanks would be the first byte, which is none
 no_blanks [] v all opens = refl
 no_blanks (b ∷ u) v all opens = absurd (both_ways (is_lws_byte b) opens all.0)
 

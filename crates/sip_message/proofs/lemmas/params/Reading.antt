@@ -113,7 +113,6 @@ bare-stops v rest kind = at v (some-bare v kind) (each-bare v kind)
   where
     -- a bare byte is no blank
     solid : (b : ℕ) (x : Bool) → is_lws_byte b ≡ x → is_bare_byte b ≡ true → is_lws_byte b ≡ false
-    -- b is no blank
     solid b false is bare = is
     -- b is a blank, which no bare byte is
     solid b true is bare = absurd (both_ways (is_bare_byte b) (blank-bare b is) bare)
@@ -228,7 +227,7 @@ front-param text p rest (both inner mark (both (name, r) token (both (value, s) 
 
 -- where parameters are read at the front of a text, the text begins with the text of these parameters
 pub front-params : (ps : List Param) (text rest : List ℕ) → ParamsFront text ps rest → (u : List ℕ) × ParamsText u ps × (text ≡ u ++ rest)
--- no parameters have the empty text
+-- the text of no parameters is empty
 front-params [] text rest is = ([], refl, sym is)
 front-params (p ∷ ps) text rest (more, is, later) =
     -- `one` is the text of the first parameter, its ";" before it, and `others` the text of those after it
@@ -312,13 +311,13 @@ params-none text none = (to text, (λ are. ap (λ t. nat_eq (length t) 0) (param
   where
     -- an empty text is no parameters, which is allowed
     to : (t : List ℕ) → IsTrue (nat_eq (length t) 0) → AreParams t
-    -- no parameters have the empty text; of another one the length is not 0
+    -- the empty text is that of no parameters; the length of another text is not 0
     to [] is = ([], (tt, refl))
     to (b ∷ t) is = absurd (omega (arith, eqb-true (length (b ∷ t)) 0 is))
 
 -- where a part is parameters, the part with blanks before it is these parameters
 pub behind-params : (part : List ℕ) (ps : List Param) (q : List ℕ) → ParamsPart part ps → BehindBlanks part q → ParamsText q ps
--- the part is empty, so only the blanks of the mark are left, which are none
+-- the part is empty, and so is the text, since no blanks stand before an empty part
 behind-params [] ps q is q_is = subst (λ t. ParamsText t ps) (sym q_is) is.1
 -- a part that is not empty has a parameter
 behind-params (b ∷ part) [] q is blanks = absurd (omega (arith, ap length is.1))
@@ -332,7 +331,7 @@ behind-params (b ∷ part) (p ∷ ps) q (opens, (m, t, (s, c, sws, mark, m_is), 
 
     -- no blank stands before the part
     empty : (u : List ℕ) → All is_lws_byte u → b ∷ part ≡ u ++ (c ++ t) → u ≡ []
-    -- a blank before the mark would be the first byte of the part, which is none
+    -- a blank before the mark would be the first byte of the part, which is no blank
     empty [] all same = refl
     empty (a ∷ u) all same =
         let first : b ≡ a = cc in

@@ -165,7 +165,6 @@ closed-short text inner rest found ends =
 
 -- what stands in brackets, and is a host, is an IPv6 address in brackets
 pub bracket-host : (text part rest : List ℕ) (h : HostParts) → BracketFront text (part, rest) → HostText part h → Bracketed part
--- an IPv6 address in brackets is one
 bracket-host text part rest (v6 x) bracket is = is.0
 -- a name or an IPv4 address would begin with "[", which is no byte of a token
 bracket-host text part rest (name x) (i, lacks, part_is, whole) is =
@@ -216,7 +215,7 @@ one-quoted_string text inner n found ((u, v, (blanks, q, sws, quoted, u_is), who
 
     -- no blank stands before the quote
     none : (b : List ℕ) → Sws b → dquote ∷ inner ≡ b ++ (q ++ v) → b ≡ []
-    -- a blank would be the quote
+    -- a blank there would be the first byte, which is the quote
     none [] is same = refl
     none (c ∷ b) is same =
         let first : dquote ≡ c = cc in

@@ -44,13 +44,13 @@ same-demand {X = X} {Y = Y} Q R P fault go come = record { to = to; back = back 
 
 -- two demands without a value, of which each gives the other, come to the same
 pub same-holds : (A B : Type 0) (fault : Fault) → (A → B) → (B → A) → Same {X = ⊤} {Y = ⊤} Equal (Holds A fault) (Holds B fault)
--- to meet the one demand, of which A is to hold, is to meet the other, of which B is
+-- each is a demand without a value: the one that A holds, and the other that B holds
 same-holds A B fault go come = same-demand Equal (λ _. A) (λ _. B) fault (λ x a. (x, go a, refl)) (λ y b. (y, come b, refl))
 
 -- the steps that give x and y come to the same where Q relates x and y
 pub same-gives : {X Y : Type 0} (Q : X → Y → Type 0) (x : X) (y : Y) → Q x y → Same Q (Gives x) (Gives y)
 same-gives Q x y q = record {
-  -- each of both gives nothing but its value
+  -- each of the two gives its value alone
   to = λ a a_is. (gives y, refl, subst (λ o. Alike Q o (gives y)) (sym a_is) q);
   back = λ b b_is. (gives x, refl, subst (λ o. Alike Q (gives x) o) (sym b_is) q);
 }

@@ -38,9 +38,7 @@ one false k name same = same
 -- a choice of a known name by one of two tests is written as the choice by both together
 -- b and c are the two tests, and k is the known name
 two : (b c : Bool) (k : Known) (name : FieldName) {text : List ℕ} → name_text name ≡ text → name_text (cond b (known k) (cond c (known k) name)) ≡ cond (b || c) (long_name k) text
--- the first test passes
 two true c k name same = refl
--- the second test passes
 two false true k name same = refl
 -- neither passes, so the other name is written
 two false false k name same = same

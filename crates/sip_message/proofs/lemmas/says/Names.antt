@@ -50,7 +50,7 @@ Ways A B = (A → B) × (B → A)
 skips : (b : Bool) (X Y : Type 0) → b ≡ false → Ways (cond b X Y) Y
 -- the test would pass
 skips true X Y is = absurd (both_ways true is refl)
--- the choice is its second part, so both ways are to leave it as it is
+-- the choice comes to Y, so each way gives what it takes
 skips false X Y is = ((λ y. y), (λ y. y))
 
 -- the text is no spelling of a known name
@@ -61,7 +61,7 @@ IsForeign f = AllByRecursion (λ s. f ≡ s.0 → ⊥) spellings
 foreign-name : (f : List ℕ) → IsForeign f → full_name f ≡ f
 -- each part says that f is not this name: those of one letter are the compact forms
 foreign-name f (via, (v, (from, (f_, (to, (t, (call_id, (i, (cseq, (content_length, (l, (contact, (m, (content_encoding, (e, (content_type, (c, (subject, (s, (supported, (k, (route, end)))))))))))))))))))))) =
-    -- only a compact form would be written in full: "v", "f", "t", "i" and "l" are tried one after another
+    -- `full_name` writes only "v", "f", "t", "i" and "l" in another way: f is none of them
     cond-false (bytes_eq f (codes "v")) _ _ (miss f _ v) ∙ cond-false (bytes_eq f (codes "f")) _ _ (miss f _ f_) ∙ cond-false (bytes_eq f (codes "t")) _ _ (miss f _ t)
     ∙ cond-false (bytes_eq f (codes "i")) _ _ (miss f _ i) ∙ cond-false (bytes_eq f (codes "l")) _ _ (miss f _ l)
 
@@ -81,9 +81,9 @@ foreign-row f value (via, (v, (from, (f_, (to, (t, (call_id, (i, (cseq, (content
 -- a value is one of Via's row exactly if it says elements of Via by the definitions
 via-row : (v : List ℕ) → Ways (Row (known known_name.Via) v) ((vias : List SaidVia) × ViasSay vias v)
 via-row v = (
-  -- if: the elements of the value, with their texts, are what it says
+  -- of a value of the row: its elements, with their texts, are what it says
   (λ row. let es = via-elements v row.0 row.1 row.2 in (map said_via ((es.0, row.0) ∷ es.1), vias-said ((es.0, row.0) ∷ es.1) v es.2)),
-  -- only if: the elements that it says are its elements
+  -- of a value that says elements: they are its elements
   (λ said. let es = said-vias said.0 v said.1 in elements-via v es.0 es.1),
 )
 
@@ -115,41 +115,41 @@ row-said token v =
 named : (k : Known) (key : List ℕ) → AllByRecursion (λ s. is_name_of k (known (s.1)) ≡ bytes_eq (full_name (s.0)) key) spellings → ((f : List ℕ) → IsForeign f → f ≡ key → ⊥)
     → (token : List ℕ) → is_name_of k (name_of token) ≡ bytes_eq (full_name (folded token)) key
 named k key each differs token =
-    -- of each spelling both tests are tried; a text that is none of them is not `key`
+    -- of each spelling both tests say the same, by `each`; a text that is none of them is not `key`
     by-name (λ f name. is_name_of k name ≡ bytes_eq (full_name f) key) spellings token each
     (λ foreign. sym (ap (λ f. bytes_eq f key) (foreign-name (folded token) foreign) ∙ miss (folded token) key (differs (folded token) foreign)))
 
 -- a token names Via where it is spelled so, in full or by its short form
 pub named-via : (token : List ℕ) → is_name_of known_name.Via (name_of token) ≡ bytes_eq (full_name (folded token)) (codes "via")
--- of each of the 22 spellings it is tried, by computing; a text that is none of them is not this name
+-- each of the 22 spellings is tried, by computing; a text that is none of them is not this name
 named-via = named known_name.Via (codes "via") (refl, (refl, (refl, (refl, (refl, (refl, (refl, (refl, (refl, (refl, (refl, (refl, (refl, (refl, (refl, (refl, (refl, (refl, (refl, (refl, (refl, (refl, tt)))))))))))))))))))))) (λ f foreign. foreign.0)
 
 -- a token names From where it is spelled so, in full or by its short form
 pub named-from : (token : List ℕ) → is_name_of known_name.From (name_of token) ≡ bytes_eq (full_name (folded token)) (codes "from")
--- of each of the 22 spellings it is tried, by computing; a text that is none of them is not this name
+-- each of the 22 spellings is tried, by computing; a text that is none of them is not this name
 named-from = named known_name.From (codes "from") (refl, (refl, (refl, (refl, (refl, (refl, (refl, (refl, (refl, (refl, (refl, (refl, (refl, (refl, (refl, (refl, (refl, (refl, (refl, (refl, (refl, (refl, tt)))))))))))))))))))))) (λ f foreign. foreign.1.1.0)
 
 -- a token names To where it is spelled so, in full or by its short form
 pub named-to : (token : List ℕ) → is_name_of known_name.To (name_of token) ≡ bytes_eq (full_name (folded token)) (codes "to")
--- of each of the 22 spellings it is tried, by computing; a text that is none of them is not this name
+-- each of the 22 spellings is tried, by computing; a text that is none of them is not this name
 named-to = named known_name.To (codes "to") (refl, (refl, (refl, (refl, (refl, (refl, (refl, (refl, (refl, (refl, (refl, (refl, (refl, (refl, (refl, (refl, (refl, (refl, (refl, (refl, (refl, (refl, tt)))))))))))))))))))))) (λ f foreign. foreign.1.1.1.1.0)
 
 -- a token names Call-ID where it is spelled so, in full or by its short form
 pub named-call-id : (token : List ℕ) → is_name_of known_name.CallId (name_of token) ≡ bytes_eq (full_name (folded token)) (codes "call-id")
--- of each of the 22 spellings it is tried, by computing; a text that is none of them is not this name
+-- each of the 22 spellings is tried, by computing; a text that is none of them is not this name
 named-call-id = named known_name.CallId (codes "call-id") (refl, (refl, (refl, (refl, (refl, (refl, (refl, (refl, (refl, (refl, (refl, (refl, (refl, (refl, (refl, (refl, (refl, (refl, (refl, (refl, (refl, (refl, tt)))))))))))))))))))))) (λ f foreign. foreign.1.1.1.1.1.1.0)
 
 -- a token names CSeq where it is spelled so
 pub named-cseq : (token : List ℕ) → is_name_of known_name.CSeq (name_of token) ≡ bytes_eq (full_name (folded token)) (codes "cseq")
--- of each of the 22 spellings it is tried, by computing; a text that is none of them is not this name
+-- each of the 22 spellings is tried, by computing; a text that is none of them is not this name
 named-cseq = named known_name.CSeq (codes "cseq") (refl, (refl, (refl, (refl, (refl, (refl, (refl, (refl, (refl, (refl, (refl, (refl, (refl, (refl, (refl, (refl, (refl, (refl, (refl, (refl, (refl, (refl, tt)))))))))))))))))))))) (λ f foreign. foreign.1.1.1.1.1.1.1.1.0)
 
 -- a token names Content-Length where it is spelled so, in full or by its short form
 pub named-content-length : (token : List ℕ) → is_name_of known_name.ContentLength (name_of token) ≡ bytes_eq (full_name (folded token)) (codes "content-length")
--- of each of the 22 spellings it is tried, by computing; a text that is none of them is not this name
+-- each of the 22 spellings is tried, by computing; a text that is none of them is not this name
 named-content-length = named known_name.ContentLength (codes "content-length") (refl, (refl, (refl, (refl, (refl, (refl, (refl, (refl, (refl, (refl, (refl, (refl, (refl, (refl, (refl, (refl, (refl, (refl, (refl, (refl, (refl, (refl, tt)))))))))))))))))))))) (λ f foreign. foreign.1.1.1.1.1.1.1.1.1.0)
 
 -- a token names Route where it is spelled so
 pub named-route : (token : List ℕ) → is_name_of known_name.Route (name_of token) ≡ bytes_eq (full_name (folded token)) (codes "route")
--- of each of the 22 spellings it is tried, by computing; a text that is none of them is not this name
+-- each of the 22 spellings is tried, by computing; a text that is none of them is not this name
 named-route = named known_name.Route (codes "route") (refl, (refl, (refl, (refl, (refl, (refl, (refl, (refl, (refl, (refl, (refl, (refl, (refl, (refl, (refl, (refl, (refl, (refl, (refl, (refl, (refl, (refl, tt)))))))))))))))))))))) (λ f foreign. foreign.1.1.1.1.1.1.1.1.1.1.1.1.1.1.1.1.1.1.1.1.1.0)

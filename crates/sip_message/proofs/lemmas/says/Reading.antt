@@ -184,7 +184,7 @@ said-is bytes r s reads says =
 
 -- what bytes say is one thing
 pub says-one : (bytes : List ℕ) (a b : Outcome Said) → Says bytes a → Says bytes b → a ≡ b
--- both say a message: the bytes have one reading, which both say
+-- both are messages: the bytes have one reading, and each of the two is what it says
 says-one bytes (gives s) (gives t) one other =
     let read = says-reads bytes s one in
     ap (λ x. gives x) (read.2 ∙ sym (said-is bytes read.0 t read.1 other))

@@ -34,10 +34,8 @@ start-said line (status code why) (bytes, (v, w1, version, (s1, w2, s1_is, (c, w
 
 -- a start line of the definitions is one of the readers
 pub said-start : (line : List ℕ) (start : StartLine) → StartSays line start → StartText line start
--- a request line
 said-start line (request m u) (a, w1, (token, m_is), (s1, w2, s1_is, (b, w3, (uri, u_is), (s2, v, s2_is, version, w3_is), w2_is), w1_is), whole) =
     (subst Token (sym m_is) token, uri-parts u (subst profile.Uri (sym u_is) uri), (a, w1, sym m_is, (s1, w2, s1_is, (b, w3, sym u_is, (s2, v, s2_is, version, w3_is), w2_is), w1_is), whole))
--- a status line
 said-start line (status code why) (v, w1, version, (s1, w2, s1_is, (c, w3, (digits, code_is, low, high), (s2, r, s2_is, (bytes, r_is), w3_is), w2_is), w1_is), whole) =
     (subst (Many (One is_reason_byte)) (sym r_is) bytes, (v, w1, version, (s1, w2, s1_is, (c, w3, record { digits = digits; code_is = code_is; low = low; high = high }, (s2, r, s2_is, sym r_is, w3_is), w2_is), w1_is), whole))
 
@@ -47,9 +45,7 @@ Generic = Token then Optional (Mark equals then GenValue)
 
 -- a parameter of the readers is one of the definitions
 generic-param : (x : List ℕ) → ParamSet Any x → Generic x
--- without a value
 generic-param x (n, None, ok, (token, x_is)) = (x, [], subst Token (sym x_is) token, inl refl, sym (append-nil x))
--- with a value after "="
 generic-param x (n, Some v, ok, (token, kind, (a, b, a_is, (c, d, mark, d_is, b_is), whole))) =
     (a, b, subst Token (sym a_is) token, inr (c, d, mark, subst GenValue (sym d_is) kind, b_is), whole)
 

@@ -32,9 +32,9 @@ Params = List (List ℕ × Option (List ℕ))
 
 -- parameters with blanks before them are parameters: the blanks are those of the first mark
 tail-params : (text part : List ℕ) (ps : Params) → ParamsPart part ps → BehindBlanks part text → ParamsText text ps
--- the part is empty, and so only blanks would stand there, which are the text of no parameters
+-- the part is empty, and so is the text, since no blanks stand before an empty part
 tail-params text [] ps part behind = subst (λ t. ParamsText t ps) (sym behind) part.1
--- a part that is not empty has a first parameter, p
+-- a part that is not empty has a parameter
 tail-params text (b ∷ rest) [] part behind = absurd (omega (arith, ap length part.1))
 -- the blanks before the part are put before its ";"
 tail-params text (b ∷ rest) (p ∷ ps) (opens, (m, t, (blanks, c, is_blanks, mark, m_is), others, whole)) (sws, tail, is_sws, tail_is, text_is) =
@@ -64,7 +64,6 @@ params-tail text (p ∷ ps) (m, x, (sws, c, is_sws, (byte, after, is_byte, is_af
 -- a parameter named branch whose value is a token says that branch
 -- x is the text of the parameter, n its name and v its value
 branch-said : (x n v : List ℕ) → SameText n (codes "branch") → Token v → ParamText x (n, Some v) → ParamSays (Some v) x
--- the name is spelled "branch", in any case, and the value is the token
 branch-said x n v same token (named, kind, (a, b, a_is, (c, d, mark, d_is, b_is), whole)) =
     (a, b, (subst Token (sym a_is) named, ap folded a_is ∙ same), (c, d, mark, (subst Token (sym d_is) token, sym d_is), b_is), whole)
 
@@ -77,10 +76,8 @@ said-branch x b (a, r, (token, any), (c, d, mark, (word, b_is), r_is), whole) =
 
 -- a parameter of another name says no branch
 other-said : (x n : List ℕ) (value : Option (List ℕ)) → ¬ (SameText n (codes "branch")) → ParamText x (n, value) → ParamSays None x
--- the parameter has no value
 other-said x n None differs (named, x_is) =
     (x, [], (subst Token (sym x_is) named, (λ same. differs (ap folded (sym x_is) ∙ same))), inl refl, sym (append-nil x))
--- the parameter has a value
 other-said x n (Some v) differs (named, kind, (a, b, a_is, (c, d, mark, d_is, b_is), whole)) =
     (a, b, (subst Token (sym a_is) named, (λ same. differs (ap folded (sym a_is) ∙ same))), inr (c, d, mark, subst GenValue (sym d_is) kind, b_is), whole)
 
@@ -116,7 +113,7 @@ params-said ((n, value) ∷ ps) branch text (m, t, mark, (x, y, param, more, t_i
 
 -- parameters that say branches are parameters of a Via, and the first branch that one of them says counts
 said-params : (os : List (Option (List ℕ))) (text : List ℕ) → SaidParams os text → (ps : Params) × ParamsText text ps × IsBranch ps (first_some os)
--- nothing is said of no parameters
+-- nothing is said: there are no parameters, and no branch counts
 said-params [] text none = ([], none, refl)
 said-params (Some b ∷ os) text (u, y, (m, x, mark, said, u_is), more, whole) =
     -- `one` is the parameter of x, the branch b, and `rest` are those of what follows
@@ -150,7 +147,8 @@ said-port (Some p) text (m, t, mark, (fits, p_is), whole) = (subst Port (sym p_i
 -- an element of Via of the readers says its parts by the definitions
 via-said : (text : List ℕ) (v : ViaParts) → ViaText text v → ViaSays (said_via (text, v)) text
 via-said text v (fits, (a, w1, a_is, (s, w2, slash1, (b, w3, b_is, (r, w4, slash2, (c, w5, c_is, (sp, w6, blanks, (h, w7, h_is, (p, q, port, params, w7_is), w6_is), w5_is), w4_is), w3_is), w2_is), w1_is), whole)) =
-    -- ps is what the parameters say, and `host` that the host of the readers is one of the definitions; w5 is the text of `behind`
+    -- ps is what the parameters say; `host` says that the host of the readers is one of the definitions, and `behind` that w5 is blanks, the host, the port
+    -- and the parameters
     let ps = params-said fits.params.0 v.branch q (tail-params q v.params fits.params.0 fits.params.1 params) fits.params.2 in
     let host : profile.Host h × (host_text v.host ≡ h) = (subst profile.Host (sym h_is) (parts-host (host_text v.host) v.host fits.host), sym h_is) in
     let behind : (profile.Blanks then ((λ t. profile.Host t × (host_text v.host ≡ t)) then (PortSays v.port then SaidParams ps.0))) w5 =
@@ -172,7 +170,7 @@ via-said text v (fits, (a, w1, a_is, (s, w2, slash1, (b, w3, b_is, (r, w4, slash
 -- an element of Via that the definitions say is one of the readers, with the same parts
 said-via : (text : List ℕ) (via : SaidVia) → ViaSays via text → (v : ViaParts) × ViaText text v × (via ≡ said_via (text, v))
 said-via text via (os, branch_is, whole_is, (a, w1, a_is, (s, w2, slash1, (b, w3, b_is, (r, w4, slash2, (c, w5, (c_is, t_is), (sp, w6, blanks, (h, w7, (host, h_is), (p, q, port, params, w7_is), w6_is), w5_is), w4_is), w3_is), w2_is), w1_is), whole)) =
-    -- `tail` is the parameters, `part` their text from the first ";" on, `hosts` the parts of the host, and `ports` the port, as the readers have them
+    -- `tail` is the parameters, `part` their text from the first ";" on, `hosts` the parts of the host, and `ports` that the port is one of the readers
     let tail = said-params os q params in
     let part = params-tail q tail.0 tail.1 in
     let hosts = host-parts h host in
@@ -237,7 +235,7 @@ map-append (e ∷ es) fs = ap (λ z. said_via e ∷ z) (map-append es fs)
 
 -- the elements of several values of Via are what the values tell, one after another
 pub are-said : (texts : List (List ℕ)) (es : List Element) → AreElements texts es → ViasTell texts (map said_via es)
--- no values have no elements
+-- of no values there are no elements
 are-said [] es none = ap (map said_via) none
 -- the elements of the first value, `now`, stand before those of the others, `more`
 are-said (text ∷ texts) es (now, more, one, are, whole) =
@@ -245,7 +243,7 @@ are-said (text ∷ texts) es (now, more, one, are, whole) =
 
 -- the elements that several values of Via tell are their elements
 pub said-are : (texts : List (List ℕ)) (vias : List SaidVia) → ViasTell texts vias → (es : List Element) × AreElements texts es × (vias ≡ map said_via es)
--- no values tell no elements
+-- where there are no values, there are no elements
 said-are [] vias none = ([], refl, none)
 said-are (text ∷ texts) vias (now, more, one, are, whole) =
     -- `first` is the elements of the first value, and `rest` those of the others

@@ -52,7 +52,7 @@ pub record RequestCut (token rest uri : List ℕ) : Type 0 where
 
 -- the method of a request line is the token that is read at its front
 token-first : (line method uri : List ℕ) (p : RequestParts line method uri) → Token method → TokenFront line (method, space ∷ (uri ++ space ∷ p.version))
--- a SP follows the method, which is no byte of a token
+-- after the method stands a SP, which is no byte of a token
 token-first line method uri p token = (token, refl, (method, space ∷ (uri ++ space ∷ p.version), refl, refl, p.whole))
 
 -- where a token is read at the front of a request line, it is the method, and the rest is the URI and the version
@@ -115,7 +115,7 @@ request-no_uri line token rest more at read found len none (method, uri) is =
 
 -- eight bytes that are " SIP/2.0" without case are a SP and a version
 space-version : (t : List ℕ) → SameText t (codes " SIP/2.0") → (v : List ℕ) × (t ≡ space ∷ v) × Version v
--- an empty text has no eight bytes; else the first byte is SP, and the others are the version
+-- an empty text has not eight bytes; of another one the first byte is SP, and the others are the version
 space-version [] same = absurd (omega (arith, ap length same))
 space-version (b ∷ t) same =
     let both : ◌≡◌ {A = List ℕ} (to_ascii_lowercase b ∷ folded t) (space ∷ folded (codes "SIP/2.0")) = same in

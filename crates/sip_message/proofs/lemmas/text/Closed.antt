@@ -58,7 +58,6 @@ closed-blank P each one u v b w ends opens blanks is =
 
 -- P / Q is closed where P and Q are
 pub closed-or : (P Q : List ℕ → Type 0) → Closed P → Closed Q → Closed (P or Q)
--- the text is of P, or of Q
 closed-or P Q left right u v b w ends opens blanks (inl is) = inl (left u v b w ends opens blanks is)
 closed-or P Q left right u v b w ends opens blanks (inr is) = inr (right u v b w ends opens blanks is)
 
@@ -126,7 +125,7 @@ Times P (x ∷ xs) = P then Times P xs
 
 -- as many texts of P as a list has elements are any number of texts of P
 times-many : {X : Type 0} (P : List ℕ → Type 0) (xs : List X) (text : List ℕ) → Times P xs text → Many P text
--- no text of P is the empty text
+-- with no element the text is empty
 times-many P [] text is = subst (Many P) (sym is) (many-nil P)
 times-many P (x ∷ xs) text is =
     subst (Many P) (sym is.4) (many-cons P is.0 is.1 is.2 (times-many P xs is.1 is.3))

@@ -15,11 +15,8 @@ pub data Cuts (u v x y : List ℕ) : Type 0 where
 
 -- where u and v make the same text as x and y, the one front is the other, or begins it
 pub two_cuts : (u v x y : List ℕ) → u ++ v ≡ x ++ y → Cuts u v x y
--- both fronts are empty
 two_cuts [] v [] y same = same_length refl same
--- only the first is empty
 two_cuts [] v (a ∷ x) y same = second_longer a x refl same
--- only the second is empty
 two_cuts (a ∷ u) v [] y same = first_longer a u refl (sym same)
 -- both have a first byte, which is the same
 two_cuts (a ∷ u) v (b ∷ x) y same = more (two_cuts u v x y tails)
@@ -34,11 +31,8 @@ two_cuts (a ∷ u) v (b ∷ x) y same = more (two_cuts u v x y tails)
 
     -- one more byte before both fronts leaves them as they are to each other
     more : Cuts u v x y → Cuts (a ∷ u) v (b ∷ x) y
-    -- the first front is longer still
     more (first_longer c z longer is) = first_longer c z (ap (λ t. t ∷ u) heads ∙ ap (λ t. b ∷ t) longer) is
-    -- both are the same still
     more (same_length left right) = same_length (ap (λ t. t ∷ u) heads ∙ ap (λ t. b ∷ t) left) right
-    -- the second front is longer still
     more (second_longer c z longer is) = second_longer c z (ap (λ t. t ∷ x) (sym heads) ∙ ap (λ t. a ∷ t) longer) is
 
 -- the text does not begin with a byte that passes the test
@@ -52,7 +46,7 @@ All test text = AllByRecursion (λ b. test b ≡ true) text
 
 -- where all bytes of two texts in a row pass the test, those of the first do
 pub all_left : (test : ℕ → Bool) (u v : List ℕ) → All test (u ++ v) → All test u
--- none stands in no bytes
+-- of no bytes nothing is asked
 all_left test [] v all = tt
 all_left test (b ∷ u) v all = (all.0, all_left test u v all.1)
 
@@ -64,7 +58,6 @@ all_right test (b ∷ u) v all = all_right test u v all.1
 
 -- where the bytes of both texts pass the test, those of the whole do
 pub all_both : (test : ℕ → Bool) (u v : List ℕ) → All test u → All test v → All test (u ++ v)
--- the first text has no bytes
 all_both test [] v left right = right
 all_both test (b ∷ u) v left right = (left.0, all_both test u v left.1 right)
 
@@ -75,12 +68,9 @@ same_front test u v x y us xs v_stops y_stops same = at (two_cuts u v x y same)
   where
     -- neither front is longer, since the next byte would pass and fail the test
     at : Cuts u v x y → (u ≡ x) × (v ≡ y)
-    -- both fronts are of the same length
     at (same_length left right) = (left, right)
-    -- the first front is longer
     at (first_longer b z longer is) =
         absurd (both_ways (test b) (subst (Stops test) is y_stops) (all_right test x (b ∷ z) (subst (All test) longer us)).0)
-    -- the second front is longer
     at (second_longer b z longer is) =
         absurd (both_ways (test b) (subst (Stops test) is v_stops) (all_right test u (b ∷ z) (subst (All test) longer xs)).0)
 

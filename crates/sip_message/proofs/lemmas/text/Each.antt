@@ -41,7 +41,7 @@ each-optional test P each u (inr one) = each u one
 
 -- all bytes of texts of P, one after the other, pass the test where those of P do
 each-concat : (test : ℕ → Bool) (P : List ℕ → Type 0) (us : List (List ℕ)) → Each test P → AllByRecursion P us → All test (concat us)
--- no texts have no bytes; else the first one's and the others' pass
+-- without texts there are no bytes; else the bytes of the first one and of the others pass
 each-concat test P [] each all = tt
 each-concat test P (u ∷ us) each all = all_both test u (concat us) (each u all.0) (each-concat test P us each all.1)
 
@@ -65,13 +65,11 @@ blank_is P sp ht cr lf b is =
     elim (or_cases (is_wsp b) _ is) [
       -- it is SP or HTAB
       | inl wsp ↦ elim (or_cases (nat_eq b space) _ wsp) [
-        -- it is the first of two, or the other one
         | inl e ↦ subst P (sym (eqb-true b space e)) sp
         | inr e ↦ subst P (sym (eqb-true b tab e)) ht
       ]
       -- the byte is CR or LF
       | inr end ↦ elim (or_cases (nat_eq b carriage_return) _ end) [
-        -- it is the first of two, or the other one
         | inl e ↦ subst P (sym (eqb-true b carriage_return e)) cr
         | inr e ↦ subst P (sym (eqb-true b line_feed e)) lf
       ]

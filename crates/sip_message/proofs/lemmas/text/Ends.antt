@@ -102,7 +102,7 @@ end-many P ends u many = subst EndsSolid (sym many.2) (go many.0 many.1)
   where
     -- no text made of texts of P ends with a blank
     go : (us : List (List ℕ)) → AllByRecursion P us → EndsSolid (concat us)
-    -- no texts make the empty text
+    -- without texts the whole is empty
     go [] all = tt
     -- the first text, and the others joined, do not end with a blank
     go (p ∷ us) all = ends-both p (concat us) (ends p all.0) (go us all.1)

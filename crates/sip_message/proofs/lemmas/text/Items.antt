@@ -89,21 +89,21 @@ behind_run P item us v b w c z opens blanks all run (same_length front back) = (
 -- the run goes on after it: its rest is passed over in the others
 behind_run P item us v b w c z opens blanks all run (first_longer d y longer is) =
     skip P item us (d ∷ y) v all (all_right is_lws_byte (c ∷ z) (d ∷ y) (subst (All is_lws_byte) longer blanks)) opens is
--- the run would end within the first item, after which v begins with a blank
+-- the run would end within the first item, and v would begin with a blank
 behind_run P item us v b w c z opens blanks all run (second_longer d y longer is) =
     absurd (both_ways (is_lws_byte d) (subst OpensSolid is opens) (all_right is_lws_byte (b ∷ w) (d ∷ y) (subst (All is_lws_byte) longer run)).0)
 
 -- items in which a run of blanks is replaced by one SP are items
 -- the items us make the text x, the run, which is b and w, and then v
 items_run : (P : List ℕ → Type 0) → ((u : List ℕ) → P u → IsItem P u) → (us : List (List ℕ)) (x v : List ℕ) (b : ℕ) (w : List ℕ) → EndsSolid x → OpensSolid v → All is_lws_byte (b ∷ w) → AllByRecursion P us → concat us ≡ x ++ ((b ∷ w) ++ v) → Many P (x ++ space ∷ v)
--- no items are no run
+-- without items there is no run
 items_run P item [] x v b w ends opens blanks all is = absurd (omega (arith, ap length is, length-append x ((b ∷ w) ++ v)))
 items_run P item (p ∷ us) x v b w ends opens blanks all is =
     at (λ y y_ends y_is. items_run P item us y v b w y_ends opens blanks all.1 y_is) (two_cuts p (concat us) x ((b ∷ w) ++ v) is)
   where
     -- the claim holds whether the run begins in the first item, at its end, or in the others
     at : ((y : List ℕ) → EndsSolid y → concat us ≡ y ++ ((b ∷ w) ++ v) → Many P (y ++ space ∷ v)) → Cuts p (concat us) x ((b ∷ w) ++ v) → Many P (x ++ space ∷ v)
-    -- the run begins after the first item, with the others
+    -- the run begins where the first item ends
     at later (same_length front back) =
         subst (λ t. Many P (t ++ space ∷ v)) front (many-cons P p (space ∷ v) all.0 (later [] tt back))
     -- the blanks begin after the first item
@@ -151,7 +151,6 @@ item-pair P one u (p, q, is_p, (b, escaped, q_is), whole) = at (is_lws_byte b) r
 
     -- the claim holds whether or not the second byte is a blank
     at : (blank : Bool) → is_lws_byte b ≡ blank → IsItem P u
-    -- the second byte is a blank
     at true blank = record { front = backslash ∷ []; back = b ∷ []; solid = (refl, tt); blank = (blank, tt); joins = λ c w is. one; whole = text }
     at false blank = item-solid P u (subst (All is_solid) (sym text) (refl, (ap not blank, tt)))
 

@@ -21,7 +21,6 @@ S = is_solid
 
 -- a class without SP, HTAB, CR and LF has no blanks
 solid-one : (class : ℕ → Bool) → class space ≡ false → class tab ≡ false → class carriage_return ≡ false → class line_feed ≡ false → Each S (One class)
--- a byte of the class is none of these four, since the class has none of them
 solid-one class sp ht cr lf = each-one S class (solid_class class sp ht cr lf)
 
 -- the set of one byte that is no blank has no blanks

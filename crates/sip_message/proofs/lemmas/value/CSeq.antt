@@ -101,7 +101,7 @@ cseq-method text rest method n b n_is rest_is method_is longest some x c =
 pub cseq-is : (text rest method : List ℕ) (n b number : ℕ) → n ≡ prefix_len is_ascii_digit text → n ≤ length text → rest ≡ drop n text → method ≡ drop b rest → (n ≡ 0 → ⊥) → IsLongestFront Blanks rest b → (b ≡ 0 → ⊥) → Token method → number ≡ digits_value 10 (take n text) → number ≤ 2147483647 → CSeqText text number method
 cseq-is text rest method n b number n_is within rest_is method_is some longest blanks token number_is small = record {
   digits = take n text;
-  -- the digits are not none, and all of them are digits
+  -- the first n bytes are digits, and there is at least one
   are_digits = all-some is_ascii_digit (take n text) (prefix-at is_ascii_digit text n n_is).0 (λ none. some (omega (arith, ap length none, length-take-le n text within)));
   number_is = number_is;
   low = omega (arith, small);

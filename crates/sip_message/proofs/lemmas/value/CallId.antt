@@ -42,7 +42,7 @@ token-word b below is =
 
 -- bytes of a text that are bytes of tokens may stand in a word
 token-words : (u v : List ℕ) → Each1 (Fits w8) (u ++ v) → list_all is_token_byte u ≡ true → list_all is_word_byte u ≡ true
--- no bytes pass
+-- the empty text passes
 token-words [] v fits all = refl
 token-words (b ∷ u) v fits all =
     -- the first byte and the others are bytes of tokens, and so pass

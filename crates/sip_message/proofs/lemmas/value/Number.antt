@@ -40,5 +40,5 @@ number-large text at number most is large = omega (arith, is, large, digits_valu
 
 -- what decides whether all bytes pass a test decides whether the text is any number of bytes that do
 pub all-decides : (test : ℕ → Bool) (text : List ℕ) (r : Bool) → r ≡ list_all test text → Decides r (Many (One test) text)
--- if: the test of all bytes passes; only if: each byte passes
+-- if: the test of all bytes passes, and so each byte does; only if: each byte passes, and so the test of all does
 all-decides test text r is = (λ all. list_all-run test text (sym is ∙ all), λ many. is ∙ run-list_all test text many)

@@ -66,7 +66,7 @@ all-from test (b ∷ text) (suc n) each = all-from test text n (λ k low high. e
 
 -- a text up to a byte that is no blank does not end with a blank
 ends-take : (text : List ℕ) (n : ℕ) → n ≤ length text → ((k : ℕ) → n ≡ suc k → is_lws_byte (get_or text k 0) ≡ false) → EndsSolid (take n text)
--- no bytes end with none
+-- the empty text does not end with a blank
 ends-take text zero within solid = tt
 ends-take [] (suc n) within solid = absurd (omega (arith, within))
 -- the last byte of the front is the first of the text
@@ -158,7 +158,6 @@ value-trimmed text front value back w is of = at w of.opens of.ends (of.whole.4 
 pub read-decides : {A X : Type 0} (R : List ℕ → X → Type 0) (parts : A → X) (text : List ℕ) (r : Option A) (b : Bool) → IsOnlyValue R parts text r → b ≡ is_some r → Decides b ((x : X) × R text x)
 -- nothing was read, so R relates no value to the text
 read-decides R parts text None b none is = (λ yes_b. absurd (both_ways b is yes_b), λ x. absurd (none x.0 x.1))
--- a value was read
 read-decides R parts text (Some a) b only is = (λ _. (parts a, only.0), λ _. is)
 
 -- a text whose last byte is no blank does not end with a blank
@@ -173,7 +172,6 @@ pub one-space : (value : List ℕ) → is_solid value ≡ true → ValueText (sp
 one-space [] solid = absurd (both_ways false refl solid)
 one-space (b ∷ value) solid =
     let last : ℕ = length (b ∷ value) - 1 in
-    -- `both` says that the first byte is no blank, and that the last one is none
     let both = and_parts (nat_lt 0 (length (b ∷ value)) && not (is_lws_byte b)) (not (is_lws_byte (get_or (b ∷ value) last 0))) solid in
     -- neither the first byte nor the last one is a blank
     let opens : is_lws_byte b ≡ false = not-true (is_lws_byte b) (and_parts (nat_lt 0 (length (b ∷ value))) (not (is_lws_byte b)) (both.0)).1 in

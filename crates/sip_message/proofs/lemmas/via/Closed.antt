@@ -154,7 +154,7 @@ firm-after =
 -- a token, SLASH and a text of Q are a closed set where Q is, and no text of Q begins with a blank
 closed-slash : (Q : List ℕ → Type 0) → ((u : List ℕ) → Q u → OpensSolid u) → Closed Q → Closed (Token then (Mark slash then Q))
 closed-slash Q opens closed =
-    -- a token, a slash with its blanks, and a text of Q: neither end of a seam is a blank
+    -- a token, a slash with its blanks, and a text of Q: no token ends with a blank, and no text of Q begins with one
     closed-then Token (Mark slash then Q) (seam-left Token (Mark slash then Q) (end-each Token solid-token)) (closed-solid Token solid-token)
     (closed-then (Mark slash) Q (seam-right (Mark slash) Q opens) (closed-mark slash refl) closed)
 
@@ -247,7 +247,7 @@ set-via T text token (a, w1, a_is, (s, w2, slash1, (b, w3, b_is, (r, w4, slash2,
 
 -- further elements by their parts are elements, each after a comma
 more-set : (vs : List ViaParts) (text : List ℕ) → MoreVias vs text → Many (Mark comma then ViaSet Token) text
--- no further elements have the empty text
+-- the text of no further elements is empty
 more-set [] text is = subst (Many (Mark comma then ViaSet Token)) (sym is) (many-nil (Mark comma then ViaSet Token))
 more-set (v ∷ vs) text (m, t, mark, (x, y, via, more, t_is), whole) =
     subst (Many (Mark comma then ViaSet Token)) (sym (whole ∙ ap (λ z. m ++ z) t_is ∙ sym (append_assoc m x y)))
@@ -255,7 +255,7 @@ more-set (v ∷ vs) text (m, t, mark, (x, y, via, more, t_is), whole) =
 
 -- elements, each after a comma, are further elements by their parts
 set-more : (us : List (List ℕ)) → AllByRecursion (Mark comma then ViaSet Token) us → (vs : List ViaParts) × MoreVias vs (concat us)
--- no texts, joined, are no further elements
+-- the empty text is that of no further elements
 set-more [] all = ([], refl)
 set-more (u ∷ us) ((m, x, mark, via, u_is), all) =
     -- `more` is the elements after the first, and v the first one

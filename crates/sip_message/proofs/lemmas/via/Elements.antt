@@ -2,7 +2,7 @@
 -- Of further elements u is the comma with its blanks, of which s are those before it, and v what follows: w, or x, is the text of the first one, and f what
 -- it is read as.
 -- `AreLeft` is the elements that are left: those in the rest of a value, each after a comma, and those of the values after it. `NextText` says that the next
--- of them begins a text. `ExactlyOne R` is a value (`the`) with a proof that R holds of it alone, which is hidden (`∥ ∥`), so that no choice is made of it.
+-- of them begins a text. `ExactlyOne R` is a value (`the`) with a hidden proof (`∥ .. ∥₁`) that R holds of it alone.
 use Rattle.std.proofs.Common.{◌≡◌, ℕ, zero, suc, ◌+◌, ◌<◌, List, [], ◌∷◌, ◌++◌, length, drop, map, cond, slice_index_or, add-one, true, false, Option, None, Some, inl, inr, refl, sym, ap, ◌∙◌, subst, arith}
 use Rattle.std.proofs.Math.Logic.{∥∥₁_elim}
 use Rattle.std.specs.Coded.{Coded, Coded-set}
@@ -119,7 +119,7 @@ pub next-cut : (rest : List ℕ) (vals : List (List ℕ)) (behind : ℕ → List
     → MatchOption r ((es : List Element) → AreLeft rest vals es → es ≡ []) (λ next. (es : List Element) → AreLeft rest vals es → NextText rest vals next.0.now (behind next.1))
 -- no value follows, so no element is left
 next-cut rest vals behind none None is = λ es left. subst (λ v. AreElements v es) is (left-nothing rest vals es none left).1
--- the next value has the elements that are left
+-- the elements that are left are those of the next value and of the values after it
 next-cut rest vals behind none (Some cut) is = λ es left. record {
   to = (λ fs l. subst (λ v. AreElements v fs) is (left-nothing rest vals fs none l).1);
   from = (λ fs are. nothing-left rest vals fs (left-nothing rest vals es none left).0 (subst (λ v. AreElements v fs) (sym is) are));
@@ -186,7 +186,7 @@ One-next rest text vals more e behind next read one =
 pub One-first : (rest text : List ℕ) (vals more : List (List ℕ)) (e : Element) (behind : List ℕ) → ((es : List Element) → AreLeft rest vals es → NextText rest vals text more) → ReadAs (ViaFront text) (e, behind) → (one : ExactlyOne (AreLeft rest vals)) (then : ExactlyOne (AreLeft behind more)) → the one ≡ e ∷ the then
 unfolding the
 One-first rest text vals more e behind next read one then =
-    -- the hidden proof may be used, since it is an equation of lists: the first element is the one read, and the others are those left after it
+    -- the hidden proof may be used, since an equation of lists is shown: the first element is the one read, and the others are those left after it
     ∥∥₁_elim one.1 (Coded-set elements_code one.0 (e ∷ then.0))
     (λ p. let read_it = read-only rest text vals more e behind one.0 (next one.0 p.is) read p in read_it.1 ∙ ap (λ t. e ∷ t) (sym (One-is elements_code (AreLeft behind more) then read_it.0 read_it.2.is)))
 
@@ -198,7 +198,7 @@ One-none rest vals one none = ∥∥₁_elim one.1 (Coded-set elements_code one.
 
 -- where there is one list of the elements that are left, it cannot be that no element is read at the front of the next text
 pub One-read : (rest text : List ℕ) (vals more : List (List ℕ)) → ((es : List Element) → AreLeft rest vals es → NextText rest vals text more) → NotRead (ViaFront text) → ExactlyOne (AreLeft rest vals) → ⊥
--- the list would have an element that is read at the front; the hidden proof of that may be used, since nothing is left to be shown
+-- the list would have an element that is read at the front; the hidden proof of that may be used, since what is shown, ⊥, has no two proofs
 One-read rest text vals more next none one = ∥∥₁_elim one.1 (λ a b. absurd a) (λ p. no-first text more one.0 none ((next one.0 p.is).to one.0 p.is))
 
 -- an iterator whose list is empty yields nothing, and its list stays empty

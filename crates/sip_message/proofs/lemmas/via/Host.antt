@@ -95,12 +95,12 @@ bytes-token (b ∷ u) all some = (b ∷ [], u, (b, all.0, refl), many u all.1, r
 
 -- a hostname is a token
 hostname-token : (u : List ℕ) → Hostname u → Token u
--- all its bytes are bytes of tokens, and the test of a hostname fails of the empty text
+-- all its bytes are bytes of tokens, and the empty text does not pass the test of a hostname
 hostname-token u is = bytes-token u (each-hostname u is) (λ none. both_ways (is_hostname u) (ap is_hostname none) (hostname-is u is))
 
 -- an IPv4 address is a token
 v4-token : (u : List ℕ) → Ipv4 u → Token u
--- all its bytes are bytes of tokens, and the test of an IPv4 address fails of the empty text
+-- all its bytes are bytes of tokens, and the empty text does not pass the test of an IPv4 address
 v4-token u is = bytes-token u (each-v4 u is) (λ none. both_ways (is_v4 u) (ap is_v4 none) (v4-is u is))
 
 -- a port is a token

@@ -1,3 +1,4 @@
+-- `c.loop-at.invariant`: .0, the place lies within the text; .1, each byte before it is a byte of a value or a blank.
 use Rattle.std.proofs.Common.{sym, ◌∙◌, arith}
 use Rattle.std.proofs.lemmas.List.Sums.{prefix_len_is}
 use Rattle.sip_message.specs.inner.Values.{is_plain_byte}

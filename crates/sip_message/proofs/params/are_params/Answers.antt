@@ -5,7 +5,7 @@ use Rattle.sip_message.proofs.params.are_params.Goals as goal
 -- a `;` stands in the text, so the text is parameters if they go to its end
 pub returns-in-Some : goal.returns-in-Some
 returns-in-Some c =
-    -- the answer is whether anything is left after all parameters that are read
+    -- the answer is whether nothing is left after the parameters that are read
     subst (λ b. IsTrue b ↔ AreParams c.args.text.now) (sym c.is_empty.ensures)
     (params-some c.args.text.now c.in-Some.field-0.now c.past_params.result.now (sym c.in-Some.ensures) c.past_params.ensures)
 

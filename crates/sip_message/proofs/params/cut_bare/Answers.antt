@@ -6,13 +6,11 @@ use Rattle.sip_message.proofs.params.cut_bare.Goals as goal
 
 -- where there is nothing, its copy is nothing
 copied-none : (o : Option (Bor (List ℕ))) → is_some o ≡ false → option_copied o ≡ None
--- there is nothing; else the option would have something
 copied-none None is = refl
 copied-none (Some v) is = absurd (both_ways (is_some (Some v)) is refl)
 
 -- no colon follows the token, so the value is the token
 pub returns-then-is_none : goal.returns-then-is_none
 returns-then-is_none c =
-    -- after the token that was cut off no colon stands
     bare-token_front c.args.text.now c.in-Some.token.now c.in-Some.rest.now c.in-Some.ensures
     (sym c.past.ensures ∙ copied-none c.past.result c.if-is_none.ensures)

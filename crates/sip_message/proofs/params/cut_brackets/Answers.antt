@@ -8,7 +8,6 @@ use Rattle.sip_message.proofs.params.cut_brackets.Goals as goal
 -- where no "]" follows the "[", nothing in brackets is read
 pub returns-in_err-rest : goal.returns-in_err-rest
 returns-in_err-rest c =
-    -- the text begins with "[", after which no "]" stands
     subst (IsOnlyValue BracketFront pair_parts c.args.text.now) (sym c.from_residual-in_err-rest.ensures)
     (no-close c.args.text.now c.in_ok-past.field-0.now (sym c.in_ok-past.ensures) (sym c.cut.ensures.rest ∙ ap option_copied c.in_err-rest.was))
 
@@ -21,5 +20,4 @@ slice_bounds-result-count c =
 -- what stands from "[" to the first "]" was cut off
 pub returns : goal.returns
 returns c =
-    -- the text begins with "[", and is cut at the first "]" after it
     one-closed c.args.text.now c.in_ok-past.field-0.now c.in_ok-rest.rest.now (sym c.in_ok-past.ensures) (sym c.cut.ensures.rest ∙ ap option_copied c.in_ok-rest.was)

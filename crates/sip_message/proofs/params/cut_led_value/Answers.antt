@@ -9,13 +9,11 @@ use Rattle.sip_message.proofs.params.cut_led_value.Goals as goal
 -- where a "=" stands there without a value after it, no part is read
 pub returns-in_err-value : goal.returns-in_err-value
 returns-in_err-value c =
-    -- the "=" was read, and no value after it
     subst (IsOnlyValue (LedFront equals ValueFront) led_parts c.args.text.now) (sym c.from_residual.ensures)
     (no-led equals ValueFront c.args.text.now c.in-Some.inner.now c.in-Some.ensures c.in_err-value.ensures)
 
 -- where a value stands after the "=", the part is read with that value
 pub returns : goal.returns
 returns c =
-    -- the "=" was read, and the value after it
     led-some equals ValueFront c.args.text.now c.in-Some.inner.now c.in_ok-value.value.now c.in_ok-value.rest.now refl one-value
     c.in-Some.ensures c.in_ok-value.ensures.0

@@ -19,6 +19,6 @@ returns-in_err-value c =
     (go-stop c.in_ok-past_mark.ensures (go-stop c.in_ok-name.ensures (stop c.in_err-value.ensures)))
 
 -- a ";", a name and an optional value are a parameter
+-- the proof is `go` for each step that reads, and `last` for the parameter that is made of what they read
 pub returns : goal.returns
--- `go` for each step that was read, and `last` for the parameter that is made of them
 returns c = go c.in_ok-past_mark.ensures (go c.in_ok-name.ensures (go c.in_ok-value.ensures (last _)))

@@ -10,7 +10,6 @@ use Rattle.sip_message.proofs.params.cut_quoted.Goals as goal
 -- where no quoted string stands at the front, none is read
 pub returns-in_err-len : goal.returns-in_err-len
 returns-in_err-len c =
-    -- the reader of quoted strings finds none at the front
     subst (IsOnlyValue QuotedFront pair_parts c.args.text.now) (sym c.from_residual-in_err-len.ensures)
     (no-quoted c.args.text.now c.in_err-len.ensures.reads)
 

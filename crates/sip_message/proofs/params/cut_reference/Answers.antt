@@ -10,7 +10,7 @@ use Rattle.sip_message.proofs.params.cut_reference.Goals as goal
 -- where no brackets stand at the front, no address in brackets is read
 pub returns-in_err-part : goal.returns-in_err-part
 returns-in_err-part c =
-    -- an address in brackets would stand in brackets
+    -- if an address in brackets stood there, brackets would stand there
     subst (IsOnlyValue ReferenceFront pair_parts c.args.text.now) (sym c.from_residual.ensures)
     (λ x reference. c.in_err-part.ensures x (reference-bracket c.args.text.now x reference))
 

@@ -1,3 +1,4 @@
+-- `c.params.invariant`: .0 is the parameters that were read; .1, they stand in the text before the rest.
 use Rattle.std.proofs.Common.{[], ◌∷◌, ◌++◌, option_copied}
 use Rattle.sip_message.specs.inner.ParamFronts.{Param}
 use Rattle.sip_message.proofs.lemmas.params.Reading.{params-more, param-shorter}

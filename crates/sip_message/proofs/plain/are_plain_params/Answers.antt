@@ -1,3 +1,4 @@
+-- `c.params.invariant`: .0, `from` is not after the end; .1, where the bytes from there on are parameters, those from `at` on are.
 use Rattle.std.proofs.Common.{option_copied}
 use Rattle.sip_message.proofs.PlainLemmas.{params-behind}
 use Rattle.sip_message.proofs.plain.are_plain_params.Goals as goal

@@ -1,3 +1,5 @@
+-- `c.params.invariant`: .0, `from` is not after the end; .1, where parameters of a Via follow from there on, they are so from `at` on, and the branch that was
+-- found counts before theirs.
 use Rattle.std.proofs.Common.{◌≡◌, None, option_copied, sym, ap, ◌∙◌, subst, arith}
 use Rattle.std.specs.Option.{option_or}
 use Rattle.sip_message.specs.Via.{ViaParams}

@@ -9,7 +9,7 @@ use Rattle.sip_message.proofs.quick.keep_via.Goals as goal
 -- where no Via was kept before, this one is the top one
 pub returns-in-Some : goal.returns-in-Some
 returns-in-Some c =
-    -- `none`: the match says that none was kept
+    -- `none`: the test says that none was kept
     let none : is_some c.args.kept.now ≡ false = search rules in (
       Some c.in-Some.via,
       via-only (segment c.args.at c.args.end c.args.masks.now) (element c.in-Some.via) c.in-Some.ensures,

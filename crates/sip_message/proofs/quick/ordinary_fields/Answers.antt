@@ -1,3 +1,4 @@
+-- `c.lines.invariant`: .0, the fields are those of the lines from `from` up to `at`; .1, what is kept is what these fields say.
 use Rattle.std.proofs.Common.{◌+◌, refl, sym, subst}
 use Rattle.sip_message.specs.inner.Views.{fields_parts}
 use Rattle.sip_message.specs.inner.Asked.{AskedOf}

@@ -5,7 +5,6 @@ use Rattle.sip_message.proofs.row.solid_len.Given as goal
 -- each byte of the text from `len` on is a byte of a blank run
 abbrev pub invariant-loop-len : goal.invariant-loop-len
 invariant-loop-len l = record {
-  -- the length lies within the text, and what follows it is blanks
   within : l.len ≤ length l.text;
   blank : (k : ℕ) → l.len ≤ k → k < length l.text → is_lws_byte (get_or l.text k 0) ≡ true;
 }

@@ -9,7 +9,6 @@ use Rattle.sip_message.proofs.row.trim.Goals as goal
 -- where one SP stands before the value, and no other blank at its two ends, the value is what follows the SP
 pub returns-in-Some : goal.returns-in-Some
 returns-in-Some c =
-    -- the text is a SP and the value, whose first and last bytes are no blanks
     let text = c.args.text.now in
     let value = c.in-Some.value.now in
     let whole = past-some space text value (sym c.past.ensures ∙ ap option_copied c.in-Some.is) in

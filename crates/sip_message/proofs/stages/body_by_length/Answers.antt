@@ -10,8 +10,8 @@ use Rattle.sip_message.proofs.lemmas.message.Body.{stream-first, body-method, bo
 use Rattle.sip_message.proofs.stages.body_by_length.Goals as goal
 
 -- where the method of CSeq is not that of the request line, this is the fault of the bytes
+-- the test of the method says that it does not fit
 pub returns-then-not-fits_method : goal.returns-then-not-fits_method
--- no proof that the method fits is left, since the code's test of it failed
 returns-then-not-fits_method c = body-method (start_parts c.args.start) (c.args.named.cseq_line, c.args.named.cseq.now) c.args.named.via.now (option_map (digits_value 10) (option_copied c.args.length)) c.args.rest.now (λ fits. both_ways false refl ((c.if-not-fits_method.ensures c.args.named.cseq.now c.requires.cseq).1 fits))
 
 -- where a message over a stream has no Content-Length, this is the fault of the bytes

@@ -1,3 +1,4 @@
+-- `c.feeds.invariant`: .0, `from` lies within the bytes; .1, no CRLF CRLF begins before the byte that stands before `from`.
 use Rattle.std.proofs.Common.{◌+◌, length, false, refl, sym, ap, subst, arith}
 use Rattle.std.proofs.lemmas.Bool.{both_ways}
 use Rattle.std.proofs.lemmas.List.{take_rest, length-drop}

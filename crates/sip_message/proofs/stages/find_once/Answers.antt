@@ -8,7 +8,6 @@ use Rattle.sip_message.specs.inner.MessageText.{found}
 -- where no field has the name, the fault is that it is missing
 pub returns-in_err-value : goal.returns-in_err-value
 returns-in_err-value c =
-    -- no first field was found
     let fault = c.in_err-value.field-0.0 in
     stops-there found_parts (OneOf (found c.args.name (slice_fields c.args.fields))) c.from_residual.result fault c.from_residual.ensures.0 c.from_residual.ensures.1
     (once-absent c.args.name (slice_fields c.args.fields) fault c.in_err-value.ensures.present)

@@ -20,13 +20,13 @@ body_by_length-requires-clause-digits c =
 -- where the message has a Content-Length, the body is read by it
 pub returns-in-Some : goal.returns-in-Some
 returns-in-Some c =
-    -- the length of the fields is what the field that was found says
+    -- the length that the fields have is the number of the field that was found
     subst (λ len. BodyOf (start_parts c.args.start) ((names_parts c.args.named).1) ((names_parts c.args.named).0.1) len c.args.rest.now (outcome_of text_parts c.body_by_length.result))
     (sym (length-some (slice_fields c.args.fields) _ _ c.in-Some.ensures.found)) c.body_by_length.ensures
 
 -- where the message has no Content-Length, the body is what the transport leaves
 pub returns-in-None : goal.returns-in-None
 returns-in-None c =
-    -- the fields have no length
+    -- no field of that name was found, so the fields have no length
     subst (λ len. BodyOf (start_parts c.args.start) ((names_parts c.args.named).1) ((names_parts c.args.named).0.1) len c.args.rest.now (outcome_of text_parts c.body_by_length-in-None.result))
     (sym (length-none (slice_fields c.args.fields) c.in-None.ensures.found)) c.body_by_length-in-None.ensures

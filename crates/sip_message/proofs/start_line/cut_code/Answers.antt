@@ -16,21 +16,19 @@ returns-then-text-lt3 c = code-short c.args.text.now c.if-text-lt3.true
 -- where no SP follows the first three bytes, no code stands there
 pub returns-in_err-rest : goal.returns-in_err-rest
 returns-in_err-rest c =
-    -- the code looks for the SP after the first three bytes
+    -- the SP is looked for after the first three bytes
     subst (IsOnlyValue CodeFront status_parts c.args.text.now) (sym c.from_residual.ensures)
     (code-no_space c.args.text.now (ap (past space) (sym c.split_at.ensures.back) ∙ sym c.in_err-rest.ensures))
 
 -- where the first three bytes are no digits, no code stands there
 pub returns-then-not-is_length : goal.returns-then-not-is_length
 returns-then-not-is_length c =
-    -- the code tests the first three bytes
     code-no_digits c.args.text.now (λ digits. both_ways false refl (c.if-not-is_length.ensures.1 (subst Digits (sym c.split_at.ensures.front) digits)))
 
 -- where the number is above 699, it is no code
 pub returns-in_err-code : goal.returns-in_err-code
 returns-in_err-code c =
     subst (IsOnlyValue CodeFront status_parts c.args.text.now) (sym c.from_residual-in_err-code.ensures)
-    -- the first three bytes are digits, and their number is too great
     (code-high c.args.text.now (subst Digits c.split_at.ensures.front (c.if-not-is_length.ensures.0 refl)) (subst (λ t. Digits t → 699 < digits_value 10 t) c.split_at.ensures.front c.in_err-code.ensures))
 
 -- a number below 100 is no code
@@ -41,7 +39,6 @@ returns-then-code-lt100 c =
 -- three digits that write a number from 100 to 699, with a SP after them, are a code
 pub returns : goal.returns
 returns c =
-    -- the first three bytes are digits, a SP follows, and the number is in range
     code-read c.args.text.now c.in_ok-rest.rest.now c.in_ok-code.code c.if-text-lt3.false (ap (past space) (sym c.split_at.ensures.back) ∙ sym c.in_ok-rest.ensures)
     (subst Digits c.split_at.ensures.front (c.if-not-is_length.ensures.0 refl)) (subst (λ t. c.in_ok-code.code ≡ digits_value 10 t) c.split_at.ensures.front c.in_ok-code.ensures.0)
     c.in_ok-code.ensures.1 c.if-code-lt100.false

@@ -17,7 +17,6 @@ returns-in_err-method c = subst (IsOnlyValue RequestLine pair_parts c.args.line.
 -- where no SP follows the method, the line is no request line
 pub returns-in_err-rest : goal.returns-in_err-rest
 returns-in_err-rest c =
-    -- the method was read, but no SP stands after it
     subst (IsOnlyValue RequestLine pair_parts c.args.line.now) (sym c.from_residual-in_err-rest.ensures)
     (request-no_space c.args.line.now c.in_ok-method.method.now c.in_ok-method.rest.now c.in_ok-method.ensures (sym c.in_err-rest.ensures))
 

@@ -12,7 +12,6 @@ returns-in-Some c = start-request c.args.line.now c.in-Some.method.now c.in-Some
 -- where the line is read neither as a request line nor as a status line, it is no start line
 pub returns-in_err-code : goal.returns-in_err-code
 returns-in_err-code c =
-    -- neither reader reads the line
     subst (IsOnlyValue StartText start_parts c.args.line.now) (sym c.from_residual.ensures)
     (start-none c.args.line.now c.in_default.ensures c.in_err-code.ensures)
 

@@ -11,14 +11,14 @@ use Rattle.sip_message.proofs.start_line.read_status.Goals as goal
 -- where the line does not begin with SIP/2.0 and SP, it is no status line
 pub returns-then-not-same_text : goal.returns-then-not-same_text
 returns-then-not-same_text c =
-    -- the code compares the first eight bytes with the version and its SP
+    -- the first eight bytes were compared with the version and its SP
     status-no_version c.args.line.now (λ same. both_ways false refl (c.if-not-same_text.ensures.1 (subst (λ t. SameText t (codes "SIP/2.0 ")) (sym c.split_at.ensures.front) same)))
 
 -- where no code follows the protocol, the line is no status line
 pub returns-in_err-code : goal.returns-in_err-code
 returns-in_err-code c =
     subst (IsOnlyValue StatusLine status_parts c.args.line.now) (sym c.from_residual.ensures)
-    -- the code looks for the status code after the first eight bytes
+    -- the status code is looked for after the first eight bytes
     (status-no_code c.args.line.now (subst (λ t. NotRead (CodeFront t)) c.split_at.ensures.back c.in_err-code.ensures))
 
 -- where a byte may not stand in a reason, the line is no status line
@@ -31,6 +31,5 @@ returns-then-not-are_reason_bytes c =
 -- the protocol, a code and a reason are a Status-Line
 pub returns : goal.returns
 returns c =
-    -- the version, the status code and the bytes of the reason pass
     status-read c.args.line.now c.in_ok-code.code c.in_ok-code.reason.now (subst (λ t. SameText t (codes "SIP/2.0 ")) c.split_at.ensures.front (c.if-not-same_text.ensures.0 refl))
     (subst (λ t. ReadAs (CodeFront t) (c.in_ok-code.code, c.in_ok-code.reason.now)) c.split_at.ensures.back c.in_ok-code.ensures) (sym c.are_reason_bytes.ensures ∙ c.if-not-are_reason_bytes.false)

@@ -6,7 +6,6 @@ use Rattle.sip_message.proofs.values.is_call_id.Goals as goal
 -- an `@` follows the first word, so the second one decides
 pub returns-then-is_word : goal.returns-then-is_word
 returns-then-is_word c =
-    -- both words are tested
     decides-call_id c.args.text.now c.cut.result.0.now (Some c.in-Some.other.now) c.is_word-then-is_word.result
     c.cut.ensures.front (ap option_copied (sym c.in-Some.is) ∙ c.cut.ensures.rest)
     (both-when c.is_word.result c.is_word-then-is_word.result c.if-is_word.true c.is_word.ensures c.is_word-then-is_word.ensures)
@@ -22,7 +21,6 @@ returns-else-is_word c =
 -- no `@` stands in the text, so the one word decides
 pub returns-in-None : goal.returns-in-None
 returns-in-None c =
-    -- without "@" there is one word
     decides-call_id c.args.text.now c.cut.result.0.now None c.is_word-in-None.result
     c.cut.ensures.front (ap option_copied (sym c.in-None.is) ∙ c.cut.ensures.rest)
     (first-alone _ c.is_word-in-None.ensures)

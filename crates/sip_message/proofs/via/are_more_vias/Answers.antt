@@ -1,3 +1,4 @@
+-- `c.elements.invariant`: .0, where the rest is further elements, the whole text is; .1, where the text is, the rest is.
 use Rattle.std.proofs.Common.{length, sym, ap, ◌∙◌}
 use Rattle.std.proofs.lemmas.Bool.{false≢true, eqb-true, eq-eqb}
 use Rattle.std.proofs.lemmas.List.{nil_from_length}

@@ -18,7 +18,6 @@ params-preserved c =
 -- where a parameter named `branch` has no token as its value, the text has no branch
 pub returns-in_err-branch_of : goal.returns-in_err-branch_of
 returns-in_err-branch_of c =
-    -- the parameter that was read is named branch, and its value is no token
     subst (IsOnlyValue BranchFront led_parts c.args.text.now) (sym c.from_residual.ensures)
     (decides-not c.args.text.now c.params.rest.now c.in-Some.more.now (c.in-Some.name.now, option_copied c.in-Some.value) (option_copied c.params.branch)
     c.in-Some.ensures c.in_err-branch_of.ensures c.params.invariant)

@@ -15,12 +15,10 @@ returns-in_err-part c =
 -- where what may be a host at the front is none, no host is read
 pub returns-in_err-host : goal.returns-in_err-host
 returns-in_err-host c =
-    -- what may be a host is cut off, and is none
     subst (IsOnlyValue HostFront host_front_parts c.args.text.now) (sym c.from_residual-in_err-host.ensures)
     (go-stop c.in_ok-part.ensures (λ x is. c.in_err-host.ensures (x.0) is.0))
 
 -- a host stands at the front, and is read with what is left after its blanks
 pub returns : goal.returns
 returns c =
-    -- what may be a host is cut off, and is one
     go c.in_ok-part.ensures (host-last c.in_ok-part.part.now c.in_ok-part.rest.now (host_parts c.in_ok-host.host) c.in_ok-host.ensures.0)

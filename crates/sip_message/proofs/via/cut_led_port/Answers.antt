@@ -10,13 +10,11 @@ use Rattle.sip_message.proofs.via.cut_led_port.Goals as goal
 -- where a colon stands there without a port after it, no part is read
 pub returns-in_err-port : goal.returns-in_err-port
 returns-in_err-port c =
-    -- the colon was read, and no port after it
     subst (IsOnlyValue (LedFront colon PortFront) led_parts c.args.text.now) (sym c.from_residual.ensures)
     (no-led colon PortFront c.args.text.now c.in-Some.inner.now c.in-Some.ensures c.in_err-port.ensures)
 
 -- where a port stands after the colon, the part is read with that port
 pub returns : goal.returns
 returns c =
-    -- the colon was read, and the port after it
     led-some colon PortFront c.args.text.now c.in-Some.inner.now c.in_ok-port.port.now c.in_ok-port.rest.now refl one-port
     c.in-Some.ensures c.in_ok-port.ensures.0

@@ -15,12 +15,10 @@ returns-in_err-port c =
 -- where the token at the front is a port, it is the port that is read
 pub returns-then-is_port : goal.returns-then-is_port
 returns-then-is_port c =
-    -- the token at the front is read, and is a port
     port-found c.args.text.now c.in_ok-port.port.now c.in_ok-port.rest.now c.in_ok-port.ensures (c.is_port.ensures.0 c.if-is_port.true)
 
 -- where what follows the colon is no port, the text has no port there
 pub returns-else-is_port : goal.returns-else-is_port
 returns-else-is_port c =
-    -- the token at the front is read, and is no port
     port-missing c.args.text.now c.in_ok-port.port.now c.in_ok-port.rest.now c.in_ok-port.ensures
     (λ is. both_ways c.is_port.result c.if-is_port.false (c.is_port.ensures.1 is))

@@ -8,7 +8,7 @@ use Rattle.sip_message.proofs.via.cut_tail.Goals as goal
 -- where a parameter named branch has no token for value, no parameters of a Via are read
 pub returns-in_err-branch : goal.returns-in_err-branch
 returns-in_err-branch c =
-    -- no parameters with a branch are read
+    -- the reader of parameters and their branch has read nothing
     subst (IsOnlyValue TailFront tail_parts c.args.text.now) (sym c.from_residual.ensures)
     (tail-missing c.args.text.now c.in_err-branch.ensures)
 

@@ -1,4 +1,5 @@
 -- `rest` is what is left before this turn of the loop, `end` the place of its first LF, `left` what stands after it, and `opens` what the test says.
+-- `c.lines.invariant`: .0, the first line of a Via in the text is that of the rest; .1, the rest is no longer than the text.
 use Rattle.std.proofs.Common.{◌∙◌, ◌+◌, Some, drop, length, if◌then◌else◌, sym, ap, arith}
 use Rattle.std.specs.Option.{option_copied}
 use Rattle.std.proofs.lemmas.List.{take_rest, length-drop}

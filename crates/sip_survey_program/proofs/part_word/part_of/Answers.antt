@@ -22,7 +22,8 @@ whole word a b None within front rest none = λ part is same.
     (rest ∙ ap (after_first is_slash) same ∙ number_after part.number part.count (omega (arith, is)))
 
 -- A slash is one byte, so that the clause `byte` of `split_once` tells of it. Its first argument is that it is below 128, and its second that the
--- search is for this byte. What it tells: without a slash the first one is found at the end of the word (`position_or_len`), and else within.
+-- search is for this byte. What it tells: of a word without a slash that `position_or_len` gives its end, and of any other word that it gives a place
+-- within the word, and which are the parts before and after it.
 
 -- a word without a slash is that of no part
 pub returns-in_err-number : goal.returns-in_err-number

@@ -1,5 +1,5 @@
--- `labels-..`: whether the parts between dots are labels, by the first part: it has another byte (`other`), is no label (`fail`), is one before
--- others (`more`), or is the last (`last`).
+-- `labels-..`: whether the parts between dots are labels, by the first part: it has a byte that no label has (`other`), is no label (`fail`), is one
+-- before others (`more`), or is the last one, of bytes of labels (`last_run`).
 use Rattle.std.proofs.Common.{option_copied, sym, ap, ◌∙◌}
 use Rattle.std.proofs.lemmas.Bool.{and_from, and_left}
 use Rattle.sip_text.specs.Bytes.{dot}

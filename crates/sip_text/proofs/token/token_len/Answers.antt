@@ -1,3 +1,4 @@
+-- `c.loop-at.invariant`: .0, the place lies within the text; .1, each byte before it is a byte of a token.
 use Rattle.std.proofs.Common.{◌+◌, ◌-◌, ◌≤◌, length, sym, subst, arith}
 use Rattle.std.proofs.lemmas.List.Sums.{prefix_len_is}
 use Rattle.sip_standard.specs.Profile.{Token}
@@ -20,7 +21,7 @@ returns-then-step-lt-BLOCK-clause-reads c =
     let at = c.loop-at.at in
     let step = c.block_len-step.result in
     let room : at + 16 ≤ length text = omega (arith, c.loop-at-test.true, c.if-text-lt-BLOCK.false) in
-    -- the longest run is `at + step` bytes: those before pass, and where the block ends early, the next one fails
+    -- the longest run is `at + step` bytes: those pass, and the next one, which is in the block, fails
     subst (IsLongestFront Token text)
     (prefix_len_is is_token_byte text (at + step) 0 (omega (arith, room, c.block_len-step.ensures.within)) (block-passes is_token_byte text at step room c.block_len-step.ensures.run c.loop-at.invariant.1)
     (λ _. block-stops is_token_byte text at step room c.block_len-step.ensures.run c.if-step-lt-BLOCK.true))
@@ -43,7 +44,7 @@ returns-clause-reads c =
     let last = length text - 16 in
     let step = c.block_len.result in
     let room : last + 16 ≤ length text = omega (arith, c.if-text-lt-BLOCK.false) in
-    -- the longest run is `last + step` bytes: those before pass, and where the block ends early, the next one fails
+    -- the longest run is `last + step` bytes: those pass, and the next one, if the text has one, fails
     subst (IsLongestFront Token text)
     (prefix_len_is is_token_byte text (last + step) 0 (omega (arith, room, c.block_len.ensures.within)) (block-passes is_token_byte text last step room c.block_len.ensures.run (λ k below. c.loop-at.invariant.1 k (omega (arith, below, c.loop-at-test.false))))
     (λ short. block-stops is_token_byte text last step room c.block_len.ensures.run (omega (arith, short, room))))

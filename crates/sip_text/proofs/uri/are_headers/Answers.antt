@@ -1,4 +1,5 @@
 -- `each-past`: where the first part is a header, all parts of the text are headers exactly if those of the rest are (`.0`), and the rest is shorter (`.1`)
+-- `c.headers.invariant`: .0, where all parts of the rest are headers, all of the text are; .1, the other way round.
 use Rattle.std.proofs.Common.{sym, ap, ◌∙◌, refl, option_copied}
 use Rattle.std.proofs.lemmas.Bool.{both_ways, false≢true}
 use Rattle.sip_text.specs.Bytes.{ampersand}

@@ -1,4 +1,5 @@
--- `c.in_default.branch` is the way to the case of all others: a host was cut off, but what follows it is no port (`via-in-Some+else-is_port`), or none was.
+-- `c.in_default.branch` is one of the two ways to the last case: what follows the last colon is no port (`via-in-Some+else-is_port`), or no colon stands in
+-- the text (`via-in_default`).
 use Rattle.std.proofs.Common.{sym, ap, ◌∙◌, option_copied, subst}
 use Rattle.std.proofs.lemmas.Bool.{both_ways}
 use Rattle.sip_standard.specs.Profile.{Port}

@@ -11,7 +11,7 @@ slice_bounds-params-count c = before-within semicolon c.cut.result.0.now c.cut-2
 -- the parameters begin within the text
 pub slice_bounds-params-start : goal.slice_bounds-params-start
 slice_bounds-params-start c =
-    -- the host and its port are what stands before the first ";", and so are no longer than what they were cut off
+    -- what stands before the first ";" is no longer than the text that is cut there
     let within : length c.cut-2.result.0.now ≤ length c.cut.result.0.now =
     before-within semicolon c.cut.result.0.now c.cut-2.result.0.now c.cut-2.ensures.front in
     search rules

@@ -1,3 +1,4 @@
+-- `c.chars.invariant`: .0, where the rest is characters, the whole text is; .1, where the text is, the rest is.
 use Rattle.std.proofs.Common.{sym, ◌∙◌}
 use Rattle.sip_text.specs.inner.Class.{is_in}
 use Rattle.sip_text.proofs.uris.UriCharLemmas.{run-slice, chars-past, chars-stop}

@@ -1,4 +1,4 @@
--- `c.NAME.branch` is the test by which a branch was taken that has several: `via-then-A` by A, `via-else-A+then-B` by B, after A failed.
+-- `c.NAME.branch` says which of several tests led to this place: `via-then-A` that A passed, `via-else-A+then-B` that A failed and B passed.
 use Rattle.std.proofs.Common.{refl, sym, ap, ◌≢◌, ◌+◌, ◌*◌, ◌∙◌, arith, length}
 use Rattle.std.proofs.lemmas.Bool.{eqb-true, eqb-false}
 use Rattle.sip_text.proofs.uris.UriPartLemmas.{decides-not}
@@ -12,7 +12,6 @@ returns-then-is_empty c = decides-not (λ port.
     -- a port has one to five bytes; the branch is taken where the text is empty, or else where it is longer
     let (some, few) = port-length c.args.text.now port in
     elim c.then-is_empty.branch [
-      -- an empty text has too few bytes, and a longer one too many
       | then-is_empty-via-then-is_empty w ↦
           absurd (omega (arith, some, eqb-true (length c.args.text.now) 0 (sym c.is_empty.ensures ∙ w.if-is_empty.true)))
       | then-is_empty-via-else-is_empty+then-text-gt-PORT_DIGITS w ↦ absurd (omega (arith, few, w.if-text-gt-PORT_DIGITS.true))
@@ -26,7 +25,7 @@ returns-then-not-has c = decides-not (λ port.
 -- where the digits so far write a number that is too great for a port, the text is no port
 pub returns-then-number-gt-LAST_PORT : goal.returns-then-number-gt-LAST_PORT
 returns-then-number-gt-LAST_PORT c = decides-not (λ port.
-    -- `more` says which number the digits write with this one, which is above 65535
+    -- `more` says which number the digits write with this one; the test has found it above 65535
     let more = digit-more c.args.text.now c.loop-byte.byte-index c.loop-byte.number c.loop-byte-test.true
     c.loop-byte.invariant (sym c.has.ensures ∙ c.if-not-has.false) in
     port-large c.args.text.now (c.loop-byte.byte-index + 1) (c.loop-byte.number * 10 + c.from.result)
@@ -35,7 +34,7 @@ returns-then-number-gt-LAST_PORT c = decides-not (λ port.
 -- after one digit more, the number is that of the digits up to it, and not above 65535
 pub loop-byte-preserved : goal.loop-byte-preserved
 loop-byte-preserved c =
-    -- `more` says that one digit more passes, and which number the digits then write
+    -- `more` says that the bytes up to this one are digits, and which number they write
     let more = digit-more c.args.text.now c.loop-byte.byte-index c.loop-byte.number c.loop-byte-test.true
     c.loop-byte.invariant (sym c.has.ensures ∙ c.if-not-has.false) in
     record {

@@ -1,4 +1,4 @@
--- s is what stands before the entry, and e the entry; of histories, e is what is observed of it, and `told` says that they were right before it.
+-- s is what stands before the entry, and e the entry. In answers on histories e is what is observed of it, and `told` says that they were right before it.
 -- The entry is one that no transaction hears (Unheard), has a fault, is a restart, or is heard by some; `passed` is what the passing promises.
 -- Of what is kept of a heard message, .4 says that the book is as before, or has the message too.
 use Rattle.std.proofs.Common.{◌+◌, None, [], ◌||◌, length, ap, inl, refl, sym, ◌∙◌, subst, arith}
@@ -108,7 +108,7 @@ returns-in_ok-pass_each-in-Unheard-clause-may g c =
     let s = c.args.standing.now in
     let e = c.args.entry.now in
     let passed = c.in_ok-pass_each-in-Unheard.ensures in
-    -- no message came into the book and no key into the tables, so that every number stands as after the entry
+    -- no message came into the book and no key into the tables, so that the limits hold for the next number too
     may_next None s.book c.observe.new.book c.observe.new.book s.tables s.tables c.pass_each.new.tables e.number e.moment e.bytes.items c.requires.may
     (inl (rw c.in-Unheard.is at c.in_ok-told.ensures.kept)) (omega arith) passed.keys refl passed.may passed.watched.recorded
 
@@ -126,7 +126,7 @@ returns-in_ok-pass_each-in-Fault-clause-may g c =
     let s = c.args.standing.now in
     let e = c.args.entry.now in
     let passed = c.in_ok-pass_each-in-Fault.ensures in
-    -- no message came into the book and no key into the tables, so that every number stands as after the entry
+    -- no message came into the book and no key into the tables, so that the limits hold for the next number too
     may_next None s.book c.observe.new.book c.observe.new.book s.tables s.tables c.pass_each-in-Fault.new.tables e.number e.moment e.bytes.items c.requires.may
     (inl (rw c.in-Fault.is at c.in_ok-told.ensures.kept)) (omega arith) passed.keys refl passed.may passed.watched.recorded
 
@@ -144,7 +144,7 @@ returns-in_ok-pass_each-in-Restart-clause-may g c =
     let s = c.args.standing.now in
     let e = c.args.entry.now in
     let passed = c.in_ok-pass_each-in-Restart.ensures in
-    -- no message came into the book and no key into the tables, so that every number stands as after the entry
+    -- no message came into the book and no key into the tables, so that the limits hold for the next number too
     may_next None s.book c.observe.new.book c.observe.new.book s.tables s.tables c.pass_each-in-Restart.new.tables e.number e.moment e.bytes.items c.requires.may
     (inl (rw c.in-Restart.is at c.in_ok-told.ensures.kept).0) (omega arith) passed.keys refl passed.may passed.watched.recorded
 
@@ -155,7 +155,7 @@ returns-in_ok-pass_each-in-Restart-clause-taken g c = λ es fresh tracks late.
     let s = c.args.standing.now in
     let e = c.args.entry.now in
     let same = (rw c.in-Restart.is at c.in_ok-told.ensures.kept).0 in
-    -- no number of the book is 0, under which the event of a restart would have its message; and a restart has none
+    -- the event of a restart has the number 0, under which the book has no message
     restart_taken s.book c.observe.new.book e.number e.bytes.items (inl same) (item e) e.moment refl s.tables c.pass_each-in-Restart.new.tables c.args.troubled.now c.pass_each-in-Restart.new.troubled
     c.requires.watched.long c.requires.may.passes.long fresh c.in_ok-pass_each-in-Restart.ensures.keys c.restart-event.result c.restart-event.ensures (λ n keeps. c.requires.may.some n (subst (λ b. Keeps b n) same keeps)) (rw c.in-Restart.is at c.in_ok-told.ensures.observed) c.in_ok-pass_each-in-Restart.ensures.passed es tracks late
 

@@ -1,7 +1,7 @@
 use Rattle.sip_verdict.proofs.surveys.forgetting.Never.{never_part, never_whole}
 use Rattle.sip_verdict.proofs.forgetting_laws.a_survey_may_forget_nothing.Goals as goal
 
--- what a survey of the whole log gives that forgets nothing is what a survey may give that may forget
+-- what a survey of the whole log finds and writes, one that may forget may find and write too
 pub returns-clause-whole : goal.returns-clause-whole
 returns-clause-whole c = never_whole
 

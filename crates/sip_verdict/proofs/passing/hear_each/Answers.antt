@@ -57,7 +57,7 @@ returns-in_ok-hear_one-in-OwnAndCancelled-2-clause-heard g c =
     let cancelled = c.in_ok-hear_one-in-OwnAndCancelled-2 in (
       -- the own transaction and the cancelled one are the hearers
       cancelled.ensures.may,
-      -- the two are heard one after another, and their outcomes are joined in this order
+      -- the two hear the event one after another, and their outcomes are joined in this order
       (
         each h.concerned,
         named_hearers t h.concerned (ap is_all c.in-OwnAndCancelled.is) hear.given hear.apart,

@@ -1,5 +1,5 @@
 -- `heard` is what the hearing promises: .0 that the tables may pass on, .1.0 the numbers of the hearers, .1.1 that they are those of the event, and .1.2 that
--- each has heard it. `IfOk-weaker` draws from what holds of a result's value what follows of it.
+-- each has heard it.
 use Rattle.std.proofs.Common.{[], ◌+◌, inl, sym, refl, subst, arith}
 use Rattle.std.proofs.lemmas.Bool.{false≢true}
 use Rattle.std.proofs.lemmas.Result.{IfOk-weaker}

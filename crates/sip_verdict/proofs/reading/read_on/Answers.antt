@@ -1,5 +1,5 @@
--- In each proof `old` is how far the log was read before the call, with the entries counted anew, and `new` how far after it; `anew` says that what was
--- read is the same so.
+-- In the proofs `old` is how far the log was read before the call, once its entries are counted anew, and `new` how far after it; `anew` says that the same
+-- entries were read still.
 use Rattle.std.proofs.Common.{◌≡◌, refl, sym, subst}
 use Rattle.std.specs.Prelude.{ℕ, List, Option, Bool}
 use Rattle.sip_standard.specs.LogEntry.{Item}

@@ -39,7 +39,6 @@ returns-in_ok-hear_or_release-in-OwnAndCancelled-clause-others g c =
 
 -- at a restart all transactions hear the event, so there are no others
 pub returns-in-All-clause-others : goal.returns-in-All-clause-others
--- a number that the restart does not concern cannot be, since it concerns all
 returns-in-All-clause-others g c = on_ok_weaker c.restart.result (λ keys n none. absurd (false≢true (sym (subst (λ x. (is_all x || is_among (each x) (n + 1)) ≡ false) c.in-All.is none)))) c.restart.ensures.keys
 
 -- the cancelled transaction is still one of the tables

@@ -1,4 +1,3 @@
--- The loop goes through the findings; `l.fn` is what the call was given, and `l` what stands now.
 use Rattle.std.proofs.Common.{◌≡◌, List, ℕ, take}
 use Rattle.std.specs.Io.KnownBytes.{Appends}
 use Rattle.sip_verdict.specs.inner.SurveyingLogs.{AreCounted, AreLinesBy}

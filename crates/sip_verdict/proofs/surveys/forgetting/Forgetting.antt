@@ -21,9 +21,9 @@ use Rattle.sip_verdict.proofs.surveys.found.Once.{ordered_front}
 use Rattle.sip_verdict.proofs.surveys.found.Sound.{sound_nil}
 
 -- a split of two lists, one after the other, lies in the first or in the second
+-- without a first list the split lies in the second; at the first element it lies in the first list
 split_of : {A : Type 0} (xs ys front : List A) (x : A) (rest : List A) → xs ++ ys ≡ front ++ x ∷ rest
     → ((zs : List A) × (xs ≡ front ++ x ∷ zs)) ⊎ ((zs : List A) × (front ≡ xs ++ zs) × (ys ≡ zs ++ x ∷ rest))
--- without a first list the split lies in the second; at the first element it lies in the first list
 split_of [] ys front x rest is = inr (front, refl, is)
 split_of (y ∷ xs) ys [] x rest is = inl (xs, cc)
 split_of {A} (y ∷ xs) ys (z ∷ front) x rest is = by (split_of xs ys front x rest (cc))
@@ -119,7 +119,6 @@ module _ (p : Times) (key : KeyParts) (old : List (Observation KeyParts)) (again
         -- no entry of the old ones or of the later ones finds the key too wide
         narrow : IsSound p more key → (front : List (Observation KeyParts)) (e : Observation KeyParts) (rest : List (Observation KeyParts)) → IsWideAt p front e key
             → ((zs : List (Observation KeyParts)) × (old ≡ front ++ e ∷ zs)) ⊎ ((zs : List (Observation KeyParts)) × (front ≡ old ++ zs) × (more ≡ zs ++ e ∷ rest)) → ⊥
-        -- the entry is one of the old ones, or one of the later ones
         narrow new front e rest wide (inl (zs, is)) = sound.1 front e zs is wide
         narrow new front e rest wide (inr (zs, before, is)) = new.1 zs e rest is ((wide_new zs e (order_at zs e rest is)).0 (subst (λ xs. IsWideAt p xs e key) before wide))
 

@@ -61,22 +61,22 @@ kept_by_at (c ∷ flags) (k ∷ keys) apart (suc n) key b at flag =
     go (same_key key k) refl (kept_by_at flags keys (AllPairs-tail (λ a b. a ≢ b) k keys apart) n key b at flag)
   where
     -- the flag of the key is b, whether or not the first key is the one that is looked for
+    -- the first key is not equal to a later one, since all keys differ
     go : (t : Bool) → same_key key k ≡ t → kept_by flags keys key ≡ b → cond (same_key key k) c (kept_by flags keys key) ≡ b
-    -- the first key would be equal to a later one, but all keys differ
     go true e rest = absurd (All-place (λ x. k ≢ x) keys n key at (AllPairs-head (λ a b. a ≢ b) k keys apart) (sym ((same_key-decides key k).0 e)))
     go false e rest = ap (λ t. cond t c (kept_by flags keys key)) e ∙ rest
 
 -- a key that is not kept stands at some place, and its flag is false
-pub kept_by_not : (flags : List Bool) (keys : List KeyParts) (key : KeyParts) → kept_by flags keys key ≡ false → (n : ℕ) × (slice_get keys n ≡ Some key) × (slice_get flags n ≡ Some false)
 -- a key without a flag is kept
+pub kept_by_not : (flags : List Bool) (keys : List KeyParts) (key : KeyParts) → kept_by flags keys key ≡ false → (n : ℕ) × (slice_get keys n ≡ Some key) × (slice_get flags n ≡ Some false)
 kept_by_not [] keys key gone = absurd (true≢false gone)
 kept_by_not (b ∷ flags) [] key gone = absurd (true≢false gone)
 kept_by_not (b ∷ flags) (k ∷ keys) key gone = go (same_key key k) refl (λ still. kept_by_not flags keys key still)
   where
     -- a key that is not kept stands at a place whose flag is false, whether or not the first key is this one
+    -- the key is the first one, and that one's flag is false; or it is a later one
     go : (t : Bool) → same_key key k ≡ t → (kept_by flags keys key ≡ false → (n : ℕ) × (slice_get keys n ≡ Some key) × (slice_get flags n ≡ Some false))
         → (n : ℕ) × (slice_get (k ∷ keys) n ≡ Some key) × (slice_get (b ∷ flags) n ≡ Some false)
-    -- the key is the first one, and that one's flag is false; or it is a later one
     go true e rest = (0, ap Some (sym ((same_key-decides key k).0 e)), ap Some (sym (ap (λ t. cond t b (kept_by flags keys key)) e) ∙ gone))
     go false e rest = let (n, at, flag) = rest (sym (ap (λ t. cond t b (kept_by flags keys key)) e) ∙ gone) in (suc n, at, flag)
 
@@ -317,8 +317,8 @@ module _ (flags : List Bool) (t : Tabled) (long : length flags ≡ length t.keys
         (set, d, h, here, is, of)
 
     -- a key whose set is quiet, or which is in trouble, is over
-    over_by : (key : KeyParts) (set : AnySet) (d : Bool) → IsFollowed texts t.times es key set d → moment_of set ≤ newest_moment es → IsQuietSet set → IsOver t.times es key
     -- a deaf transaction is in trouble; a quiet set of any other says that it is idle again or has ended
+    over_by : (key : KeyParts) (set : AnySet) (d : Bool) → IsFollowed texts t.times es key set d → moment_of set ≤ newest_moment es → IsQuietSet set → IsOver t.times es key
     over_by key set true (leads, unsound) low quiet = inl unsound
     over_by key set false (leads, sound) low quiet = inr (quiet_over texts t.times (machine_of_key t.times.rules key) (events_for key es) (newest_moment es) set leads low quiet)
 

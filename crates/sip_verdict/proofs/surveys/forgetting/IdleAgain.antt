@@ -26,8 +26,8 @@ IsFrom m e = m ≤ e.moment
 -- What follows is of a machine that can stay in idle for ever and does not end there: its figure f with the times p.
 module _ {X : Type 0} (f : Figure X) (p : Times) (lasts : (m : ℕ) → Lasts f p (quiet f.idle) m) (has_no_end : (m : ℕ) → ¬ (MayEnd f p (quiet f.idle) m)) where
   -- no event of a run is after the moment at which the run stands
-  events_to : (events : List MachineEvent) (m : ℕ) (y : Owing X) → Stands f p events m y → All (IsTo m) events
   -- the run has taken no event; or it has waited or ended since it took them; or it takes the last one at the moment at which it stands
+  events_to : (events : List MachineEvent) (m : ℕ) (y : Owing X) → Stands f p events m y → All (IsTo m) events
   events_to events m y begins = All-nil (IsTo 0)
   events_to events m y (waits evs h k x stands low lasting) = All-weaker (IsTo h) (IsTo k) (λ e to. omega (arith, to, low)) evs (events_to evs h x stands)
   events_to events m y (ends evs h x stands may) = events_to evs h x stands
@@ -56,8 +56,8 @@ module _ {X : Type 0} (f : Figure X) (p : Times) (lasts : (m : ℕ) → Lasts f 
     on more k y (ends evs h x stands may) from = go (dec_le m h) (on evs h x stands from)
       where
         -- the claim of the runs holds of one that ends, whether the end comes at m or later, or before it
-        go : Dec (m ≤ h) → (m ≤ h → Stands f p (old ++ evs) h x) × (h < m → (evs ≡ []) × (x ≡ quiet f.idle)) → (m ≤ h → Stands f p (old ++ evs) h (quiet f.ended)) × (h < m → (evs ≡ []) × (quiet f.ended ≡ quiet f.idle))
         -- the end comes at m or later; it cannot come earlier, since the run stands in idle then, which does not end
+        go : Dec (m ≤ h) → (m ≤ h → Stands f p (old ++ evs) h x) × (h < m → (evs ≡ []) × (x ≡ quiet f.idle)) → (m ≤ h → Stands f p (old ++ evs) h (quiet f.ended)) × (h < m → (evs ≡ []) × (quiet f.ended ≡ quiet f.idle))
         go (yes late) both = (λ high. ends (old ++ evs) h x (both.0 late) may, λ before. absurd (omega (arith, late, before)))
         go (no early) both = absurd (has_no_end h (subst (λ z. MayEnd f p z h) (both.1 (omega (arith, early))).1 may))
     -- the run takes an event, which comes at m or later
@@ -89,8 +89,8 @@ module _ {X : Type 0} (f : Figure X) (p : Times) (lasts : (m : ℕ) → Lasts f 
           where
             -- there are no later events
             by : (ys ≡ []) ⊎ ((front : List MachineEvent) × (e : MachineEvent) × (ys ≡ front ++ e ∷ [])) → ys ≡ []
-            -- a last one would not be before m, as later events are, nor after h, where the run stands, which is before m
             by (inl e) = e
+            -- a last one would come at m or later, as all later events do, and not after h, where the run stands; but h is before m
             by (inr (front, e, is_last)) =
                 let whole : evs ≡ (old ++ front) ++ e ∷ [] = are ∙ ap (λ zs. old ++ zs) is_last ∙ sym (append_assoc old front (e ∷ [])) in
                 let to = All-middle (IsTo h) (old ++ front) [] e (subst (All (IsTo h)) whole (events_to evs h x stands)) in

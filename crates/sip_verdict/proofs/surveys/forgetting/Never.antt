@@ -180,8 +180,8 @@ never_after age part p es (item ∷ items) (x ∷ taken) close found end (f ∷ 
     )
 
 -- a log that stops after 1,000,000 entries stops for no other fault than their number
-cut_off : (format : Format) (count last : ℕ) (rest : List ℕ) (fault : LogReason) → most_entries ≤ count → EndsWith format count last rest (Stops fault) → fault ≡ Limit
 -- the log stops at its limit; or there are fewer entries than the most, which cannot be
+cut_off : (format : Format) (count last : ℕ) (rest : List ℕ) (fault : LogReason) → most_entries ≤ count → EndsWith format count last rest (Stops fault) → fault ≡ Limit
 cut_off format count last rest fault many (some, inl (most, same)) = same
 cut_off format count last rest fault many (some, inr (under, at)) = absurd (under many)
 
@@ -257,8 +257,8 @@ item_one : (part : PartOf) (item a b : Item) → IsPartItem part item a → IsPa
 item_one part item a b one other = by (direction_of item.action) one other
   where
     -- two items that are cut of one item are the same, whether or not it has a message
-    by : (direction : Option Direction) → IsPartAs part item a direction → IsPartAs part item b direction → a ≡ b
     -- an item without a message stays; one with a message is cut by its branch, of which a message tells only one
+    by : (direction : Option Direction) → IsPartAs part item a direction → IsPartAs part item b direction → a ≡ b
     by None is are = is ∙ sym are
     by (Some d) (branch, tells, is) (told, also, are) = is ∙ ap (λ t. if falls_into part t then item else mark_of item) (one_told item.text branch told tells also) ∙ sym are
 

@@ -95,15 +95,15 @@ module _ (key : KeyParts) where
       known e = ap (λ b. cond (b || false) (key ∷ []) (key ∷ k ∷ [])) ((same_key-decides k key).1 (same_back k e))
 
       -- the one key alone is kept where its own keys are added to it, whether or not the next one is equal to it
-      go : (b : Bool) → same_key key k ≡ b → fold with_key (key ∷ []) (own keys) ≡ key ∷ [] → fold with_key (key ∷ []) (cond (same_key key k) (k ∷ own keys) (own keys)) ≡ key ∷ []
       -- another key is left out; one equal to the key is there already
+      go : (b : Bool) → same_key key k ≡ b → fold with_key (key ∷ []) (own keys) ≡ key ∷ [] → fold with_key (key ∷ []) (cond (same_key key k) (k ∷ own keys) (own keys)) ≡ key ∷ []
       go false e rest = ap (λ b. fold with_key (key ∷ []) (cond b (k ∷ own keys) (own keys))) e ∙ rest
       go true e rest =
           ap (λ b. fold with_key (key ∷ []) (cond b (k ∷ own keys) (own keys))) e ∙ ap (λ start. fold with_key start (own keys)) (known e) ∙ rest
 
   -- where the key is among keys, the ones equal to it, each added where it is new, give a list of the key alone
+  -- an empty list has no key
   becomes_one : (keys : List KeyParts) → list_any (same_key key) keys ≡ true → fold with_key [] (own keys) ≡ key ∷ []
-  -- the key is not among no keys
   becomes_one [] some = absurd (false≢true some)
   becomes_one (k ∷ keys) some = go (same_key key k) refl some (becomes_one keys)
     where
@@ -144,7 +144,7 @@ module _ (key : KeyParts) where
     -- where the key is among the keys of two logs alike, and one entry more concerns it in both or in neither, it is among their keys alike still
     own_push : (done left : Entries) (e f : Observation KeyParts) → own (keys_in done) ≡ own (keys_in left) → own e.keys ≡ own f.keys → own (keys_in (done ++ e ∷ [])) ≡ own (keys_in (left ++ f ∷ []))
     own_push done left e f same here =
-        -- the one key among the keys with those of the entry is what its own keys of the entry add to its own among the keys so far
+        -- the ones equal to the key, after the entry, are those before it with those of the entry added; both are alike in the two logs
         ap own (keys_in-push done e) ∙ sym (filter_keys (same_key key) (keys_in done) e.keys)
         ∙ ap₂ (λ start keys. fold with_key start keys) same here
         ∙ filter_keys (same_key key) (keys_in left) f.keys ∙ sym (ap own (keys_in-push left f))
@@ -270,8 +270,8 @@ module _ (key : KeyParts) where
     all_restarts e passes = go (list_any (same_key key) e.keys) refl passes
       where
         -- the events of the entry for the key are restarts, whether or not the entry concerns the key
-        go : (b : Bool) → list_any (same_key key) e.keys ≡ b → Passes e → All (λ d. d.action ≡ Restart) (map (λ f. f.event) (cond (list_any (same_key key) e.keys) (e ∷ []) []))
         -- an entry that does not concern the key brings it no event, and one that does is a restart
+        go : (b : Bool) → list_any (same_key key) e.keys ≡ b → Passes e → All (λ d. d.action ≡ Restart) (map (λ f. f.event) (cond (list_any (same_key key) e.keys) (e ∷ []) []))
         go false none any = subst (λ b. All (λ d. d.action ≡ Restart) (map (λ f. f.event) (cond b (e ∷ []) []))) (sym none) (All-nil (λ d. d.action ≡ Restart))
         go true some (inl none) = absurd (false≢true (sym none ∙ some))
         go true some (inr is) = subst (λ b. All (λ d. d.action ≡ Restart) (map (λ f. f.event) (cond b (e ∷ []) []))) (sym some) (All-cons (λ d. d.action ≡ Restart) e.event [] is (All-nil (λ d. d.action ≡ Restart)))
@@ -342,7 +342,7 @@ module _ (key : KeyParts) where
     comes done left item e f Sent sees saw = message e f (message_one way.Sent item e f sees saw) (list_any (same_key key) e.keys) refl
     comes done left item e f Received sees saw = message e f (message_one way.Received item e f sees saw) (list_any (same_key key) e.keys) refl
     comes done left item e f Failed sees saw = message e f (message_one way.Sent item e f sees saw) (list_any (same_key key) e.keys) refl
-    -- a mark concerns no key
+    -- a mark concerns no key, and a restart is one in both logs
     comes done left item e f Mark sees saw = inr (inl (ap (λ g. list_any (same_key key) g.keys) sees), inl (ap (λ g. list_any (same_key key) g.keys) saw))
     comes done left item e f Restart sees saw = inr (inr (ap (λ g. g.event.action) sees), inr (ap (λ g. g.event.action) saw))
 

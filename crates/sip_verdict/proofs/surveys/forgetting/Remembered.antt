@@ -42,8 +42,8 @@ restarted f p e y is =
     (λ does. stays (subst (λ a. Steps f p a e (quiet f.idle) y) is does), λ same. subst (λ a. Steps f p a e (quiet f.idle) y) (sym is) (inl (refl, same)))
   where
     -- a restart leaves the idle transaction idle
+    -- the other case of a restart is of a transaction that is not idle
     stays : Restarts f (quiet f.idle) y → y ≡ quiet f.idle
-    -- a restart takes a transaction in idle to idle; the other case is of one that is not idle
     stays (inl idle) = idle.1
     stays (inr other) = absurd (other.0 refl)
 
@@ -147,9 +147,9 @@ module _ (kept : KeyParts → Bool) where
     none_left (k ∷ keys) = go (kept k) refl (same_key key k) refl (none_left keys)
       where
         -- a key that is forgotten is not among the kept keys, whether or not k is kept, and whether or not it is the key
+        -- k is left out; or it is kept, and then it is not the key, which is forgotten
         go : (b : Bool) → kept k ≡ b → (t : Bool) → same_key key k ≡ t → list_any (same_key key) (filter kept keys) ≡ false
             → list_any (same_key key) (cond (kept k) (k ∷ filter kept keys) (filter kept keys)) ≡ false
-        -- k is left out; or it is kept, and then it is not the key, which is not
         go false e t same rest = ap (λ b. list_any (same_key key) (cond b (k ∷ filter kept keys) (filter kept keys))) e ∙ rest
         go true e true same rest = absurd (false≢true (sym not ∙ ap kept ((same_key-decides key k).0 same) ∙ e))
         go true e false same rest =

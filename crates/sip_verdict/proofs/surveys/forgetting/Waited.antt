@@ -225,8 +225,8 @@ module _ (texts : Texts) (book : IsBook texts) (t u : Tabled) (moment : ℕ) (wa
             ended_quiet texts book t.times machine events (newest_moment es) moment late old new (low n old was) (waited.each n old new was at) leads (subst (HasEnded machine t.times events) newest is_over)
 
         -- the set of a transaction that is over is quiet: the transaction is in trouble, idle again, or ended
-        by : (n : ℕ) (old new : AnySet) → slice_get t.sets n ≡ Some old → slice_get u.sets n ≡ Some new → (key : KeyParts) (d : Bool) → IsFollowed texts t.times es key old d → IsOver t.times es key → IsQuietSet new
         -- the set of a deaf transaction leads to the runs over no event, which stand in idle
+        by : (n : ℕ) (old new : AnySet) → slice_get t.sets n ≡ Some old → slice_get u.sets n ≡ Some new → (key : KeyParts) (d : Bool) → IsFollowed texts t.times es key old d → IsOver t.times es key → IsQuietSet new
         by n old new was at key true (leads, unsound) over = idle n old new was at (machine_of_key t.times.rules key) [] leads (idle_begun (machine_of_key t.times.rules key) t.times (newest_moment es))
         by n old new was at key false (leads, sound) (inl unsound) = absurd (unsound sound)
         by n old new was at key false (leads, sound) (inr (inl again)) = idle n old new was at (machine_of_key t.times.rules key) (events_for key es) leads again

@@ -28,8 +28,8 @@ first_least P Q keys n k (before, key, rest, is, holds, earlier, counts) (front,
     by (split_compare before rest front more key other (sym is ∙ are))
   where
     -- n is at most k, since the first key of which P holds does not stand after the other
-    by : ((before ≡ front) × (key ≡ other)) ⊎ (((zs : List KeyParts) × (front ≡ before ++ key ∷ zs)) ⊎ ((zs : List KeyParts) × (before ≡ front ++ other ∷ zs))) → n ≤ k
     -- the two keys are one, or the first stands before the other; it does not stand after it, since P holds of no key before the first
+    by : ((before ≡ front) × (key ≡ other)) ⊎ (((zs : List KeyParts) × (front ≡ before ++ key ∷ zs)) ⊎ ((zs : List KeyParts) × (before ≡ front ++ other ∷ zs))) → n ≤ k
     by (inl h) = let same : length before ≡ length front = ap length h.0 in omega (arith, counts, number, same)
     by (inr (inl h)) = omega (arith, counts, number, simp length-append at (ap length h.1))
     by (inr (inr h)) = absurd (All-middle (λ x. ¬ (P x)) front h.0 other (subst (All (λ x. ¬ (P x))) h.1 earlier) (sub other has))
@@ -74,8 +74,8 @@ module _ (p : Times) (es : List (Observation KeyParts)) (e : Observation KeyPart
 
   -- nothing comes before the breach of the first key without a run
   -- k is the entry and t the number of the transaction that breaks, and g any other finding
-  before_breach : e.fault ≡ None → (k t : ℕ) → IsFirstKey (λ key. ¬ (RunsOver p (es ++ e ∷ []) key)) keys t → (g : Finding) → Contains here g → Precedes g (Breach k t) → ⊥
   -- a fault would precede it, but there is none; what is undecided precedes no breach; another breach has no smaller number
+  before_breach : e.fault ≡ None → (k t : ℕ) → IsFirstKey (λ key. ¬ (RunsOver p (es ++ e ∷ []) key)) keys t → (g : Finding) → Contains here g → Precedes g (Breach k t) → ⊥
   before_breach formed k t first (Malformed m a) h low = formed_none m a formed h
   before_breach formed k t first (Undecided m u) h low = low
   before_breach formed k t first (Breach m u) h low =
@@ -83,16 +83,16 @@ module _ (p : Times) (es : List (Observation KeyParts)) (e : Observation KeyPart
 
   -- nothing comes before the finding that the first key which is too wide is followed no further, where each key has a run
   -- k is the entry and t the number of the transaction that is too wide, and g any other finding
-  before_wide : e.fault ≡ None → All (RunsOver p (es ++ e ∷ [])) keys → (k t : ℕ) → IsFirstKey (IsWideAt p es e) keys t → (g : Finding) → Contains here g → Precedes g (Undecided k t) → ⊥
   -- there is neither a fault nor a breach, and another one that is undecided has no smaller number
+  before_wide : e.fault ≡ None → All (RunsOver p (es ++ e ∷ [])) keys → (k t : ℕ) → IsFirstKey (IsWideAt p es e) keys t → (g : Finding) → Contains here g → Precedes g (Undecided k t) → ⊥
   before_wide formed runs k t first (Malformed m a) h low = formed_none m a formed h
   before_wide formed runs k t first (Breach m u) h low = whole_none runs m u h
   before_wide formed runs k t first (Undecided m u) h low =
       let least = first_least (IsWideAt p es e) (Widens p es e) keys t u first ((at.1 (Undecided m u)).0 h).1 (λ key widens. widens.1) in omega (arith, least, low)
 
   -- where an entry is the first in trouble, its verdict is the first finding there
-  trouble_first : AllSound p es → (v : Verdict) → HasTrouble p es e v → (later : List Finding) (end : SurveyEnd) → v ≡ verdict_in (here ++ later) end
   -- a legal log and a fault of the log are no trouble at an entry
+  trouble_first : AllSound p es → (v : Verdict) → HasTrouble p es e v → (later : List Finding) (end : SurveyEnd) → v ≡ verdict_in (here ++ later) end
   trouble_first sound (verdicts.Legal n t) trouble later end = absurd trouble
   trouble_first sound (verdicts.LogFault n r) trouble later end = absurd trouble
   trouble_first sound (verdicts.Malformed n a) trouble later end =
@@ -141,8 +141,8 @@ verdict_after p es (item ∷ items) close v found end sound (e, sees, inr (forme
     ∙ ap (λ fs. verdict_in fs end) (sym (is ∙ ap (λ hs. hs ++ later) none))
 
 -- a verdict of an input is the one in its survey
+-- the input has no header by both, or it has one by both, and then both are of the same log
 pub verdict_is_in : (input : List ℕ) (v : Verdict) (found : List Finding) (end : SurveyEnd) → IsVerdictOf input v → IsSurveyOf input found end → v ≡ verdict_in found end
--- the input has no header by both, or by neither; in the last case both are of the same log
 verdict_is_in input v found end (inl a) (inl b) = a.1 ∙ sym (ap₂ verdict_in b.1 b.2)
 verdict_is_in input v found end (inl a) (inr (p, items, close, says, is)) = absurd (a.0 says.format p _ says.header)
 verdict_is_in input v found end (inr (p, items, close, says, is)) (inl b) = absurd (b.0 says.format p _ says.header)

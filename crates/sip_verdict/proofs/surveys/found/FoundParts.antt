@@ -48,8 +48,8 @@ fault_is n (Some a) f h = by (Contains-cons (Malformed n a) [] f h)
     by (inr none) = absurd (Contains-none f none)
 
 -- a list of at most one finding, the fault of an entry, is in order
-fault_alone : (n : ℕ) (fault : Option Fault) → AllPairs Precedes (fault_found n fault)
 -- there are no two places in so short a list
+fault_alone : (n : ℕ) (fault : Option Fault) → AllPairs Precedes (fault_found n fault)
 fault_alone n None = λ i j d low high. absurd (omega (arith, high))
 fault_alone n (Some a) = λ i j d low high. absurd (omega (arith, low, high))
 

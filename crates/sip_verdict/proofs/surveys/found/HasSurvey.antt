@@ -17,8 +17,8 @@ use Rattle.sip_verdict.proofs.surveys.found.FoundParts.{listed, listed_found}
 use Rattle.sip_verdict.specs.declared.survey_end.SurveyEnd.TheVariants as ended
 
 -- at each entry some list of findings is found, which may be empty
-found_some : (p : Times) (es : List (Observation KeyParts)) (e : Observation KeyParts) → Weakly ((found : List Finding) × AreFoundAt p es e found)
 -- `never` says that there is no such list; yet the keys that break have numbers, and so have those that are too wide, and these make one
+found_some : (p : Times) (es : List (Observation KeyParts)) (e : Observation KeyParts) → Weakly ((found : List Finding) × AreFoundAt p es e found)
 found_some p es e never =
     let keys = keys_in (es ++ e ∷ []) in
     numbers_some (Breaks p es e) keys (λ broken.

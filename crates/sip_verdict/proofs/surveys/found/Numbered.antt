@@ -21,7 +21,7 @@ next_number ns i low = rw (add-one, drop-cons ns i 0) refl
 -- where all numbers differ, those from the place i on differ
 apart_from : (ns : List ℕ) (i : ℕ) → AllPairs (λ a b. a ≢ b) ns → AllPairs (λ a b. a ≢ b) (drop i ns)
 apart_from ns zero apart = apart
--- in an empty list nothing is left; else the numbers from i + 1 on are those from i on without the first number
+-- in an empty list nothing is left; else the numbers from the place i + 1 on are those from i on of the list without its first number
 apart_from [] (suc i) apart = apart
 apart_from (n ∷ ns) (suc i) apart = apart_from ns i (AllPairs-tail (λ a b. a ≢ b) n ns apart)
 
@@ -37,8 +37,8 @@ rest_among [] (suc i) n h = h
 rest_among (m ∷ ns) (suc i) n h = among_rest n m ns (rest_among ns i n h)
 
 -- after the last none is left
-pub none_left : (ns : List ℕ) (i : ℕ) → length ns ≤ i → drop i ns ≡ []
 -- in an empty list nothing is left; a list with a first number does not end at the place 0
+pub none_left : (ns : List ℕ) (i : ℕ) → length ns ≤ i → drop i ns ≡ []
 none_left [] zero low = refl
 none_left [] (suc i) low = refl
 none_left (n ∷ ns) zero low = absurd (omega (arith, low))

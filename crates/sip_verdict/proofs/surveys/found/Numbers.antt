@@ -23,8 +23,8 @@ same_place P keys before key rest n is (front, other, more, are, holds, number) 
   where
     -- P holds of the key: the two keys stand at one place, since they have one number
     by : ((front ≡ before) × (other ≡ key)) ⊎ (((zs : List KeyParts) × (before ≡ front ++ other ∷ zs)) ⊎ ((zs : List KeyParts) × (front ≡ before ++ key ∷ zs))) → P key
-    -- at two places the keys would have two numbers
     by (inl h) = subst P h.1 holds
+    -- at two places the keys would have two numbers
     by (inr (inl h)) = absurd (omega (arith, number, place, simp length-append at (ap length h.1)))
     by (inr (inr h)) = absurd (omega (arith, number, place, simp length-append at (ap length h.1)))
 
@@ -58,8 +58,8 @@ module _ (P : KeyParts → Type 0) (keys : List KeyParts) where
         into n (inr h) = let both = (are n).0 h in (both.0, omega (arith, both.1))
 
         -- each key of which P holds has its number there: the next key, or a later one
-        from : (n : ℕ) → HoldsOf P keys n → length before < n → Dec (n ≤ length before + 1) → Contains ((length before + 1) ∷ ns) n
         -- the number is that of the next key, or it is above that one and so among ns
+        from : (n : ℕ) → HoldsOf P keys n → length before < n → Dec (n ≤ length before + 1) → Contains ((length before + 1) ∷ ns) n
         from n has above (yes to) = let same : length before + 1 ≡ n = omega (arith, above, to) in subst (Contains ((length before + 1) ∷ ns)) same (Contains-here (length before + 1) ns)
         from n has above (no beyond) = Contains-there (length before + 1) ns n ((are n).1 (has, omega (arith, beyond)))
 
@@ -72,14 +72,15 @@ module _ (P : KeyParts → Type 0) (keys : List KeyParts) where
     )
       where
         -- each key of which P holds has its number there: it is a later one
-        from : (n : ℕ) → HoldsOf P keys n → length before < n → Dec (n ≤ length before + 1) → Contains ns n
         -- a number that is not above the next key's would be its own, but P does not hold of it
+        from : (n : ℕ) → HoldsOf P keys n → length before < n → Dec (n ≤ length before + 1) → Contains ns n
         from n has above (yes to) = absurd (not (same_place P keys before key rest n is has (omega (arith, above, to))))
         from n has above (no beyond) = (are n).1 (has, omega (arith, beyond))
 
   -- the keys of which P holds after any first ones have numbers
+  -- `never` says that there is no list of such numbers
   above_some : (before rest : List KeyParts) → keys ≡ before ++ rest → Weakly ((ns : List ℕ) × AreAbove (length before) ns)
-  -- `never` says that there are no such numbers; after all keys the empty list is one of them
+  -- after all keys the empty list is one
   above_some before [] is never = never ([], subst (λ ks. AreAbove (length ks) []) (is ∙ append-nil before) none_above)
   -- the keys after the next one have numbers; those from the next one on are the same, with its own before them if P holds of it
   above_some before (key ∷ rest) is never =

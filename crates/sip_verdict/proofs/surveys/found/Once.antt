@@ -53,9 +53,9 @@ observed_order format last done (item ∷ items) (e ∷ es) (low, entry, order) 
     )
 
 -- a survey has entries that are observed of its items
+-- no item is left, and so no entry; else the survey says what is observed of the next item, and a survey of the rest follows
 survey_observed : (p : Times) (done : List (Observation KeyParts)) (items : List Item) (close : LogEnd) (found : List Finding) (end : SurveyEnd) → IsSurveyAfter p done items close found end
     → (es : List (Observation KeyParts)) × AreSeen done items es
--- no item is left, and so no entry; else the survey says what is observed of the next item, and a survey of the rest follows
 survey_observed p done [] close found end survey = ([], tt)
 survey_observed p done (item ∷ items) close found end (e, here, later, sees, whole, at, more) =
     let rest = survey_observed p (done ++ e ∷ []) items close later end more in (e ∷ rest.0, (sees, rest.1))
@@ -66,9 +66,9 @@ keys_after keys [] = ([], sym (append-nil keys))
 keys_after keys (k ∷ more) = by (list_any (same_key k) keys) (keys_after (cond (list_any (same_key k) keys) keys (keys ++ k ∷ [])) more)
   where
     -- the keys stand first in those with more, whether or not k is one of them
+    -- a key that is there adds none, and a new one comes first of those that are added
     by : (b : Bool) → ((zs : List KeyParts) × (fold with_key (cond b keys (keys ++ k ∷ [])) more ≡ cond b keys (keys ++ k ∷ []) ++ zs))
         → (zs : List KeyParts) × (fold with_key (cond b keys (keys ++ k ∷ [])) more ≡ keys ++ zs)
-    -- a key that is there adds none, and a new one comes first of those that are added
     by true rest = rest
     by false rest = (k ∷ rest.0, rest.1 ∙ append_assoc keys (k ∷ []) rest.0)
 

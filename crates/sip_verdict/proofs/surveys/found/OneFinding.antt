@@ -36,9 +36,9 @@ pub trouble_breaks : (p : Times) (key : KeyParts) (es : List (Observation KeyPar
 trouble_breaks p key es e sound unsound none = none (inl (sound, λ runs. unsound (sound_push p es e key sound runs (λ wide. none (inr (sound, wide))))))
 
 -- where nothing is found of a transaction at any entry, it is in no trouble
+-- `done` are the entries that are known to leave it in no trouble, and `rest` those that are left, one of which is taken up at each step
 no_finding : (p : Times) (key : KeyParts) (done rest es : List (Observation KeyParts)) → es ≡ done ++ rest → ¬ (¬ (IsSound p done key))
     → ((front : List (Observation KeyParts)) (e : Observation KeyParts) (more : List (Observation KeyParts)) → es ≡ front ++ e ∷ more → ¬ (Breaks p front e key ⊎ Widens p front e key)) → ¬ (¬ (IsSound p es key))
--- `done` are the entries that are known to leave it in no trouble, and `rest` those that are left, one of which is taken up at each step
 no_finding p key done [] es is sound none = λ never. sound (λ s. never (subst (λ xs. IsSound p xs key) (sym (is ∙ append-nil done)) s))
 no_finding p key done (e ∷ rest) es is sound none =
     no_finding p key (done ++ e ∷ []) rest es (is ∙ sym (append_assoc done (e ∷ []) rest)) (λ unsound. sound (λ s. trouble_breaks p key done e s unsound (none done e rest is))) none

@@ -39,8 +39,8 @@ says_same P input p q xs ys a b one other holds =
     subst (λ r. P r xs a) (sym same.0) (subst (λ r. P q r a) (sym same.1) (subst (P q ys) (sym same.2) holds))
 
 -- two surveys of an input are the same
+-- the input has no header by both surveys, or it has one by both, and then both are of the same log
 pub survey_one : (input : List ℕ) (fs gs : List Finding) (end fin : SurveyEnd) → IsSurveyOf input fs end → IsSurveyOf input gs fin → (fs ≡ gs) × (end ≡ fin)
--- the input has no header by both surveys, or by neither; in the last case both are of the same log
 survey_one input fs gs end fin (inl a) (inl b) = (a.1 ∙ sym b.1, a.2 ∙ sym b.2)
 survey_one input fs gs end fin (inl a) (inr (p, items, close, says, is)) = absurd (a.0 says.format p _ says.header)
 survey_one input fs gs end fin (inr (p, items, close, says, is)) (inl b) = absurd (b.0 says.format p _ says.header)

@@ -40,8 +40,8 @@ module _ {A : Type 0} (R : A → A → Type 0) (once : (a b : A) → R a b → R
       ap₂ (λ h t. h ∷ t) same (ordered_one xs ys (AllPairs-tail R x xs a) (AllPairs-tail R y ys b) forth back)
     where
       -- the first elements of both lists are the same, since neither comes before the other
+      -- one of them is the first of the other list too; else each is a later one of the other list, so that each would come before the other
       by : (y ≡ x) ⊎ Contains ys x → (x ≡ y) ⊎ Contains xs y → x ≡ y
-      -- the one is the other's first element; or each is a later element of the other list, so that each comes before the other
       by (inl e) h = sym e
       by (inr h) (inl e) = e
       by (inr h) (inr k) = absurd (once y x (first_before R y ys b x h) (first_before R x xs a y k))

@@ -55,9 +55,9 @@ pub sound_push : (p : Times) (es : List (Observation KeyParts)) (e : Observation
 sound_push p es e key sound runs narrow = (runs, λ front f rest is. by front f rest is (split_compare es [] front rest e f is))
   where
     -- wherever the entries are split, at the new entry or before it, the key is not too wide at the entry there
+    -- the split is at the new entry; it cannot be past the last; or it is at one of the entries before
     by : (front : List (Observation KeyParts)) (f : Observation KeyParts) (rest : List (Observation KeyParts)) → es ++ e ∷ [] ≡ front ++ f ∷ rest →
         ((es ≡ front) × (e ≡ f)) ⊎ (((zs : List (Observation KeyParts)) × (front ≡ es ++ e ∷ zs)) ⊎ ((zs : List (Observation KeyParts)) × (es ≡ front ++ f ∷ zs))) → ¬ (IsWideAt p front f key)
-    -- the split is at the new entry; it cannot be past the last; or it is at one of the entries before
     by front f rest is (inl h) wide = narrow (subst (λ g. IsWideAt p es g key) (sym h.1) (subst (λ gs. IsWideAt p gs f key) (sym h.0) wide))
     by front f rest is (inr (inl h)) wide = absurd (omega (arith, simp length-append at (ap length is), simp length-append at (ap length h.1)))
     by front f rest is (inr (inr h)) wide = sound.1 front f h.0 h.1 wide
@@ -68,8 +68,8 @@ pub all_sound_push : (p : Times) (es : List (Observation KeyParts)) (e : Observa
 all_sound_push p es e sound runs narrow key = sound_push p es e key (sound key) (by_key (list_any (same_key key) (keys_in (es ++ e ∷ []))) refl) not_wide
   where
     -- the key has a run over one entry more, whether or not it is among the keys
-    by_key : (b : Bool) → list_any (same_key key) (keys_in (es ++ e ∷ [])) ≡ b → RunsOver p (es ++ e ∷ []) key
     -- a key among the keys has a run, as all of these have; no entry concerns any other key
+    by_key : (b : Bool) → list_any (same_key key) (keys_in (es ++ e ∷ [])) ≡ b → RunsOver p (es ++ e ∷ []) key
     by_key true is = All-contains (RunsOver p (es ++ e ∷ [])) (keys_in (es ++ e ∷ [])) key runs (among-contains key (keys_in (es ++ e ∷ [])) is)
     by_key false is = idle_runs p (es ++ e ∷ []) key (new_key key (es ++ e ∷ []) is)
 

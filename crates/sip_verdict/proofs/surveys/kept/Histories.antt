@@ -181,8 +181,8 @@ module _ (entry : ℕ) (text : List ℕ) where
   note_at n old new low high (inr note) i h here = by (nat_eq (i + 1) n) refl (push_place old note.begun i h (ap (λ hs. slice_get hs i) (sym note.is) ∙ here))
     where
       -- the history at the place is right after a new one was begun, whether or not the place is that of the new one
-      by : (b : Bool) → nat_eq (i + 1) n ≡ b → (slice_get old i ≡ Some h) ⊎ ((i ≡ length old) × (note.begun ≡ h)) → IsAt entry text old i h b
       -- the new history stands after all others, so that its place is past them, and only its number is n
+      by : (b : Bool) → nat_eq (i + 1) n ≡ b → (slice_get old i ≡ Some h) ⊎ ((i ≡ length old) × (note.begun ≡ h)) → IsAt entry text old i h b
       by true same (inl was) = (let within = slice_get_within old i h was in let beyond = note.beyond in absurd (omega (arith, (unsigned_Decides (i + 1) n).0 same)))
       by true same (inr (at, is)) = (
         sym (ap (λ k. k.last) is) ∙ note.last,
@@ -319,9 +319,9 @@ some_keys : (key : KeyParts) (keys : List KeyParts) → list_any (same_key key) 
 some_keys key keys is none = false≢true (sym (ap (list_any (same_key key)) none) ∙ is)
 
 -- an entry whose message concerns a key has a message with a branch
+-- a message with a fault, or whose branch has no cookie, concerns no key
 heard_says : (direction : Direction) (i : Item) (e : Observation KeyParts) → ObservesMessage direction i e → (key : KeyParts) → is_of key e ≡ true
     → (s : Said) × Says i.text (gives s) × ((branch : List ℕ) × (s.via.branch ≡ Some branch))
--- a message with a fault, or whose branch has no cookie, concerns no key
 heard_says direction i e (has_fault fault says is) key of = absurd (some_keys key e.keys of (ap (λ o. o.keys) is))
 heard_says direction i e (has_no_cookie s says lacks is) key of = absurd (some_keys key e.keys of (ap (λ o. o.keys) is))
 heard_says direction i e (is_heard s keys says fine concerns is) key of =

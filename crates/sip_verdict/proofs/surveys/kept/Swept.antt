@@ -50,8 +50,8 @@ module _ (texts : Texts) (book : IsBook texts) (t u : Tabled) (moment : ℕ) (ad
       (within texts book t u moment advances may numbers up same n new is) h
 
   -- a set that follows the entries for a key follows them beside the kept messages alone
-  follows : (n : ℕ) (old new : AnySet) → slice_get t.sets n ≡ Some old → slice_get u.sets n ≡ Some new → (key : KeyParts) (d : Bool) → IsFollowed texts p es key old d → IsFollowed (only numbers texts) p es key new d
   -- the set of a deaf transaction leads to the runs over no event, and any other to those over the key's events
+  follows : (n : ℕ) (old new : AnySet) → slice_get t.sets n ≡ Some old → slice_get u.sets n ≡ Some new → (key : KeyParts) (d : Bool) → IsFollowed texts p es key old d → IsFollowed (only numbers texts) p es key new d
   follows n old new was is key true (h, unsound) = (leads n old new was is key [] h, unsound)
   follows n old new was is key false (h, sound) = (leads n old new was is key (events_for key es) h, sound)
 

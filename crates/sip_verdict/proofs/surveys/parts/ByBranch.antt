@@ -68,8 +68,8 @@ module _ (chosen : List ℕ → Bool) where
       )
 
   -- an item of whose message keys are observed stays or becomes a mark
-  message_cut : (direction : Direction) (item : Item) (e : Observation KeyParts) → ObservesMessage direction item e → Cut item e
   -- a message with a fault, or whose branch has no cookie, concerns no key; the keys of any other have the branch of its Via
+  message_cut : (direction : Direction) (item : Item) (e : Observation KeyParts) → ObservesMessage direction item e → Cut item e
   message_cut direction item e (has_fault fault says is) = none_stays item e (ap (λ f. f.keys) is)
   message_cut direction item e (has_no_cookie s says lacks is) = none_stays item e (ap (λ f. f.keys) is)
   message_cut direction item e (is_heard s keys says has concerns is) =

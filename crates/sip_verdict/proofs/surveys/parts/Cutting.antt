@@ -32,7 +32,7 @@ module _ (chosen : KeyParts → Bool) where
       go true e t same rest = ap (λ b. list_any (same_key key) (cond b (k ∷ filter chosen keys) (filter chosen keys))) e ∙ ap (λ b. same_key key k || b) rest
       -- k is not chosen, so it is not the key, which is
       go false e true same rest = absurd (false≢true (sym e ∙ ap chosen (sym ((same_key-decides key k).0 same)) ∙ is))
-      -- k is neither chosen nor the key: it is left out, and finds nothing in the other list
+      -- k is neither chosen nor the key: it is left out of the one list, and is not what is looked for in the other
       go false e false same rest =
           ap (λ b. list_any (same_key key) (cond b (k ∷ filter chosen keys) (filter chosen keys))) e ∙ rest ∙ ap (λ b. b || list_any (same_key key) keys) (sym same)
 
@@ -53,8 +53,8 @@ module _ (chosen : KeyParts → Bool) where
       there t e is = among_chosen k is keys ∙ e
 
       -- one key more is cut as the keys are, whether or not k is chosen, and whether or not it is among the keys already
-      by : (b t : Bool) → chosen k ≡ b → list_any (same_key k) keys ≡ t → OneMore keys k b t
       -- k is chosen: it is there on both sides, or is added on both; it is not chosen: it is left out, whether or not it is added to all
+      by : (b t : Bool) → chosen k ≡ b → list_any (same_key k) keys ≡ t → OneMore keys k b t
       by true true e f = sym (ap (λ t. cond t (filter chosen keys) (filter chosen keys ++ k ∷ [])) (there true f e))
       by true false e f = one true e ∙ sym (ap (λ t. cond t (filter chosen keys) (filter chosen keys ++ k ∷ [])) (there false f e))
       by false true e f = refl
@@ -135,8 +135,8 @@ module _ (chosen : KeyParts → Bool) where
     events_cut (e ∷ es) (c ∷ cs) (here, rest) = go (concerns key c) refl (events_cut es cs rest)
       where
         -- the key has the same events in both logs with one entry more, whether or not the entry concerns the key
-        by : (b : Bool) → concerns key c ≡ b → events_for key cs ≡ events_for key es → events_with b c cs ≡ events_with b e es
         -- an entry that concerns the key has the same event in both logs; one that does not brings none in either
+        by : (b : Bool) → concerns key c ≡ b → events_for key cs ≡ events_for key es → events_with b c cs ≡ events_with b e es
         by true any same = ap₂ (λ f fs. f ∷ fs) (event_cut e c here any) same
         by false any same = same
 
@@ -227,9 +227,9 @@ module _ (chosen : KeyParts → Bool) where
       )
 
       -- where both logs are split at the same place, the entries before it stand for one another, and so do the two at it
+      -- the split is at the first entry in both logs or in neither, since as many entries come before it
       split_same : (front back : List (Observation KeyParts)) (e c : Observation KeyParts) (rest others : List (Observation KeyParts)) → AllZip (IsCutOf chosen) (front ++ e ∷ rest) (back ++ c ∷ others)
           → length front ≡ length back → AllZip (IsCutOf chosen) front back × IsCutOf chosen e c
-      -- the split is at the first entries; or in neither log, since both fronts are of the same length
       split_same [] [] e c rest others zip long = (tt, zip.0)
       split_same [] (d ∷ back) e c rest others zip long = absurd (omega (arith, long))
       split_same (f ∷ front) [] e c rest others zip long = absurd (omega (arith, long))

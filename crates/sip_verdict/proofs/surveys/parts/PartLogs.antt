@@ -26,8 +26,8 @@ cookie_compared None text is = absurd (cc)
 cookie_compared (Some branch) text is = by (bytes_eq (take 7 (compared (Some branch))) (codes "z9hg4bk")) is
   where
     -- a branch with the cookie is compared by its own bytes
-    by : (b : Bool) → (if b then Some (compared (Some branch)) else None) ≡ Some text → compared (Some branch) ≡ text
     -- the branch has the cookie and is the text, or it has none and gives no text
+    by : (b : Bool) → (if b then Some (compared (Some branch)) else None) ≡ Some text → compared (Some branch) ≡ text
     by true e = cc
     by false e = absurd (cc)
 
@@ -38,8 +38,8 @@ module _ (part : PartOf) where
   Chosen key = falls_into part key.branch
 
   -- an item whose keys are all of the part, or all not, stays or becomes a mark
-  kept : (item cut : Item) (e : Observation KeyParts) (falls : Bool) → All (λ key. Chosen key ≡ falls) e.keys → cut ≡ (if falls then item else mark_of item) → StaysOrIsMark Chosen item e cut
   -- where the keys are of the part the item stays, and else it becomes a mark
+  kept : (item cut : Item) (e : Observation KeyParts) (falls : Bool) → All (λ key. Chosen key ≡ falls) e.keys → cut ≡ (if falls then item else mark_of item) → StaysOrIsMark Chosen item e cut
   kept item cut e true all is = inl (is, inr all)
   kept item cut e false all is = inr (is, all)
 
@@ -68,8 +68,8 @@ module _ (part : PartOf) where
   item_part done item cut e sees is_cut = by item.action refl sees is_cut
     where
       -- the item stays or is a mark, whatever its action was
-      by : (a : Action) → item.action ≡ a → SeenAs done item e a → CutSo item cut a → StaysOrIsMark Chosen item e cut
       -- an item with a message is cut by its branch; a mark, which concerns no key, and a restart stay
+      by : (a : Action) → item.action ≡ a → SeenAs done item e a → CutSo item cut a → StaysOrIsMark Chosen item e cut
       by Sent is seen (branch, tells, same) = message_part way.Sent item cut e seen branch tells same
       by Received is seen (branch, tells, same) = message_part way.Received item cut e seen branch tells same
       by Failed is seen (branch, tells, same) = message_part way.Sent item cut e seen branch tells same

@@ -48,8 +48,8 @@ module _ (old t : Tabled) (h : AreMore old t) (k : KeyParts) (n : ℕ) where
   absent ks all (i, low, is) = all i k low is
 
   -- tables that have grown by keys have grown by them and by one more that was looked up
-  one_more : (u : Tabled) → Touches k n t u → AreMore old u
   -- the key was known, and the tables stay; or it is new, and comes at the end with the set that it starts with
+  one_more : (u : Tabled) → Touches k n t u → AreMore old u
   one_more u (inl known) = subst (AreMore old) (sym known.1) h
   one_more u (inr (new, counts, is)) = subst (AreMore old) (sym is) (record {
     times = h.times;
@@ -77,8 +77,8 @@ module _ (old t : Tabled) (h : AreMore old t) (k : KeyParts) (n : ℕ) where
 
 -- tables that have grown by keys have grown still after more keys were looked up
 -- ns are the numbers of the keys ks; t and u are the tables before and after these were looked up
-pub more_each : (old : Tabled) (ks : List KeyParts) (ns : List ℕ) (t u : Tabled) → AreMore old t → TouchesEach ks ns t u → AreMore old u
 -- there are as many keys as numbers; each key that was looked up is one step
+pub more_each : (old : Tabled) (ks : List KeyParts) (ns : List ℕ) (t u : Tabled) → AreMore old t → TouchesEach ks ns t u → AreMore old u
 more_each old [] [] t u h same = subst (AreMore old) (sym same) h
 more_each old [] (n ∷ ns) t u h touched = absurd touched
 more_each old (k ∷ ks) [] t u h touched = absurd touched

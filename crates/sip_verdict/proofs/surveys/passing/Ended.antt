@@ -113,8 +113,8 @@ module _ (texts : Texts) (es : List (Observation KeyParts)) (e : Observation Key
   all_broken n key at (sound, none) = let (d, s, g) = found_key n key at in by d s g
     where
       -- the transaction has passed the entry, and breaks there, so its number is among the broken ones
-      by : (d : Bool) (s : AnySet) → IsPassing texts p es e (is_among []) b (n + 1) key s d → Contains b.broken.items (n + 1)
       -- it was in no trouble before, so that it is deaf only since this entry; were it too wide, or did it go on, it would have a run over the entry
+      by : (d : Bool) (s : AnySet) → IsPassing texts p es e (is_among []) b (n + 1) key s d → Contains b.broken.items (n + 1)
       by true s (leads, inl before) = absurd (before sound)
       by true s (leads, inr (inl has)) = has
       by true s (leads, inr (inr has)) = absurd (none (one_key (λ k. Widens p es e k × RunsOver p (es ++ e ∷ []) k) n key at (h.wide (n + 1) has)).1)
@@ -125,8 +125,8 @@ module _ (texts : Texts) (es : List (Observation KeyParts)) (e : Observation Key
   all_wide n key at (sound, wide) = let (d, s, g) = found_key n key at in by d s g
     where
       -- the transaction has passed the entry, and is too wide there, so its number is among the wide ones
-      by : (d : Bool) (s : AnySet) → IsPassing texts p es e (is_among []) b (n + 1) key s d → Contains b.wide.items (n + 1)
       -- it was in no trouble before, so that it is deaf only since this entry; what is too wide does not break, nor does it go on
+      by : (d : Bool) (s : AnySet) → IsPassing texts p es e (is_among []) b (n + 1) key s d → Contains b.wide.items (n + 1)
       by true s (leads, inl before) = absurd (before sound)
       by true s (leads, inr (inl has)) = absurd ((one_key (Breaks p es e) n key at (h.broken (n + 1) has)).1 (wide_runs p es e key wide))
       by true s (leads, inr (inr has)) = has

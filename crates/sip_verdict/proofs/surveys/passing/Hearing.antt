@@ -155,7 +155,7 @@ module _ (texts : Texts) (p : Times) (es : List (Observation KeyParts)) (e : Obs
       where
         -- a set whose last moment on record is past has no run
         by : (s : AnySet) → IsReady k es (key, s) → slice_get t.sets (number - 1) ≡ Some s → (r : Option (Option ℕ)) → slice_get t.records (number - 1) ≡ Some r → is_overdue moment r ≡ true → ¬ RunsOver p (es ++ e ∷ []) key
-        -- no record is not overdue
+        -- a transaction without a record is not overdue
         by s ready here None on is = absurd (true≢false (sym is))
         -- the record is the last moment until which the set can wait; that is past, so the key has no run over the entry
         by s ready here (Some limit) on is =

@@ -48,7 +48,7 @@ module _ (texts : Texts) (p : Times) (es : List (Observation KeyParts)) (e : Obs
   pub stays : (v w : ℕ → Bool) (b c : Troubled) (number : ℕ) (key : KeyParts) (s : AnySet) (is_deaf : Bool) → v number ≡ w number
       → (Contains b.broken.items number ⊎ Contains b.wide.items number → Contains c.broken.items number ⊎ Contains c.wide.items number)
       → IsPassing texts p es e v b number key s is_deaf → IsPassing texts p es e w c number key s is_deaf
-  -- a transaction in trouble was so before the entry, or is among those that came into trouble at it and still is among the more
+  -- a transaction in trouble was so before the entry, or is among those that came into trouble at it, and is among them still
   stays v w b c number key s true same more (leads, inl unsound) = (leads, inl unsound)
   stays v w b c number key s true same more (leads, inr among) = (leads, inr (more among))
   -- a transaction in no trouble waits, or has gone on, as it did
@@ -93,9 +93,9 @@ module _ (texts : Texts) (p : Times) (es : List (Observation KeyParts)) (e : Obs
 
           -- each transaction is passing the entry: the one itself, and each other one as before
           -- n is the place of the key, s its set and d whether it is deaf
+          -- the transaction itself has passed; another one is still at its place with its set, and w says of it what v said
           one : (n : ℕ) (key : KeyParts) (s : AnySet) (d : Bool) → slice_get t.keys n ≡ Some key → slice_get b.deaf.items n ≡ Some d
               → ((n ≡ place) × (after ≡ s)) ⊎ ((n ≢ place) × (slice_get t.sets n ≡ Some s)) → IsPassing texts p es e w b (n + 1) key s d
-          -- the transaction itself has passed; another one is still at its place with its set, and w says of it what v said
           one n key s d at is (inl (here, same)) = own n key s d at here same (same_at b.deaf.items n false d (ap (slice_get b.deaf.items) here ∙ hearing) is)
           one n key s d at is (inr (other, there)) = stays v w b b (n + 1) key s d (others n other) (λ among. among) (h.each n key s d at there is)
 

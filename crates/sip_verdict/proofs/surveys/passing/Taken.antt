@@ -61,8 +61,8 @@ pub grown_survey : (old new : Texts) (number : ℕ) (bytes : List ℕ) → IsGro
 grown_survey old new number bytes grown es t deaf h = record { order = h.order; keys = h.keys; each = λ n key s d at here is. by key s d (h.each n key s d at here is) }
   where
     -- a deaf transaction stays in trouble, and the set of any other one follows the same entries
-    by : (key : KeyParts) (s : AnySet) (d : Bool) → IsFollowed old t.times es key s d → IsFollowed new t.times es key s d
     -- the set of a deaf transaction leads to the runs over no event
+    by : (key : KeyParts) (s : AnySet) (d : Bool) → IsFollowed old t.times es key s d → IsFollowed new t.times es key s d
     by key s true (leads, unsound) = (grown_leads old new number bytes t.times grown (machine_of_key t.times.rules key) [] (newest_moment es) s leads, unsound)
     by key s false (leads, sound) = (grown_leads old new number bytes t.times grown (machine_of_key t.times.rules key) _ (newest_moment es) s leads, sound)
 

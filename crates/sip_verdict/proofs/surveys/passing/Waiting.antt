@@ -60,16 +60,15 @@ module _ (texts : Texts) (p : Times) (es : List (Observation KeyParts)) (e : Obs
     goes n key s at here other ready = by (others n key s at here other ready)
       where
         -- the set has its last moment on record, and that is not past, so it goes on
-        recorded : (r : Option (Option ℕ)) → slice_get t.records n ≡ Some r → concerns key e ≡ false → GoesOn p k es e (key, s)
         -- only a set that is to hear the event has nothing on record, and this one is not to hear it
+        recorded : (r : Option (Option ℕ)) → slice_get t.records n ≡ Some r → concerns key e ≡ false → GoesOn p k es e (key, s)
         recorded None on apart = absurd (false≢true (sym other ∙ watched.recorded.each n s None here on))
         recorded (Some limit) on apart =
             in_time_goes texts p es e key s ready since (subst (λ i. moment_of s ≤ i) (sym now) (All-place (λ x. moment_of x ≤ moment) t.sets n s here may.order)) limit (watched.recorded.each n s (Some limit) here on)
             (ap (λ i. is_overdue i (Some limit)) now ∙ none_past moment t.records none n (Some limit) on) apart
 
-        -- the key goes on: the entry does not concern it, or it goes on anyway
+        -- the key goes on as is known; or the entry does not concern it, and its record says that it can wait
         by : (concerns key e ≡ false) ⊎ GoesOn p k es e (key, s) → GoesOn p k es e (key, s)
-        -- it goes on as is known, or the entry does not concern it, and then its record says that it can wait
         by (inr g) = g
         by (inl apart) = let r = at_place t.records n (let within = slice_get_within t.keys n key at in let long = watched.recorded.long in omega arith) in recorded r.0 r.1 apart
 

@@ -56,7 +56,7 @@ module _ (t : Tabled) (b : Troubled) (number : ℕ) (waits : List ℕ) (given : 
       one : (n : ℕ) (s : AnySet) (r : Option (Option ℕ)) → slice_get t.records n ≡ Some r → IsOnRecord (number ∷ waits) (n + 1) s r → IsOnRecord waits (n + 1) s r
       -- a last moment that is on record stays so
       one n s (Some limit) here kept = kept
-      -- nothing on record is of a set that is to hear the event; were it the transaction itself, its record would say that it has no last moment
+      -- where nothing is on record, the set is to hear the event; the transaction itself is in trouble, and has on record that it has no last moment
       one n s None here kept = among_one (n + 1) number waits kept (λ same.
           let at : n ≡ number - 1 = omega (arith, same) in
           absurd (none_some None (sym here ∙ ap (slice_get t.records) at ∙ h.silent place deaf)))
@@ -72,8 +72,8 @@ module _ (t : Tabled) (b : Troubled) (number : ℕ) (waits : List ℕ) (given : 
   }
     where
       -- no last moment is on record of the transaction itself, nor of another one in trouble
-      one : (n : ℕ) → ((n ≡ place) × (true ≡ true)) ⊎ ((n ≢ place) × (slice_get b.deaf.items n ≡ Some true)) → slice_get (slice_set t.records place (Some None)) n ≡ Some (Some None)
       -- the transaction's own record is the one that was put in; another record is as it was
+      one : (n : ℕ) → ((n ≡ place) × (true ≡ true)) ⊎ ((n ≢ place) × (slice_get b.deaf.items n ≡ Some true)) → slice_get (slice_set t.records place (Some None)) n ≡ Some (Some None)
       one n (inl (same, same_too)) = ap (slice_get (slice_set t.records place (Some None))) same ∙ set_here t.records place (Some None) (let low = inside in let long = h.long in let as_long = h.recorded.long in omega arith)
       one n (inr (other, is)) = set_other t.records place n (Some None) (Some None) other (h.silent n is)
 

@@ -144,8 +144,8 @@ module _ (part : Option PartOf) (start : Option (List ℕ)) (now : log.ReaderSta
       (refl, ap (λ n. ended.LogFault (n + 1) reason) (counted ∙ read.follows.number) ∙ ap (ended.LogFault (length read.es + 1)) same) logs
 
 -- the verdict of an entry in trouble has a number that is not 0
+-- a legal log and a fault of the log are no trouble at an entry; any trouble has the number of its entry, which counts from 1
 trouble-counted : (p : Times) (front : List (Observation KeyParts)) (e : Observation KeyParts) (v : Verdict) → HasTrouble p front e v → trouble_of v ≡ Some 0 → ⊥
--- a legal log and a fault of the log are no trouble at an entry; any other trouble has the number of its entry, which counts from 1
 trouble-counted p front e (Legal entries transactions) is none = is
 trouble-counted p front e (Malformed entry fault) (at, has) none = let same = same_Some entry 0 none in omega (arith, at, same)
 trouble-counted p front e (Breach entry transaction) (at, formed, first) none = let same = same_Some entry 0 none in omega (arith, at, same)
@@ -157,8 +157,8 @@ none-some : (n : ℕ) → None ≡ Some n → ⊥
 none-some n same = cc
 
 -- no verdict on the entries of a log is of the entry 0
-counted : (p : Times) (es : List (Observation KeyParts)) (items : List Item) (close : LogEnd) (v : Verdict) → IsVerdictAfter p es items close v → trouble_of v ≡ Some 0 → ⊥
 -- a legal log has no number, and a fault has one that is above 0
+counted : (p : Times) (es : List (Observation KeyParts)) (items : List Item) (close : LogEnd) (v : Verdict) → IsVerdictAfter p es items close v → trouble_of v ≡ Some 0 → ⊥
 counted p es [] Clean v is none = none-some 0 (sym (ap trouble_of is) ∙ none)
 counted p es [] (Stops fault) v is none = let same = same_Some (length es + 1) 0 (sym (ap trouble_of is) ∙ none) in omega (arith, same)
 counted p es (item ∷ items) close v (e, sees, inl trouble) none = trouble-counted p es e v trouble none

@@ -26,7 +26,7 @@ horizon_push m es e are later =
       long_ago = by are.long_ago;
     }
   where
-    -- after one entry more `until` is still 0, or its entries still came long ago
+    -- after one entry more `until` is still 0, or the entries up to it still came long ago
     by : (m.until ≡ 0) ⊎ IsLongAgo m.age m.until es → (m.until ≡ 0) ⊎ IsLongAgo m.age m.until (es ++ e ∷ [])
     by (inl none) = inl none
     by (inr ago) =
@@ -52,7 +52,7 @@ horizon_kept kept m es are =
     same : (n : ℕ) → newest_moment (take n (remembered kept es)) ≡ newest_moment (take n es)
     same n = ap newest_moment (take-map (λ e. record { fault = e.fault; event = e.event; keys = filter kept e.keys }) n es) ∙ newest_kept kept (take n es)
 
-    -- after some keys are forgotten `until` is still 0, or its entries still came long ago
+    -- after some keys are forgotten `until` is still 0, or the entries up to it still came long ago
     by : (m.until ≡ 0) ⊎ IsLongAgo m.age m.until es → (m.until ≡ 0) ⊎ IsLongAgo m.age m.until (remembered kept es)
     by (inl none) = inl none
     by (inr ago) =
@@ -73,7 +73,7 @@ horizon_left m n es are age until number moment =
       long_ago = by are.long_ago;
     }
   where
-    -- `until` is 0 in the new horizon, or its entries came long ago, as in the old one
+    -- `until` is 0 in the new horizon, or the entries up to it came long ago, as in the old one
     by : (m.until ≡ 0) ⊎ IsLongAgo m.age m.until es → (n.until ≡ 0) ⊎ IsLongAgo n.age n.until es
     by (inl none) = inl (until ∙ none)
     by (inr ago) = let before = ap (λ i. newest_moment (take i es)) until in inr (omega (arith, before, age, ago))

@@ -93,9 +93,9 @@ line_with-told s f number told line tells is es stands P (before, key, rest, who
     at = ap (slice_get (keys_in es)) (let n : number - 1 ≡ length before = omega (arith, counts) in n) ∙ ap (λ ks. slice_get ks (length before)) whole ∙ middle_place before key rest
 
     -- the line has the words of the transaction, which the survey has
+    -- the survey knows the transaction, so that it tells something of it
     by : (o : Option Transaction) → IsSomeAnd o (λ t. (t.key.now ≡ key) × IsFirstOf es key t.first t.branch.now × IsLastOf es key t.last) → line ≡ line_with f o
         → (words : List ℕ) × HoldsOf (AreWordsOf es words) (keys_in es) number × (line ≡ rendered (verdict_of f) ++ words ++ line_feed ∷ [])
-    -- the survey knows the transaction, so that it tells something of it
     by None none same = absurd none
     by (Some t) (key_is, first, last) same = (
       words_of t,
@@ -104,8 +104,8 @@ line_with-told s f number told line tells is es stands P (before, key, rest, who
     )
 
 -- a line with what the survey tells of its finding is the line of the finding
-pub line_by : (s : Surveying) (f : Finding) (told : Option Transaction) (line : List ℕ) → TellsOf s f told → line ≡ line_with f told → IsLineBy s f line
 -- a fault names no transaction, so that its line has no words of one
+pub line_by : (s : Surveying) (f : Finding) (told : Option Transaction) (line : List ℕ) → TellsOf s f told → line ≡ line_with f told → IsLineBy s f line
 line_by s (Malformed entry fault) told line none is p es e stands found = is ∙ ap (line_with (Malformed entry fault)) none
 line_by s (Breach entry number) told line tells is p es e stands found = line_with-told s (Breach entry number) number told line tells is (es ++ e ∷ []) stands _ found.1
 line_by s (Undecided entry number) told line tells is p es e stands found = line_with-told s (Undecided entry number) number told line tells is (es ++ e ∷ []) stands _ found.1

@@ -1,5 +1,5 @@
--- s is what stands before the entry e, `mid` after it, and `new` after the sweep; `swept` is what the sweep promises; `left` is how many messages the
--- book kept after the last sweep, and the next one is due where it has more than twice as many and 64.
+-- s is what stands before the entry e, `mid` after it, and `new` after the sweep; `swept` is what the sweep promises. `left` is how many messages the
+-- book kept after the last sweep; the next one is due where it has more than twice as many and 64, or where it is slow to search.
 use Rattle.std.proofs.Common.{◌≤◌, ◌+◌, Contains, length, arith}
 use Rattle.std.proofs.lemmas.List.Elements.{All-contains, All-weaker}
 use Rattle.sip_log.specs.Told.{item}

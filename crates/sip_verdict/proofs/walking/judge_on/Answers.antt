@@ -1,5 +1,4 @@
 -- s is what stands before the entry, and `new` what stands after it.
--- `IfOk-weaker` draws from what holds of a result's value what follows of it.
 use Rattle.std.proofs.lemmas.Result.{IfOk-weaker}
 use Rattle.sip_verdict.proofs.listings.WalksLemmas.{judges_end, judges_entry}
 use Rattle.sip_verdict.proofs.walking.judge_on.Goals as goal

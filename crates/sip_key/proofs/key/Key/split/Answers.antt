@@ -1,5 +1,5 @@
--- `tells-read`: of the front of a key's text, .0 says that the branch's length was read, .1 that the method's comes next, .2 that the texts do after it,
--- and .3 that the method is no longer than what is left.
+-- `tells-read`: of what follows the role in a key's text, .0 says that the branch's length was read, .1 that the method's comes next, .2 that the texts come
+-- after it, and .3 that the method is no longer than what is left after the branch's length.
 use Rattle.std.proofs.Common.{◌∙◌, ap, sym, subst, length}
 use Rattle.std.specs.Prelude.{◌≤◌}
 use Rattle.sip_key.specs.inner.KeyText.{key_text}

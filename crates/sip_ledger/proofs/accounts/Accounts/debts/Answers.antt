@@ -2,7 +2,7 @@ use Rattle.sip_ledger.proofs.Lemmas.{account-at, ap, arith, IfOk-weaker, owed_in
 use Rattle.sip_ledger.proofs.rows.SeenLemmas.{row-few}
 use Rattle.sip_ledger.proofs.accounts.Accounts.debts.Goals as goal
 
--- a row owes fewer debts than a number of 64 bits counts, so the first ones, as many as 18446744073709551615 (`usize::MAX`), are all
+-- a row owes fewer than 2^64 debts, so its first 18446744073709551615 (`usize::MAX`) debts are all of them
 pub returns : goal.returns
 returns c =
     let owes = owed_in c.args.self.now c.args.row in

@@ -1,3 +1,4 @@
+-- `c.loop-place.invariant`: .0 says that `from` is not before the account's start, .1 that nothing owed before it is paid, .2 that `seek` is right.
 use Rattle.sip_ledger.proofs.Lemmas.{arith, before-start, entries_of, first-payable, length, none-pays_late, none-pays_struck, none-pays_to, owed-within, owes_at}
 use Rattle.sip_ledger.proofs.accounts.account.find.Goals as goal
 

@@ -1,7 +1,7 @@
 use Rattle.sip_ledger.proofs.Lemmas.{entries_of, IsSeek, length, NonePays, owes_at, ◌-◌, ◌≤◌}
 use Rattle.sip_ledger.proofs.accounts.account.find.Given as goal
 
--- nothing that the account owes before the place `from` is paid, which is not before its start, and what `seek` knows is right
+-- the place `from` is not before the account's start, nothing that is owed before it is paid, and what `seek` knows is right
 abbrev pub invariant-loop-place : goal.invariant-loop-place
 invariant-loop-place l = (l.account.start ≤ l.from) × NonePays (entries_of l.gains) (owes_at l.gains l.strikes l.account) l.message l.moment l.from
     × IsSeek l.gains l.message l.seek

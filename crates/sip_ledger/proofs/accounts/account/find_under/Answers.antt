@@ -1,3 +1,4 @@
+-- `c.loop-step.invariant`: .0 says that `first` is the first place that a message below `from` under the key pays, .1 that each step passed a number there.
 use Rattle.sip_ledger.proofs.Lemmas.{arith, below-parts, count_all, count_passed, entries_of, entry_at, found-kept, highest-first, holds, left-next, newest-first, none-left, none-under, one-found, sooner, ◌+◌}
 use Rattle.sip_ledger.proofs.accounts.account.find_under.Goals.{then-left-message+else-is_newest+else-gains-message, else-left-message}
 use Rattle.sip_ledger.proofs.accounts.account.find_under.Goals as goal

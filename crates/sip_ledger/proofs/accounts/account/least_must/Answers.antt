@@ -37,6 +37,6 @@ loop-place-preserved c =
           (sym c.owes.ensures ∙ w.if-owes.false))
     ]
 
--- no gain that must be sent is left, so the least so far is the least of all
+-- from the place on no gain must be sent, so the least so far is the least of all
 pub returns : goal.returns
 returns c = grind (arith, least-last)

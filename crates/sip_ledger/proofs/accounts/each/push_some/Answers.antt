@@ -1,3 +1,4 @@
+-- `c.loop-row.invariant`: .0 and .1 say that the index is in range, .2 that `seek` is right, .3 what stands after the others for the rows so far.
 use Rattle.sip_ledger.proofs.Lemmas.{account-there, account_debts, accounts_debts, AreAccounts, ArePaidTo, arith, debts_length, inl, paid-grown, paid-next, subst, sym, ◌+◌}
 use Rattle.sip_ledger.proofs.accounts.each.push_some.Goals as goal
 

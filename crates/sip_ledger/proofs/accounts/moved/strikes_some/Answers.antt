@@ -1,7 +1,7 @@
 use Rattle.sip_ledger.proofs.Lemmas.{arith, ltb-false, OnFalse_from, strikes-none}
 use Rattle.sip_ledger.proofs.accounts.moved.strikes_some.Goals as goal
 
--- where the first place of its message that is left is not before the end of the strike, it strikes nothing from there on
+-- where the strike's message is left first at its end or after it, it strikes nothing that is left from the place on
 pub returns-in-Some : goal.returns-in-Some
 returns-in-Some c =
     OnFalse_from _ _ (λ late.

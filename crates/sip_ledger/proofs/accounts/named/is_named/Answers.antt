@@ -1,3 +1,4 @@
+-- `c.loop-at.invariant`: .0 says that what `seek` knows is right, and .1 that none of the rows so far owes the message.
 use Rattle.sip_ledger.proofs.Lemmas.{Account, account_debts, All-get_or, arith, can-pay, cases_eq, false, get_or, get_or_default, named-nowhere, nat_tests, owes_message, payable-owes, sym, ◌≡◌}
 use Rattle.sip_ledger.proofs.accounts.named.is_named.Goals as goal
 

@@ -10,6 +10,6 @@ returns-in_ok-push-clause-ok c =
     let more = rw (same, c.entry.ensures) at c.in_ok-push.ensures.items in
     more-too c.args.gains.now c.args.place c.args.first v.items c.push.new.self.items c.requires.first more
 
--- a strike that reaches up to the place was made longer by it
+-- a strike that reaches up to the place was made longer, so that it strikes the place too
 pub returns-else-not-lengthen-clause-ok : goal.returns-else-not-lengthen-clause-ok
 returns-else-not-lengthen-clause-ok c = grind (arith, with_items_is, longer-too, more-too)

@@ -1,3 +1,4 @@
+-- Of the invariant of a book (`c.self.invariant`) part 0 says that the messages are a book, 1 that the runs hold their places, and 2 that the Tos are theirs.
 use Rattle.std.proofs.Common.{◌≡◌, ◌∙◌, ◌++◌, ◌∷◌, [], true, is_some, ap, rules, subst, sym}
 use Rattle.sip_machine.specs.Texts.{IsBook}
 use Rattle.sip_machine.specs.inner.Order.{texts_of, StandInRuns}

@@ -27,7 +27,7 @@ returns-clause-gives g c =
     let (added, is, covers) = has in (
       added,
       is,
-      -- a state takes of a received message just what its row, or its stay, leads to (`takes-received`)
+      -- a state takes of a received message that to which its row leads, or itself where there is no row (`takes-received`)
       Covers-same (owing_names m.names) (OwingInRange m.in_range) (owing_seen m.seen) texts (FromSome P some)
           (FromSome (λ x. TakeOf m.figure p (owing_seen m.seen texts x) e) some)
           (FromSome-same P (λ x. TakeOf m.figure p (owing_seen m.seen texts x) e) (takes-received m.figure p m.seen texts e c.requires.action) some) added covers,

@@ -1,3 +1,4 @@
+-- At each turn of the loop (`c.loop-at.invariant`) part 0 says that the rows are the first ones, 1 that the slots have as many prints, 2 that they are theirs.
 use Rattle.sip_machine.proofs.Words.{◌≡◌, ◌<◌, ◌+◌, ◌-◌, ◌∷◌, [], get_or, length, ◌∙◌, ap, sym, subst, arith, inl, inr, true≢false, cases_lt, get_or_default, get_or_append_left, get_or_push, length_push, AreFirstOnes}
 use Rattle.sip_machine.proofs.pools.FirstLemmas.{first-more, first-again, Any-here}
 use Rattle.sip_machine.proofs.pool.Pool.first_of_many.Goals as goal

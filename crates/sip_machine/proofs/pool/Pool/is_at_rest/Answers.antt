@@ -8,7 +8,7 @@ returns-else-eq g c = λ d.
     let p = c.index.result.now in
     let x = get_or c.args.self.now c.args.at d in
     let is = state-at c.self.inside.phases.items c.self.inside.dues c.args.self.now c.args.at p d c.self.view_is c.requires in (
-      -- the answer is no, as the phases differ; and a state at rest in the phase would have it
+      -- the answer is no, as the phases differ; and the phase of a state at rest in this phase would be this one
       λ equal. absurd (true≢false (sym equal ∙ c.if-eq.false)),
       λ rests.
           let same : p ≡ c.args.phase = c.index.ensures ∙ sym (ap (λ y. y.phase) is) ∙ ap (λ y. y.phase) rests in

@@ -1,3 +1,4 @@
+-- At each turn of the loop (`c.loop-next.invariant`) part 0 says that `next` is not past the prints, and 1 that no print passed so far is the one looked for.
 use Rattle.std.proofs.Common.{◌-◌, ◌<◌, ◌∙◌, arith, length, subst, sym}
 use Rattle.sip_machine.specs.inner.Slots.{AreSlots}
 use Rattle.sip_machine.proofs.pools.SlotsLemmas.{pair-print, pair-older, reached-more}
@@ -6,8 +7,8 @@ use Rattle.sip_machine.proofs.slots.Slots.last_from.Goals as goal
 -- no print between this one and the older one of its slot is equal to the one that is looked for
 pub loop-next-preserved : goal.loop-next-preserved
 loop-next-preserved c =
-    -- s are the prints by slots; `newest` has one past the newest print of each slot, and `kept` each print with one past the older one of its slot;
-    -- x is the pair of `kept` at the place `at`
+    -- s are the prints by slots; `newest` has one past the index of the newest print of each slot, and `kept` each print with one past that of the one before
+    -- it in its slot; x is the pair of `kept` at the place `at`
     let s = c.args.self.now in
     let at = c.loop-next.next - 1 in
     let some = c.loop-next-test.true in

@@ -1,3 +1,4 @@
+-- Of the invariant of Tos (`c.self.invariant`) part 0 says that the numbers of the messages rise, and 1 that each stands under its hash, if hashes are kept.
 use Rattle.std.proofs.Common.{◌<◌, Some}
 use Rattle.sip_machine.proofs.steps.PayableLemmas.{lower}
 use Rattle.sip_machine.proofs.acks.ToLemmas.{below_last}

@@ -1,3 +1,4 @@
+-- Of the invariant of Tos (`c.self.invariant`) part 0 says that the numbers of the messages rise, and 1 that each stands under its hash, if hashes are kept.
 use Rattle.std.proofs.Common.{◌∙◌, nat_le, nat_lt, rules}
 use Rattle.std.proofs.lemmas.Fn.{always_returns_same}
 use Rattle.std.proofs.lemmas.List.Sorted.{IsPartitionedBy-leb, IsPartitionedBy-ltb}
@@ -9,7 +10,7 @@ pub returns-clause-count : goal.returns-clause-count
 returns-clause-count c =
     let tos = c.self.inside.list.items in
     let up = rises_weakly (λ to. to.number) tos c.self.invariant.0 in
-    -- the first search finds where the numbers reach `low`, and the second where they pass `high`; each call of their closures makes this test of a
+    -- the first search finds where the numbers reach `low`, and the second where they pass `high`; each call of its closure makes its test of a
     -- number, and changes nothing (`always_returns_same`)
     let parts = c.partition_point-from.ensures.partitioned (λ to. nat_lt to.number c.args.low) (always_returns_same _ _ _ (λ a r g called. search rules))
     (rw c.deref.ensures.value (IsPartitionedBy-ltb (λ to. to.number) tos c.args.low up)) in

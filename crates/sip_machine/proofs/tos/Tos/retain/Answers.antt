@@ -1,3 +1,4 @@
+-- Of the invariant of Tos (`c.self.invariant`) part 0 says that the numbers of the messages rise, and 1 that each stands under its hash, if hashes are kept.
 use Rattle.std.proofs.Common.{◌≡◌, ◌<◌, AllPairs, Contains, false, is_some, rules, subst, sym}
 use Rattle.std.proofs.lemmas.Fn.{All-from_retain}
 use Rattle.sip_machine.specs.declared.tos.To.{To}
@@ -20,7 +21,7 @@ pub returns-then-is_none : goal.returns-then-is_none
 returns-then-is_none c =
     let numbers = c.args.numbers.now in
     let kept = c.retain.ensures.filtered in
-    -- `among`: the test that the code asks of each To is whether its number is one of these
+    -- `among` says that the number of each To that is left is one of these, since the code has asked this of each
     let among = All-from_retain _ (λ to. Contains numbers to.number) _ (λ x b f' k. search rules) _ _ kept in
     rw (← c.self.view_is) (left_over kept.0 c.self.inside.list.items c.retain.new.self.items numbers kept.4 among)
 
@@ -35,6 +36,6 @@ pub returns : goal.returns
 returns c =
     let numbers = c.args.numbers.now in
     let kept = c.retain.ensures.filtered in
-    -- `among`: the test that the code asks of each To is whether its number is one of these
+    -- `among` says that the number of each To that is left is one of these, since the code has asked this of each
     let among = All-from_retain _ (λ to. Contains numbers to.number) _ (λ x b f' k. search rules) _ _ kept in
     rw (← c.self.view_is) (left_over kept.0 c.self.inside.list.items c.retain.new.self.items numbers kept.4 among)

@@ -1,5 +1,6 @@
 -- `stops-at`: where a bit of the word is set, the run ends at the lowest one. `goes-on`: where none is, all bytes of which the word tells pass.
 -- The arguments say that a byte is other than plain where it is not plain, that NUL is, what the bits tell, and that all bytes from p up to q are plain.
+-- `l.invariant`: .0, q is not before p; .1, q lies within the text; .2, all bytes from p up to q are plain.
 use Rattle.std.proofs.Common.{◌≡◌, ◌+◌, ◌-◌, drop, w64, refl, ◌∙◌, subst, arith}
 use Rattle.std.specs.Int.{trailing_zeros}
 use Rattle.std.specs.List.{prefix_len}

@@ -1,5 +1,6 @@
 -- `stops-at`: where a bit of the word is set, the run ends at the lowest one. `goes-on`: where none is, all bytes of which the word tells pass.
 -- A byte passes here where it is no control. The arguments say that NUL is one, what the bits tell, and that no control stands from p up to q.
+-- `l.invariant`: .0, q is not before p; .1, q lies within the text; .2, no control stands from p up to q.
 use Rattle.std.proofs.Common.{◌≡◌, ◌+◌, ◌-◌, ◌%◌, not, drop, w64, refl, ◌∙◌, subst, arith}
 use Rattle.std.specs.Int.{trailing_zeros}
 use Rattle.std.specs.List.{prefix_len}

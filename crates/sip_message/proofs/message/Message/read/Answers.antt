@@ -11,7 +11,7 @@ use Rattle.sip_message.proofs.message.Message.read.Goals as goal
 -- what is kept of Content-Length is digits
 pub body_len-requires : goal.body_len-requires
 body_len-requires c =
-    -- h says that the head is ordinary, and `of` what is asked for of its fields
+    -- h says that the head is ordinary, and `of` that what was kept is what its fields say
     let h = rw c.in-Some.is at c.in_ok-start.ensures.head in
     let of = rw c.in-Some.is at c.in_ok-start.ensures.asked in
     let fields = fields_parts c.read_ordinary.new.fields in
@@ -20,7 +20,7 @@ body_len-requires c =
 -- where the head and the body are ordinary, the parts that were found are those of the bytes
 pub new-requires-clause-keeps : goal.new-requires-clause-keeps
 new-requires-clause-keeps c =
-    -- h says that the head is ordinary, `of` what is asked for of its fields, and `whole` that the bytes are a message
+    -- h says that the head is ordinary, `of` that what was kept is what its fields say, and `whole` that the bytes are a message
     let h = rw c.in-Some.is at c.in_ok-start.ensures.head in
     let of = rw c.in-Some.is at c.in_ok-start.ensures.asked in
     let whole = ordinary-whole c.in-Some.start c.read_ordinary.new.asked c.unwrap-via.result c.unwrap-from.result c.unwrap-to.result c.unwrap-call_id.result c.unwrap-cseq.result h of
@@ -37,7 +37,7 @@ new-requires-clause-no_folds c =
 -- where the head and the body are ordinary, the message is what the bytes are read as
 pub returns : goal.returns
 returns c =
-    -- h says that the head is ordinary, `of` what is asked for of its fields, and `whole` that the bytes are a message
+    -- h says that the head is ordinary, `of` that what was kept is what its fields say, and `whole` that the bytes are a message
     let h = rw c.in-Some.is at c.in_ok-start.ensures.head in
     let of = rw c.in-Some.is at c.in_ok-start.ensures.asked in
     let whole = ordinary-whole c.in-Some.start c.read_ordinary.new.asked c.unwrap-via.result c.unwrap-from.result c.unwrap-to.result c.unwrap-call_id.result c.unwrap-cseq.result h of

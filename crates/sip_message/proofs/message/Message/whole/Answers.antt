@@ -68,7 +68,7 @@ returns-in_err-body c =
 -- each field has a value that its row allows
 pub read_body-requires-clause-rows : goal.read_body-requires-clause-rows
 read_body-requires-clause-rows c =
-    -- b tells how the bytes begin, and what is read of the lines are fields
+    -- b tells how the bytes begin, and the fields are what is read of their lines
     let b = begins c.in-Some.ensures.0 (c.is_clean.ensures.0 c.if-not-is_clean.false) c.cut_first.ensures in
     subst (λ xs. AllByRecursion (λ f. Row f.name f.value) (map field_parts xs)) (sym c.deref-2.ensures.value) (fields-rows b.0 (fields_parts c.in_ok-fields.fields) (read-fields 1 b.0 (fields_parts c.in_ok-fields.fields) (c.in_ok-fields.ensures.fields b.0 b.2)))
 

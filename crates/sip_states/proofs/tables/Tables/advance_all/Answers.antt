@@ -79,7 +79,7 @@ pub unmark_silent-requires-clause-marked : goal.unmark_silent-requires-clause-ma
 unmark_silent-requires-clause-marked g c =
     marked_still (λ s. numbers_of s ≡ []) c.args.moment c.named.result.now c.self.inside.marks.named (values c.self.inside.sets) (values c.advance_each.new.sets) c.self.invariant.3 (λ n has. (c.named.ensures.members n).0 has) c.in_ok-advance_each.ensures.ok
 
--- each set has waited, as the marked ones have, or it names no message and is as before
+-- each set has waited, if it was marked as named; else it names no message and is as before
 pub returns-clause-ok : goal.returns-clause-ok
 returns-clause-ok g c =
     let up = c.in_ok-advance_each.ensures.ok in

@@ -1,4 +1,6 @@
--- `is` says that the fields of the survey are those of what it holds, and `comes` that the entry may come next; s is what it holds, and e the entry.
+-- `is` says that the fields of the survey are those of what it holds, and `comes` that the entry may come next; s has these fields, and e is the entry.
+-- What holds of a survey that goes on: (.0) the next entry may be taken, (.1) what holds of its tables (AreWatched), (.2) no transaction has come into
+-- trouble at the entry in hand yet, and (.3) the messages that the last sweep left and (.4) the entries are within their limits.
 use Rattle.std.proofs.Common.{◌≤◌, ◌+◌, ◌∙◌, All, Contains, length, sym, ap, subst, arith}
 use Rattle.std.proofs.lemmas.List.{length_push}
 use Rattle.sip_log.specs.Told.{item}

@@ -10,7 +10,7 @@ use Rattle.sip_verdict.proofs.following.Survey.forget.Goals as goal
 pub returns-in-Ok-clause-forgets : goal.returns-in-Ok-clause-forgets
 returns-in-Ok-clause-forgets g c = λ es surveys.
     let is = c.self.view_is in
-    -- `kept` tells the keys that are kept, `forgets` says that just what is over is not, and `many` that the book has what is still named
+    -- `kept` tells which keys are kept, `forgets` that the others are just those that are over and old enough, and `many` how many messages are still named
     let (kept, forgets, follows, told, many) =
     c.in-Ok.ensures.forgets es (subst (λ j. AreSurveyed j.texts j.tables j.deaf j.left es) (sym is) surveys.follows) (subst (λ j. AreHistories es j.histories) (sym is) surveys.histories)
     (sym surveys.moment ∙ ap (λ j. j.moment) (sym is)) in (

@@ -15,7 +15,7 @@ returns g c = λ es surveys low.
     -- the keys are those of the entries, and each history is that of the key under its number
     let keys = ap (λ j. j.tables.keys) is ∙ surveys.follows.tracks.keys in
     let told = subst (λ j. AreHistories es j.histories) (sym is) surveys.histories in
-    -- `at`: the key stands under the number in the tables, and so in the keys of the entries; `here`: its history does
+    -- `at`: the key stands under the number in the tables, and so (`there`) among the keys of the entries; `here`: so does its history
     let at : slice_get s.standing.tables.keys n ≡ Some key = search rules in
     let here : slice_get s.histories.each.items n ≡ Some h = history_at _ _ _ _ _ c.get.ensures.lookup c.deref.ensures.value c.in_ok-history.was in
     let there = ap (λ ks. slice_get ks n) (sym keys) ∙ at in

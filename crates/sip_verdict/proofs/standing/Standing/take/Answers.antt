@@ -1,5 +1,5 @@
 -- s is what stands before the entry, and e the entry: it is a restart, is heard by no transaction (Unheard), has a fault, or is heard by some.
--- `passed` is what the passing answers and promises, and `kept` says which message the book has more.
+-- `passed` is what the passing answers and promises, and `kept` says whether a message came into the book.
 -- Of what is kept of a heard message, .4 says that the book is as before, or has the message too.
 use Rattle.std.proofs.Common.{[], ◌||◌, Some, None, ◌∙◌, ap, inl, length, refl, arith, subst, sym}
 use Rattle.std.proofs.lemmas.Bool.{false≢true}
@@ -42,7 +42,7 @@ returns-in_ok-verdict-in-Restart-clause-may g c =
     let s = c.args.self.now in
     let e = c.args.entry.now in
     let passed = c.in_ok-verdict-in-Restart in
-    -- no message came into the book and no key into the tables, so that every number stands as after the entry
+    -- no message came into the book and no key into the tables, so that the limits hold for the next number too
     may_next passed.verdict s.book c.observe.new.book c.pass-in-Restart.new.self.book s.tables s.tables c.pass-in-Restart.new.self.tables e.number e.moment e.bytes.items c.requires.may
     (inl (rw c.in-Restart.is at c.in_ok-told.ensures.kept).0) (omega arith) passed.ensures.keys passed.ensures.book passed.ensures.may passed.ensures.recorded
 
@@ -53,7 +53,7 @@ returns-in_ok-verdict-in-Restart-clause-numbered g c =
     let e = c.args.entry.now in
     let kept = rw c.in-Restart.is at c.in_ok-told.ensures.kept in
     let new = c.pass-in-Restart.new.self.book in
-    -- nothing is asked where there is a verdict; else the restart concerns no key, and the book is as it was
+    -- nothing is asked where there is a verdict; else the entry has no message, and the book is as it was
     unless_trouble (StaysNumbered (item e) e.number s.book new) c.in_ok-verdict-in-Restart.verdict
     (numbered_none (item e) e.number s.book new kept.1 (c.in_ok-verdict-in-Restart.ensures.book ∙ kept.0))
 
@@ -98,7 +98,7 @@ returns-in_ok-verdict-in-Unheard-clause-may g c =
     let s = c.args.self.now in
     let e = c.args.entry.now in
     let passed = c.in_ok-verdict-in-Unheard in
-    -- no message came into the book and no key into the tables, so that every number stands as after the entry
+    -- no message came into the book and no key into the tables, so that the limits hold for the next number too
     may_next passed.verdict s.book c.observe.new.book c.pass.new.self.book s.tables s.tables c.pass.new.self.tables e.number e.moment e.bytes.items c.requires.may
     (inl (rw c.in-Unheard.is at c.in_ok-told.ensures.kept)) (omega arith) passed.ensures.keys passed.ensures.book passed.ensures.may passed.ensures.recorded
 
@@ -140,7 +140,7 @@ returns-in_ok-verdict-in-Heard-clause-may g c =
     let s = c.args.self.now in
     let e = c.args.entry.now in
     let passed = c.in_ok-verdict-in-Heard in
-    -- the book has at most the message of the entry more, and the tables at most two keys
+    -- the book has at most one message more, that of the entry, and the tables have at most two keys more
     may_next passed.verdict s.book c.observe.new.book c.pass-in-Heard.new.self.book s.tables c.touch_each.new.tables c.pass-in-Heard.new.self.tables e.number e.moment e.bytes.items c.requires.may
     (rw c.in-Heard.is at c.in_ok-told.ensures.kept).4
     (few_keys c.in-Heard.concerned (each c.in_ok-concerned-in-Heard.concerned) s.tables c.touch_each.new.tables c.in_ok-concerned-in-Heard.ensures.touched)

@@ -8,7 +8,6 @@ use Rattle.sip_verdict.proofs.standing.Standing.text_of_all.Goals as goal
 
 -- the numbers up to n are those up to n - 1, and n
 up_to-more : (n : ℕ) → 0 < n → up_to n ≡ up_to (n - 1) ++ n ∷ []
--- n is not 0, by what is given
 up_to-more zero low = absurd (omega arith)
 up_to-more (suc n) low = let before : n ≡ suc n - 1 = omega arith in ap (λ k. up_to k ++ suc n ∷ []) before
 

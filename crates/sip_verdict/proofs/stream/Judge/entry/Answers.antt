@@ -1,4 +1,5 @@
 -- `is` says that the fields of the judge are those of what it holds, `comes` that the entry may come next, and `stands` that the judge has taken es.
+-- What holds of a judge that goes on: (.0) the next entry may be taken, and (.1) the messages that the last sweep left are within their limit.
 use Rattle.std.proofs.Common.{◌+◌, ◌∙◌, All, Contains, refl, sym, ap, subst, arith}
 use Rattle.sip_verdict.specs.Judging.{Judging, AreFollowed, MayComeNext}
 use Rattle.sip_verdict.proofs.judges.JudgeLemmas.{may_take_next, stands_on}

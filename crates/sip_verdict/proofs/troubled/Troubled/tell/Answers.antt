@@ -8,7 +8,7 @@ use Rattle.sip_verdict.proofs.troubled.Troubled.tell.Goals as goal
 pub returns-then-is_fresh-clause-told : goal.returns-then-is_fresh-clause-told
 returns-then-is_fresh-clause-told c =
     let fresh = c.if-is_fresh.ensures.0 refl in
-    -- the empty list ascends, and has what the empty list has
+    -- the empty list is in order, and has just the numbers of the empty list
     let none : AreAscending [] [] = ((λ i j d low high. absurd (omega arith)), (λ n. ((λ h. h), (λ h. h)))) in (
       [],
       [],

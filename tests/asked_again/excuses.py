@@ -118,9 +118,9 @@ class Excuses:
         self.says("a message that the log lacks", row, self.is_gone([*history, *more, *rest, self.case.last_entry()]))
         if more[0].letter == "Z":
             self.restarts_between(row, more[0].moment)
-        # A question with `received by` says that no message of this kind would excuse the breach, had it come by this moment.
-        elif not row["helps"] and history and "received by" in row["question"]:
-            self.not_sooner_either(row, more[0])
+        # The question says that no message of this kind, come between two moments, would excuse the breach.
+        elif not row["helps"] and (tried := re.search(r" received from (\d+) to \d+\?", row["question"])):
+            self.not_sooner_either(row, more[0], int(tried[1]))
 
     def place_after(self, number):
         """How many entries of the history come up to this entry; all of them where no entry is named."""
@@ -135,12 +135,16 @@ class Excuses:
             gone = self.is_gone([*self.case.history, Entry("Z", moment, b""), self.case.last_entry()])
             self.claims.holds("a restart at each moment between", gone == row["helps"], f"{row['question']} {moment}")
 
-    def not_sooner_either(self, row, message):
-        """Checks a message that came by a moment and may have come sooner: after each entry of the history, at its moment or just before the next one."""
+    def not_sooner_either(self, row, message, first):
+        """Checks a message that came by a moment and may have come sooner, but after `first`: after each entry of the history, at its moment or just before
+        the next one."""
         history = self.case.history
         for place in self.case.chance.sample(range(1, len(history) + 1), min(MOST_PLACES, len(history))):
             following = history[place].moment if place < len(history) else message.moment
             for moment in {history[place - 1].moment, following}:
+                # Of the places at `first` not all were tried.
+                if moment <= first:
+                    continue
                 sooner = [*history[:place], message._replace(moment=moment), *history[place:], self.case.last_entry()]
                 self.claims.holds("a message that came sooner excuses it no more", not self.is_gone(sooner), f"{row['question']} {moment}")
 

@@ -103,21 +103,19 @@ impl Played {
     }
 
     /// The rows from `from` on gain the debt.
-    fn gain_each(&mut self, rt: &impl Abort, from: usize, debt: Debt) -> Done {
+    fn gain_each(&mut self, from: usize, debt: Debt) -> Done {
         self.accounts.gain_each(from, debt)?;
-        for row in from..self.lists.len() {
-            holds(rt, row < self.lists.len(), "a row of the lists");
-            self.lists[row].push(debt)?;
+        for list in self.lists.iter_mut().skip(from) {
+            list.push(debt)?;
         }
         Ok(())
     }
 
     /// The rows from `from` on lose what is past.
-    fn expire_each(&mut self, rt: &impl Abort, from: usize, moment: u64) -> Done {
+    fn expire_each(&mut self, from: usize, moment: u64) -> Done {
         self.accounts.expire_each(from, moment)?;
-        for row in from..self.lists.len() {
-            holds(rt, row < self.lists.len(), "a row of the lists");
-            self.lists[row].retain(|debt| debt.must || moment <= debt.deadline);
+        for list in self.lists.iter_mut().skip(from) {
+            list.retain(|debt| debt.must || moment <= debt.deadline);
         }
         Ok(())
     }
@@ -191,10 +189,8 @@ impl Played {
         let rows = evens(self.alloc, self.accounts.len())?;
         self.accounts.keep(&rows);
         let mut kept = Vec::new(self.alloc);
-        for (row, list) in self.lists.iter().enumerate() {
-            if row % 2 == 0 {
-                kept.push(list.clone()?)?;
-            }
+        for list in self.lists.iter().step_by(2) {
+            kept.push(list.clone()?)?;
         }
         self.lists = kept;
         Ok(())
@@ -236,10 +232,8 @@ impl Played {
         holds(rt, row < self.accounts.len(), "a row of the accounts");
         let mut names = Vec::new(self.alloc);
         self.accounts.names(self.alloc, row, &mut names)?;
-        holds_of(rt, names.len() == list.len(), "count of names", row);
-        for (name, debt) in names.iter().zip(list) {
-            holds_of(rt, *name == debt.message, "name", row);
-        }
+        let wants = list.iter().map(|debt| debt.message);
+        holds_of(rt, names.into_iter().eq(wants), "names", row);
         Ok(())
     }
 
@@ -304,10 +298,8 @@ impl Played {
     /// The messages that rows owe, from the least on, each once.
     fn messages(&self) -> Result<Vec<u64>, AllocError> {
         let mut messages = Vec::new(self.alloc);
-        for list in &self.lists {
-            for debt in list {
-                messages.push(debt.message)?;
-            }
+        for debt in self.lists.iter().flatten() {
+            messages.push(debt.message)?;
         }
         messages.sort_unstable();
         messages.dedup();
@@ -321,9 +313,8 @@ impl Played {
         self.accounts.all_names(&mut names)?;
         holds(rt, names.as_slice() == wants.as_slice(), "all names");
         let (low, high) = self.accounts.span();
-        for name in &wants {
-            holds(rt, low <= *name && *name <= high, "span");
-        }
+        let is_span = wants.iter().all(|name| low <= *name && *name <= high);
+        holds(rt, is_span, "span");
         Ok(())
     }
 
@@ -354,12 +345,9 @@ fn left_of(list: &Vec<Debt>, message: u64, moment: u64) -> Result<Option<Vec<Deb
     let first = left
         .iter()
         .position(|debt| debt.message == message && moment <= debt.deadline);
-    let Some(first) = first else {
+    let (Some(first), true) = (first, is_timely(&left, moment)) else {
         return Ok(None);
     };
-    if !is_timely(&left, moment) {
-        return Ok(None);
-    }
     left.remove(first);
     left.retain(|debt| debt.must || moment <= debt.deadline);
     Ok(Some(left))
@@ -384,13 +372,8 @@ fn first_of(list: &[Debt], [one, other]: [u64; 2], moment: u64) -> Option<u64> {
 
 /// The least deadline of what must be sent.
 fn earliest_must(list: &[Debt]) -> Option<u64> {
-    let mut least = None;
-    for debt in list {
-        if debt.must && least.is_none_or(|moment| debt.deadline < moment) {
-            least = Some(debt.deadline);
-        }
-    }
-    least
+    let musts = list.iter().filter(|debt| debt.must);
+    musts.map(|debt| debt.deadline).min()
 }
 
 /// Whether nothing that must be sent is past at the moment.
@@ -442,10 +425,10 @@ fn change_many(rt: &impl Abort, chance: &mut Chance, played: &mut Played, moment
     let message = chance.below(3);
     match chance.below(6) {
         0 if played.lists.len() < 12 => played.push_timely(rt, from, to, moment)?,
-        1 => played.expire_each(rt, from, moment)?,
+        1 => played.expire_each(from, moment)?,
         2 => {
             let must = chance.below(2) == 0;
-            played.gain_each(rt, from, owed(message, moment.saturating_add(5), must))?;
+            played.gain_each(from, owed(message, moment.saturating_add(5), must))?;
         }
         3 if played.lists.len() > 6 => played.drop_first(rt),
         _ if played.lists.len() < 12 => played.pay(rt, from, to, message, moment)?,
@@ -459,6 +442,7 @@ fn step(rt: &impl Abort, chance: &mut Chance, played: &mut Played, rises: bool) 
     let row = played.row(rt, chance);
     let now = played.clock;
     let moment = if rises { now } else { chance.below(40) };
+    let later = now.saturating_add(5);
     match chance.below(22) {
         0 => played.soften(rt, row),
         1 => played.clock = now.saturating_add(chance.below(3)),
@@ -470,11 +454,7 @@ fn step(rt: &impl Abort, chance: &mut Chance, played: &mut Played, rises: bool) 
         11..15 => change_rows(rt, chance, played)?,
         15..17 => change_many(rt, chance, played, moment)?,
         _ => {
-            let deadline = if rises {
-                now.saturating_add(5)
-            } else {
-                10 * (moment / 10)
-            };
+            let deadline = if rises { later } else { moment / 10 * 10 };
             gain_some(rt, chance, played, deadline)?;
         }
     }
@@ -535,10 +515,9 @@ fn gains_and_pays(rt: &impl Abort, played: &mut Played, count: usize) -> Done {
         played.gain_and_expire(rt, 0, owed(7, 10, true), 0)?;
     }
     played.agree(rt)?;
-    for _ in 0..count {
+    for _ in 0..=count {
         played.pay_and_expire(rt, 0, 7, 10)?;
     }
-    played.pay_and_expire(rt, 0, 7, 10)?;
     played.agree(rt)
 }
 
@@ -577,22 +556,17 @@ fn what_is_owed_is_told_after_a_long_life(rt: HostRuntime) -> Done {
 }
 
 /// The first row comes to owe a hundred messages, and pays them in a mixed order.
-fn pays_in_any_order(rt: &impl Abort, played: &mut Played) -> Done {
-    for message in 0..100 {
-        played.gain_and_expire(rt, 0, owed(message, 10, message % 2 == 0), 0)?;
-    }
-    for step in 0..100_u64 {
-        // 37 and 100 have no common factor, so that each message is paid once.
-        played.pay_and_expire(rt, 0, step * 37 % 100, 5)?;
-        played.accounts.tidy();
-        played.agree(rt)?;
-    }
-    Ok(())
-}
-
-/// One row that owes many messages, and pays them in a mixed order.
 #[test]
 fn one_row_pays_in_any_order(rt: HostRuntime) -> Done {
     let mut played = Played::new(&rt)?;
-    pays_in_any_order(&rt, &mut played)
+    for message in 0..100 {
+        played.gain_and_expire(&rt, 0, owed(message, 10, message % 2 == 0), 0)?;
+    }
+    for step in 0..100_u64 {
+        // 37 and 100 have no common factor, so that each message is paid once.
+        played.pay_and_expire(&rt, 0, step * 37 % 100, 5)?;
+        played.accounts.tidy();
+        played.agree(&rt)?;
+    }
+    Ok(())
 }

@@ -64,10 +64,8 @@ fn names_again(rt: &(impl Abort + AllocGlobal), accounts: &Accounts) -> Done {
         holds(rt, names.is_empty(), "no names");
         accounts.all_names(&mut names)?;
     }
-    for number in &names {
-        // All debts of `step` are of the messages 0, 1 and 2.
-        holds(rt, *number < 3, "a name");
-    }
+    // All debts of `step` are of the messages 0, 1 and 2.
+    holds(rt, names.iter().all(|number| *number < 3), "names");
     Ok(asked?)
 }
 

@@ -1,5 +1,5 @@
 -- Indexes as pairs of a key and a number, the order of the pairs, and how many numbers stand under a key.
-use Rattle.sip_ledger.proofs.Words.{◌≡◌, ◌==◌, ◌&&◌, ◌<◌, ◌≤◌, ℕ, Bool, true, false, List, [], ◌∷◌, cond, refl, sym, ap, ◌∙◌, arith, true≢false, ◌||◌, nat_le, count_by, is_at, nat_tests, sum_by-cons, count_under, holds, pair_cmp, length, is_eq, is_gt, BTreeSet, IsKeyRangeOf, IsLowerBound, IsUpperBound, Included, Unbounded, IsFrom, IsFirstFrom, NoneFrom}
+use Rattle.sip_ledger.proofs.Words.{◌≡◌, ◌==◌, ◌&&◌, ◌+◌, ◌<◌, ◌≤◌, ℕ, Bool, true, false, List, [], ◌∷◌, cond, refl, sym, ap, ◌∙◌, arith, true≢false, ◌||◌, nat_le, count_by, is_at, nat_tests, sum_by-cons, count_under, holds, pair_cmp, length, is_eq, is_gt, BTreeSet, IsKeyRangeOf, IsLowerBound, IsUpperBound, Included, Unbounded, IsFrom, IsFirstFrom, NoneFrom}
 
 -- two pairs compare as equal exactly if both their numbers are equal
 pub is_pair : (a b c d : ℕ) → is_eq (pair_cmp (a, b) (c, d)) ≡ (c == a && d == b)
@@ -48,6 +48,11 @@ counted b = cond b 1 0
 unfoldable pub count_from : List (ℕ × ℕ) → ℕ → ℕ → ℕ
 count_from pairs key from = count_by (is_from key from) pairs
 
+-- with one pair before the others, one more is counted if that pair counts
+count-more : (key from : ℕ) (pair : ℕ × ℕ) (pairs : List (ℕ × ℕ)) → count_from (pair ∷ pairs) key from ≡ counted (is_from key from pair) + count_from pairs key from
+unfolding count_from
+count-more key from pair pairs = sum_by-cons (λ p. counted (is_from key from p)) pair pairs
+
 -- all numbers are from 0 on
 pub count_all : (pairs : List (ℕ × ℕ)) (key : ℕ) → count_from pairs key 0 ≡ count_under pairs key
 unfolding count_from
@@ -55,11 +60,7 @@ count_all [] key = refl
 count_all (pair ∷ pairs) key =
     -- the first pair counts alike on both sides, and so do the others
     let same : is_from key 0 pair ≡ (pair.0 == key) = grind (arith, nat_tests) in
-    let one = ap counted same in
-    let rest = count_all pairs key in
-    let left = sum_by-cons (λ p. cond (is_from key 0 p) 1 0) pair pairs in
-    let right = sum_by-cons (λ p. cond (p.0 == key) 1 0) pair pairs in
-    omega (arith, one, rest, left, right)
+    omega (arith, ap counted same, count_all pairs key, count-more key 0 pair pairs, sum_by-cons (λ p. cond (p.0 == key) 1 0) pair pairs)
 
 -- What follows is of numbers under one key, counted from `from` on and from `to` on, which is not before it.
 module _ (key from to : ℕ) where
@@ -73,11 +74,7 @@ module _ (key from to : ℕ) where
   count_less [] low = omega arith
   count_less (pair ∷ pairs) low =
       -- the first pair counts no more from `to` on, and neither do the others
-      let one = counts-less pair low in
-      let rest = count_less pairs low in
-      let left = sum_by-cons (λ p. cond (is_from key to p) 1 0) pair pairs in
-      let right = sum_by-cons (λ p. cond (is_from key from p) 1 0) pair pairs in
-      omega (arith, one, rest, left, right)
+      omega (arith, counts-less pair low, count_less pairs low, count-more key to pair pairs, count-more key from pair pairs)
 
   -- What follows is of a number from `from` on that is below `to`: it is passed where one goes on from `from` to `to`.
   module _ (number : ℕ) (after : from ≤ number) (before : number < to) where
@@ -90,21 +87,13 @@ module _ (key from to : ℕ) where
     passed-one : (pair : ℕ × ℕ) (pairs : List (ℕ × ℕ)) (b : Bool) → is_at (pair_cmp (key, number)) pair ≡ b →
         (holds pairs key number ≡ true → count_from pairs key to < count_from pairs key from) → (b || holds pairs key number) ≡ true →
         count_from (pair ∷ pairs) key to < count_from (pair ∷ pairs) key from
-    unfolding count_from
     -- the first pair is the passed one: it counts from its number on, and not after it
     passed-one pair pairs true is fewer any =
         let one = counts-one pair (sym (is_pair key number pair.0 pair.1) ∙ is) in
-        let rest = count_less pairs (omega (arith, after, before)) in
-        let left = sum_by-cons (λ p. cond (is_from key to p) 1 0) pair pairs in
-        let right = sum_by-cons (λ p. cond (is_from key from p) 1 0) pair pairs in
-        omega (arith, one, rest, left, right)
+        omega (arith, one, count_less pairs (omega (arith, after, before)), count-more key to pair pairs, count-more key from pair pairs)
     -- the first pair is another one, and the passed one is among the rest
     passed-one pair pairs false is fewer any =
-        let one = counts-less pair (omega (arith, after, before)) in
-        let rest = fewer any in
-        let left = sum_by-cons (λ p. cond (is_from key to p) 1 0) pair pairs in
-        let right = sum_by-cons (λ p. cond (is_from key from p) 1 0) pair pairs in
-        omega (arith, one, rest, left, right)
+        omega (arith, counts-less pair (omega (arith, after, before)), fewer any, count-more key to pair pairs, count-more key from pair pairs)
 
     -- where a number is passed that stands under the key, fewer are left
     pub count_passed : (pairs : List (ℕ × ℕ)) → holds pairs key number ≡ true → count_from pairs key to < count_from pairs key from

@@ -15,8 +15,6 @@ IsToOf-same bytes to text is = (
 pub IsToOf-one : (bytes to text : List ℕ) → IsToOf bytes text → IsToOf bytes to → text ≡ to
 IsToOf-one bytes to text is its = (bytes_decides text to).0 ((IsToOf-same bytes to text is).1 its)
 
--- What follows is of the Tos of kept messages, as messages come and go.
-
 -- where the To of a kept message is put after the others, all are Tos of kept messages
 pub AreTos-push : (texts : Texts) (tos new : List To) (to : To) → IsTo texts to → AreTos texts tos → new ≡ tos ++ to ∷ [] → AreTos texts new
 AreTos-push texts tos new to is all e = record { each = rw e (All-push (IsTo texts) tos to all.each is) }
@@ -48,8 +46,6 @@ AreTos-only texts numbers book up kept tos new all left = record {
 -- where the list has a text as the To of a number, it is the To of the message with that number
 pub to_of : (texts : Texts) (tos : List To) (number : ℕ) (text : List ℕ) → AreTos texts tos → Contains tos (record { number = number; text = text }) → IsToOf (text_of texts number) text
 to_of texts tos number text all has = grind (arith, nat_tests, All-contains)
-
--- What follows is of the Tos in their list.
 
 -- what is read past the end of the list
 abbrev pub nobody : To
@@ -143,8 +139,6 @@ taken-keeps hash number (Some old) (Some new) changed h n other is =
 pub none-under : (hashes : Option (List (ℕ × ℕ))) (tos : List To) → is_some hashes ≡ false → AreUnder hashes tos
 none-under None tos none = λ k d low. tt
 none-under (Some pairs) tos none = absurd (true≢false none)
-
--- What follows is of which kept message has a To.
 
 -- where the values that f gives rise along a list, the list of these values rises
 pub AllPairs-map : {X : Type 0} (f : X → ℕ) (xs : List X) → AllPairs (λ a b. f a < f b) xs → AllPairs (λ a b. a < b) (map f xs)

@@ -104,7 +104,6 @@ empty-length [] n is = (λ _. refl, λ _. grind (arith, nat_tests))
 empty-length (x ∷ xs) n is = (λ none. let low : n ≡ 0 = grind (arith, nat_tests) in absurd (omega (arith, low, is)), λ none. cc)
 
 -- What follows is of lists that grow at their end.
-
 module _ {X : Type 0} where
   -- the element at k of a list that has one
   pub some-at : (xs : List X) (k : ℕ) → k < length xs → X

@@ -110,6 +110,19 @@ fn breaches(alloc: Global, found: &[Finding]) -> Result<Vec<(u64, u64)>, AllocEr
     Ok(numbers)
 }
 
+/// Checks that breaches alone are found: these, by their entries and transactions.
+fn breaches_are(
+    rt: &(impl Abort + AllocGlobal),
+    found: &[Finding],
+    wants: &[(u64, u64)],
+    words: &str,
+) -> Result<(), Fail> {
+    let numbers = breaches(rt.alloc(), found)?;
+    holds(rt, numbers.as_slice() == wants, words);
+    holds(rt, found.len() == wants.len(), words);
+    Ok(())
+}
+
 /// Checks the transactions that are left, and the findings, of a survey that takes the log of these words and forgets.
 fn forgets(rt: &(impl Abort + AllocGlobal), (words, behind, left, found): Row) -> Result<(), Fail> {
     let log = log_of(rt.alloc(), words)?;
@@ -120,10 +133,7 @@ fn forgets(rt: &(impl Abort + AllocGlobal), (words, behind, left, found): Row) -
     surveyed.end();
     done?;
     holds(rt, are_left.as_slice() == left, words);
-    let numbers = breaches(rt.alloc(), are_found.as_slice())?;
-    holds(rt, numbers.as_slice() == found, words);
-    holds(rt, are_found.len() == found.len(), words);
-    Ok(())
+    breaches_are(rt, are_found.as_slice(), found, words)
 }
 
 /// Each row tells how many transactions are left after each entry.

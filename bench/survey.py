@@ -1,6 +1,7 @@
 """What a survey takes beside a verdict: what bench/judge.sh counts and times under the word survey. Its words are the programs siptrace and sipsurvey.
 
-On logs without trouble both read the same entries. Then 100,000 clients fall silent at one moment, beside the same log that ends a millisecond earlier."""
+On logs without trouble both read the same entries. Then 50,000 and 100,000 clients fall silent at one moment, beside the same log that ends a millisecond
+earlier."""
 
 import subprocess
 import sys
@@ -11,8 +12,8 @@ from judge import COUNTED, COUNTED_WIDE, KINDS, check_legal, measured, name_of, 
 
 # What counts the instructions of a program.
 VALGRIND = ["valgrind", "--tool=callgrind", "--callgrind-out-file=/dev/null"]
-# How many transactions a log has that all fall silent at one moment.
-CLIENTS = 100_000
+# How many transactions a log has that all fall silent at one moment: twice as many should take twice the seconds.
+CLIENTS = (50_000, 100_000)
 # How many entries a log has that is timed.
 TIMED = 100_000
 # How often each run is timed: the least time counts.
@@ -77,25 +78,26 @@ def print_timed(programs, folder):
         print(f"{name_of(kind):<24} {verdict:>9.3f} {survey:>9.3f} {survey / verdict:>6.3f}", flush=True)
 
 
-def print_silent(programs, folder):
-    """Prints what a survey takes of 100,000 clients whose request has to be sent again by 550."""
+def print_silent(programs, folder, clients):
+    """Prints what a survey takes of so many clients whose request has to be sent again by 550."""
     logs = [folder / "in time", folder / "late"]
     for log, moment in zip(logs, (550, 551)):
-        requests = (("S", 0, small("OPTIONS sip:b@example.com SIP/2.0", "OPTIONS", number)) for number in range(CLIENTS))
+        requests = (("S", 0, small("OPTIONS sip:b@example.com SIP/2.0", "OPTIONS", number)) for number in range(clients))
         write_entries(log, [*requests, ("M", moment, "")])
     # By 550 all may be silent, and at 551 all are late at once.
     verdict, *surveys = [commands(programs, logs[0])[0], *(commands(programs, log)[1] for log in logs)]
     (judged, legal, silent), (_, text, found) = seconds_of([verdict, *surveys])
-    if not text.startswith(b"end ") or not found.startswith(f"breach {CLIENTS + 1} transaction 1 client OPTIONS ".encode()):
+    if not text.startswith(b"end ") or not found.startswith(f"breach {clients + 1} transaction 1 client OPTIONS ".encode()):
         sys.exit(f"{text!r} {found!r}")
-    print(f"{CLIENTS} clients: verdict {judged:.3f} s, survey {legal:.3f} s; all silent at one moment: {silent:.3f} s, {silent / legal:.2f} times")
+    print(f"{clients} clients: verdict {judged:.3f} s, survey {legal:.3f} s; all silent at one moment: {silent:.3f} s, {silent / legal:.2f} times")
 
 
 def main():
     with tempfile.TemporaryDirectory() as folder:
         print_counted(sys.argv[1:], Path(folder))
         print_timed(sys.argv[1:], Path(folder))
-        print_silent(sys.argv[1:], Path(folder))
+        for clients in CLIENTS:
+            print_silent(sys.argv[1:], Path(folder), clients)
 
 
 if __name__ == "__main__":

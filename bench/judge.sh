@@ -10,7 +10,9 @@
 #   bench/judge.sh shapes                     hostile messages and wide transactions, counted: what a byte takes in a message of 4 KiB and in one of
 #                                             64 KiB, which is about the same where reading is linear, and what an entry takes by how many states there
 #                                             are and how much is owed
-#   bench/judge.sh owed [LOG ..]              hostile logs in which much is owed, timed in three lengths: which of them do not grow in line
+#   bench/judge.sh owed [HEADER ..] [long] [LOG ..]
+#                                             hostile logs in which much is owed, timed in three lengths: which of them do not grow in line. HEADER is
+#                                             6026 (it stands for none), 3261, early or restarts; long is for lengths eight times as long
 #   bench/judge.sh survey                     a survey beside a verdict, counted and timed
 #   bench/judge.sh parts [ENTRIES]            four parts of a log at once beside the whole, counted and timed
 #   bench/judge.sh stream [ENTRIES ..]        the most memory of a survey that forgets, after so many entries of calls without an end

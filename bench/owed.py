@@ -1,4 +1,5 @@
-"""Hostile logs in which an element owes much: what bench/judge.sh times under the word owed. Its words are the program, and names of logs.
+"""Hostile logs in which an element owes much: what bench/judge.sh times under the word owed. Its words are the program, then names of headers, the word long
+for lengths eight times as long, and names of logs.
 
 Each log stands in three lengths, each twice the one before. Where a length takes more than 2.3 times what the one before took, the log does not grow in line, and
 the last line of all names it. A run ends after SECONDS of processor time, and is told as over.
@@ -6,6 +7,7 @@ the last line of all names it. A run ends after SECONDS of processor time, and i
 
 import sys
 import tempfile
+from itertools import product
 from pathlib import Path
 
 from judge import measured, name_of, write_entries
@@ -236,6 +238,25 @@ LOGS = [
 ]
 
 
+# The times that each header has.
+TIMES = "t1 500 t2 4000 t4 5000"
+# The headers, by their names: the rules of RFC 6026 with one tolerance, those of RFC 3261, two tolerances of which one is 0, and two for restarts.
+HEADERS = {
+    "6026": f"sip-trace 1\n{TIMES} tolerance 10000\n", "3261": f"sip-trace 1\n{TIMES} tolerance 10000\nrules 3261\n",
+    "early": f"sip-trace 2\n{TIMES} early 0 late 10000\n", "restarts": f"sip-trace 2\n{TIMES} early 10000 late 10000\n",
+}
+
+
+def with_restarts(entries):
+    """The entries between a restart and as many restarts as they are, at the moment of the last one."""
+    count, moment = 0, 0
+    yield "Z", 0, ""
+    for letter, moment, text in entries:
+        count += 1
+        yield letter, moment, text
+    yield from count * [("Z", moment, "")]
+
+
 def timed(program, log):
     """The verdict, the least processor seconds of some runs, and the most megabytes; or none, where a run is over."""
     # A run ends where it takes more seconds of a processor than SECONDS.
@@ -250,10 +271,14 @@ def timed(program, log):
 
 
 def main():
-    program, *names = sys.argv[1:]
+    program, *words = sys.argv[1:]
+    headers = [it for it in words if it in HEADERS] or ["6026"]
+    names = [it for it in words if it not in HEADERS and it != "long"]
+    # With the word long each length is eight times as long, but for the log whose states grow with it, which would be undecided.
+    longer = 8 if "long" in words else 1
     # `steep` has a line for each log whose time more than doubles where its length doubles.
     steep = []
-    print(f"{'log':<25} {'states':>6}   " + "".join(f"{'entries':>9} {'seconds':>8} {'times':>6} {'peak MB':>8}   " for _ in range(3)))
+    print(f"{'log':<25} {'header':>8} {'states':>6}   " + "".join(f"{'entries':>9} {'seconds':>8} {'times':>6} {'peak MB':>8}   " for _ in range(3)))
     with tempfile.TemporaryDirectory() as folder:
         log = Path(folder) / "log"
         # `make` writes a log of so many entries over so many states, `least` is the shortest length, and `sets` has the numbers of states.
@@ -261,15 +286,17 @@ def main():
             name = name_of(make)
             if names and name not in names:
                 continue
-            for states in sets:
+            for header, states in product(headers, sets):
                 # `told` has the columns of a row, and `before` the seconds of the log half as long.
                 told, before = [], None
-                for count in (least, 2 * least, 4 * least):
-                    entries = write_entries(log, make(count, states), "sip-trace 1\nt1 500 t2 4000 t4 5000 tolerance 10000\n")
+                first = least * (1 if make in (repeats_and_sends, repeats_apart, debt_and_payment) else longer)
+                for count in (first, 2 * first, 4 * first):
+                    made = make(count, states)
+                    entries = write_entries(log, with_restarts(made) if header == "restarts" else made, HEADERS[header])
                     run = timed(program, log)
                     if not run:
                         told.append(f"{entries:>9} {'over':>8} {'':>6} {'':>8}")
-                        steep.append(f"{name} over {states}: more than {SECONDS} seconds for {entries} entries")
+                        steep.append(f"{name} over {states}, {header}: more than {SECONDS} seconds for {entries} entries")
                         break
                     verdict, seconds, peak = run
                     if not verdict.startswith("legal "):
@@ -278,9 +305,9 @@ def main():
                     times = f"{seconds / before:.2f}" if before and before >= LEAST else ""
                     told.append(f"{entries:>9} {seconds:>8.3f} {times:>6} {peak:>8.1f}")
                     if times and float(times) > IN_LINE:
-                        steep.append(f"{name} over {states}: {times} times for twice the log, at {entries} entries")
+                        steep.append(f"{name} over {states}, {header}: {times} times for twice the log, at {entries} entries")
                     before = seconds
-                print(f"{name:<25} {states:>6}   " + "   ".join(told), flush=True)
+                print(f"{name:<25} {header:>8} {states:>6}   " + "   ".join(told), flush=True)
     print("\n".join(f"does not grow in line: {it}" for it in steep) or "all grow in line")
 
 

@@ -270,44 +270,49 @@ def timed(program, log):
     return verdict.decode(errors="replace"), seconds, peak / 1000
 
 
+# The logs whose states or moments grow with them: they stand in their own lengths alone, since a longer one would be undecided, or take minutes.
+AS_LONG_AS_THEY_ARE = (repeats_and_sends, repeats_apart, debt_and_payment)
+
+
+def columns_of(program, log, make, header, states, least):
+    """The columns of a log in three lengths, from `least` on, and a line for each length that takes more than in line."""
+    told, steep, before = [], [], None
+    name = name_of(make)
+    for count in (least, 2 * least, 4 * least):
+        made = make(count, states)
+        entries = write_entries(log, with_restarts(made) if header == "restarts" else made, HEADERS[header])
+        run = timed(program, log)
+        if not run:
+            return [*told, f"{entries:>9} {'over':>8} {'':>6} {'':>8}"], [*steep, f"{name} over {states}, {header}: more than {SECONDS} seconds for {entries} entries"]
+        verdict, seconds, peak = run
+        if not verdict.startswith("legal "):
+            sys.exit(f"{name}: {verdict}")
+        # The quotient of two times is told where the shorter one is long enough to be measured.
+        times = f"{seconds / before:.2f}" if before and before >= LEAST else ""
+        told.append(f"{entries:>9} {seconds:>8.3f} {times:>6} {peak:>8.1f}")
+        if times and float(times) > IN_LINE:
+            steep.append(f"{name} over {states}, {header}: {times} times for twice the log, at {entries} entries")
+        before = seconds
+    return told, steep
+
+
 def main():
     program, *words = sys.argv[1:]
     headers = [it for it in words if it in HEADERS] or ["6026"]
     names = [it for it in words if it not in HEADERS and it != "long"]
-    # With the word long each length is eight times as long, but for the log whose states grow with it, which would be undecided.
     longer = 8 if "long" in words else 1
-    # `steep` has a line for each log whose time more than doubles where its length doubles.
+    # A line for each log whose time more than doubles where its length doubles.
     steep = []
     print(f"{'log':<25} {'header':>8} {'states':>6}   " + "".join(f"{'entries':>9} {'seconds':>8} {'times':>6} {'peak MB':>8}   " for _ in range(3)))
     with tempfile.TemporaryDirectory() as folder:
-        log = Path(folder) / "log"
         # `make` writes a log of so many entries over so many states, `least` is the shortest length, and `sets` has the numbers of states.
         for make, least, sets in LOGS:
-            name = name_of(make)
-            if names and name not in names:
+            if names and name_of(make) not in names:
                 continue
             for header, states in product(headers, sets):
-                # `told` has the columns of a row, and `before` the seconds of the log half as long.
-                told, before = [], None
-                first = least * (1 if make in (repeats_and_sends, repeats_apart, debt_and_payment) else longer)
-                for count in (first, 2 * first, 4 * first):
-                    made = make(count, states)
-                    entries = write_entries(log, with_restarts(made) if header == "restarts" else made, HEADERS[header])
-                    run = timed(program, log)
-                    if not run:
-                        told.append(f"{entries:>9} {'over':>8} {'':>6} {'':>8}")
-                        steep.append(f"{name} over {states}, {header}: more than {SECONDS} seconds for {entries} entries")
-                        break
-                    verdict, seconds, peak = run
-                    if not verdict.startswith("legal "):
-                        sys.exit(f"{name}: {verdict}")
-                    # The quotient of two times is told where the shorter one is long enough to be measured.
-                    times = f"{seconds / before:.2f}" if before and before >= LEAST else ""
-                    told.append(f"{entries:>9} {seconds:>8.3f} {times:>6} {peak:>8.1f}")
-                    if times and float(times) > IN_LINE:
-                        steep.append(f"{name} over {states}, {header}: {times} times for twice the log, at {entries} entries")
-                    before = seconds
-                print(f"{name:<25} {header:>8} {states:>6}   " + "   ".join(told), flush=True)
+                told, more = columns_of(program, Path(folder) / "log", make, header, states, least * (1 if make in AS_LONG_AS_THEY_ARE else longer))
+                steep += more
+                print(f"{name_of(make):<25} {header:>8} {states:>6}   " + "   ".join(told), flush=True)
     print("\n".join(f"does not grow in line: {it}" for it in steep) or "all grow in line")
 
 

@@ -16,7 +16,8 @@ t1, or the whole header, which begins with sip-trace. Where it tells early and l
 'rules 6026' may stand after it.
 
 'by moment' puts the entries before it into the order of their moments, and those of one moment stay as they stand. 'cut 48' leaves the first 48
-bytes of the log. {x*60000} in a change or a text stands for x 60,000 times, and { owes=2/#*1..3} for ' owes=2/1 owes=2/2 owes=2/3'.
+bytes of the log. {x*60000} in a change or a text stands for x 60,000 times, and { owes=2/#*1..3} for ' owes=2/1 owes=2/2 owes=2/3'; #+10 stands
+there for 11, 12 and 13.
 """
 import functools
 import os
@@ -27,7 +28,8 @@ from pathlib import Path
 # The times of a log, and the folder of messages that logs name.
 TIMES = "t1 500 t2 4000 t4 5000"
 MESSAGES = Path(__file__).resolve().parent / "worked/messages"
-# How the notation spells repeats, escapes and moments.
+# How the notation spells repeats and the numbers in them, escapes and moments.
+NUMBER = re.compile(r"#(?:\+(\d+))?")
 REPEATED = re.compile(r"\{([^{}]*)\*(\d+)(?:\.\.(\d+))?\}")
 ESCAPE = re.compile(r"\\([\\nrt]|x[0-9a-fA-F]{2})")
 MOMENTS = re.compile(r"\d+(?:(?:\.\.|\*)\d+)?(?:,\d+(?:(?:\.\.|\*)\d+)?)*")
@@ -62,7 +64,7 @@ def expanded(text):
         part, first, last = found[1], int(found[2]), found[3]
         if last is None:
             return part * first
-        return "".join(part.replace("#", str(number)) for number in range(first, int(last) + 1))
+        return "".join(NUMBER.sub(lambda one: str(number + int(one[1] or 0)), part) for number in range(first, int(last) + 1))
     return REPEATED.sub(parts, text)
 
 

@@ -1,5 +1,5 @@
 """What the survey of a random log must be, by verdicts alone: siptrace judges for each transaction a log in which a mark stands for each entry of another
-transaction, and for each malformed message a log in which it is the only message."""
+transaction, and for each malformed message a log in which it is the only message. And what any survey says beside its verdicts, as the log tells it."""
 import os
 import re
 import select
@@ -7,6 +7,7 @@ import signal
 from collections import defaultdict
 
 from random_logs import SILENT, random_log
+from reading import read_log, read_message
 
 PATIENCE = 60  # seconds for which a program may be silent
 ENVIRONMENT = dict(os.environb)  # posix_spawn would decode and encode os.environ at each call
@@ -45,17 +46,20 @@ def status_of_survey(lines):
 
 
 def verdict_in(line):
-    """The words of a verdict that a line of a survey begins with."""
+    """The verdict that a line of a survey tells: that of its finding, of a fault of the log, or of the counts where nothing is found."""
     words = line.split(" ")
+    if words[0] == "end":
+        return f"legal {' '.join(words[1:5])}"
     return " ".join(words[:4]) if words[0] in ("breach", "undecided") else line
 
 
 def words_of(log, key, at):
     """What a line says of a transaction that is in trouble at this entry: role, method, branch, first and last entry."""
-    # The last entry is the last that concerns it, or a later restart, which concerns all.
+    # The last entry is the last that concerns it, or a later restart, which concerns all. The branch is spelled as in the first.
     own = [number for number, one in enumerate(log.entries[:at], 1) if key in one.keys]
     restarts = [number for number, one in enumerate(log.entries[:at], 1) if one.letter == "Z"]
-    return f"{key[0]} {key[3]} z9hG4bK{key[1]} {own[0]} {max(own + restarts)}"
+    first = log.entries[own[0] - 1]
+    return f"{key[0]} {key[3]} {read_message(first.letter, first.data)[1]} {own[0]} {max(own + restarts)}"
 
 
 def numbers_of(log):
@@ -65,6 +69,19 @@ def numbers_of(log):
         for key in one.keys:
             numbers.setdefault(key, len(numbers) + 1)
     return numbers
+
+
+def as_read(text, lines):
+    """The lines of a survey as a reading of the log has them: only the verdict of each finding, and a fault of the log, are those of these lines."""
+    found = [verdict_in(line).split(" ") for line in lines if not line.startswith(("end", "log"))]
+    fault = [line for line in lines[-1:] if line.startswith("log")]
+    # Nothing is read of the entry that has the fault.
+    log = read_log(text, {int(words[1]) for words in found if words[0] == "malformed"}, int(fault[0].split(" ")[2]) - 1 if fault else None)
+    keys = list(numbers_of(log))
+    for words in found:
+        if words[0] != "malformed":
+            words.append(words_of(log, keys[int(words[3]) - 1], int(words[1])))
+    return [*map(" ".join, found), *(fault or [f"end entries {len(log.entries)} transactions {len(keys)} findings {len(found)}"])]
 
 
 def groups_of(log):
@@ -211,8 +228,7 @@ def faults_of(judge, surveyor, number, log):
         faults.append(f"{told}: wanted {wanted}\n  says {lines}, status {status}")
     # The first finding is the verdict of the whole.
     verdict = judge.says(log.bytes())[0][0]
-    first = verdict_in(lines[0]) if not lines[0].startswith("end ") else f"legal {lines[0].removeprefix('end ').removesuffix(' findings 0')}"
-    if first != verdict:
+    if verdict_in(lines[0]) != verdict:
         faults.append(f"{told}: the verdict is {verdict}, and the survey begins with {lines[0]}")
     # The log of each branch alone has the findings of this branch, and of no other.
     whole = by_branch(log, lines)

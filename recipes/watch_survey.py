@@ -2,50 +2,64 @@
 import os
 import subprocess
 from array import array
+from collections import deque
 
-from sip_lines import MOST_ENTRIES, die, entry, surveyor
+from sip_lines import die, entry, surveyor
 
-# How many bytes are read at once.
+# How many bytes are read at once. A pipe holds no more.
 PIECE = 1 << 16
-MARK = 50  # how many milliseconds may pass without an entry
 MOST_UNWRITTEN = 1 << 20  # how many bytes may wait for the program before no more input is read
-LAST_ENTRY = MOST_ENTRIES - 1_000  # the last entry that a process gets before its end, with room for marks
+ON_THE_WAY = 1 << 18  # how many bytes may be in the pipe, and in the program, which reads 128 KiB at once
 
 
 class Running:
     """A process of sipsurvey. Entries are written as the program takes them, and findings are read as they come: neither waits for the other."""
 
-    def __init__(self, times, start):
+    def __init__(self, times, forget, kept, newest):
+        """It forgets what is over for `forget` milliseconds. It gets the entries `kept` first, and then those with numbers after `newest`."""
         try:
-            self.process = subprocess.Popen([surveyor()], stdin=subprocess.PIPE, stdout=subprocess.PIPE, bufsize=0, start_new_session=True)
+            self.process = subprocess.Popen([surveyor(), "--forget", str(forget)], stdin=subprocess.PIPE, stdout=subprocess.PIPE, bufsize=0, start_new_session=True)
         except OSError as error:
             die("cannot run %s: %s" % (surveyor(), error.strerror), 70)
-        self.start = start  # the moment, in nanoseconds, that is 0 in the log of the process
         self.entrance, self.exit = self.process.stdin.fileno(), self.process.stdout.fileno()
         os.set_blocking(self.entrance, False)
         os.set_blocking(self.exit, False)
         self.unwritten, self.unread, self.end = bytearray(times.header()), b"", None  # the last of these is the last line that the program wrote
-        self.number, self.moment, self.restarts = 0, 0, []
-        self.moments, self.branches_of = array("Q"), []  # of each entry
-        self.branches = 0  # how many branches are followed
-        self.takes_new, self.is_closing, self.is_over = True, False, False
+        self.is_closing, self.is_over = False, False
+        # The entries that the program may not have read yet, each after the byte at which it ends; how many there were before these; and at which byte the last ends.
+        self.unpassed, self.passed, self.size = deque(), 0, len(self.unwritten)
+        # The program counts its own entries. These are the numbers of those that it got first, and by how much the number of each later one is ahead.
+        self.numbers, self.ahead = array("Q", (one.number for one in kept)), newest - len(kept)
+        for one in kept:
+            self.put(one)
 
-    def put(self, letter, moment, data=b"", branch=b""):
-        """Appends an entry, and answers its number."""
-        self.number, self.moment = self.number + 1, moment
-        self.moments.append(moment)
-        self.branches_of.append(branch)
-        self.unwritten += entry(letter, moment, data)
-        return self.number
+    def put(self, one):
+        """Appends an entry."""
+        text = entry(*one[1:])
+        self.unwritten += text
+        self.size += len(text)
+        self.unpassed.append((self.size, one))
 
-    def mark(self, moment):
-        """Tells the time by a mark, where the newest entry does not. Only a branch that is followed can be silent."""
-        if self.branches and moment >= self.moment + MARK and not self.is_closing:
-            self.put("M", moment)
+    def entry_at(self, place):
+        """The entry that the program counts so, where something was found just now."""
+        if place <= self.passed:
+            die("sipsurvey tells of entry %d so late that nobody knows it any more: does something hold its lines back?" % place, 70)
+        return self.unpassed[place - 1 - self.passed][1]
 
-    def is_full(self):
-        """Whether the survey has as many entries as it may have."""
-        return self.number >= LAST_ENTRY
+    def number_at(self, place):
+        """The number of the entry that the program counts so."""
+        return self.numbers[place - 1] if place <= len(self.numbers) else place + self.ahead
+
+    def pass_on(self):
+        """Lets the entries go that the program has read for sure. What it had found by the last wait has been read."""
+        read = self.size - len(self.unwritten) - ON_THE_WAY
+        while self.unpassed and self.unpassed[0][0] <= read:
+            self.unpassed.popleft()
+            self.passed += 1
+
+    def has_passed(self, number):
+        """Whether the program has read each entry up to this number for sure."""
+        return not self.unpassed or self.unpassed[0][1].number > number
 
     def write(self):
         """Writes as much as the program takes now. After the last entry it closes the program's input."""
@@ -55,13 +69,18 @@ class Running:
         except BlockingIOError:
             return
         except BrokenPipeError:  # the program has ended, which its output tells
-            self.unwritten.clear()
+            self.drop()
         if self.is_closing and not self.process.stdin.closed:
             self.process.stdin.close()
 
+    def drop(self):
+        """Drops what the program did not take. Its entries count as unread."""
+        self.size -= len(self.unwritten)
+        self.unwritten.clear()
+
     def close(self):
         """Notes that no entry comes any more."""
-        self.takes_new, self.is_closing = False, True
+        self.is_closing = True
 
     def findings(self):
         """The words of each finding that the program has written."""
@@ -78,7 +97,7 @@ class Running:
                 yield words
         if not piece:
             self.is_over = True
-            self.unwritten.clear()
+            self.drop()
             self.write()
             self.process.stdout.close()
             self.process.wait()

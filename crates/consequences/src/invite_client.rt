@@ -14,7 +14,7 @@ ghost use Rattle.sip_standard.specs.MachineEvent.{MachineEvent};
 ghost use Rattle.sip_standard.specs.Kind.{IsFinal, IsSuccess, IsUnsuccessful};
 ghost use Rattle.sip_standard.specs.Times.{Times};
 ghost use Rattle.sip_standard.specs.Stands.{Stands, StandsAfter};
-ghost use Rattle.consequences.specs.Acknowledged.{Acknowledges};
+ghost use Rattle.consequences.specs.Acknowledged.{Acknowledges, IsAwaited, IsBeforeTimerD};
 ghost use Rattle.consequences.specs.Events.{SendsRequest, GetsResponse, IsAnyCode, IsRefused, IsRestart};
 ghost use Rattle.consequences.specs.Machines.{figure_of, StateOf};
 ghost use Rattle.consequences.specs.Repeats.{IsSpaced, invites_of};
@@ -40,20 +40,21 @@ pub fn an_unanswered_invite_ends_by_timer_b()
         StandsAfter (figure_of rules Client true) p (before ++ invite ∷ after) e y → close_at p invite.moment (64 * p.t1) < e.moment → e.kind ≡ Request Cancel }
 {}
 
-/// The first final response to an INVITE, if it is a 300 to 699 and comes before timer B may fire, is acknowledged by its ACK as late as an
-/// element may be (sections 17.1.1.2 and 17.1.1.3). So is each 300 to 699 that comes over an unreliable transport within 64*T1 and
-/// within 32 s of the INVITE, before timer D may fire, unless a 2xx came, the transport refuses a message or the element starts again.
+/// The first final response to an INVITE, if it is a 300 to 699, is acknowledged by its ACK as late as an element may be (sections 17.1.1.2 and
+/// 17.1.1.3). It has to come before timer B may fire, or after a provisional response that did, and not 64*T1 after a CANCEL (section 9.1). So is
+/// each 300 to 699 that comes over an unreliable transport before timer D may fire, unless a 2xx came, the transport refuses a message or the
+/// element starts again.
 pub fn an_unsuccessful_response_is_acknowledged()
     ensures first { (p : Times) (rules : Rules) (before between after : List MachineEvent) (invite response : MachineEvent) (m : ℕ) (y : StateOf rules Client true) →
         All (λ f. ¬ (SendsRequest Invite f)) before → SendsRequest Invite invite →
         All (λ f. ¬ (GetsResponse IsFinal f) × ¬ (IsRefused f) × ¬ (IsRestart f)) between →
-        GetsResponse IsUnsuccessful response → response.moment < open_at p invite.moment (64 * p.t1) →
+        GetsResponse IsUnsuccessful response → IsAwaited p invite between response.moment →
         Stands (figure_of rules Client true) p (before ++ invite ∷ (between ++ response ∷ after)) m y → close_at p response.moment 0 < m →
         Any (Acknowledges p invite response) after ⊎ Any (λ f. IsRefused f ⊎ IsRestart f) after }
     ensures again { (p : Times) (rules : Rules) (before between after : List MachineEvent) (invite response : MachineEvent) (m : ℕ) (y : StateOf rules Client true) →
         All (λ f. ¬ (SendsRequest Invite f)) before → SendsRequest Invite invite → invite.reliable ≡ false →
         All (λ f. ¬ (GetsResponse IsSuccess f) × ¬ (IsRefused f) × ¬ (IsRestart f)) between →
-        GetsResponse IsUnsuccessful response → response.moment < open_at p invite.moment (64 * p.t1) → response.moment < open_at p invite.moment 32000 →
+        GetsResponse IsUnsuccessful response → IsAwaited p invite between response.moment → IsBeforeTimerD p invite between response.moment →
         Stands (figure_of rules Client true) p (before ++ invite ∷ (between ++ response ∷ after)) m y → close_at p response.moment 0 < m →
         Any (Acknowledges p invite response) after ⊎ Any (λ f. IsRefused f ⊎ IsRestart f) after }
 {}

@@ -7,20 +7,20 @@
 -- changes nothing (`none`, `same`).
 use Rattle.std.proofs.Common.{◌≡◌, ◌≤◌, ◌<◌, ◌*◌, ◌⊎◌, inl, inr, ℕ, Bool, true, false, Some, None, List, [], ◌∷◌, ◌++◌, All, Contains, refl, sym, subst, ◌∙◌, arith}
 use Rattle.std.specs.List.{Any}
-use Rattle.std.proofs.lemmas.List.Elements.{Contains-push}
-use Rattle.std.proofs.lemmas.List.{append-nil}
+use Rattle.std.proofs.lemmas.List.Elements.{All-nil, All-push, Contains-push}
 use Rattle.sip_standard.specs.AckOf.{AckOf}
 use Rattle.sip_standard.specs.declared.action.Action.{Action}
 use Rattle.sip_standard.specs.declared.action.Action.TheVariants.{Sent, Received, Failed, Mark, Restart}
-use Rattle.sip_standard.specs.declared.kind.Method.TheVariants.{Invite}
+use Rattle.sip_standard.specs.declared.kind.Method.TheVariants.{Invite, Cancel}
 use Rattle.sip_standard.specs.declared.kind.Kind.{Kind}
-use Rattle.sip_standard.specs.declared.kind.Kind.TheVariants.{Response}
+use Rattle.sip_standard.specs.declared.kind.Kind.TheVariants.{Request, Response}
 use Rattle.sip_standard.specs.Times.{Times}
 use Rattle.sip_standard.specs.Window.{open_at, close_at}
 use Rattle.sip_standard.specs.MachineEvent.{MachineEvent}
-use Rattle.sip_standard.specs.Kind.{IsSuccess, IsUnsuccessful}
+use Rattle.sip_standard.specs.Kind.{IsProvisional, IsSuccess, IsUnsuccessful}
 use Rattle.sip_standard.specs.Debts.{Owed}
 use Rattle.sip_standard.specs.Figure.{Figure, keeps, gains, Owing, changed, quiet, Emits, Steps, Takes, Lasts, MayEnd}
+use Rattle.sip_standard.specs.Waiting.{Waiting}
 use Rattle.sip_standard.specs.InviteClient.{InviteClientPhase, Idle, Ended, Calling, Proceeding, Completed, Sends, Satisfies}
 use Rattle.sip_standard.specs.Stands.{Stands}
 use Rattle.consequences.specs.Acknowledged.{Acknowledges}
@@ -44,34 +44,77 @@ module _ (R : Receiving) (is : IsReceiving R) (p : Times) (invite : MachineEvent
   abbrev IsBroken : MachineEvent → Type 0
   IsBroken g = GetsResponse IsSuccess g ⊎ IsRefused g ⊎ IsRestart g
 
-  -- the client need not acknowledge any more: a 2xx, a refused message or a restart came, timer B may have fired, or timer D may have after a 300 to 699
-  abbrev Over : List MachineEvent → ℕ → Type 0
-  Over es m =
-      Any IsBroken es ⊎ (open_at p invite.moment (64 * p.t1) ≤ m)
-      ⊎ (Any (GetsResponse IsUnsuccessful) es × ((invite.reliable ≡ true) ⊎ (open_at p invite.moment 32000 ≤ m)))
+  -- by the moment a client may have given up, since the event sent a CANCEL of this INVITE 64*T1 before
+  abbrev IsGivenUp : ℕ → MachineEvent → Type 0
+  IsGivenUp m g = SendsRequest Cancel g × (invite.moment ≤ g.moment) × (open_at p g.moment (64 * p.t1) ≤ m)
 
-  -- Over stays true after more events and later
-  over-later : (es more : List MachineEvent) (h m : ℕ) → h ≤ m → Over es h → Over (es ++ more) m
-  over-later es more h m low (inl broken) = inl (any-earlier IsBroken es more broken)
-  over-later es more h m low (inr (inl late)) = inr (inl (omega (arith, low, late)))
-  over-later es more h m low (inr (inr (came, inl reliable))) = inr (inr (any-earlier (GetsResponse IsUnsuccessful) es more came, inl reliable))
-  over-later es more h m low (inr (inr (came, inr late))) = inr (inr (any-earlier (GetsResponse IsUnsuccessful) es more came, inr (omega (arith, low, late))))
+  -- by the moment timer D may have fired, since the event got a 300 to 699 at least 32 s before, or over a reliable transport
+  abbrev IsCompleteBy : ℕ → MachineEvent → Type 0
+  IsCompleteBy m g = GetsResponse IsUnsuccessful g × (invite.moment ≤ g.moment) × ((invite.reliable ≡ true) ⊎ (open_at p g.moment 32000 ≤ m))
+
+  -- the event ends the wait for a response by the moment
+  abbrev Ends : ℕ → MachineEvent → Type 0
+  Ends m g = IsBroken g ⊎ IsGivenUp m g ⊎ IsCompleteBy m g
+
+  -- the event is a provisional response that comes before timer B may fire
+  abbrev IsEarly : MachineEvent → Type 0
+  IsEarly g = GetsResponse IsProvisional g × (g.moment < open_at p invite.moment (64 * p.t1))
+
+  -- the client need not acknowledge any more: an event ended its wait, or timer B may have fired, before which no provisional response came
+  abbrev Over : List MachineEvent → ℕ → Type 0
+  Over es m = Any (Ends m) es ⊎ ((open_at p invite.moment (64 * p.t1) ≤ m) × All (λ g. ¬ (IsEarly g)) es)
+
+  -- what ended the wait by a moment has ended it by a later one
+  ends-later : (g : MachineEvent) (h m : ℕ) → h ≤ m → Ends h g → Ends m g
+  ends-later g h m low (inl broken) = inl broken
+  ends-later g h m low (inr (inl (cancel, from, opening))) = inr (inl (cancel, from, omega (arith, low, opening)))
+  ends-later g h m low (inr (inr (got, from, inl reliable))) = inr (inr (got, from, inl reliable))
+  ends-later g h m low (inr (inr (got, from, inr opening))) = inr (inr (got, from, inr (omega (arith, low, opening))))
+
+  -- Over stays true later
+  over-later : (es : List MachineEvent) (h m : ℕ) → h ≤ m → Over es h → Over es m
+  over-later es h m low (inl ended) = let (k, g, inside, at, ends) = ended in inl (k, g, inside, at, ends-later g h m low ends)
+  over-later es h m low (inr (late, none)) = inr (omega (arith, low, late), none)
+
+  -- Over stays true after one event more
+  over-after : (es : List MachineEvent) (e : MachineEvent) → Over es e.moment → Over (es ++ e ∷ []) e.moment
+  over-after es e (inl ended) = inl (any-earlier (Ends e.moment) es (e ∷ []) ended)
+  over-after es e (inr (late, none)) = inr (late, All-push (λ g. ¬ (IsEarly g)) es e none (λ early. absurd (omega (arith, late, early.1))))
+
+  -- the events have a CANCEL of this moment, and it comes after the INVITE
+  abbrev HasCancel : ℕ → List MachineEvent → Type 0
+  HasCancel first es = Any (λ g. SendsRequest Cancel g × (invite.moment ≤ g.moment) × (g.moment ≡ first)) es
+
+  -- the events have a 300 to 699 of this moment, and it comes after the INVITE
+  abbrev HasUnsuccessful : ℕ → List MachineEvent → Type 0
+  HasUnsuccessful set es = Any (λ g. GetsResponse IsUnsuccessful g × (invite.moment ≤ g.moment) × (g.moment ≡ set)) es
 
   -- the client has sent this INVITE and waits for its final response, or it has got a 300 to 699 and is completed
   abbrev Waits : List MachineEvent → InviteClientPhase → Type 0
-  Waits es (Calling w) = CallsFrom invite (Calling w)
+  Waits es (Calling w) = CallsFrom invite (Calling w) × All (λ g. ¬ (IsEarly g)) es
   Waits es (Proceeding reliable request None) = (request ≡ invite.text) × (reliable ≡ invite.reliable)
-  Waits es (Proceeding reliable request (Some first)) = (request ≡ invite.text) × (reliable ≡ invite.reliable) × (invite.moment ≤ first)
-  Waits es (Completed reliable request set) = (request ≡ invite.text) × (reliable ≡ invite.reliable) × (invite.moment ≤ set) × Any (GetsResponse IsUnsuccessful) es
+  Waits es (Proceeding reliable request (Some first)) = (request ≡ invite.text) × (reliable ≡ invite.reliable) × HasCancel first es
+  Waits es (Completed reliable request set) = (request ≡ invite.text) × (reliable ≡ invite.reliable) × HasUnsuccessful set es
   Waits es x = ⊥
 
-  -- Waits stays true after more events
-  waits-later : (es more : List MachineEvent) (x : InviteClientPhase) → Waits es x → Waits (es ++ more) x
-  waits-later es more (Calling w) waits = waits
-  waits-later es more (Proceeding reliable request None) waits = waits
-  waits-later es more (Proceeding reliable request (Some first)) waits = waits
-  waits-later es more (Completed reliable request set) waits = (waits.0, waits.1, waits.2, any-earlier (GetsResponse IsUnsuccessful) es more waits.3)
-  waits-later es more x waits = absurd waits
+  -- Waits stays true in completed after one event more
+  completed-later : (es : List MachineEvent) (e : MachineEvent) (reliable : Bool) (request : List ℕ) (set : ℕ) → Waits es (Completed reliable request set) → Waits (es ++ e ∷ []) (Completed reliable request set)
+  completed-later es e reliable request set waits =
+      (waits.0, waits.1, any-earlier (λ g. GetsResponse IsUnsuccessful g × (invite.moment ≤ g.moment) × (g.moment ≡ set)) es (e ∷ []) waits.2)
+
+  -- Waits stays true in proceeding after one event more
+  cancelled-later : (es : List MachineEvent) (e : MachineEvent) (reliable : Bool) (request : List ℕ) (first : ℕ) → Waits es (Proceeding reliable request (Some first)) →
+      Waits (es ++ e ∷ []) (Proceeding reliable request (Some first))
+  cancelled-later es e reliable request first waits =
+      (waits.0, waits.1, any-earlier (λ g. SendsRequest Cancel g × (invite.moment ≤ g.moment) × (g.moment ≡ first)) es (e ∷ []) waits.2)
+
+  -- Waits stays true after one event more that leaves the phase as it is: in calling that is no provisional response before timer B may fire
+  waits-later : (es : List MachineEvent) (e : MachineEvent) (x : InviteClientPhase) → ((w : Waiting) → x ≡ Calling w → ¬ (IsEarly e)) → Waits es x → Waits (es ++ e ∷ []) x
+  waits-later es e (Calling w) late waits = (waits.0, All-push (λ g. ¬ (IsEarly g)) es e waits.1 (late w refl))
+  waits-later es e (Proceeding reliable request None) late waits = waits
+  waits-later es e (Proceeding reliable request (Some first)) late waits = cancelled-later es e reliable request first waits
+  waits-later es e (Completed reliable request set) late waits = completed-later es e reliable request set waits
+  waits-later es e x late waits = absurd waits
 
   -- from the INVITE on, the client waits for the response that it must acknowledge, or it need not acknowledge any more
   abbrev Awaits : List MachineEvent → ℕ → Owing InviteClientPhase → Type 0
@@ -83,65 +126,85 @@ module _ (R : Receiving) (is : IsReceiving R) (p : Times) (invite : MachineEvent
     abbrev Now : List MachineEvent
     Now = es ++ e ∷ []
 
+    -- a message that is sent is no response that is received
+    not-early : e.action ≡ Sent → ¬ (IsEarly e)
+    not-early was early = let got = early.0.0 in cc
+
+    -- the event is a CANCEL of its moment
+    has-cancel : e.action ≡ Sent → e.kind ≡ Request Cancel → invite.moment ≤ e.moment → HasCancel e.moment Now
+    has-cancel was kind low = any-last (λ g. SendsRequest Cancel g × (invite.moment ≤ g.moment) × (g.moment ≡ e.moment)) es e ((was, kind), low, refl)
+
     -- a response to the INVITE leads to a phase of which Waits holds, or Over holds
     -- a provisional response leads to proceeding, after a 2xx Over holds, and a 300 to 699 leads to completed
     answered : (reliable : Bool) (request : List ℕ) (row : Row) → e.action ≡ Received → invite.moment ≤ e.moment → request ≡ invite.text → reliable ≡ invite.reliable → Answers reliable request e.kind e row
         → Waits Now row.0 ⊎ Over Now e.moment
     answered reliable request row was low text transport (code, kind, inl h) = inl (rw h.1 (text, transport))
-    answered reliable request row was low text transport (code, kind, inr (inl h)) = inr (inl (any-last IsBroken es e (inl (was, (code, kind, h.0)))))
-    answered reliable request row was low text transport (code, kind, inr (inr h)) = inl (rw h.1 (text, transport, low, any-last (GetsResponse IsUnsuccessful) es e (was, (code, kind, h.0))))
+    answered reliable request row was low text transport (code, kind, inr (inl h)) = inr (inl (any-last (Ends e.moment) es e (inl (inl (was, (code, kind, h.0))))))
+    answered reliable request row was low text transport (code, kind, inr (inr h)) =
+        inl (rw h.1 (text, transport, any-last (λ g. GetsResponse IsUnsuccessful g × (invite.moment ≤ g.moment) × (g.moment ≡ e.moment)) es e ((was, (code, kind, h.0)), low, refl)))
 
     -- the row of a received message leads from a client that waits to a phase of which Waits holds, or Over holds
     waits-received : (x : InviteClientPhase) (row : Row) → e.action ≡ Received → invite.moment ≤ e.moment → Waits es x → R p x e.kind e row → Waits Now row.0 ⊎ Over Now e.moment
-    waits-received (Calling w) row was low waits h = answered w.reliable w.request row was low waits.1 waits.2 (is.calling p w e.kind e row h)
+    waits-received (Calling w) row was low waits h = answered w.reliable w.request row was low waits.0.1 waits.0.2 (is.calling p w e.kind e row h)
     waits-received (Proceeding reliable request None) row was low waits h = answered reliable request row was low waits.0 waits.1 (is.proceeding p reliable request None e.kind e row h)
     waits-received (Proceeding reliable request (Some first)) row was low waits h = answered reliable request row was low waits.0 waits.1 (is.proceeding p reliable request (Some first) e.kind e row h)
-    waits-received (Completed reliable request set) row was low waits h = inl (rw (is.completed p reliable request set e.kind e row h).3 (waits-later es (e ∷ []) (Completed reliable request set) waits))
+    waits-received (Completed reliable request set) row was low waits h = inl (rw (is.completed p reliable request set e.kind e row h).3 (completed-later es e reliable request set waits))
     waits-received x row was low waits h = absurd waits
 
     -- the row of a sent message leads from a client that waits to a phase of which Waits holds
-    waits-sent : (x : InviteClientPhase) (row : Row) → invite.moment ≤ e.moment → Waits es x → Sends p x e.kind e row → Waits Now row.0
-    waits-sent (Calling w) row low waits h = rw (sends-calling p w e.kind e row h).2 waits
-    waits-sent (Proceeding reliable request None) row low waits h = by (sends-proceeding p reliable request None e.kind e row h).1
+    waits-sent : (x : InviteClientPhase) (row : Row) → e.action ≡ Sent → invite.moment ≤ e.moment → Waits es x → Sends p x e.kind e row → Waits Now row.0
+    waits-sent (Calling w) row was low waits h = rw (sends-calling p w e.kind e row h).2 (waits.0, All-push (λ g. ¬ (IsEarly g)) es e waits.1 (not-early was))
+    waits-sent (Proceeding reliable request None) row was low waits h = by (sends-proceeding p reliable request None e.kind e row h)
       where
-        -- the client waits after either row
-        by : (row ≡ (Proceeding reliable request (Some e.moment), keeps)) ⊎ (row ≡ (Proceeding reliable request None, keeps)) → Waits Now row.0
-        by (inl leads) = rw leads (waits.0, waits.1, low)
-        by (inr leads) = rw leads waits
-    waits-sent (Proceeding reliable request (Some first)) row low waits h = by (sends-proceeding p reliable request (Some first) e.kind e row h).1
+        -- the client waits after either row, which is that of a CANCEL
+        by : (e.kind ≡ Request Cancel) × ((row ≡ (Proceeding reliable request (Some e.moment), keeps)) ⊎ (row ≡ (Proceeding reliable request None, keeps))) → Waits Now row.0
+        by (cancel, inl leads) = rw leads (waits.0, waits.1, has-cancel was cancel low)
+        by (cancel, inr leads) = rw leads waits
+    waits-sent (Proceeding reliable request (Some first)) row was low waits h = by (sends-proceeding p reliable request (Some first) e.kind e row h)
       where
         -- the client waits after either row: a CANCEL after the first one counts as the first, or leaves that as it was
-        by : (row ≡ (Proceeding reliable request (Some e.moment), keeps)) ⊎ (row ≡ (Proceeding reliable request (Some first), keeps)) → Waits Now row.0
-        by (inl leads) = rw leads (waits.0, waits.1, low)
-        by (inr leads) = rw leads waits
-    waits-sent (Completed reliable request set) row low waits h = rw (sends-completed p reliable request set e.kind e row h).1 (waits-later es (e ∷ []) (Completed reliable request set) waits)
-    waits-sent x row low waits h = absurd waits
+        by : (e.kind ≡ Request Cancel) × ((row ≡ (Proceeding reliable request (Some e.moment), keeps)) ⊎ (row ≡ (Proceeding reliable request (Some first), keeps))) → Waits Now row.0
+        by (cancel, inl leads) = rw leads (waits.0, waits.1, has-cancel was cancel low)
+        by (cancel, inr leads) = rw leads (cancelled-later es e reliable request first waits)
+    waits-sent (Completed reliable request set) row was low waits h = rw (sends-completed p reliable request set e.kind e row h).1 (completed-later es e reliable request set waits)
+    waits-sent x row was low waits h = absurd waits
 
     -- a send leaves a client that waits waiting
-    waits-emits : (x : InviteClientPhase) (owes : List Owed) (y : Owing InviteClientPhase) → invite.moment ≤ e.moment → Waits es x → Emits f p e (record { phase = x; owes = owes }) y → Waits Now y.phase
-    waits-emits x owes y low waits (inl (row, is_row, to)) = rw to (waits-sent x row low waits is_row)
-    waits-emits x owes y low waits (inr (inl (left, pays, to))) = rw to (waits-later es (e ∷ []) x waits)
-    waits-emits x owes y low waits (inr (inr (stays, same))) = absurd stays
+    waits-emits : (x : InviteClientPhase) (owes : List Owed) (y : Owing InviteClientPhase) → e.action ≡ Sent → invite.moment ≤ e.moment → Waits es x → Emits f p e (record { phase = x; owes = owes }) y → Waits Now y.phase
+    waits-emits x owes y was low waits (inl (row, is_row, to)) = rw to (waits-sent x row was low waits is_row)
+    waits-emits x owes y was low waits (inr (inl (left, pays, to))) = rw to (waits-later es e x (λ w calls. not-early was) waits)
+    waits-emits x owes y was low waits (inr (inr (stays, same))) = absurd stays
+
+    -- in calling a provisional response has a row, so a message without one is none
+    unmoved : (x : InviteClientPhase) (w : Waiting) → x ≡ Calling w → ((row : Row) → ¬ (R p x e.kind e row)) → ¬ (IsEarly e)
+    unmoved x w calls none early =
+        let (code, kind, provisional) = early.0.1 in
+        let row : Row = (Proceeding w.reliable w.request None, keeps) in
+        none row (subst (λ z. R p z e.kind e row) (sym calls) (subst (λ k. R p (Calling w) k e row) (sym kind) (is.takes_provisional p w code e provisional)))
 
     -- a step leads from a client that waits to a phase of which Waits holds, or Over holds
     waits-steps : (a : Action) (x : InviteClientPhase) (owes : List Owed) (y : Owing InviteClientPhase) → e.action ≡ a → invite.moment ≤ e.moment → Waits es x → Steps f p a e (record { phase = x; owes = owes }) y
         → Waits Now y.phase ⊎ Over Now e.moment
     -- a received message has a row, or leaves the phase as it is; after a failed send or a restart the client is over
     waits-steps Received x owes y was low waits (inl (row, is_row, to)) = rw to (waits-received x row was low waits is_row)
-    waits-steps Received x owes y was low waits (inr (none, same)) = inl (rw same (waits-later es (e ∷ []) x waits))
-    waits-steps Sent x owes y was low waits emits = inl (waits-emits x owes y low waits emits)
-    waits-steps Failed x owes y was low waits fails = inr (inl (any-last IsBroken es e (inr (inl was))))
+    waits-steps Received x owes y was low waits (inr (none, same)) =
+        inl (rw same (waits-later es e x (λ w calls. unmoved x w calls (λ row is_row. none (record { phase = row.0; owes = changed p e.moment row.1 owes }) (row, is_row, refl))) waits))
+    waits-steps Sent x owes y was low waits emits = inl (waits-emits x owes y was low waits emits)
+    waits-steps Failed x owes y was low waits fails = inr (inl (any-last (Ends e.moment) es e (inl (inr (inl was)))))
     waits-steps Mark x owes y was low waits h = absurd h
-    waits-steps Restart x owes y was low waits h = inr (inl (any-last IsBroken es e (inr (inr was))))
+    waits-steps Restart x owes y was low waits h = inr (inl (any-last (Ends e.moment) es e (inl (inr (inr was)))))
 
   -- a client that waits and may end need not acknowledge any more
   -- calling ends by timer B; proceeding without a CANCEL never, and with one 64*T1 after it; completed by timer D, at once over a reliable transport
   waits-ends : (es : List MachineEvent) (h : ℕ) (x : InviteClientPhase) (owes : List Owed) → Waits es x → MayEnd f p (record { phase = x; owes = owes }) h → Over es h
-  waits-ends es h (Calling w) owes waits may = inr (inl (subst (λ m. open_at p m (64 * p.t1) ≤ h) waits.0 may.0))
+  waits-ends es h (Calling w) owes waits may = inr (subst (λ m. open_at p m (64 * p.t1) ≤ h) waits.0.0 may.0, waits.1)
   waits-ends es h (Proceeding reliable request None) owes waits may = absurd may.0
-  waits-ends es h (Proceeding reliable request (Some first)) owes waits may = let opening = may.0 in inr (inl (omega (arith, waits.2, opening)))
-  waits-ends es h (Completed true request set) owes waits may = inr (inr (waits.3, inl (sym waits.1)))
-  waits-ends es h (Completed false request set) owes waits may = let opening = may.0 in inr (inr (waits.3, inr (omega (arith, waits.2, opening))))
+  waits-ends es h (Proceeding reliable request (Some first)) owes waits may =
+      let (k, g, inside, at, (cancel, from, same)) = waits.2 in inl (k, g, inside, at, inr (inl (cancel, from, subst (λ m. open_at p m (64 * p.t1) ≤ h) (sym same) may.0)))
+  waits-ends es h (Completed true request set) owes waits may =
+      let (k, g, inside, at, (got, from, same)) = waits.2 in inl (k, g, inside, at, inr (inr (got, from, inl (sym waits.1))))
+  waits-ends es h (Completed false request set) owes waits may =
+      let (k, g, inside, at, (got, from, same)) = waits.2 in inl (k, g, inside, at, inr (inr (got, from, inr (subst (λ m. open_at p m 32000 ≤ h) (sym same) may.0))))
   waits-ends es h x owes waits may = absurd waits
 
   -- along a run the client goes on to wait, or need not acknowledge any more
@@ -152,7 +215,7 @@ module _ (R : Receiving) (is : IsReceiving R) (p : Times) (invite : MachineEvent
       -- the run stands in x from the moment h until the moment m
       as_it_waits : (es : List MachineEvent) (h m : ℕ) (x : Owing InviteClientPhase) → Awaits es h x → h ≤ m → Lasts f p x m → Awaits es m x
       as_it_waits es h m x (from, inl waits) low lasts = (omega (arith, from, low), inl waits)
-      as_it_waits es h m x (from, inr over) low lasts = (omega (arith, from, low), inr (subst (λ fs. Over fs m) (append-nil es) (over-later es [] h m low over)))
+      as_it_waits es h m x (from, inr over) low lasts = (omega (arith, from, low), inr (over-later es h m low over))
 
       -- Awaits stays true where the transaction ends
       as_it_ends : (es : List MachineEvent) (h : ℕ) (x : Owing InviteClientPhase) → Awaits es h x → MayEnd f p x h → Awaits es h (quiet Ended)
@@ -162,7 +225,7 @@ module _ (R : Receiving) (is : IsReceiving R) (p : Times) (invite : MachineEvent
       -- Awaits stays true after an event
       as_it_takes : (es : List MachineEvent) (e : MachineEvent) (x y : Owing InviteClientPhase) → Awaits es e.moment x → Takes f p x e y → Awaits (es ++ e ∷ []) e.moment y
       as_it_takes es e x y (from, inl waits) take = (from, waits-steps es e e.action x.phase (left_at e x) y refl from waits take)
-      as_it_takes es e x y (from, inr over) take = (from, inr (over-later es (e ∷ []) e.moment e.moment (omega arith) over))
+      as_it_takes es e x y (from, inr over) take = (from, inr (over-after es e over))
 
   -- What follows leads from `response`, a response of 300 to 699, to its ACK.
 
@@ -192,7 +255,7 @@ module _ (R : Receiving) (is : IsReceiving R) (p : Times) (invite : MachineEvent
     -- in calling and in proceeding the response leads to completed with its ACK owed; in completed the ACK is owed once more
     taken : (es : List MachineEvent) (x : InviteClientPhase) (row : Row) (owes : List Owed) (code : ℕ) → response.kind ≡ Response code → IsUnsuccessful code → Waits es x → R p x response.kind response row
         → IsCompleted row.0 × Contains (changed p response.moment row.1 owes) debt
-    taken es (Calling w) row owes code kind bad waits h = owes-answer w.reliable w.request response.kind row owes code kind bad waits.1 (is.calling p w response.kind response row h)
+    taken es (Calling w) row owes code kind bad waits h = owes-answer w.reliable w.request response.kind row owes code kind bad waits.0.1 (is.calling p w response.kind response row h)
     taken es (Proceeding reliable request None) row owes code kind bad waits h = owes-answer reliable request response.kind row owes code kind bad waits.0 (is.proceeding p reliable request None response.kind response row h)
     taken es (Proceeding reliable request (Some first)) row owes code kind bad waits h =
         owes-answer reliable request response.kind row owes code kind bad waits.0 (is.proceeding p reliable request (Some first) response.kind response row h)
@@ -300,7 +363,7 @@ module _ (R : Receiving) (is : IsReceiving R) (p : Times) (invite : MachineEvent
 
         -- a client that calls waits
         calling-waits : (x : InviteClientPhase) → CallsFrom invite x → Waits [] x
-        calling-waits (Calling w) calls = calls
+        calling-waits (Calling w) calls = (calls, All-nil (λ g. ¬ (IsEarly g)))
         calling-waits x calls = absurd calls
 
         -- from the INVITE on, the run is cut at the response

@@ -53,6 +53,8 @@ pub record IsReceiving (R : Receiving) : Type 0 where
   -- in completed the row is that of a response of 300 to 699: the client stays in completed, and owes an ACK of this response
   pub completed : (p : Times) (reliable : Bool) (request : List ℕ) (set : ℕ) (k : Kind) (e : MachineEvent) (y : Row) → R p (Completed reliable request set) k e y →
       (code : ℕ) × (k ≡ Response code) × IsUnsuccessful code × (y ≡ (Completed reliable request set, gains true e.text))
+  -- a provisional response has a row in calling
+  pub takes_provisional : (p : Times) (w : Waiting) (code : ℕ) (e : MachineEvent) → IsProvisional code → R p (Calling w) (Response code) e (Proceeding w.reliable w.request None, keeps)
   -- a 300 to 699 has a row in calling, in proceeding and in completed
   pub takes_calling : (p : Times) (w : Waiting) (code : ℕ) (e : MachineEvent) → IsUnsuccessful code → R p (Calling w) (Response code) e (Completed w.reliable w.request e.moment, gains true e.text)
   pub takes_proceeding : (p : Times) (reliable : Bool) (request : List ℕ) (cancel : Option ℕ) (code : ℕ) (e : MachineEvent) → IsUnsuccessful code →
@@ -92,6 +94,7 @@ receives_6026 = record {
   calling = calling_6026;
   proceeding = proceeding_6026;
   completed = completed_6026;
+  takes_provisional = λ p w code e h. inl (h, refl);
   -- a response of 300 to 699 has a row in each of the three
   takes_calling = λ p w code e h. inr (inr (h, refl));
   takes_proceeding = λ p reliable request cancel code e h. inr (h, refl);
@@ -124,6 +127,7 @@ receives_3261 = record {
   calling = calling_3261;
   proceeding = proceeding_3261;
   completed = completed_6026;
+  takes_provisional = λ p w code e h. inl (h, refl);
   -- a response of 300 to 699 has a row in each of the three
   takes_calling = λ p w code e h. inr (inr (h, refl));
   takes_proceeding = λ p reliable request cancel code e h. inr (h, refl);

@@ -11,7 +11,7 @@ pub(crate) const STORED: &str = "S 0,500 REGISTER r1; R 700 REGISTER r1 200; M 6
 pub(crate) const RESTARTED: &str = "early 50 late 50; rules 3261; R 0 INVITE 1; Z 100";
 
 /// A request with short names and a folded Via, in 181 bytes.
-pub(crate) const FOLDED: &str =
+const FOLDED: &str =
     "OPTIONS sip:example.com SIP/2.0\r\nv: SIP / 2.0 / UDP\r\n a.example.com\r\n\t;branch = z9hG4bKr2\r\n\
 f: <sip:bob@example.com>;tag=1\r\nt: sip:bob@example.com\r\ni: c2@a\r\nCSeq: 1 OPTIONS\r\nl: 0\r\n\r\n";
 

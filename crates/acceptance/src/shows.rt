@@ -1,12 +1,11 @@
 //! What `show` answers, sources and sinks that fail while it writes, and memory that it is refused. Logs are spelled in the words of `notation.rt`: `S`
 //! sent, `R` received, `M` a mark, each with its moments; then a method, a branch without the cookie, and the code where it is a response.
-use crate::logs::{FOLDED, STORED, UNFOLDED, folded_log};
-use crate::notation::{log_of, push_message};
+use crate::logs::{STORED, UNFOLDED, folded_log};
+use crate::notation::log_of;
 use crate::room::Room;
 use crate::shown::{shown, shown_failing, shown_in, written};
 use crate::wants::{holds, holds_at};
-use sip_verdict::{LogReason, ShowError, Shown};
-use std::alloc::Global;
+use sip_verdict::{ShowError, Shown};
 use std::process::Abort;
 use std::test::Fail;
 
@@ -21,37 +20,6 @@ fn shows(
     holds(rt, text.as_slice() == want, "the text");
     holds(rt, answer == told, "the answer");
     Ok(())
-}
-
-/// The log of a message in which an LF stands alone before the line of the branch, and a mark.
-fn bare_log(alloc: Global) -> Result<String, Fail> {
-    let bare = FOLDED.replacen(alloc, "\r\n\t", "\n\t", 1)?;
-    let mut log = log_of(alloc, "")?;
-    push_message(&mut log, "S", 0, bare.as_str())?;
-    log.push_str("M 0\n")?;
-    Ok(log)
-}
-
-/// `show` stops at a message with a fault, and answers it.
-#[test]
-fn tells_the_message_that_stopped_it(rt: HostRuntime) -> Result<(), Fail> {
-    let log = bare_log(rt.alloc())?;
-    let (text, answer) = shown(rt.alloc(), log.as_str().as_bytes())?;
-    let want = b"malformed 1 head 2 BareLineEnd\n";
-    holds(&rt, text.as_slice() == want.as_slice(), "the text");
-    let is_told = matches!(answer, Shown::Malformed { entry: 1, .. });
-    holds(&rt, is_told, "the answer");
-    Ok(())
-}
-
-/// `show` stops at an entry whose moment is before that of the entry before it, and answers it.
-#[test]
-fn tells_the_entry_that_stopped_it(rt: HostRuntime) -> Result<(), Fail> {
-    let log = log_of(rt.alloc(), "M 5,4")?;
-    let want = b"1 M 5\nlog fault 2 23 Order\n";
-    let reason = LogReason::Order;
-    let told = Shown::LogFault { entry: 2, reason };
-    shows(&rt, log.as_str().as_bytes(), want, told)
 }
 
 /// Checks that `show` answers a failed read, wherever the source fails as it hands out single bytes.

@@ -6,6 +6,7 @@ use crate::room::Room;
 use crate::shown::{shown, shown_failing, shown_in, written};
 use crate::wants::{holds, holds_at};
 use sip_verdict::{ShowError, Shown};
+use std::alloc::Global;
 use std::process::Abort;
 use std::test::Fail;
 
@@ -76,21 +77,32 @@ fn shows_or_wants_memory(
     }
 }
 
-/// Appends the bytes of a log from one place to another, which are an entry, after the entry's number. Where the message of the entry has the
-/// canonical form already, this is how the entry is shown.
+/// Appends an entry of a log, which stands from one place to another, after the digit of its number.
 fn push_numbered(
     text: &mut Vec<u8>,
     log: &[u8],
-    number: &[u8],
+    digit: u8,
     (first, end): (usize, usize),
 ) -> Result<(), Fail> {
-    // The places are counted from the front of the log: its header has 48 bytes, and each entry ends where the next one begins.
     let Some(entry) = log.get(first..end) else {
         return Err("a short log".into());
     };
-    text.extend_from_slice(number)?;
+    text.push(digit)?;
+    text.push(b' ')?;
     text.extend_from_slice(entry)?;
     Ok(())
+}
+
+/// The entries of a log, each after its number, which end at these places. So they are shown where each message has the canonical form already.
+fn numbered(alloc: Global, log: &[u8], ends: &[usize]) -> Result<Vec<u8>, Fail> {
+    let mut text = Vec::new(alloc);
+    // The header of the log has 48 bytes, and each entry begins where the one before it ends.
+    let mut first = 48;
+    for (digit, end) in b"123456789".iter().zip(ends) {
+        push_numbered(&mut text, log, *digit, (first, *end))?;
+        first = *end;
+    }
+    Ok(text)
 }
 
 /// `tests/growths` refuses each growth within `show` in turn: the answer is then want of memory, and what was written until then
@@ -107,11 +119,7 @@ fn shows_again_after_a_refused_growth(rt: HostRuntime) -> Result<(), Fail> {
 fn shows_the_stored_run_after_a_refused_growth(rt: HostRuntime) -> Result<(), Fail> {
     let log = log_of(rt.alloc(), STORED)?;
     let bytes = log.as_str().as_bytes();
-    let mut want = Vec::new(rt.alloc());
-    push_numbered(&mut want, bytes, b"1 ", (48, 256))?;
-    push_numbered(&mut want, bytes, b"2 ", (256, 466))?;
-    push_numbered(&mut want, bytes, b"3 ", (466, 667))?;
-    push_numbered(&mut want, bytes, b"4 ", (667, 674))?;
+    let mut want = numbered(rt.alloc(), bytes, &[256, 466, 667, 674])?;
     want.extend_from_slice(b"end 4\n")?;
     shows_or_wants_memory(&rt, bytes, want.as_slice(), 4)
 }
@@ -124,12 +132,7 @@ fn shows_a_repeat_after_a_refused_growth(rt: HostRuntime) -> Result<(), Fail> {
         "R 0 INVITE i1; S 0 INVITE i1 486; R 480 INVITE i1; S 490,540 INVITE i1 486",
     )?;
     let bytes = log.as_str().as_bytes();
-    let mut want = Vec::new(rt.alloc());
-    push_numbered(&mut want, bytes, b"1 ", (48, 252))?;
-    push_numbered(&mut want, bytes, b"2 ", (252, 449))?;
-    push_numbered(&mut want, bytes, b"3 ", (449, 655))?;
-    push_numbered(&mut want, bytes, b"4 ", (655, 854))?;
-    push_numbered(&mut want, bytes, b"5 ", (854, 1_053))?;
+    let mut want = numbered(rt.alloc(), bytes, &[252, 449, 655, 854, 1_053])?;
     want.extend_from_slice(b"end 5\n")?;
     shows_or_wants_memory(&rt, bytes, want.as_slice(), 5)
 }
@@ -142,10 +145,7 @@ fn shows_a_cancel_after_a_refused_growth(rt: HostRuntime) -> Result<(), Fail> {
         "S 0 INVITE i1; R 50 INVITE i1 180; S 100 CANCEL i1",
     )?;
     let bytes = log.as_str().as_bytes();
-    let mut want = Vec::new(rt.alloc());
-    push_numbered(&mut want, bytes, b"1 ", (48, 252))?;
-    push_numbered(&mut want, bytes, b"2 ", (252, 450))?;
-    push_numbered(&mut want, bytes, b"3 ", (450, 656))?;
+    let mut want = numbered(rt.alloc(), bytes, &[252, 450, 656])?;
     want.extend_from_slice(b"end 3\n")?;
     shows_or_wants_memory(&rt, bytes, want.as_slice(), 3)
 }

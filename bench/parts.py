@@ -1,5 +1,5 @@
 """What the parts of a log take beside the whole: what bench/judge.sh counts and times under the word parts. Its words are the program sipsurvey, and how
-many entries of calls are timed.
+many entries of calls are timed. A survey that forgets is counted too, and timed where a log has more entries than another one reads.
 
 Four parts run at once, each on a processor of its own. Beside them stand one part alone, four surveys of the whole at once, and a loop that needs no memory:
 they tell what of the time is the machine's."""
@@ -21,20 +21,24 @@ PARTS = 4
 TIMED = 1_000_000
 # How often each run is timed: the least time counts.
 ROUNDS = 5
+# The most entries of a log that is surveyed by a survey that forgets nothing, and the words for one that forgets.
+MOST, FORGETS = 1_000_000, ["--forget", "60000"]
 # A program that only counts, which shows what four processes at once lose to one another.
 LOOP = [sys.executable, "-c", "sum(range(20_000_000))"]
 
 
-def part(program, number, log, parts=PARTS):
-    """The command that surveys this part of the log."""
-    return [program, "--part", f"{number}/{parts}", log]
+def part(survey, number, log, parts=PARTS):
+    """The command that surveys this part of the log, by a program with its words."""
+    return [*survey, "--part", f"{number}/{parts}", log]
 
 
 def print_counted(program, folder):
     """Prints what an entry of calls takes: the difference of a long log and a short one."""
-    surveys = {"the whole": lambda log: [program, log]}
-    surveys |= {f"part {number} of {PARTS}": lambda log, number=number: part(program, number, log) for number in range(1, PARTS + 1)}
-    surveys |= {"part 1 of 16": lambda log: part(program, 1, log, 16), "part 1 of 1": lambda log: part(program, 1, log, 1)}
+    surveys = {}
+    for name, survey in {"": [program], ", forgets": [program, *FORGETS]}.items():
+        surveys[f"the whole{name}"] = lambda log, survey=survey: [*survey, log]
+        for number, parts in [*((number, PARTS) for number in range(1, PARTS + 1)), (1, 16), (1, 1)]:
+            surveys[f"part {number} of {parts}{name}"] = lambda log, survey=survey, number=number, parts=parts: part(survey, number, log, parts)
     got = dict.fromkeys(surveys, 0)
     # What the longer log takes is added, and what the shorter one takes is subtracted.
     for size, sign in zip(COUNTED, (-1, 1)):
@@ -42,7 +46,8 @@ def print_counted(program, folder):
         for name, survey in surveys.items():
             got[name] += sign * instructions(survey(folder / "log"))[0] / (COUNTED[1] - COUNTED[0])
     for name, count in got.items():
-        print(f"{name:<24} {count:>8.0f} instructions an entry {got['the whole'] / count:>6.2f}", flush=True)
+        whole = got["the whole, forgets" if name.endswith("forgets") else "the whole"]
+        print(f"{name:<24} {count:>8.0f} instructions an entry {whole / count:>6.2f}", flush=True)
 
 
 def at_once(commands):
@@ -63,10 +68,14 @@ def print_timed(program, folder, entries):
     """Times the whole log and its parts, each alone and four at once, in rounds, and prints the fewest seconds and the middle ones."""
     log = folder / "log"
     write_log(log, calls, entries)
-    log.read_bytes()  # so that it is in memory
+    # It is read once, so that it is in memory.
+    with log.open("rb") as file:
+        while file.read(1 << 20):
+            pass
     # What is run at once, by its name: the whole log, a part of it, four of them, and a loop that tells how the machine does meanwhile.
-    whole, numbers = [program, log], range(1, PARTS + 1)
-    runs = {"the whole": [whole], "a part": [part(program, 1, log)], "four parts at once": [part(program, number, log) for number in numbers],
+    survey = [program] if entries <= MOST else [program, *FORGETS]
+    whole, numbers = [*survey, log], range(1, PARTS + 1)
+    runs = {"the whole": [whole], "a part": [part(survey, 1, log)], "four parts at once": [part(survey, number, log) for number in numbers],
             "four wholes at once": [whole] * PARTS, "a loop": [LOOP], "four loops at once": [LOOP] * PARTS}
     got = {name: [] for name in runs}
     for _ in range(ROUNDS):

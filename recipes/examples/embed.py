@@ -10,10 +10,11 @@ HEADER = b"sip-trace 1\nt1 500 t2 4000 t4 5000 tolerance 50\n"
 
 class Survey:
     """A survey that goes on while entries come. `tell` gets the words of each line, in a thread of its own: ["breach", "5", "transaction", "1", "client",
-    "INVITE", "z9hG4bKa", "2", "4"]. Role, method, branch, first and last entry stand after the number."""
+    "INVITE", "z9hG4bKa", "2", "4"]. Role, method, branch, first and last entry stand after the number. `words` are those of sipsurvey: with ("--forget", "60000")
+    it forgets what is over, and the log may be as long as it will."""
 
-    def __init__(self, tell, header=HEADER, program="sipsurvey"):
-        self.process = subprocess.Popen([program], stdin=subprocess.PIPE, stdout=subprocess.PIPE)
+    def __init__(self, tell, header=HEADER, program="sipsurvey", words=()):
+        self.process = subprocess.Popen([program, *words], stdin=subprocess.PIPE, stdout=subprocess.PIPE)
         self.thread = threading.Thread(target=lambda: [tell(line.decode().split()) for line in self.process.stdout])
         self.thread.start()
         self.process.stdin.write(header)

@@ -1,6 +1,6 @@
 //! A survey that takes the entries of a log as they come.
 //! In the clauses es are the entries so far, whichever they are, e is what is observed of the next one, and `here` is what is found at it.
-ghost use Rattle.std.specs.Prelude.{◌≡◌, ◌<◌, ◌≤◌, ◌+◌, ◌-◌, ◌↔◌, ◌++◌, ◌∷◌, [], Bool, false, List, Some, All, Contains, IfSome, IsSomeAnd, IsTrue, OnOk, OnErr, length, slice_get};
+ghost use Rattle.std.specs.Prelude.{◌≡◌, ◌<◌, ◌≤◌, ◌+◌, ◌-◌, ◌↔◌, ◌++◌, ◌∷◌, [], Bool, false, true, List, Some, All, Contains, IfSome, IsSomeAnd, IsTrue, OnOk, OnErr, length, slice_get};
 ghost use Rattle.std.specs.Result.{is_err};
 ghost use Rattle.sip_standard.specs.Key.{KeyParts};
 ghost use Rattle.sip_log.specs.Told.{item};
@@ -126,8 +126,8 @@ impl<H: BuildHasher + Drop> Survey<H> {
     }
 
     /// Judges the next entry, and appends what is found at it: the fault of its message, then the transactions that break by number,
-    /// then those that are followed no further by number. Each transaction is found once. After an error every call answers
-    /// `StepError::Failed`, and appends nothing.
+    /// then those that are followed no further by number. Each transaction is found once. Where memory is refused it may have appended some
+    /// of these. After an error every call answers `StepError::Failed`, and appends nothing.
     pub fn entry(&mut self, entry: &Entry, found: &mut Vec<Finding>) -> Result<(), StepError>
         requires { self.old.failed ≡ false → MayFollow self.old.number self.old.moment (length self.old.tables.keys) entry.now.number entry.now.moment }
         ensures found { OnOk result ((es : List (Observation KeyParts)) → SurveysFor self.old es
@@ -137,6 +137,7 @@ impl<H: BuildHasher + Drop> Survey<H> {
         ensures failed { self.new.failed ≡ is_err result }
         ensures newest { OnOk result ((self.new.number ≡ entry.now.number) × (self.new.moment ≡ entry.now.moment)) }
         ensures front { OnErr result ((more : List Finding) × (found.new.items ≡ found.old.items ++ more)) }
+        ensures silent { self.old.failed ≡ true → found.new.items ≡ found.old.items }
         ensures keyless { OnOk result (ConcernsNone (item entry.now) → All (Contains self.old.texts) self.new.texts) }
         ensures keys { OnOk result (length self.new.tables.keys ≤ length self.old.tables.keys + 2) }
         ensures times { OnOk result (self.new.tables.times ≡ self.old.tables.times) }
@@ -172,8 +173,8 @@ impl<H: BuildHasher + Drop> Survey<H> {
     /// is idle again, or has ended. The survey goes on as after the same entries without the forgotten ones. The transactions that are left
     /// are numbered anew, in their order, and the messages that are kept then are just those that they name.
     ///
-    /// Of a transaction that was idle again, as a server is that has ended, nothing is lost. A later message of another forgotten transaction
-    /// begins a new one, so a client that ended may then send its request again without a breach. `until` is best the number of the newest of
+    /// Of a transaction that was idle again and in no trouble, as a server is that has ended well, nothing is lost. A later message of another
+    /// forgotten transaction begins a new one, so a client that ended may then send its request again without a breach. `until` is best the number of the newest of
     /// the entries that are so old that no message of an ended transaction can be on its way. After an error every call answers `StepError::Failed`.
     pub fn forget(&mut self, until: u64) -> Result<(), StepError>
         ensures forgets { OnOk result ((es : List (Observation KeyParts)) → SurveysFor self.old es

@@ -16,12 +16,13 @@ ghost use Rattle.sip_verdict.specs.inner.ForgettingLogs.{IsHorizonOf, IsStreamAt
 
 use crate::following::Survey;
 use crate::horizon::Horizon;
-use crate::reading::{Next, read_header, read_on};
+use crate::reading::{Next, read_header};
 use crate::step_error::StepError;
 use crate::summary::Summary;
 use crate::survey_end::SurveyEnd;
 use crate::survey_error::SurveyError;
-use crate::surveying::{Counts, cut_to, finish, put_findings};
+use crate::surveying::{Counts, finish, put_findings};
+use crate::taking::read_on_taken;
 use sip_log::{Progress, Sink, Source};
 use sip_part::Part;
 use sip_standard::LogReason;
@@ -88,11 +89,10 @@ fn write_on<R: Source, W: Sink, H: BuildHasher + Drop>(
     let mut horizon = Horizon::new(age);
     let mut count = 0;
     loop {
-        match read_on(progress, buffer, reader, count)? {
-            Next::Entry(mut entry) => {
+        match read_on_taken(alloc, part, progress, buffer, reader, count)? {
+            Next::Entry(entry) => {
                 found.clear();
-                // What belongs to another part becomes a mark; then what is due is forgotten, before the entry is taken.
-                cut_to(alloc, part, &mut entry)?;
+                // What is due is forgotten before the entry is taken.
                 forget_due(survey, &mut horizon)?;
                 // A survey without room for the entry ends there.
                 if !survey.has_room() {

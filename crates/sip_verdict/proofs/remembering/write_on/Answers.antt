@@ -43,20 +43,17 @@ entry-requires g c = λ goes_on.
     let l = c.loop-found in
     let moves = rw c.in-Entry.is at c.in_ok-entry.ensures.moves in
     let forgot = c.in_ok-forget_due-in-Entry.ensures in
-    let number = moves.1.number_is in
-    -- the cut entry has the number and the moment of the one that was read
-    let same = c.in_ok-cut_to-in-Entry.ensures.number in
-    let moment = c.in_ok-cut_to-in-Entry.ensures.moment in
+    let number = moves.1 in
     -- after the forgetting the survey has the same number and the same newest moment
     let counts = l.invariant.counts_are in
     let kept = forgot.newest.0 in
     let newest = l.invariant.at.newest in
     let now = forgot.newest.1 in
-    let order = moves.1.order in
-    let high = moves.1.moment_high in
+    let order = moves.2 in
+    let high = moves.3 in
     let is_room : IsTrue c.has_room.result = search rules in
     -- all of this follows by arithmetic from how the reader has moved on, and the room from the test
-    record { next = omega (arith, number, same, counts, kept); order = omega (arith, newest, now, order, moment); limit = omega (arith, high, moment); room = c.has_room.ensures.0 is_room }
+    record { next = omega (arith, number, counts, kept); order = omega (arith, newest, now, order); limit = high; room = c.has_room.ensures.0 is_room }
 
 -- after one entry more, the lines are those of all findings so far, and the survey stands after what is remembered
 pub loop-found-preserved : goal.loop-found-preserved
@@ -66,23 +63,20 @@ loop-found-preserved g c =
     let part = option_copied c.args.part in
     let p = c.args.survey.now.tables.times in
     let old : log.ReaderState = beside_source l.progress (g.R.Source.left l.reader) (g.R.Source.has_failed l.reader) in
-    let new : log.ReaderState = beside_source c.read_on.new.progress (g.R.Source.left c.read_on.new.reader) (g.R.Source.has_failed c.read_on.new.reader) in
+    let new : log.ReaderState = beside_source c.read_on_taken.new.progress (g.R.Source.left c.read_on_taken.new.reader) (g.R.Source.has_failed c.read_on_taken.new.reader) in
     let moves = rw c.in-Entry.is at c.in_ok-entry.ensures.moves in
-    -- what the calls of the loop did: entries were forgotten, one was cut and taken, and its lines were put
+    -- what the calls of the loop did: transactions were forgotten, an entry was taken, and its lines were put
     let forgot = c.in_ok-forget_due-in-Entry.ensures in
     let taken = c.in_ok-entry-in-Entry.ensures in
     let put = c.in_ok-counts-in-Entry.ensures in
-    let cut = c.in_ok-cut_to-in-Entry.ensures in
     let items : List Finding = c.entry.new.found.items in
     let lines : c.as_slice.result.now ≡ items = search rules in
     -- nothing is found before the forgetting but what was told
     let told = l.invariant.told in
     let was = l.invariant.at.newest in
-    let order = moves.1.order in
+    let order = moves.2 in
     let forgot_moment = forgot.newest.1 in
     let taken_moment = taken.newest.1 in
-    -- the cut entry has the number and the moment of the entry
-    let cut_moment = cut.moment in
     let is_room : IsTrue c.has_room.result = search rules in
     let has_room : HasRoom c.forget_due.new.survey.number (length c.forget_due.new.survey.tables.keys) = c.has_room.ensures.0 is_room in
     -- what the loop keeps holds again
@@ -93,10 +87,10 @@ loop-found-preserved g c =
         on = moves.0;
         -- the survey has not failed, since it took the entry
         goes_on = search rules;
-        newest = taken.newest.1 ∙ cut.moment ∙ sym moves.2;
+        newest = taken.newest.1 ∙ sym moves.4;
       };
       -- as many entries were counted as the survey has taken
-      few = (let number = moves.1.number_is in let same = cut.number in let survey = forgot.newest.0 in let counts = l.invariant.counts_are in let room = has_room.0 in omega arith);
+      few = (let number = moves.1 in let survey = forgot.newest.0 in let counts = l.invariant.counts_are in let room = has_room.0 in omega arith);
       counts_are = sym taken.newest.0;
       aged = c.note.ensures.age ∙ forgot.age ∙ l.invariant.aged;
       told = (
@@ -109,8 +103,8 @@ loop-found-preserved g c =
         λ start reads.
             let so = told.3 start reads in
             let more = (rw c.in-Entry.is at c.in_ok-entry.ensures.gives) start p so.0.items so.0.read in
-            remembers_on c.args.age part p start old l.survey told.0 told.1 so.0 l.horizon so.1 l.invariant.aged c.in-Entry.entry c.cut_to.new.entry new more cut.cut
-            c.forget_due.new.survey c.entry.new.self c.forget_due.new.horizon c.note.new.self forgot.times taken.times (omega (arith, was, order, forgot_moment, taken_moment, cut_moment)) forgot.left has_room items
+            remembers_on c.args.age part p start old l.survey told.0 told.1 so.0 l.horizon so.1 l.invariant.aged more.0 c.in-Entry.entry new more.1 more.2
+            c.forget_due.new.survey c.entry.new.self c.forget_due.new.horizon c.note.new.self forgot.times taken.times (omega (arith, was, order, forgot_moment, taken_moment)) forgot.left has_room items
             (rw c.clear.ensures.items at taken.found) put.text.0 (subst (λ fs. AreLinesBy c.entry.new.self fs put.text.0) lines put.text.2)
             -- the horizon takes note of the entry, whose number and moment are those of the survey
             (λ es horizon_is stands. c.note.ensures.horizon es horizon_is (sym taken.newest.0 ∙ stands.number) (sym taken.newest.1 ∙ stands.moment)),
@@ -124,14 +118,14 @@ returns-then-not-has_room-clause-surveyed g c =
     let part = option_copied c.args.part in
     let p = c.args.survey.now.tables.times in
     let old : log.ReaderState = beside_source l.progress (g.R.Source.left l.reader) (g.R.Source.has_failed l.reader) in
-    let new : log.ReaderState = beside_source c.read_on.new.progress (g.R.Source.left c.read_on.new.reader) (g.R.Source.has_failed c.read_on.new.reader) in
+    let new : log.ReaderState = beside_source c.read_on_taken.new.progress (g.R.Source.left c.read_on_taken.new.reader) (g.R.Source.has_failed c.read_on_taken.new.reader) in
     -- what the survey told so far, and what it forgot
     let told = l.invariant.told in
     let moves = rw c.in-Entry.is at c.in_ok-entry.ensures.moves in
     let forgot = c.in_ok-forget_due-in-Entry.ensures in
-    let number = c.cut_to.new.entry.number in
+    let number = c.in-Entry.entry.number in
     -- the number comes next, but there is no room for it
-    let next : number ≡ c.forget_due.new.survey.number + 1 = c.in_ok-cut_to-in-Entry.ensures.number ∙ moves.1.number_is ∙ ap (λ n. n + 1) (l.invariant.counts_are ∙ sym forgot.newest.0) in
+    let next : number ≡ c.forget_due.new.survey.number + 1 = moves.1 ∙ ap (λ n. n + 1) (l.invariant.counts_are ∙ sym forgot.newest.0) in
     let off : c.has_room.result ≡ false = search rules in
     let full : ¬ (HasRoom c.forget_due.new.survey.number (length c.forget_due.new.survey.tables.keys)) = λ room. absurd (false≢true (sym off ∙ c.has_room.ensures.1 room)) in
     let before = g.W.Sink.written c.args.writer.now in
@@ -141,7 +135,7 @@ returns-then-not-has_room-clause-surveyed g c =
     summed c.finish.result l.counts (LogFault number Limit) c.finish.ensures.sums c.finish.ensures.text (λ summary end findings undecided last start reads.
     let so = told.3 start reads in
     let more = (rw c.in-Entry.is at c.in_ok-entry.ensures.gives) start p so.0.items so.0.read in
-    remembers_full c.args.age part p start old l.survey told.0 told.1 so.0 l.counts summary before mid after told.2 findings undecided l.horizon so.1 l.invariant.aged c.in-Entry.entry new more
+    remembers_full c.args.age part p start old l.survey told.0 told.1 so.0 l.counts summary before mid after told.2 findings undecided l.horizon so.1 l.invariant.aged more.0 new more.1
     c.forget_due.new.survey c.forget_due.new.horizon forgot.left full number next end last)
 
 -- where the log ends, the summary and the last line tell all its entries

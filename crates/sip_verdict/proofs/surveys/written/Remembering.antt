@@ -51,7 +51,7 @@ module _ (age : ℕ) (part : Option PartOf) (p : Times) (start : Option (List �
   -- where transactions may have been forgotten, one more item was read and surveyed, and its lines were written, the survey has read that item too
   -- m is the horizon before; f and a are the survey and the horizon after what was due was forgotten, and k and b those after the entry
   pub remembers_on : (m : Horizon) → IsHorizonOf m so.es → m.age ≡ age
-      → (e cut : Entry) (new : log.ReaderState) → HasStreamed start p (so.items ++ item e ∷ []) new → IsTaken part (item e) (item cut)
+      → (i : Item) (cut : Entry) (new : log.ReaderState) → HasStreamed start p (so.items ++ i ∷ []) new → IsTaken part i (item cut)
       → (f k : Surveying) (a b : Horizon) → f.tables.times ≡ s.tables.times → k.tables.times ≡ f.tables.times → f.moment ≤ k.moment
       → ((es : List (Observation KeyParts)) → SurveysFor s es → IsHorizonOf m es
       → (left : List (Observation KeyParts)) × IsLeftOf m.age s.tables.times es left × SurveysFor f left × IsHorizonOf a left)
@@ -62,7 +62,7 @@ module _ (age : ℕ) (part : Option PartOf) (p : Times) (start : Option (List �
       → (text : List ℕ) → AreLinesBy k items text
       → ((es : List (Observation KeyParts)) → IsHorizonOf a es → SurveysFor k es → IsHorizonOf b es)
       → (on : RemembersRead age part p k (found ++ items) (lines ++ text) start new) × IsHorizonOf b on.es
-  remembers_on m horizon_is aged e cut new more is_taken f k a b f_times k_times moves forgets room items says text are_lines notes =
+  remembers_on m horizon_is aged i cut new more is_taken f k a b f_times k_times moves forgets room items says text are_lines notes =
       -- what is left after the forgetting, and what is seen and found at the entry
       let (left, left_is, f_stands, f_horizon) = forgets so.es so.follows horizon_is in
       let (seen, here, observed, are, same, k_stands) = says left f_stands in
@@ -77,7 +77,7 @@ module _ (age : ℕ) (part : Option PartOf) (p : Times) (start : Option (List �
       let newest = newest_moment-push left seen in (
         -- the survey has read the item, and its horizon goes on
         record {
-          items = so.items ++ item e ∷ [];
+          items = so.items ++ i ∷ [];
           es = left ++ seen ∷ [];
           times = k_times ∙ f_times ∙ so.times;
           follows = k_stands;
@@ -85,12 +85,12 @@ module _ (age : ℕ) (part : Option PartOf) (p : Times) (start : Option (List �
           -- with what comes later the text is that of the whole
           front = λ rest close later end further told.
               -- what is found and written later comes after what is found and written here (`whole`), which is then put into brackets with what came before
-              let whole : IsToldAfter age part p [] (so.items ++ item e ∷ rest) close (found ++ (items ++ later)) end (lines ++ (text ++ further)) =
-              so.front (item e ∷ rest) close (items ++ later) end (text ++ further)
+              let whole : IsToldAfter age part p [] (so.items ++ i ∷ rest) close (found ++ (items ++ later)) end (lines ++ (text ++ further)) =
+              so.front (i ∷ rest) close (items ++ later) end (text ++ further)
               (left, is_left, inr (has_room, (item cut, seen, items, later, text, further, is_taken, observed, found_here, text_is, refl, refl, told))) in
-              subst (λ xs. IsToldAfter age part p [] ((so.items ++ item e ∷ []) ++ rest) close ((found ++ items) ++ later) end xs) (sym (append_assoc lines text further))
-              (subst (λ fs. IsToldAfter age part p [] ((so.items ++ item e ∷ []) ++ rest) close fs end (lines ++ (text ++ further))) (sym (append_assoc found items later))
-              (subst (λ is. IsToldAfter age part p [] is close (found ++ (items ++ later)) end (lines ++ (text ++ further))) (sym (append_assoc so.items (item e ∷ []) rest)) whole));
+              subst (λ xs. IsToldAfter age part p [] ((so.items ++ i ∷ []) ++ rest) close ((found ++ items) ++ later) end xs) (sym (append_assoc lines text further))
+              (subst (λ fs. IsToldAfter age part p [] ((so.items ++ i ∷ []) ++ rest) close fs end (lines ++ (text ++ further))) (sym (append_assoc found items later))
+              (subst (λ is. IsToldAfter age part p [] is close (found ++ (items ++ later)) end (lines ++ (text ++ further))) (sym (append_assoc so.items (i ∷ []) rest)) whole));
         },
         notes (left ++ seen ∷ []) (horizon_push a left seen f_horizon (omega (arith, f_now, k_now, newest, moves))) k_stands,
       )
@@ -131,11 +131,11 @@ module _ (age : ℕ) (part : Option PartOf) (p : Times) (start : Option (List �
 
     -- the survey has no room for the entry that comes next
     -- m is the horizon before; f and a are the survey and the horizon after what was due was forgotten
-    pub remembers_full : (m : Horizon) → IsHorizonOf m so.es → m.age ≡ age → (e : Entry) (new : log.ReaderState) → HasStreamed start p (so.items ++ item e ∷ []) new → (f : Surveying) (a : Horizon)
+    pub remembers_full : (m : Horizon) → IsHorizonOf m so.es → m.age ≡ age → (i : Item) (new : log.ReaderState) → HasStreamed start p (so.items ++ i ∷ []) new → (f : Surveying) (a : Horizon)
         → ((es : List (Observation KeyParts)) → SurveysFor s es → IsHorizonOf m es → (left : List (Observation KeyParts)) × IsLeftOf m.age s.tables.times es left × SurveysFor f left × IsHorizonOf a left)
         → ¬ (HasRoom f.number (length f.tables.keys)) → (number : ℕ) → number ≡ f.number + 1 → summary.end ≡ ended.LogFault number Limit → Appends mid after (end_text (ended.LogFault number Limit) counts.findings)
         → IfSome start (λ input. IsWrittenForgetting age part input summary before after)
-    remembers_full m horizon_is aged e new more f a forgets no_room number next is last =
+    remembers_full m horizon_is aged i new more f a forgets no_room number next is last =
         -- what is left after the forgetting fills the room
         let (left, left_is, f_stands, f_horizon) = forgets so.es so.follows horizon_is in
         let is_left : IsLeftOf age p so.es left = subst (λ t. IsLeftOf age t so.es left) so.times (subst (λ n. IsLeftOf n s.tables.times so.es left) aged left_is) in
@@ -143,14 +143,14 @@ module _ (age : ℕ) (part : Option PartOf) (p : Times) (start : Option (List �
         subst (λ keys. ¬ (HasRoom (length left) (length keys))) f_stands.follows.tracks.keys (subst (λ n. ¬ (HasRoom n (length f.tables.keys))) f_stands.number no_room) in
         let at : ended.LogFault number Limit ≡ ended.LogFault (length left + 1) Limit = ap (λ n. ended.LogFault n Limit) (next ∙ ap (λ n. n + 1) f_stands.number) in
         -- the survey ends with the fault Limit at this number
-        all_written (ended.LogFault number Limit) is last (IfSome-map start (λ input. (rest : List Item) × (close : LogEnd) × StreamSays input p ((so.items ++ item e ∷ []) ++ rest) close)
+        all_written (ended.LogFault number Limit) is last (IfSome-map start (λ input. (rest : List Item) × (close : LogEnd) × StreamSays input p ((so.items ++ i ∷ []) ++ rest) close)
         (λ input. (items : List Item) × (close : LogEnd) × StreamSays input p items close × IsToldAfter age part p [] items close found (ended.LogFault number Limit) lines)
         (λ input w. (
-          so.items ++ (item e ∷ w.0),
+          so.items ++ (i ∷ w.0),
           w.1,
-          subst (λ is. StreamSays input p is w.1) (append_assoc so.items (item e ∷ []) w.0) w.2,
-          at_end (item e ∷ w.0) w.1 (ended.LogFault number Limit) (left, is_left, inl (full, refl, at, refl)),
-        )) (streamed_log start p (so.items ++ item e ∷ []) new more))
+          subst (λ is. StreamSays input p is w.1) (append_assoc so.items (i ∷ []) w.0) w.2,
+          at_end (i ∷ w.0) w.1 (ended.LogFault number Limit) (left, is_left, inl (full, refl, at, refl)),
+        )) (streamed_log start p (so.items ++ i ∷ []) new more))
 
     -- where the log is read to its end, the survey is written and summed up
     pub remembers_end : summary.end ≡ ended.Clean (length so.es) (length (keys_in so.es)) → Appends mid after (end_text (ended.Clean (length so.es) (length (keys_in so.es))) counts.findings)

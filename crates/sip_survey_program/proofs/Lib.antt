@@ -2,3 +2,4 @@ mod Answered
 mod AskedLemmas
 mod Slashes
 mod StatusLemmas
+mod Together

@@ -4,3 +4,4 @@ pub mod Ending
 pub mod Failures
 pub mod PartWords
 pub mod Status
+pub mod Together

@@ -4,6 +4,7 @@
 mod asking;
 mod ending;
 mod failure;
+mod laws;
 mod part_word;
 mod running;
 mod status;
@@ -12,6 +13,7 @@ mod words;
 pub use asking::asked;
 pub use ending::end;
 pub use failure::{Failure, read_failure};
+pub use laws::the_parts_find_together_what_the_whole_finds;
 pub use running::{program, run};
 pub use status::status_of;
 pub use words::{Asked, Log};

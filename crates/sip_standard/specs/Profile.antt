@@ -57,9 +57,8 @@ Ipv4 = let Group = Between 1 3 (One is_ascii_digit) in Group then Lit "." then G
 abbrev pub Hexseq : List ℕ → Type 0
 Hexseq = let Hex4 = Between 1 4 (One is_ascii_hexdigit) in Hex4 then Many (Lit ":" then Hex4)
 
--- IPv6address = hexpart [ ":" IPv4address ], hexpart = hexseq / hexseq "::" [ hexseq ] / "::" [ hexseq ]
--- Lenient: after a hexpart that ends with "::" the ":" may be missing.
--- As in the standard, the number of groups is not limited (RFC 5954 narrows this).
+-- IPv6address = hexpart [ ":" IPv4address ], hexpart = hexseq / hexseq "::" [ hexseq ] / "::" [ hexseq ]. As in the standard,
+-- the number of groups is not limited (RFC 5954 narrows this). Lenient: after a hexpart that ends with "::" the ":" may be missing.
 abbrev pub Ipv6 : List ℕ → Type 0
 Ipv6 =
     ((Hexseq or (Hexseq then Lit "::" then Optional Hexseq) or (Lit "::" then Optional Hexseq)) then Optional (Lit ":" then Ipv4))

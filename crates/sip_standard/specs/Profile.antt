@@ -42,8 +42,7 @@ Quoted =
 
 -- domainlabel = alphanum / alphanum *( alphanum / "-" ) alphanum, and toplabel, whose first is ALPHA
 abbrev pub Label : (ℕ → Bool) → List ℕ → Type 0
-Label is_first =
-    One is_first or (One is_first then Many (One (λ byte. is_ascii_alphanumeric byte || byte == 0x2D)) then One is_ascii_alphanumeric)
+Label is_first = One is_first or (One is_first then Many (One (λ byte. is_ascii_alphanumeric byte || byte == 0x2D)) then One is_ascii_alphanumeric)
 
 -- hostname = *( domainlabel "." ) toplabel [ "." ]
 abbrev pub Hostname : List ℕ → Type 0
@@ -78,8 +77,7 @@ Port text = Between 1 5 (One is_ascii_digit) text × (digits_value 10 text ≤ 6
 
 -- one of these characters / unreserved / escaped: unreserved = alphanum / mark, escaped = "%" HEXDIG HEXDIG
 abbrev pub Char : String → List ℕ → Type 0
-Char others =
-    One (is_among others) or One (is_alphanum_or "-_.!~*'()") or (Lit "%" then One is_ascii_hexdigit then One is_ascii_hexdigit)
+Char others = One (is_among others) or One (is_alphanum_or "-_.!~*'()") or (Lit "%" then One is_ascii_hexdigit then One is_ascii_hexdigit)
 
 -- user = 1*( unreserved / escaped / user-unreserved ). Own: a telephone-subscriber is read as a user.
 abbrev pub User : List ℕ → Type 0

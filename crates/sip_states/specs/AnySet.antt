@@ -7,7 +7,7 @@ use Rattle.sip_machine.specs.NumberedEvent.{NumberedEvent}
 use Rattle.sip_machine.specs.FigureRules.{rules_of as rules_of_figure, until_of}
 use Rattle.sip_machine.specs.Owing.{owing_seen, owing_names, OwingInRange}
 use Rattle.sip_machine.specs.inner.Coded.{idle_state, ended_state}
-use Rattle.sip_states.specs.Runs.{IsWide}
+use Rattle.sip_standard.specs.VerdictOf.{IsWide}
 use Rattle.sip_states.specs.Held.{Held}
 use Rattle.sip_standard.specs.KeyMachine.{MachineKind, machine_of_key, transaction_of}
 use Rattle.sip_states.specs.KeySets.{coded_of, PhaseOf, StateOf, set_of, by_machine, start_of_machine}

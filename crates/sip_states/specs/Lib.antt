@@ -1,4 +1,4 @@
-pub mod Runs
+pub mod Waits
 pub mod Held
 pub mod inner
 pub mod KeySets

@@ -12,7 +12,7 @@ ghost use Rattle.sip_standard.specs.Kind.{IsFinal};
 ghost use Rattle.sip_standard.specs.Times.{Times};
 ghost use Rattle.sip_standard.specs.KeyMachine.{MachineKind, machine_of, transaction_of};
 ghost use Rattle.sip_states.specs.KeySets.{PhaseOf, key_rules};
-ghost use Rattle.sip_states.specs.Runs.{Wait, RunGives};
+ghost use Rattle.sip_states.specs.Waits.{Wait, RunGives};
 ghost use Rattle.sip_standard.specs.Stands.{Stands, StandsAfter};
 ghost use Rattle.sip_standard.specs.declared.role.Role.TheVariants.{Client, Server};
 ghost use Rattle.sip_standard.specs.declared.action.Action.TheVariants.{Sent, Received};

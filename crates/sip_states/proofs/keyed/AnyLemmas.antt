@@ -6,7 +6,7 @@ use Rattle.sip_standard.specs.Times.{Times}
 use Rattle.sip_machine.specs.NumberedEvent.{NumberedEvent}
 use Rattle.sip_machine.specs.Texts.{Texts, IsBook}
 use Rattle.sip_machine.specs.Rules.{StandFor}
-use Rattle.sip_states.specs.Runs.{widest}
+use Rattle.sip_standard.specs.VerdictOf.{widest}
 use Rattle.sip_states.specs.Held.{Held}
 use Rattle.sip_states.specs.KeySets.{StateOf, set_of, each_set, by_machine, held_at_start, start_of_machine}
 use Rattle.sip_states.proofs.keyed.KeySetLaws.{by_machine_is, of_machine}

@@ -3,7 +3,7 @@ use Rattle.std.proofs.Common.{ℕ, Bool, List, None, Contains, inl, inr, map, sl
 use Rattle.sip_standard.specs.Key.{KeyParts}
 use Rattle.sip_standard.specs.Times.{Times}
 use Rattle.sip_machine.specs.Texts.{Texts}
-use Rattle.sip_states.specs.Runs.{IsAgenda}
+use Rattle.sip_states.specs.Waits.{IsAgenda}
 use Rattle.sip_standard.specs.KeyMachine.{MachineKind, machine_of_key}
 use Rattle.sip_states.specs.KeySets.{held_at_start, start_of_machine}
 use Rattle.sip_states.specs.Meaning.{HasAgenda}

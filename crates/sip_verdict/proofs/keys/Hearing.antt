@@ -4,7 +4,8 @@ use Rattle.sip_machine.specs.Texts.{Texts}
 use Rattle.sip_standard.specs.MachineEvent.{MachineEvent}
 use Rattle.sip_machine.specs.Rules.{MachineRules, IsLawful, StandFor}
 use Rattle.sip_verdict.specs.declared.passing.Outcome.TheVariants as all
-use Rattle.sip_states.specs.Runs.{Wait, RunGives, IsWide, widest}
+use Rattle.sip_states.specs.Waits.{Wait, RunGives}
+use Rattle.sip_standard.specs.VerdictOf.{IsWide, widest}
 use Rattle.sip_states.specs.inner.RuledRuns.{AfterRun}
 use Rattle.sip_states.specs.Held.{Held}
 use Rattle.sip_verdict.specs.inner.Leads.{Leads}
@@ -40,7 +41,7 @@ module _ {M X S : Type 0} (names : S → List ℕ) (InRange : S → Type 0) (see
 
     -- the new states lead to the runs over the events and e
     taken : Leads names seen texts (rules machine) (events ++ e ∷ []) e.moment e.moment new.states
-    taken = Leads-take names InRange seen texts (rules machine) events from set.moment set.states leads.leads e late low new.states given
+    taken = Leads-take names InRange seen texts (rules machine) (lawful machine) events from set.moment set.states leads.leads e late low new.states given
 
     -- where no state is left, no run takes the event
     pub heard_none : new.states ≡ [] → ¬ RunsUntil (rules machine) (events ++ e ∷ []) e.moment

@@ -1,16 +1,16 @@
 -- How a set that leads to where the runs stand goes on to lead there.
-use Rattle.std.proofs.Common.{◌≡◌, ◌≤◌, ◌↔◌, ℕ, List, [], ◌∷◌, ◌++◌, All, Contains, map, get_or, subst, arith}
+use Rattle.std.proofs.Common.{◌≡◌, ◌≤◌, ◌↔◌, inl, inr, ℕ, List, [], ◌∷◌, ◌++◌, All, Contains, map, get_or, subst, arith}
 use Rattle.std.proofs.lemmas.List.Elements.{All-cons, All-nil, All-weaker, Contains-get_or}
 use Rattle.sip_machine.specs.Texts.{Texts, text_of}
 use Rattle.sip_standard.specs.MachineEvent.{MachineEvent}
-use Rattle.sip_machine.specs.Rules.{MachineRules, Waits, Knows, StandFor}
-use Rattle.sip_states.specs.Runs.{Wait, RunGives}
+use Rattle.sip_machine.specs.Rules.{MachineRules, IsLawful, Waits, Knows, StandFor}
+use Rattle.sip_states.specs.Waits.{Wait, RunGives}
 use Rattle.sip_states.specs.inner.RuledRuns.{RuledRun, AfterRun}
 use Rattle.sip_machine.proofs.rules.RuleLaws.{AgreeOn, AgreeOn-grow, map-seen}
 use Rattle.sip_verdict.specs.inner.Leads.{Leads}
 use Rattle.sip_states.proofs.lists.Listed.{Contains-single, Contains-none, Contains-map}
 use Rattle.sip_states.proofs.runs.RunLemmas.{Run-wait, Run-wait_first, After-run}
-use Rattle.sip_states.proofs.sets.Waiting.{Wait-iff, Gives-iff, Wait-stay}
+use Rattle.sip_states.proofs.sets.Waiting.{Wait-iff, Gives-iff}
 
 -- where A holds exactly if B does, and B exactly if C does, A holds exactly if C does
 pub iff_trans : {A B C : Type 0} → A ↔ B → B ↔ C → A ↔ C
@@ -23,15 +23,15 @@ iff_sym e = (e.1, e.0)
 -- What follows is of states of the code: `seen` gives what each stands for beside a book, and `names` the messages that it names.
 module _ {X S : Type 0} (names : S → List ℕ) (seen : Texts → S → X) where
   -- the first state of a machine, alone in a set, leads to the runs over no event
-  pub Leads-start : (texts : Texts) (r : MachineRules X) (first : S) → seen texts first ≡ r.first → Knows names texts first → (from : ℕ) → Leads names seen texts r [] from 0 (first ∷ [])
-  Leads-start texts r first is known from =
+  pub Leads-start : (texts : Texts) (r : MachineRules X) → IsLawful r → (first : S) → seen texts first ≡ r.first → Knows names texts first → (from : ℕ) → Leads names seen texts r [] from 0 (first ∷ [])
+  Leads-start texts r lawful first is known from =
       record {
         -- one can wait from the first state alone just where a run over no event stands
         known = All-cons (Knows names texts) first [] known (All-nil (Knows names texts));
         runs = λ n x late low.
             iff_trans
             (Wait-iff r (Contains (seen texts first ∷ [])) (λ y. y ≡ r.first) (λ y. subst (λ v. Contains (seen texts first ∷ []) y ↔ (y ≡ v)) is (Contains-single (seen texts first) y)) 0 n x)
-            (iff_sym (Run-wait_first r n x));
+            (iff_sym (Run-wait_first r lawful n x));
       }
 
   -- what the event e gives from the states to which a set leads are exactly the last states of the runs that end with e
@@ -47,8 +47,10 @@ module _ {X S : Type 0} (names : S → List ℕ) (seen : Texts → S → X) wher
       states ≡ [] → (n : ℕ) → from ≤ n → moment ≤ n → (x : X) → RuledRun r events n x → ⊥
   Leads-none texts r events from moment states leads none n late low x run =
       -- a run that stood there would have waited from a state of the set, which has none
-      let wait = (leads.runs n x late low).1 run in
-      Contains-none wait.start (subst (λ xs. Contains (map (seen texts) xs) wait.start) none wait.begins)
+      elim ((leads.runs n x late low).1 run) [
+        | inl s ↦ Contains-none x (subst (λ xs. Contains (map (seen texts) xs) x) none s.among)
+        | inr e ↦ Contains-none e.start (subst (λ xs. Contains (map (seen texts) xs) e.start) none e.among)
+      ]
 
   -- a state of the set that can wait at its moment is where a run stands
   pub Leads-some : (texts : Texts) (r : MachineRules X) (events : List MachineEvent) (from moment : ℕ) (states : List S) → Leads names seen texts r events from moment states → from ≤ moment →
@@ -57,8 +59,7 @@ module _ {X S : Type 0} (names : S → List ℕ) (seen : Texts → S → X) wher
       -- to wait in the state up to its own moment is a wait, and the set leads to where the runs stand
       let reached : moment ≤ moment = omega arith in
       (leads.runs moment (seen texts s) late reached).0
-      (Wait-stay r (Contains (map (seen texts) states)) moment moment (seen texts s)
-      (record { among = Contains-map (seen texts) states s member; reached = reached; waits = waits }))
+      (inl (record { among = Contains-map (seen texts) states s member; reached = reached; waits = waits }))
 
   -- a set leads to the same runs beside another book that has the same bytes for the messages that its states name
   -- a and b are the two books, and x is a state that names messages
@@ -85,17 +86,17 @@ module _ {X S : Type 0} (names : S → List ℕ) (seen : Texts → S → X) wher
 -- it names, and InRange says that its moments are within the limits.
 module _ {X S : Type 0} (names : S → List ℕ) (InRange : S → Type 0) (seen : Texts → S → X) (texts : Texts) (r : MachineRules X) where
   -- the states that the event e gives from a set that leads to the runs over the events lead to the runs over the events and e
-  pub Leads-take : (events : List MachineEvent) (from moment : ℕ) (states : List S) → Leads names seen texts r events from moment states →
+  pub Leads-take : IsLawful r → (events : List MachineEvent) (from moment : ℕ) (states : List S) → Leads names seen texts r events from moment states →
       (e : MachineEvent) → from ≤ e.moment → moment ≤ e.moment → (new : List S) → StandFor names InRange seen texts (RunGives r (Wait r (Contains (map (seen texts) states)) moment e.moment) e) new →
       Leads names seen texts r (events ++ e ∷ []) e.moment e.moment new
-  Leads-take events from moment states leads e late low new gives =
+  Leads-take lawful events from moment states leads e late low new gives =
       record {
         known = gives.known;
         -- to stand after the event is to wait in one of the new states
         runs = λ n x reached later.
             iff_trans
             (Wait-iff r (Contains (map (seen texts) new)) (AfterRun r events e) (λ y. iff_trans (gives.members y) (gives_after names seen texts r events from moment states leads e late low y)) e.moment n x)
-            (iff_sym (Run-wait r events e n x));
+            (iff_sym (Run-wait r lawful events e n x));
       }
 
 -- a set that leads to the runs from one moment on leads to them from any later moment on

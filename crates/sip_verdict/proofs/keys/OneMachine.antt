@@ -1,16 +1,16 @@
 -- What one event leaves of the runs of one machine, said by the set of their states.
-use Rattle.std.proofs.Common.{◌≡◌, ◌≢◌, ◌≤◌, ◌↔◌, ℕ, List, [], ◌∷◌, ◌++◌, All, Contains, map, length, refl, arith}
+use Rattle.std.proofs.Common.{◌≡◌, ◌≢◌, ◌≤◌, ◌↔◌, inl, ℕ, List, [], ◌∷◌, ◌++◌, All, Contains, map, length, refl, arith}
 use Rattle.std.proofs.lemmas.List.Elements.{All-contains}
 use Rattle.sip_machine.specs.Texts.{Texts}
 use Rattle.sip_standard.specs.MachineEvent.{MachineEvent}
 use Rattle.sip_machine.specs.Rules.{MachineRules, IsLawful, Waits, StandFor}
-use Rattle.sip_states.specs.Runs.{Wait, RunGives, IsWide, widest}
+use Rattle.sip_states.specs.Waits.{Wait, RunGives}
+use Rattle.sip_standard.specs.VerdictOf.{IsWide, widest}
 use Rattle.sip_states.specs.inner.RuledRuns.{RuledRun, AfterRun}
 use Rattle.sip_verdict.specs.inner.Leads.{Leads}
 use Rattle.sip_states.proofs.lists.Listed.{Contains-here}
 use Rattle.sip_states.proofs.sets.Taking.{wide_among, wide_some, few_narrow}
 use Rattle.sip_states.proofs.runs.RunLemmas.{Run-wait}
-use Rattle.sip_states.proofs.sets.Waiting.{Wait-stay}
 use Rattle.sip_verdict.proofs.keys.Leading.{iff_trans, gives_after, Leads-none, Leads-some}
 
 -- What follows is of the states of a set at `moment`, which lead to the runs over the events by the rules r of one machine; `from` is the moment of the
@@ -57,8 +57,8 @@ module _ {X S : Type 0} (names : S → List ℕ) (seen : Texts → S → X) (tex
   -- where the event gives a state, a run with the event stands in that state at its moment
   pub given_runs : (x : X) → RunGives r (Wait r (Contains (map (seen texts) states)) moment e.moment) e x → RuledRun r (events ++ e ∷ []) e.moment x
   given_runs x given =
-      (Run-wait r events e e.moment x).1
-      (Wait-stay r (AfterRun r events e) e.moment e.moment x
+      (Run-wait r lawful events e e.moment x).1
+      (inl
       (record { among = (gives_after names seen texts r events from moment states leads e late low x).0 given; reached = omega arith; waits = lawful.fresh given.before e x given.takes }))
 
   -- where the event gives too many states, there is a run with it, and the last states of the runs are too many

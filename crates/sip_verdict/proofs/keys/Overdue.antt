@@ -6,14 +6,14 @@ use Rattle.sip_machine.specs.Texts.{Texts}
 use Rattle.sip_standard.specs.MachineEvent.{MachineEvent}
 use Rattle.sip_machine.specs.Limits.{IsWithin}
 use Rattle.sip_machine.specs.Rules.{MachineRules}
-use Rattle.sip_states.specs.Runs.{IsAgenda}
+use Rattle.sip_states.specs.Waits.{IsAgenda}
 use Rattle.sip_standard.specs.KeyMachine.{MachineKind}
 use Rattle.sip_states.specs.KeySets.{key_rules}
 use Rattle.sip_states.specs.Meaning.{HasAgenda}
 use Rattle.sip_states.specs.AnySet.{moment_of, IsAgendaOf, meaning_of}
 use Rattle.sip_states.specs.Agenda.{is_overdue}
 use Rattle.sip_states.specs.declared.any_set.AnySet.{AnySet}
-use Rattle.sip_states.proofs.runs.RunLemmas.{Run-wait, After-run}
+use Rattle.sip_states.proofs.runs.RunLemmas.{Run-hides, After-run}
 use Rattle.sip_verdict.specs.inner.Stepping.{RunsUntil}
 use Rattle.sip_verdict.specs.inner.TablesTracking.{LeadsOf}
 use Rattle.sip_states.proofs.keyed.ByMachine.{moment_is, of_set}
@@ -21,9 +21,9 @@ use Rattle.sip_states.proofs.keyed.ByMachine.{moment_is, of_set}
 -- where a run over the events and e stands somewhere, a run over the events stands at the moment of e
 pub run_before : {X : Type 0} (r : MachineRules X) (events : List MachineEvent) (e : MachineEvent) (n : ℕ) → RunsUntil r (events ++ e ∷ []) n → RunsUntil r events e.moment
 run_before r events e n (y, run) =
-    -- a run over the events and e waits from where it stood after e, and it came there from where it stood before e, at the moment of e
-    let wait = (Run-wait r events e n y).0 run in
-    let given = (After-run r events e wait.start).0 wait.begins in
+    -- a run over the events and e goes on from where it stood after e, and it came there from where it stood before e, at the moment of e
+    let hides = (Run-hides r events e n y).0 run in
+    let given = (After-run r events e hides.start).0 hides.begins in
     (given.before, given.among)
 
 -- What follows is of the set of one transaction, of `limit`, the last moment on record to which it can wait, and of a moment that comes.

@@ -6,7 +6,7 @@ use Rattle.sip_machine.specs.Texts.{Texts}
 use Rattle.sip_machine.specs.NumberedEvent.{NumberedEvent, event_in}
 use Rattle.sip_standard.specs.MachineEvent.{MachineEvent}
 use Rattle.sip_machine.specs.Rules.{MachineRules, StandFor}
-use Rattle.sip_states.specs.Runs.{Wait, RunGives}
+use Rattle.sip_states.specs.Waits.{Wait, RunGives}
 use Rattle.sip_states.specs.Held.{Held}
 use Rattle.sip_standard.specs.KeyMachine.{MachineKind}
 use Rattle.sip_states.specs.KeySets.{PhaseOf, key_rules, StateOf}

@@ -1,24 +1,20 @@
 -- A machine has a run by its rules exactly where it has one in the words of the standard.
-use Rattle.std.proofs.Common.{◌≢◌, ◌<◌, ℕ, List, length, All, AllPairs}
-use Rattle.std.proofs.lemmas.List.Elements.{All-weaker}
+use Rattle.std.proofs.Common.{ℕ, List}
 use Rattle.sip_standard.specs.Times.{Times}
 use Rattle.sip_standard.specs.MachineEvent.{MachineEvent}
 use Rattle.sip_standard.specs.KeyMachine.{MachineKind, transaction_of}
 use Rattle.sip_standard.specs.Stands.{Stands, StandsAfter}
 use Rattle.sip_states.specs.KeySets.{PhaseOf, key_rules}
 use Rattle.sip_states.proofs.keyed.KeySetLaws.{coded_holds}
-use Rattle.sip_states.specs.Runs.{IsWide}
+use Rattle.sip_standard.specs.VerdictOf.{IsWide}
 use Rattle.sip_states.specs.inner.RuledRuns.{AfterRun}
+use Rattle.sip_states.proofs.sets.Taking.{wide_among}
 use Rattle.sip_states.proofs.runs.StandsLemmas.{stands-runs, stands-after}
 use Rattle.sip_verdict.specs.inner.Stepping.{RunsUntil}
 
 -- a run of the machine over the events stands at the moment
 abbrev pub StandsUntil : Times → MachineKind → List MachineEvent → ℕ → Type 0
 StandsUntil p machine events moment = (y : PhaseOf machine) × Stands (transaction_of machine).figure p events moment y
-
--- P holds of more than 1,024 states of the machine
-abbrev pub AreTooMany : (machine : MachineKind) → (PhaseOf machine → Type 0) → Type 0
-AreTooMany machine P = (many : List (PhaseOf machine)) × AllPairs (λ x y. x ≢ y) many × (1024 < length many) × All P many
 
 -- What follows is of the runs of one machine over the events, by the times p.
 module _ (p : Times) (machine : MachineKind) (events : List MachineEvent) where
@@ -41,15 +37,9 @@ module _ (p : Times) (machine : MachineKind) (events : List MachineEvent) where
     After y = StandsAfter (transaction_of machine).figure p events e y
 
     -- too many last states by the rules are too many in the words of the standard
-    pub wide-stands : IsWide Last → AreTooMany machine After
-    wide-stands wide =
-        (wide.many, wide.distinct, wide.wide, All-weaker Last After (λ y last. (stands-after (transaction_of machine).figure (coded_holds machine).is_figure p events e y).1 last) wide.many wide.each)
+    pub wide-stands : IsWide Last → IsWide After
+    wide-stands wide = wide_among Last After (λ y last. (stands-after (transaction_of machine).figure (coded_holds machine).is_figure p events e y).1 last) wide
 
     -- too many last states in the words of the standard are too many by the rules
-    pub stands-wide : AreTooMany machine After → IsWide Last
-    stands-wide (many, distinct, wide, each) = record {
-      many = many;
-      distinct = distinct;
-      wide = wide;
-      each = All-weaker After Last (λ y after. (stands-after (transaction_of machine).figure (coded_holds machine).is_figure p events e y).0 after) many each;
-    }
+    pub stands-wide : IsWide After → IsWide Last
+    stands-wide wide = wide_among After Last (λ y after. (stands-after (transaction_of machine).figure (coded_holds machine).is_figure p events e y).0 after) wide

@@ -1,5 +1,5 @@
 -- The states of the sets name just the messages that the runs name.
-use Rattle.std.proofs.Common.{◌≡◌, ◌≤◌, ◌↔◌, ◌⊎◌, inl, inr, ℕ, List, [], ◌∷◌, ◌++◌, Contains, map, refl, sym, ap, ap₂, ◌∙◌, subst}
+use Rattle.std.proofs.Common.{◌≡◌, ◌≤◌, ◌↔◌, inl, inr, ℕ, List, [], ◌∷◌, ◌++◌, Contains, map, refl, sym, ap, ap₂, ◌∙◌, subst}
 use Rattle.std.specs.List.{flat_map}
 use Rattle.std.proofs.lemmas.List.{map-append}
 use Rattle.sip_standard.specs.Times.{Times}
@@ -7,8 +7,8 @@ use Rattle.sip_ledger.specs.declared.debt.Debt.{Debt}
 use Rattle.sip_machine.specs.Texts.{Texts, text_of}
 use Rattle.sip_machine.specs.Owes.{owes_seen, owes_names}
 use Rattle.sip_standard.specs.MachineEvent.{MachineEvent}
-use Rattle.sip_machine.specs.Rules.{MachineRules, IsLawful, StandFor}
-use Rattle.sip_states.specs.Runs.{Wait}
+use Rattle.sip_machine.specs.Rules.{MachineRules, StandFor}
+use Rattle.sip_states.specs.Waits.{Wait}
 use Rattle.sip_states.specs.inner.RuledRuns.{RuledRun}
 use Rattle.sip_standard.specs.KeyMachine.{MachineKind}
 use Rattle.sip_states.specs.KeySets.{coded_of, StateOf}
@@ -16,7 +16,6 @@ use Rattle.sip_states.proofs.keyed.KeySetLaws.{coded_holds}
 use Rattle.sip_states.specs.AnySet.{meaning_of}
 use Rattle.sip_states.proofs.lists.Listed.{Contains-map, Contains-from_map, Contains-none}
 use Rattle.sip_states.proofs.keyed.NamesLemmas.{Contains-flat_map, Contains-from_flat_map}
-use Rattle.sip_states.proofs.sets.Waiting.{StaysFrom, EndsFrom, Wait-cases}
 use Rattle.sip_verdict.specs.inner.Leads.{Leads}
 use Rattle.sip_verdict.specs.Named.{messages_of}
 
@@ -55,12 +54,12 @@ module _ {X S : Type 0} (names : S → List ℕ) (InRange : S → Type 0) (seen 
   )
 
   -- a set that names nothing leads to runs whose states name nothing, however long they wait
-  pub silent_names : (from at moment : ℕ) (old : List S) → IsLawful r → from ≤ moment → at ≤ moment → Leads names seen texts r events from at old → messages r.ended ≡ [] → flat_map names old ≡ [] → (text : List ℕ)
+  pub silent_names : (from at moment : ℕ) (old : List S) → from ≤ moment → at ≤ moment → Leads names seen texts r events from at old → messages r.ended ≡ [] → flat_map names old ≡ [] → (text : List ℕ)
       → RunNames r messages events moment text → ⊥
-  silent_names from at moment old lawful late low leads rests silent text (y, run, has) = go ((Wait-cases r lawful (Contains (map (seen texts) old)) at moment y).0 ((leads.runs moment y late low).1 run))
+  silent_names from at moment old late low leads rests silent text (y, run, has) = go ((leads.runs moment y late low).1 run)
     where
       -- the wait cannot lead to a state that names the message, whether it stays or ends
-      go : StaysFrom r (Contains (map (seen texts) old)) at moment y ⊎ EndsFrom r (Contains (map (seen texts) old)) at moment y → ⊥
+      go : Wait r (Contains (map (seen texts) old)) at moment y → ⊥
       -- the state is one of the set, which names nothing; or it is the ended one, which names nothing either
       go (inl stays) =
           -- x would be a state of the set that names the text by the number n, while the set names nothing

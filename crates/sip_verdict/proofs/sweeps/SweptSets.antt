@@ -1,7 +1,7 @@
 -- In a sweep the sets wait, and the book keeps what they name: the sets lead to the same runs, and their last moments stay.
 -- In the lemmas r are the rules of a machine, `at`, h and moment are moments, x is a state, and a and b are two books.
 -- Of one transaction s is the set before the wait, t the set after it, m what the states of its machine mean, and n the number of a message.
-use Rattle.std.proofs.Common.{◌≡◌, ◌≤◌, ◌<◌, ◌↔◌, ◌⊎◌, inl, inr, ℕ, Option, List, All, AllPairs, Contains, map, get_or, refl, sym, ap, ◌∙◌, subst, arith}
+use Rattle.std.proofs.Common.{◌≡◌, ◌≤◌, ◌<◌, ◌↔◌, inl, inr, ℕ, Option, List, All, AllPairs, Contains, map, get_or, refl, sym, ap, ◌∙◌, subst, arith}
 use Rattle.std.specs.List.{flat_map}
 use Rattle.std.proofs.lemmas.List.Elements.{Contains-get_or}
 use Rattle.sip_standard.specs.Times.{Times}
@@ -12,7 +12,7 @@ use Rattle.sip_machine.specs.Limits.{IsWithin, IsOpenAt}
 use Rattle.sip_machine.specs.Rules.{MachineRules, IsLawful, StandFor}
 use Rattle.sip_machine.specs.inner.OwingLaws.{window_same, until_same}
 use Rattle.sip_machine.proofs.texts.RetainLemmas.{only-Keeps, text_of-only}
-use Rattle.sip_states.specs.Runs.{Wait, IsAgenda}
+use Rattle.sip_states.specs.Waits.{Wait, IsAgenda}
 use Rattle.sip_standard.specs.KeyMachine.{MachineKind, transaction_of}
 use Rattle.sip_states.specs.KeySets.{coded_of, StateOf}
 use Rattle.sip_states.proofs.keyed.KeySetLaws.{coded_holds}
@@ -21,7 +21,7 @@ use Rattle.sip_states.specs.AnySet.{meaning_of, moment_of, SetWaits, IsKnownSet,
 use Rattle.sip_states.specs.Sweep.{numbers_of, IsAdvanced}
 use Rattle.sip_states.specs.declared.any_set.AnySet.{AnySet}
 use Rattle.sip_states.proofs.lists.Listed.{Contains-map, Contains-from_map}
-use Rattle.sip_states.proofs.sets.Waiting.{StaysFrom, EndsFrom, Wait-cases, Wait-stay, Wait-end, Wait-iff}
+use Rattle.sip_states.proofs.sets.Waiting.{Wait-iff}
 use Rattle.sip_states.proofs.lists.Twice.{Wait-twice}
 use Rattle.sip_verdict.specs.inner.Leads.{Leads}
 use Rattle.sip_verdict.specs.inner.TablesTracking.{LeadsOf}
@@ -90,20 +90,20 @@ module _ (texts : Texts) (numbers : List ℕ) (book : IsBook texts) (up : AllPai
 -- What follows shows that the end of a wait does not depend on the book: by the rules r what a state stands for, as `seen` gives it, may end in the same
 -- window and wait until the same moment beside each book.
 
-module _ {X S : Type 0} (seen : Texts → S → X) (r : MachineRules X) (lawful : IsLawful r) (window_same : (a b : Texts) (x : S) → r.window (seen a x) ≡ r.window (seen b x))
+module _ {X S : Type 0} (seen : Texts → S → X) (r : MachineRules X) (window_same : (a b : Texts) (x : S) → r.window (seen a x) ≡ r.window (seen b x))
     (until_same : (a b : Texts) (x : S) → r.until (seen a x) ≡ r.until (seen b x)) where
   -- where some state comes of a wait beside one book, some state comes of it beside the other
   -- a and b are the books, h is the moment of the states, and y a state of the rules at the moment m
   some_wait : (a b : Texts) (states : List S) (h m : ℕ) → ((y : X) × Wait r (Contains (map (seen a) states)) h m y) → (y : X) × Wait r (Contains (map (seen b) states)) h m y
-  some_wait a b states h m (y, wait) = go ((Wait-cases r lawful (Contains (map (seen a) states)) h m y).0 wait)
+  some_wait a b states h m (y, wait) = go wait
     where
       -- the run waits on by the other book, whether it stays or ends
-      go : StaysFrom r (Contains (map (seen a) states)) h m y ⊎ EndsFrom r (Contains (map (seen a) states)) h m y → (y : X) × Wait r (Contains (map (seen b) states)) h m y
+      go : Wait r (Contains (map (seen a) states)) h m y → (y : X) × Wait r (Contains (map (seen b) states)) h m y
       go (inl stays) =
           -- the state stays: it can be waited in until the same moment beside both books
           let (x, among, is) = Contains-from_map (seen a) states y stays.among in (
             seen b x,
-            Wait-stay r (Contains (map (seen b) states)) h m (seen b x) (record {
+            inl (record {
               among = Contains-map (seen b) states x among;
               reached = stays.reached;
               waits = subst (IsWithin m) (ap r.until (sym is) ∙ until_same a b x) stays.waits;
@@ -113,7 +113,7 @@ module _ {X S : Type 0} (seen : Texts → S → X) (r : MachineRules X) (lawful 
       go (inr ends) =
           let (x, among, is) = Contains-from_map (seen a) states ends.start ends.among in (
             r.ended,
-            Wait-end r lawful (Contains (map (seen b) states)) h m r.ended (record {
+            inr (record {
               start = seen b x;
               among = Contains-map (seen b) states x among;
               -- it ends at the same moment, in the same window
@@ -171,4 +171,4 @@ swept_agenda texts book moment old new low (inl waits) known limit agenda =
     subst (IsAgendaOf limit) (sym new_is) (to_set (λ X M S m s. HasAgenda m limit s) machine t (λ other.
     subst (λ q. IsAgenda (m.rules q) (Contains (map (m.seen other) t.states)) t.moment limit) (sym waited.machine)
     (subst (λ n. IsAgenda r (Contains (map (m.seen other) t.states)) n limit) (sym waited.at)
-    (agenda_any m.seen r (lawful_of machine s.machine) (window_of machine s.machine) (until_of machine s.machine) texts other t.states moment limit now))))
+    (agenda_any m.seen r (window_of machine s.machine) (until_of machine s.machine) texts other t.states moment limit now))))

@@ -1,5 +1,5 @@
 -- What the sets of the tables name, once they have waited, is what is named in the log.
-use Rattle.std.proofs.Common.{◌≡◌, ◌≤◌, ◌<◌, ◌↔◌, ◌⊎◌, inl, inr, ℕ, Bool, true, false, Some, List, [], All, AllPairs, Contains, map, length, slice_get, get_or, refl, sym, ap, ◌∙◌, subst, arith}
+use Rattle.std.proofs.Common.{◌≡◌, ◌≤◌, ◌<◌, ◌↔◌, inl, inr, ℕ, Bool, true, false, Some, List, [], All, AllPairs, Contains, map, length, slice_get, get_or, refl, sym, ap, ◌∙◌, subst, arith}
 use Rattle.std.specs.List.{flat_map, list_any}
 use Rattle.std.proofs.lemmas.List.{length-map, get_or-map}
 use Rattle.std.proofs.lemmas.Option.{slice_get_within, get_or_from_slice_get, slice_get-get_or}
@@ -10,7 +10,7 @@ use Rattle.sip_machine.specs.Retained.{only}
 use Rattle.sip_standard.specs.MachineEvent.{MachineEvent}
 use Rattle.sip_machine.specs.Rules.{MachineRules, IsLawful, StandFor}
 use Rattle.sip_machine.proofs.texts.RetainLemmas.{length-only}
-use Rattle.sip_states.specs.Runs.{Wait}
+use Rattle.sip_states.specs.Waits.{Wait}
 use Rattle.sip_states.specs.inner.RuledRuns.{RuledRun}
 use Rattle.sip_states.specs.Held.{Held}
 use Rattle.sip_standard.specs.KeyMachine.{MachineKind, machine_of_key, transaction_of}
@@ -23,7 +23,7 @@ use Rattle.sip_states.specs.Tables.{Tabled}
 use Rattle.sip_states.specs.declared.any_set.AnySet.{AnySet}
 use Rattle.sip_states.proofs.lists.Listed.{Contains-none, Contains-map, Contains-from_map}
 use Rattle.sip_states.proofs.runs.RunLemmas.{Run-wait_first}
-use Rattle.sip_states.proofs.sets.Waiting.{StaysFrom, EndsFrom, Wait-cases, IsOpenAt-none}
+use Rattle.sip_states.proofs.sets.Waiting.{IsOpenAt-none}
 use Rattle.sip_standard.specs.Observation.{Observation}
 use Rattle.sip_standard.specs.VerdictOf.{keys_in, events_for}
 use Rattle.sip_verdict.specs.Entries.{newest_moment}
@@ -42,10 +42,10 @@ use Rattle.sip_verdict.proofs.sweeps.NamedLemmas.{RunNames, IsNumberOf, waited_n
 -- a run over no event stands in the first state
 -- y is the state in which the run stands at the moment m
 stays_first : {X : Type 0} (r : MachineRules X) → IsLawful r → (m : ℕ) (y : X) → RuledRun r [] m y → y ≡ r.first
-stays_first {X} r lawful m y run = go ((Wait-cases r lawful (λ x. x ≡ r.first) 0 m y).0 ((Run-wait_first r m y).0 run))
+stays_first {X} r lawful m y run = go ((Run-wait_first r lawful m y).0 run)
   where
     -- a run over no event stays in the first state, which has no end
-    go : StaysFrom r (λ x. x ≡ r.first) 0 m y ⊎ EndsFrom r (λ x. x ≡ r.first) 0 m y → y ≡ r.first
+    go : Wait r (λ x. x ≡ r.first) 0 m y → y ≡ r.first
     go (inl stays) = stays.among
     go (inr ends) = absurd (IsOpenAt-none ends.at (r.window ends.start) (ap r.window ends.among ∙ lawful.first_has_no_end) ends.hides.opened)
 
@@ -120,7 +120,7 @@ module _ (texts : Texts) (book : IsBook texts) (p : Times) (moment : ℕ) where
     -- a set that did not wait names nothing, and so do its runs
     by_set (inr (same, silent)) = (
       λ run. absurd (let m = meaning_of machine in
-          silent_names m.names m.in_range m.seen (messages_of machine) (named_of machine) texts r events from held.moment moment held.states (lawful_of machine p) late not_later leads.2.leads
+          silent_names m.names m.in_range m.seen (messages_of machine) (named_of machine) texts r events from held.moment moment held.states late not_later leads.2.leads
           (ended_silent machine p) (sym (numbers_are machine held) ∙ ap numbers_of (sym leads.1) ∙ silent) text run),
       λ h. absurd (Contains-none h.0 (subst (λ ns. Contains ns h.0) (ap numbers_of same ∙ silent) h.1)),
     )

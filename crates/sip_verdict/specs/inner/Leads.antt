@@ -3,7 +3,7 @@ use Rattle.std.specs.Prelude.{◌≤◌, ◌↔◌, ℕ, List, All, Contains, ma
 use Rattle.sip_machine.specs.Texts.{Texts}
 use Rattle.sip_standard.specs.MachineEvent.{MachineEvent}
 use Rattle.sip_machine.specs.Rules.{MachineRules, Knows}
-use Rattle.sip_states.specs.Runs.{Wait}
+use Rattle.sip_states.specs.Waits.{Wait}
 use Rattle.sip_states.specs.inner.RuledRuns.{RuledRun}
 
 -- the states of a set at a moment say, of that moment and of each later one, exactly where the runs over the events stand

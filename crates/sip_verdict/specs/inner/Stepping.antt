@@ -5,7 +5,7 @@ use Rattle.sip_standard.specs.MachineEvent.{MachineEvent}
 use Rattle.sip_machine.specs.Rules.{MachineRules}
 use Rattle.sip_verdict.specs.declared.passing.Outcome.{Outcome}
 use Rattle.sip_verdict.specs.declared.passing.Outcome.TheVariants as all
-use Rattle.sip_states.specs.Runs.{IsWide}
+use Rattle.sip_standard.specs.VerdictOf.{IsWide}
 use Rattle.sip_states.specs.inner.RuledRuns.{RuledRun, AfterRun}
 use Rattle.sip_states.specs.Held.{Held}
 use Rattle.sip_verdict.specs.inner.Leads.{Leads}

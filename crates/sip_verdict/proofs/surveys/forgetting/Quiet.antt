@@ -7,7 +7,7 @@ use Rattle.sip_standard.specs.Stands.{Stands}
 use Rattle.sip_standard.specs.KeyMachine.{MachineKind, transaction_of}
 use Rattle.sip_machine.specs.Texts.{Texts}
 use Rattle.sip_states.specs.Held.{Held}
-use Rattle.sip_states.specs.Runs.{Wait}
+use Rattle.sip_states.specs.Waits.{Wait}
 use Rattle.sip_states.specs.KeySets.{PhaseOf, StateOf}
 use Rattle.sip_states.proofs.keyed.KeySetLaws.{coded_holds}
 use Rattle.sip_states.specs.AnySet.{meaning_of, moment_of, IsQuietSet}

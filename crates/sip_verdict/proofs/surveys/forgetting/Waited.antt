@@ -15,7 +15,7 @@ use Rattle.sip_machine.specs.Texts.{Texts, IsBook}
 use Rattle.sip_machine.specs.Rules.{StandFor, Knows}
 use Rattle.sip_machine.specs.inner.OwingLaws.{owing_apart}
 use Rattle.sip_states.specs.Held.{Held}
-use Rattle.sip_states.specs.Runs.{Wait}
+use Rattle.sip_states.specs.Waits.{Wait}
 use Rattle.sip_states.specs.inner.RuledRuns.{RuledRun}
 use Rattle.sip_states.specs.Meaning.{IsKnown, HasWaited}
 use Rattle.sip_states.specs.KeySets.{coded_of, PhaseOf, StateOf, key_rules, set_of}

@@ -2,14 +2,13 @@
 ghost use Rattle.std.specs.Prelude.{◌≡◌, ◌↔◌, ◌<◌, ◌≤◌, ◌++◌, ◌∷◌, [], List, IsTrue, IfNone, IfOk, IfSome, OnOk, OnErr, All, flat_map, length, set, map, filter, take, drop};
 ghost use Rattle.std.specs.List.{list_any};
 ghost use Rattle.sip_ledger.specs.Accounts.{paid_rows};
-ghost use Rattle.sip_ledger.specs.Debts.{IsFirstPaid, PaysSome, counts_at, softened_debt, is_payable, is_timely, debt_deadlines, paid_by};
+ghost use Rattle.sip_ledger.specs.Debts.{IsFirstPaid, PaysSome, counts_at, softened_debt, is_payable, is_timely, debt_deadlines, paid_by, earliest};
 ghost use Rattle.sip_ledger.specs.Indexes.{count_under, holds};
 ghost use Rattle.sip_ledger.specs.Lists.{Rise, from_to};
 ghost use Rattle.sip_ledger.specs.Runs.{AreRuns};
-ghost use Rattle.sip_machine.specs.Deadlines.{earliest};
 ghost use Rattle.sip_machine.specs.Naming.{AppendsAll};
 ghost use Rattle.sip_machine.specs.Owes.{owed_in, owes_names};
-ghost use Rattle.sip_machine.specs.Prints.{ArePrints};
+ghost use Rattle.sip_machine.specs.inner.Prints.{ArePrints};
 ghost use Rattle.sip_machine.specs.inner.Dues.{AreBetween, blank_rows};
 
 /// What `$with` gives of the accounts of the rows, and `$blank` of how many there are where none owes anything.

@@ -3,7 +3,7 @@ ghost use Rattle.std.specs.Prelude.{◌≡◌, ◌<◌, ◌≤◌, ◌++◌, OnO
 ghost use Rattle.sip_ledger.specs.Debts.{counts_at};
 ghost use Rattle.sip_standard.specs.Times.{last_moment};
 ghost use Rattle.sip_machine.specs.Owes.{owed_in};
-ghost use Rattle.sip_machine.specs.Owing.{changed_debts};
+ghost use Rattle.sip_machine.specs.inner.Turns.{changed_debts};
 ghost use Rattle.sip_machine.specs.inner.Effects.{rested_debts};
 
 use crate::dues::Dues;

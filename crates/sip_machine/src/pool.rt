@@ -7,10 +7,9 @@ ghost use Rattle.sip_ledger.specs.Lists.{from_to};
 ghost use Rattle.sip_ledger.specs.Runs.{AreRuns};
 ghost use Rattle.sip_standard.specs.Times.{last_moment};
 ghost use Rattle.sip_machine.specs.Owing.{CodeOwing, at_rest};
-ghost use Rattle.sip_machine.specs.Pools.{AreFirstOnes, picked};
-ghost use Rattle.sip_machine.specs.Prints.{ArePrints};
+ghost use Rattle.sip_machine.specs.inner.Pools.{AreFirstOnes, picked, AreMixedWith, IsRun, hash_by};
+ghost use Rattle.sip_machine.specs.inner.Prints.{ArePrints};
 ghost use Rattle.sip_machine.specs.inner.Effects.{led_by, repaid_at, rests_at, given_by};
-ghost use Rattle.sip_machine.specs.inner.Pools.{AreMixedWith, IsRun, hash_by};
 
 use crate::dues::Dues;
 use crate::effects::{Effect, Rest, come_to_rest, lead, lead_each};

@@ -1,4 +1,5 @@
--- How the code has sets and tables.
+-- How the code has machines, sets and tables.
+pub mod KeySets
 pub mod Lines
 pub mod Ways
 pub mod Marks

@@ -11,7 +11,7 @@ ghost use Rattle.sip_standard.specs.Window.{open_at};
 ghost use Rattle.sip_standard.specs.Kind.{IsFinal};
 ghost use Rattle.sip_standard.specs.Times.{Times};
 ghost use Rattle.sip_standard.specs.KeyMachine.{MachineKind, machine_of, transaction_of};
-ghost use Rattle.sip_states.specs.KeySets.{PhaseOf, key_rules};
+ghost use Rattle.sip_states.specs.KeyRules.{PhaseOf, key_rules};
 ghost use Rattle.sip_states.specs.Waits.{Wait, RunGives};
 ghost use Rattle.sip_standard.specs.Stands.{Stands, StandsAfter};
 ghost use Rattle.sip_standard.specs.declared.role.Role.TheVariants.{Client, Server};

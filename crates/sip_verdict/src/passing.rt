@@ -8,7 +8,7 @@ ghost use Rattle.sip_standard.specs.Times.{Times};
 ghost use Rattle.sip_standard.specs.MachineEvent.{MachineEvent};
 ghost use Rattle.sip_machine.specs.NumberedEvent.{event_in, FitsBook};
 ghost use Rattle.sip_standard.specs.KeyMachine.{MachineKind};
-ghost use Rattle.sip_states.specs.KeySets.{key_rules};
+ghost use Rattle.sip_states.specs.KeyRules.{key_rules};
 ghost use Rattle.sip_states.specs.AnySet.{moment_of, IsEmpty, IsKnownSet};
 ghost use Rattle.sip_states.specs.Tables.{IsGiven, due_of};
 ghost use Rattle.sip_standard.specs.Observation.{Observation};

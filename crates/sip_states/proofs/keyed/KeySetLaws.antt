@@ -6,7 +6,7 @@ use Rattle.sip_standard.specs.KeyMachine.{MachineKind, OfInviteClient, OfPlainCl
 use Rattle.sip_standard.specs.PhaseWords.{words_of}
 use Rattle.sip_machine.specs.inner.Coded.{IsCoded}
 use Rattle.sip_states.specs.Held.{Held}
-use Rattle.sip_states.specs.KeySets.{code_of, coded_of, StateOf, set_of, by_machine}
+use Rattle.sip_states.specs.inner.KeySets.{code_of, coded_of, StateOf, set_of, by_machine}
 
 -- the code has the figure of each machine
 pub coded_holds : (machine : MachineKind) → IsCoded (transaction_of machine).figure (words_of machine) (coded_of machine)

@@ -10,9 +10,10 @@ use Rattle.sip_standard.specs.Figure.{Figure, Owing, quiet, Restarts, Steps}
 use Rattle.sip_states.specs.Waits.{Wait, RunGives}
 use Rattle.sip_states.specs.Held.{Held}
 use Rattle.sip_standard.specs.KeyMachine.{MachineKind, transaction_of}
-use Rattle.sip_states.specs.KeySets.{PhaseOf, StateOf, key_rules}
+use Rattle.sip_states.specs.inner.KeySets.{StateOf, meaning_of}
+use Rattle.sip_states.specs.KeyRules.{PhaseOf, key_rules}
 use Rattle.sip_states.proofs.keyed.KeySetLaws.{coded_holds}
-use Rattle.sip_states.specs.AnySet.{meaning_of, IsQuietIn}
+use Rattle.sip_states.specs.AnySet.{IsQuietIn}
 use Rattle.sip_states.proofs.sets.Waiting.{IsWithin-none, IsOpenAt-none}
 use Rattle.sip_states.proofs.keyed.ByMachine.{first_of, last_of, first_is_of, last_is_of, first_knows, last_knows, lawful_of}
 use Rattle.sip_states.proofs.lists.Listed.{Contains-single}

@@ -20,7 +20,8 @@ use Rattle.sip_machine.specs.Rules.{Knows}
 use Rattle.sip_machine.proofs.texts.TextLaws.{Keeps-grow, Keeps-grow_cases}
 use Rattle.sip_standard.specs.KeyMachine.{machine_of_key}
 use Rattle.sip_states.specs.Meaning.{IsKnown}
-use Rattle.sip_states.specs.AnySet.{IsKnownSet, meaning_of}
+use Rattle.sip_states.specs.AnySet.{IsKnownSet}
+use Rattle.sip_states.specs.inner.KeySets.{meaning_of}
 use Rattle.sip_states.specs.Tables.{Tabled, IsGiven}
 use Rattle.sip_states.specs.declared.any_set.AnySet.{AnySet}
 use Rattle.sip_standard.specs.LogEntry.{Item}

@@ -9,9 +9,10 @@ use Rattle.sip_standard.specs.VerdictOf.{IsWide}
 use Rattle.sip_states.specs.inner.RuledRuns.{AfterRun}
 use Rattle.sip_states.specs.Held.{Held}
 use Rattle.sip_standard.specs.KeyMachine.{MachineKind}
-use Rattle.sip_states.specs.KeySets.{key_rules, StateOf, set_of}
+use Rattle.sip_states.specs.inner.KeySets.{StateOf, set_of, meaning_of}
+use Rattle.sip_states.specs.KeyRules.{key_rules}
 use Rattle.sip_states.specs.Meaning.{IsKnown, Given, HasTaken}
-use Rattle.sip_states.specs.AnySet.{meaning_of, moment_of, IsEmpty, IsKnownSet, SetTakes, IsSetTooWide}
+use Rattle.sip_states.specs.AnySet.{moment_of, IsEmpty, IsKnownSet, SetTakes, IsSetTooWide}
 use Rattle.sip_states.specs.declared.any_set.AnySet.{AnySet}
 use Rattle.sip_verdict.specs.declared.passing.Outcome.TheVariants as all
 use Rattle.sip_verdict.specs.inner.Stepping.{RunsUntil, IsStepped}

@@ -12,7 +12,7 @@ use Rattle.sip_states.proofs.runs.FewerLemmas.{Run-fewer}
 use Rattle.sip_standard.specs.Key.{KeyParts}
 use Rattle.sip_standard.specs.Times.{Times}
 use Rattle.sip_standard.specs.KeyMachine.{machine_of_key}
-use Rattle.sip_states.specs.KeySets.{key_rules}
+use Rattle.sip_states.specs.KeyRules.{key_rules}
 use Rattle.sip_standard.specs.Observation.{Observation}
 use Rattle.sip_standard.specs.VerdictOf.{events_for, RunsOver}
 use Rattle.sip_verdict.specs.Entries.{newest_moment}

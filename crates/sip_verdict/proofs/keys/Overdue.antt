@@ -8,9 +8,10 @@ use Rattle.sip_machine.specs.Limits.{IsWithin}
 use Rattle.sip_machine.specs.Rules.{MachineRules}
 use Rattle.sip_states.specs.Waits.{IsAgenda}
 use Rattle.sip_standard.specs.KeyMachine.{MachineKind}
-use Rattle.sip_states.specs.KeySets.{key_rules}
+use Rattle.sip_states.specs.KeyRules.{key_rules}
 use Rattle.sip_states.specs.Meaning.{HasAgenda}
-use Rattle.sip_states.specs.AnySet.{moment_of, IsAgendaOf, meaning_of}
+use Rattle.sip_states.specs.AnySet.{moment_of, IsAgendaOf}
+use Rattle.sip_states.specs.inner.KeySets.{meaning_of}
 use Rattle.sip_states.specs.Agenda.{is_overdue}
 use Rattle.sip_states.specs.declared.any_set.AnySet.{AnySet}
 use Rattle.sip_states.proofs.runs.RunLemmas.{Run-hides, After-run}

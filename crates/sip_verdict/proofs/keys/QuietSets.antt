@@ -9,8 +9,9 @@ use Rattle.sip_machine.specs.Rules.{MachineRules, StandFor}
 use Rattle.sip_states.specs.Waits.{Wait, RunGives}
 use Rattle.sip_states.specs.Held.{Held}
 use Rattle.sip_standard.specs.KeyMachine.{MachineKind}
-use Rattle.sip_states.specs.KeySets.{PhaseOf, key_rules, StateOf}
-use Rattle.sip_states.specs.AnySet.{meaning_of, moment_of, IsQuietSet}
+use Rattle.sip_states.specs.inner.KeySets.{StateOf, meaning_of}
+use Rattle.sip_states.specs.KeyRules.{PhaseOf, key_rules}
+use Rattle.sip_states.specs.AnySet.{moment_of, IsQuietSet}
 use Rattle.sip_states.specs.declared.any_set.AnySet.{AnySet}
 use Rattle.sip_states.proofs.keyed.ByMachine.{lawful_of, moment_is, quiet_in}
 use Rattle.sip_states.proofs.keyed.QuietLemmas.{quiet_still, waits_still, restart_still}

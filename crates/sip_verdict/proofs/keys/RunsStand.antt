@@ -4,7 +4,7 @@ use Rattle.sip_standard.specs.Times.{Times}
 use Rattle.sip_standard.specs.MachineEvent.{MachineEvent}
 use Rattle.sip_standard.specs.KeyMachine.{MachineKind, transaction_of}
 use Rattle.sip_standard.specs.Stands.{Stands, StandsAfter}
-use Rattle.sip_states.specs.KeySets.{PhaseOf, key_rules}
+use Rattle.sip_states.specs.KeyRules.{PhaseOf, key_rules}
 use Rattle.sip_states.proofs.keyed.KeySetLaws.{coded_holds}
 use Rattle.sip_standard.specs.VerdictOf.{IsWide}
 use Rattle.sip_states.specs.inner.RuledRuns.{AfterRun}

@@ -9,10 +9,11 @@ use Rattle.sip_states.specs.inner.RuledRuns.{AfterRun}
 use Rattle.sip_standard.specs.KeyMachine.{MachineKind, transaction_of}
 use Rattle.sip_standard.specs.Stands.{StandsAfter}
 use Rattle.sip_states.proofs.runs.StandsLemmas.{stands-after}
-use Rattle.sip_states.specs.KeySets.{key_rules}
+use Rattle.sip_states.specs.KeyRules.{key_rules}
 use Rattle.sip_states.proofs.keyed.KeySetLaws.{coded_holds, of_machine}
 use Rattle.sip_states.specs.Meaning.{IsKnown}
-use Rattle.sip_states.specs.AnySet.{meaning_of, IsKnownSet}
+use Rattle.sip_states.specs.AnySet.{IsKnownSet}
+use Rattle.sip_states.specs.inner.KeySets.{meaning_of}
 use Rattle.sip_states.specs.declared.any_set.AnySet.{AnySet}
 use Rattle.sip_listing.specs.Lists.{Tells, TellsSet, AreLinesOfHeld, AreLinesOfSet, Lists}
 use Rattle.sip_standard.specs.StateLines.{AreInOrder, AreLinesOf}

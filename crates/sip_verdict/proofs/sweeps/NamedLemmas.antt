@@ -11,9 +11,8 @@ use Rattle.sip_machine.specs.Rules.{MachineRules, StandFor}
 use Rattle.sip_states.specs.Waits.{Wait}
 use Rattle.sip_states.specs.inner.RuledRuns.{RuledRun}
 use Rattle.sip_standard.specs.KeyMachine.{MachineKind}
-use Rattle.sip_states.specs.KeySets.{coded_of, StateOf}
+use Rattle.sip_states.specs.inner.KeySets.{coded_of, StateOf, meaning_of}
 use Rattle.sip_states.proofs.keyed.KeySetLaws.{coded_holds}
-use Rattle.sip_states.specs.AnySet.{meaning_of}
 use Rattle.sip_states.proofs.lists.Listed.{Contains-map, Contains-from_map, Contains-none}
 use Rattle.sip_states.proofs.keyed.NamesLemmas.{Contains-flat_map, Contains-from_flat_map}
 use Rattle.sip_verdict.specs.inner.Leads.{Leads}

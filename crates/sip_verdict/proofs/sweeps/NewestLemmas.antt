@@ -14,11 +14,12 @@ use Rattle.sip_machine.specs.Texts.{Texts, Keeps, text_of}
 use Rattle.sip_machine.specs.Rules.{Knows}
 use Rattle.sip_machine.proofs.rules.RuleLaws.{AgreeOn, StandFor-book}
 use Rattle.sip_machine.proofs.texts.TextLaws.{Keeps-grow, Keeps-grow_cases, text_of-grow}
-use Rattle.sip_states.specs.KeySets.{key_rules, StateOf, set_of}
+use Rattle.sip_states.specs.inner.KeySets.{StateOf, set_of, meaning_of}
+use Rattle.sip_states.specs.KeyRules.{key_rules}
 use Rattle.sip_states.specs.inner.RuledRuns.{AfterRun}
 use Rattle.sip_states.specs.Held.{Held}
 use Rattle.sip_states.specs.Meaning.{IsKnown}
-use Rattle.sip_states.specs.AnySet.{meaning_of, IsKnownSet}
+use Rattle.sip_states.specs.AnySet.{IsKnownSet}
 use Rattle.sip_states.specs.Sweep.{numbers_of}
 use Rattle.sip_states.specs.Tables.{Tabled}
 use Rattle.sip_states.specs.declared.any_set.AnySet.{AnySet}

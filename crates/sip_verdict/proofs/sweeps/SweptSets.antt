@@ -14,10 +14,10 @@ use Rattle.sip_machine.specs.inner.OwingLaws.{window_same, until_same}
 use Rattle.sip_machine.proofs.texts.RetainLemmas.{only-Keeps, text_of-only}
 use Rattle.sip_states.specs.Waits.{Wait, IsAgenda}
 use Rattle.sip_standard.specs.KeyMachine.{MachineKind, transaction_of}
-use Rattle.sip_states.specs.KeySets.{coded_of, StateOf}
+use Rattle.sip_states.specs.inner.KeySets.{coded_of, StateOf, meaning_of}
 use Rattle.sip_states.proofs.keyed.KeySetLaws.{coded_holds}
 use Rattle.sip_states.specs.Meaning.{IsKnown, HasWaited, HasAgenda}
-use Rattle.sip_states.specs.AnySet.{meaning_of, moment_of, SetWaits, IsKnownSet, IsAgendaOf}
+use Rattle.sip_states.specs.AnySet.{moment_of, SetWaits, IsKnownSet, IsAgendaOf}
 use Rattle.sip_states.specs.Sweep.{numbers_of, IsAdvanced}
 use Rattle.sip_states.specs.declared.any_set.AnySet.{AnySet}
 use Rattle.sip_states.proofs.lists.Listed.{Contains-map, Contains-from_map}

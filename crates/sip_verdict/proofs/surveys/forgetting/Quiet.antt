@@ -8,9 +8,10 @@ use Rattle.sip_standard.specs.KeyMachine.{MachineKind, transaction_of}
 use Rattle.sip_machine.specs.Texts.{Texts}
 use Rattle.sip_states.specs.Held.{Held}
 use Rattle.sip_states.specs.Waits.{Wait}
-use Rattle.sip_states.specs.KeySets.{PhaseOf, StateOf}
+use Rattle.sip_states.specs.inner.KeySets.{StateOf, meaning_of}
+use Rattle.sip_states.specs.KeyRules.{PhaseOf}
 use Rattle.sip_states.proofs.keyed.KeySetLaws.{coded_holds}
-use Rattle.sip_states.specs.AnySet.{meaning_of, moment_of, IsQuietSet}
+use Rattle.sip_states.specs.AnySet.{moment_of, IsQuietSet}
 use Rattle.sip_states.specs.declared.any_set.AnySet.{AnySet}
 use Rattle.sip_states.proofs.keyed.ByMachine.{first_of, last_of, first_is_of, last_is_of, moment_is, quiet_in}
 use Rattle.sip_states.proofs.keyed.QuietLemmas.{IsStill, quiet_still, waits_still}

@@ -18,9 +18,10 @@ use Rattle.sip_states.specs.Held.{Held}
 use Rattle.sip_states.specs.Waits.{Wait}
 use Rattle.sip_states.specs.inner.RuledRuns.{RuledRun}
 use Rattle.sip_states.specs.Meaning.{IsKnown, HasWaited}
-use Rattle.sip_states.specs.KeySets.{coded_of, PhaseOf, StateOf, key_rules, set_of}
+use Rattle.sip_states.specs.inner.KeySets.{coded_of, StateOf, set_of, meaning_of}
+use Rattle.sip_states.specs.KeyRules.{PhaseOf, key_rules}
 use Rattle.sip_states.proofs.keyed.KeySetLaws.{coded_holds, to_machine}
-use Rattle.sip_states.specs.AnySet.{meaning_of, moment_of, IsKnownSet, IsQuietIn, IsQuietSet, SetWaits}
+use Rattle.sip_states.specs.AnySet.{moment_of, IsKnownSet, IsQuietIn, IsQuietSet, SetWaits}
 use Rattle.sip_states.specs.Sweep.{ChangesSets}
 use Rattle.sip_states.specs.Tables.{Tabled}
 use Rattle.sip_states.specs.declared.any_set.AnySet.{AnySet}

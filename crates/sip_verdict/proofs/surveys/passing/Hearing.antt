@@ -8,7 +8,7 @@ use Rattle.sip_machine.specs.Texts.{Texts}
 use Rattle.sip_machine.specs.NumberedEvent.{NumberedEvent, event_in}
 use Rattle.sip_standard.specs.MachineEvent.{MachineEvent}
 use Rattle.sip_standard.specs.KeyMachine.{MachineKind, machine_of_key}
-use Rattle.sip_states.specs.KeySets.{key_rules}
+use Rattle.sip_states.specs.KeyRules.{key_rules}
 use Rattle.sip_states.specs.Agenda.{is_overdue}
 use Rattle.sip_states.specs.AnySet.{moment_of, start_of}
 use Rattle.sip_states.specs.Tables.{Tabled, IsGiven}

@@ -12,7 +12,7 @@ use Rattle.sip_machine.specs.Texts.{Texts, Keeps, text_of}
 use Rattle.sip_machine.specs.NumberedEvent.{NumberedEvent, event_in}
 use Rattle.sip_standard.specs.MachineEvent.{MachineEvent}
 use Rattle.sip_standard.specs.KeyMachine.{MachineKind, machine_of_key}
-use Rattle.sip_states.specs.AnySet.{meaning_of}
+use Rattle.sip_states.specs.inner.KeySets.{meaning_of}
 use Rattle.sip_states.specs.Sweep.{numbers_of}
 use Rattle.sip_states.specs.Tables.{Tabled}
 use Rattle.sip_states.specs.declared.any_set.AnySet.{AnySet}

@@ -2,7 +2,7 @@ use Rattle.std.specs.Prelude.{◌≡◌, ◌≤◌, get_or, length}
 use Rattle.std.proofs.Common.{ap, arith}
 use Rattle.std.proofs.lemmas.List.{length-map}
 use Rattle.sip_machine.specs.NumberedEvent.{event_in}
-use Rattle.sip_machine.specs.Pools.{picked}
+use Rattle.sip_machine.specs.inner.Pools.{picked}
 use Rattle.sip_standard.specs.VerdictOf.{widest}
 use Rattle.sip_states.proofs.lists.EachOnce.{unseen-distinct}
 use Rattle.sip_states.proofs.sets.Following.{Follows}

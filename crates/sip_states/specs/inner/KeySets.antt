@@ -1,11 +1,9 @@
--- The machine of each key as rules, how the code represents it, and the sets of its states.
+-- How the code represents the machine of each key, and the sets of its states.
 use Rattle.std.specs.Prelude.{[], ◌∷◌}
 use Rattle.sip_standard.specs.Times.{Times}
-use Rattle.sip_machine.specs.Rules.{MachineRules}
-use Rattle.sip_standard.specs.Figure.{Owing}
-use Rattle.sip_machine.specs.FigureRules.{rules_of as rules_of_figure}
-use Rattle.sip_machine.specs.Owing.{CodeOwing}
-use Rattle.sip_machine.specs.inner.Coded.{Coded, IsCoded, idle_state}
+use Rattle.sip_machine.specs.Owing.{CodeOwing, owing_seen, owing_names, OwingInRange}
+use Rattle.sip_machine.specs.FigureRules.{rules_of as rules_of_figure, until_of}
+use Rattle.sip_machine.specs.inner.Coded.{Coded, IsCoded, idle_state, ended_state}
 use Rattle.sip_machine.specs.inner.InviteClient.{invite_client_coded}
 use Rattle.sip_machine.specs.inner.InviteClient.Laws.{invite_client_is_coded}
 use Rattle.sip_machine.specs.inner.PlainClient.{plain_client_coded}
@@ -19,20 +17,12 @@ use Rattle.sip_machine.specs.inner.InviteServer3261.Laws.{invite_server_3261_is_
 use Rattle.sip_machine.specs.inner.PlainServer.{plain_server_coded}
 use Rattle.sip_machine.specs.inner.PlainServer.Laws.{plain_server_is_coded}
 use Rattle.sip_states.specs.Held.{Held}
+use Rattle.sip_states.specs.KeyRules.{PhaseOf}
+use Rattle.sip_states.specs.Meaning.{Meaning}
 use Rattle.sip_states.specs.declared.any_set.AnySet.{AnySet}
 use Rattle.sip_states.specs.declared.any_set.AnySet.TheVariants.{InviteClient, PlainClient, InviteServer, PlainServer, InviteClient3261, InviteServer3261}
 use Rattle.sip_standard.specs.KeyMachine.{MachineKind, OfInviteClient, OfPlainClient, OfInviteServer, OfPlainServer, OfInviteClient3261, OfInviteServer3261, transaction_of}
 use Rattle.sip_standard.specs.PhaseWords.{words_of}
-
--- a state of the machine: a phase, and what is owed
-abbrev pub PhaseOf : MachineKind → Type 0
-PhaseOf machine = Owing (transaction_of machine).Phase
-
--- the rules of the machine with these times
-abbrev pub key_rules : Times → (machine : MachineKind) → MachineRules (PhaseOf machine)
-key_rules p machine = rules_of_figure (transaction_of machine).figure p
-
--- What follows is how the code represents the machines and the sets of their states.
 
 -- a machine as the code has it: its phases, that they are those of its figure, and the set of its states
 pub record MachineCode (machine : MachineKind) : Type 1 where
@@ -60,6 +50,21 @@ StateOf machine = CodeOwing (coded_of machine).Code
 -- the set of this machine that holds these states
 abbrev pub set_of : (machine : MachineKind) → Held Times (StateOf machine) → AnySet
 set_of machine s = (code_of machine).set s
+
+-- what the states of a machine mean
+abbrev pub meaning_of : (machine : MachineKind) → Meaning (PhaseOf machine) Times (StateOf machine)
+meaning_of machine =
+    let figure = (transaction_of machine).figure in
+    let c = coded_of machine in
+    record {
+      names = owing_names c.names;
+      seen = owing_seen c.seen;
+      in_range = OwingInRange c.InRange;
+      -- the rules by which it steps, how long it lasts, and its ended state
+      rules = rules_of_figure figure;
+      until = λ p x. until_of figure p (owing_seen c.seen [] x);
+      ended = λ p. ended_state c;
+    }
 
 -- What follows is of what is given of the set of each machine.
 module _ {ℓ} (P : AnySet → Type ℓ) (of : (machine : MachineKind) (s : Held Times (StateOf machine)) → P (set_of machine s)) where

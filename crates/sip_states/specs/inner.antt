@@ -5,4 +5,3 @@ pub mod Ways
 pub mod Marks
 pub mod Advance
 pub mod Touching
-pub mod RuledRuns

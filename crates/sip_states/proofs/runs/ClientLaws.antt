@@ -26,7 +26,7 @@ use Rattle.sip_machine.specs.FigureRules.{After as Row, rules_of as rules_of_fig
 use Rattle.sip_machine.specs.inner.Turns.{led_to}
 use Rattle.sip_standard.specs.InviteClient as invite
 use Rattle.sip_standard.specs.PlainClient as plain
-use Rattle.sip_states.specs.inner.RuledRuns.{Step, Hides, Takes, Does, Goes, taken, AfterRun}
+use Rattle.sip_states.proofs.runs.Steps.{Step, Hides, Takes, Does, Goes, taken, AfterRun}
 use Rattle.sip_standard.specs.KeyMachine.{OfInviteClient, OfPlainClient, machine_of}
 use Rattle.sip_states.specs.KeyRules.{PhaseOf, key_rules}
 use Rattle.sip_states.proofs.runs.RunLemmas.{Goes-last}

@@ -4,7 +4,7 @@ use Rattle.std.proofs.Common.{◌≡◌, ◌≤◌, ◌↔◌, inl, inr, ℕ, Li
 use Rattle.sip_standard.specs.MachineEvent.{MachineEvent}
 use Rattle.sip_machine.specs.Rules.{MachineRules, IsLawful}
 use Rattle.sip_states.specs.Waits.{Wait, RunGives}
-use Rattle.sip_states.specs.inner.RuledRuns.{Step, Hides, Takes, moment_of_step, Does, Goes, Reaches, taken, HidesFrom, RuledRun, AfterRun}
+use Rattle.sip_states.proofs.runs.Steps.{Step, Hides, Takes, moment_of_step, Does, Goes, Reaches, taken, HidesFrom, RuledRun, AfterRun}
 use Rattle.sip_states.proofs.sets.Waiting.{IsWithin-none, ends_once}
 
 -- hidden steps take no event

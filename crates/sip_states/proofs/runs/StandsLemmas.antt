@@ -17,7 +17,7 @@ use Rattle.sip_standard.specs.Stands.{Stands, begins, waits, ends, takes, Stands
 use Rattle.sip_standard.specs.KeyMachine.{MachineKind, transaction_of}
 use Rattle.sip_states.proofs.keyed.KeySetLaws.{coded_holds}
 use Rattle.sip_states.specs.Waits.{Wait, RunGives}
-use Rattle.sip_states.specs.inner.RuledRuns.{Step, Hides, Takes, Goes, taken, RuledRun, AfterRun}
+use Rattle.sip_states.proofs.runs.Steps.{Step, Hides, Takes, Goes, taken, RuledRun, AfterRun}
 use Rattle.sip_states.proofs.sets.Waiting.{IsWithin-none, Wait-iff, Gives-iff}
 use Rattle.sip_states.proofs.runs.RunLemmas.{taken-append, Goes-push, Run-wait, Run-wait_first, After-run}
 use Rattle.sip_states.proofs.runs.FewerLemmas.{Run-fewer}

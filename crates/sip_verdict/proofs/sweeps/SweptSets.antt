@@ -14,6 +14,7 @@ use Rattle.sip_machine.specs.inner.OwingLaws.{window_same, until_same}
 use Rattle.sip_machine.proofs.texts.RetainLemmas.{only-Keeps, text_of-only}
 use Rattle.sip_states.specs.Waits.{Wait, IsAgenda}
 use Rattle.sip_standard.specs.KeyMachine.{MachineKind, transaction_of}
+use Rattle.sip_standard.specs.Stands.{Stands}
 use Rattle.sip_states.specs.inner.KeySets.{coded_of, StateOf, meaning_of}
 use Rattle.sip_states.proofs.keyed.KeySetLaws.{coded_holds}
 use Rattle.sip_states.specs.Meaning.{IsKnown, HasWaited, HasAgenda}
@@ -30,9 +31,9 @@ use Rattle.sip_states.proofs.keyed.ByMachine.{some_machine, lawful_of, moment_is
 use Rattle.sip_states.proofs.keyed.NamesLemmas.{Contains-flat_map}
 
 -- a set that leads to the runs leads to them after it has waited until a later moment
-pub waited_leads : {X S : Type 0} (names : S → List ℕ) (InRange : S → Type 0) (seen : Texts → S → X) (texts : Texts) (r : MachineRules X) → IsLawful r → (events : List MachineEvent) (from at moment : ℕ) (old new : List S) → at ≤ moment
-    → Leads names seen texts r events from at old → StandFor names InRange seen texts (Wait r (Contains (map (seen texts) old)) at moment) new → Leads names seen texts r events from moment new
-waited_leads names InRange seen texts r lawful events from at moment old new low leads stand = record {
+pub waited_leads : {X S : Type 0} (names : S → List ℕ) (InRange : S → Type 0) (seen : Texts → S → X) (texts : Texts) (r : MachineRules X) → IsLawful r → (Runs : ℕ → X → Type 0) (from at moment : ℕ) (old new : List S) → at ≤ moment
+    → Leads names seen texts r Runs from at old → StandFor names InRange seen texts (Wait r (Contains (map (seen texts) old)) at moment) new → Leads names seen texts r Runs from moment new
+waited_leads names InRange seen texts r lawful Runs from at moment old new low leads stand = record {
   -- to wait on from the new states is to wait from the old ones, and that is where the runs stand
   known = stand.known;
   runs = λ n x late later.
@@ -43,10 +44,10 @@ waited_leads names InRange seen texts r lawful events from at moment old new low
 -- a set leads to the same runs beside the book with some of its messages alone, where these are all that the set names
 -- a and b are any two books that agree on what the state x names
 pub kept_leads : {X S : Type 0} (names : S → List ℕ) (seen : Texts → S → X) → ((a b : Texts) (x : S) → ((n : ℕ) → Contains (names x) n → text_of a n ≡ text_of b n) → seen a x ≡ seen b x)
-    → (texts : Texts) (numbers : List ℕ) → IsBook texts → AllPairs (λ a b. a < b) numbers → All (Keeps texts) numbers → (r : MachineRules X) (events : List MachineEvent) (from moment : ℕ) (states : List S)
-    → ((n : ℕ) → Contains (flat_map names states) n → Contains numbers n) → Leads names seen texts r events from moment states → Leads names seen (only numbers texts) r events from moment states
-kept_leads names seen by_names texts numbers book up kept r events from moment states within leads =
-    Leads-book names seen by_names texts (only numbers texts) r events from moment states
+    → (texts : Texts) (numbers : List ℕ) → IsBook texts → AllPairs (λ a b. a < b) numbers → All (Keeps texts) numbers → (r : MachineRules X) (Runs : ℕ → X → Type 0) (from moment : ℕ) (states : List S)
+    → ((n : ℕ) → Contains (flat_map names states) n → Contains numbers n) → Leads names seen texts r Runs from moment states → Leads names seen (only numbers texts) r Runs from moment states
+kept_leads names seen by_names texts numbers book up kept r Runs from moment states within leads =
+    Leads-book names seen by_names texts (only numbers texts) r Runs from moment states
     (λ k d low n has.
     -- what a state names is among the numbers, so that the smaller book has it, with the same bytes
     (let among : Contains numbers n = within n (Contains-flat_map names states (get_or states k d) n (Contains-get_or states k d low) has) in
@@ -64,14 +65,14 @@ module _ (texts : Texts) (numbers : List ℕ) (book : IsBook texts) (up : AllPai
       let not_later : s.moment ≤ moment = subst (λ n. n ≤ moment) (ap moment_of is ∙ moment_is machine s) low in
       -- the set that has waited leads to the same runs
       let stand = subst (λ q. StandFor m.names m.in_range m.seen texts (Wait (m.rules q) (Contains (map (m.seen texts) s.states)) s.moment moment) t.states) leads.machine_is (waited.states texts book leads.leads.known) in
-      let leads_on = waited_leads m.names m.in_range m.seen texts (m.rules p) (lawful_of machine p) events from s.moment moment s.states t.states not_later leads.leads stand in
-      let here = subst (λ n. Leads m.names m.seen texts (m.rules p) events from n t.states) (sym waited.at) leads_on in (
+      let leads_on = waited_leads m.names m.in_range m.seen texts (m.rules p) (lawful_of machine p) (Stands (transaction_of machine).figure p events) from s.moment moment s.states t.states not_later leads.leads stand in
+      let here = subst (λ n. Leads m.names m.seen texts (m.rules p) (Stands (transaction_of machine).figure p events) from n t.states) (sym waited.at) leads_on in (
         t,
         new_is,
         -- the states of the set mean the same beside the messages that are kept
         record {
           machine_is = waited.machine ∙ leads.machine_is;
-          leads = kept_leads m.names m.seen (seen_by_names_of machine) texts numbers book up kept (m.rules p) events from t.moment t.states
+          leads = kept_leads m.names m.seen (seen_by_names_of machine) texts numbers book up kept (m.rules p) (Stands (transaction_of machine).figure p events) from t.moment t.states
               (λ n has. within n (subst (λ ns. Contains ns n) (sym (ap numbers_of new_is ∙ numbers_are machine t)) has)) here;
         },
       )
@@ -82,7 +83,7 @@ module _ (texts : Texts) (numbers : List ℕ) (book : IsBook texts) (up : AllPai
         same ∙ is,
         record {
           machine_is = leads.machine_is;
-          leads = kept_leads m.names m.seen (seen_by_names_of machine) texts numbers book up kept (m.rules p) events from s.moment s.states
+          leads = kept_leads m.names m.seen (seen_by_names_of machine) texts numbers book up kept (m.rules p) (Stands (transaction_of machine).figure p events) from s.moment s.states
               (λ n has. within n (subst (λ ns. Contains ns n) (sym (ap numbers_of (same ∙ is) ∙ numbers_are machine s)) has)) leads.leads;
         },
       )

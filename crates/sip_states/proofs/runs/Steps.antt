@@ -1,4 +1,4 @@
--- Runs of a machine by its rules, as lists of steps. Proofs cite them: what sets promise speaks of waits, and runs are told by Stands.
+-- Runs of a machine by its rules, as lists of steps. Only lemmas speak of them: what sets promise speaks of waits, and runs are told by Stands.
 use Rattle.std.specs.Prelude.{◌≡◌, ◌≤◌, ◌++◌, ◌∷◌, [], ℕ, List, map}
 use Rattle.sip_standard.specs.MachineEvent.{MachineEvent}
 use Rattle.sip_machine.specs.Rules.{MachineRules, Waits, Hide}

@@ -212,6 +212,14 @@ def two_that_meet(count, _):
         yield "S", 0, reply(180, "o0")
 
 
+def finished_servers(count, states):
+    """Servers one after another, each of which stands in the states, refuses its INVITE and is acknowledged: it takes memory where states stay."""
+    for number in range(count):
+        yield from widened(states, f"n{number}")
+        yield "S", 0, reply(486, "x", f"n{number}")
+        yield "R", 0, text("ACK sip:b SIP/2.0", "ACK", f"n{number}", "x")
+
+
 # The logs: what makes each, the least count, and the sets for which it is made.
 LOGS = [
     # Responses that are sent and asked for again.
@@ -235,6 +243,8 @@ LOGS = [
     (debt_and_payment, 1500, (128,)),
     (hundreds_then_past, 250, (2, 100, 1024)),
     (two_that_meet, 2000, (2,)),
+    # Sets that were wide, and are not any more.
+    (finished_servers, 25, (1024,)),
 ]
 
 

@@ -330,6 +330,9 @@ impl Accounts {
         }
         drop_front(&mut self.gains, &self.strikes, &self.rows);
         self.thin();
+        if self.rows.len() < self.rows.capacity() / 8 {
+            self.rows.shrink_to_fit();
+        }
     }
 
     /// Lets strikes go that no row has, or that strike nothing that is left, where there are four times as many as rows have. Where there

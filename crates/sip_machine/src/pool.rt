@@ -306,11 +306,15 @@ impl<P: Phase> Pool<P> {
         end
     }
 
-    /// Gives memory back that nothing that is owed needs.
+    /// Gives memory back that nothing that is owed needs, and that of the phases where it has room for more than eight times as many. What made
+    /// so many states pays for the move.
     pub fn tidy(&mut self)
         ensures { self.new ≡ self.old }
     {
         self.dues.tidy();
+        if self.phases.len() < self.phases.capacity() / 8 {
+            self.phases.shrink_to_fit();
+        }
     }
 
     /// Moves the phases to memory of their own size, where there is such.

@@ -1,6 +1,6 @@
 //! What one row owes of what was gained.
 ghost use Rattle.std.specs.Prelude.{◌≡◌, ◌≢◌, ◌↔◌, ◌<◌, ◌≤◌, ◌*◌, ◌%◌, ◌^◌, ◌++◌, ◌∷◌, ◌+◌};
-ghost use Rattle.sip_ledger.specs.inner.Words.{[], ℕ, Bool, true, false, Some, IfOk, IfSome, IfNone, IsTrue, OnOk, OnErr, bit_xor, filter, length, option_to_list, take, OnTrue, counts_at, debt_deadlines, earliest, is_timely, paid_by, worth_of, debt_of, Account, AreAlike, AreGains, IsAccount, IsExpiredTo, IsFirstOf, IsFirstPayable, IsGainAt, IsKept, IsNextGain, IsPlaceOf, IsSeek, IsStruck, IsWithout, KeepsAccounts, SharesRest, account_debts, entries_of, entry_at, is_gone, is_struck, must_at, owes_at, pays_at, sooner, strikes_of, count_under, holds};
+ghost use Rattle.sip_ledger.specs.inner.Words.{[], ℕ, Bool, true, false, Some, IfOk, IfSome, IfNone, IsTrue, OnOk, OnErr, bit_xor, filter, length, option_to_list, take, OnTrue, counts_at, debt_deadlines, earliest, is_timely, paid_by, worth_of, debt_of, Account, AreGains, IsAccount, IsExpiredTo, IsFirstOf, IsFirstPayable, IsGainAt, IsKept, IsNextGain, IsPlaceOf, IsSeek, IsStruck, IsWithout, KeepsAccounts, SharesRest, account_debts, entries_of, entry_at, is_gone, is_struck, must_at, owes_at, pays_at, sooner, strikes_of, count_under, holds};
 
 use crate::accounts::gains::Gains;
 use crate::accounts::seek::Seek;
@@ -52,12 +52,15 @@ pub(crate) fn owes(gains: &Gains, strikes: &[Strike], account: Account, place: u
     requires account { IsAccount gains.now strikes.now account }
     ensures { result ≡ owes_at gains.now strikes.now account place }
 {
-    // An account owes nothing before its start, and nothing from its end on.
+    // An account owes nothing before its start, and nothing from its end on. Where it owes anything, it owes what stands at its start.
     if place < account.start {
         return false;
     }
     if account.end <= place {
         return false;
+    }
+    if place == account.start {
+        return true;
     }
     if !gains.flags(place).left {
         return false;
@@ -495,42 +498,9 @@ pub(crate) fn gained_and_expired(
     Ok(left)
 }
 
-/// The least deadline of what the account must send. The first debt is looked at before the index is asked.
+/// The least deadline of what the account must send.
 #[inline(always)]
 pub(crate) fn earliest_must(gains: &Gains, strikes: &[Strike], account: Account) -> Option<u64>
-    requires gained { AreGains gains.now }
-    requires account { IsAccount gains.now strikes.now account }
-    ensures { result ≡ earliest (debt_deadlines (account_debts gains.now strikes.now account)) }
-{
-    match first_must(gains, account) {
-        Some(moment) => Some(moment),
-        None => least_must(gains, strikes, account),
-    }
-}
-
-/// The deadline of the account's first debt, if that must be sent and deadlines rise.
-fn first_must(gains: &Gains, account: Account) -> Option<u64>
-    requires gained { AreGains gains.now }
-    requires order { account.start ≤ account.end }
-    requires kept { account.start < account.end → IsKept gains.now account.start }
-    ensures { IfSome result (λ moment. (account.start < account.end) × (gains.now.rises ≡ true) × (must_at gains.now account account.start ≡ true)
-        × (moment ≡ (entry_at (entries_of gains.now) account.start).deadline)) }
-{
-    if account.start == account.end {
-        return None;
-    }
-    if !gains.rises {
-        return None;
-    }
-    if !must(gains, account, account.start) {
-        return None;
-    }
-    Some(gains.entry(account.start).deadline)
-}
-
-/// The least deadline of what the account must send, by the index.
-#[inline(never)]
-fn least_must(gains: &Gains, strikes: &[Strike], account: Account) -> Option<u64>
     requires gained { AreGains gains.now }
     requires account { IsAccount gains.now strikes.now account }
     ensures { result ≡ earliest (debt_deadlines (account_debts gains.now strikes.now account)) }
@@ -593,24 +563,8 @@ fn debt_for(gains: &Gains, account: Account, place: usize) -> Debt
     }
 }
 
-/// Whether the accounts begin and end alike and have the same strikes, so that they owe the same.
-fn is_alike(strikes: &[Strike], one: Account, other: Account) -> bool
-    requires first { one.first ≤ one.last }
-    requires last { one.last ≤ length strikes.now }
-    requires first_other { other.first ≤ other.last }
-    requires last_other { other.last ≤ length strikes.now }
-    ensures { OnTrue result (AreAlike strikes.now one other) }
-{
-    if one.start != other.start || one.end != other.end {
-        return false;
-    }
-    if one.soft != other.soft {
-        return false;
-    }
-    are_same(own(strikes, one), own(strikes, other))
-}
-
-/// Whether the accounts are known to owe the same from the place on: they end alike, have the same `soft`, and no strike of theirs goes past it.
+/// Whether the accounts are known to owe the same from the place on: they end alike, have the same `soft`, and the same strikes or none that
+/// goes past the place.
 fn shares_rest(strikes: &[Strike], one: Account, other: Account, place: usize) -> bool
     requires first { one.first ≤ one.last }
     requires last { one.last ≤ length strikes.now }
@@ -622,6 +576,9 @@ fn shares_rest(strikes: &[Strike], one: Account, other: Account, place: usize) -
 {
     if one.end != other.end || one.soft != other.soft {
         return false;
+    }
+    if are_same(own(strikes, one), own(strikes, other)) {
+        return true;
     }
     end_by(own(strikes, one), place) && end_by(own(strikes, other), place)
 }
@@ -635,9 +592,6 @@ pub(crate) fn same(gains: &Gains, strikes: &[Strike], one: Account, other: Accou
 {
     if one.print != other.print {
         return false;
-    }
-    if is_alike(strikes, one, other) {
-        return true;
     }
     // Both are walked side by side, from debt to debt.
     let mut at = one.start;

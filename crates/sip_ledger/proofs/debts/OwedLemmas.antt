@@ -91,10 +91,6 @@ module _ (message t : ℕ) where
   unpaid-is [] none = refl
   unpaid-is (debt ∷ debts) none = grind (arith, nat_tests, false_from_ne_true, All-head, All-tail, unpaid-is debts (All-tail Unpaid debt debts none))
 
--- the debts of a run
-abbrev each : Run → List Debt
-each run = replicate run.count run.debt
-
 -- where the last run is one longer, its debts are those of the runs before and one more of its own
 more-debts : (xs : List Run) (run : Run) → debts_in (xs ++ (record { debt = run.debt; count = run.count + 1 }) ∷ []) ≡ debts_in (xs ++ run ∷ []) ++ run.debt ∷ []
 more-debts xs run = grind (arith, nat_tests, replicate_more, append_assoc, flat_map-append, append-nil)

@@ -325,18 +325,14 @@ pub(crate) fn paid_and_expired(
     ensures debts { IfOk result (λ new. account_debts gains.now strikes.new.items new ≡ filter (counts_at moment) (paid_by message moment (account_debts gains.now strikes.old.items account))) }
 {
     let mut seek = Seek::new(gains, message, account.start);
-    match find(gains, strikes, account, &mut seek, message, moment) {
-        // The debt at the place is paid, and then what is past goes.
-        Some(place) => {
-            let rest = without(gains, strikes, account, place)?;
-            let left = expired(gains, strikes, rest, moment)?;
-            Ok(left)
-        }
-        None => {
-            let left = expired(gains, strikes, account, moment)?;
-            Ok(left)
-        }
-    }
+    let Some(place) = find(gains, strikes, account, &mut seek, message, moment) else {
+        let left = expired(gains, strikes, account, moment)?;
+        return Ok(left);
+    };
+    // The debt at the place is paid, and then what is past goes.
+    let rest = without(gains, strikes, account, place)?;
+    let left = expired(gains, strikes, rest, moment)?;
+    Ok(left)
 }
 
 /// A place at which the account can gain the debt: one of another account, or a new one. The place at which another account gained it, if

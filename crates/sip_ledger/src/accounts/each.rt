@@ -195,12 +195,10 @@ fn paid(
     if !is_timely(gains, strikes, account, moment) {
         return Ok(None);
     }
-    match find(gains, strikes, account, seek, message, moment) {
-        Some(place) => {
-            let rest = without(gains, strikes, account, place)?;
-            let left = expired(gains, strikes, rest, moment)?;
-            Ok(Some(left))
-        }
-        None => Ok(None),
-    }
+    let Some(place) = find(gains, strikes, account, seek, message, moment) else {
+        return Ok(None);
+    };
+    let rest = without(gains, strikes, account, place)?;
+    let left = expired(gains, strikes, rest, moment)?;
+    Ok(Some(left))
 }

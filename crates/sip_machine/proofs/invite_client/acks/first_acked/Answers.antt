@@ -1,9 +1,11 @@
-use Rattle.std.proofs.Common.{◌∙◌, ap, get_or}
+use Rattle.std.proofs.Common.{◌∙◌, ap, get_or, subst}
+use Rattle.std.specs.Prelude.{IfOk}
 use Rattle.std.proofs.lemmas.Result.{IfOk-weaker}
 use Rattle.sip_standard.specs.Solid.{solid}
 use Rattle.sip_machine.specs.Owes.{owed_in}
 use Rattle.sip_machine.specs.Texts.{text_of}
 use Rattle.sip_machine.specs.inner.Acks.{HasTo, PaysDebt}
+use Rattle.sip_machine.specs.inner.Paying.{FindsFirst}
 use Rattle.sip_message.proofs.lemmas.says.Reading.{says-no_fault}
 use Rattle.sip_machine.proofs.acks.AckLemmas.{AckOf-by_to, AckOf-none}
 use Rattle.sip_machine.proofs.acks.HolderLemmas.{FindsFirst-same}
@@ -43,4 +45,5 @@ returns-clause-finds c =
     let by_to = AckOf-by_to ack invite response c.in-Some.ack c.in-Some-2.invite c.is_ack_for.result
     (rw (c.in-Some.is, c.number.ensures) at c.in_ok-ack.ensures) (rw c.in-Some-2.is at c.in_ok-invite.ensures) c.is_ack_for.ensures c.if-not-is_ack_for.false c.of-to.result to in
     (λ has. (by_to.0 has.0, has.1), λ pays. (by_to.1 pays.0, pays.1))) finds)
-    (rw c.moment.ensures at c.first_with_to.ensures)
+    (subst (λ rows. IfOk c.first_with_to.result (FindsFirst (HasTo texts c.of-to.result t) t (owed_in rows c.args.row))) c.in-Some-accounts.ensures.some
+    (rw c.moment.ensures at c.first_with_to.ensures))

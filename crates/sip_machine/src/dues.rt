@@ -1,7 +1,7 @@
 //! What each of many states owes: accounts of all of them, if any owes something.
 ghost use Rattle.std.specs.Prelude.{◌≡◌, ◌↔◌, ◌<◌, ◌≤◌, ◌++◌, ◌∷◌, [], List, IsTrue, IfNone, IfOk, IfSome, OnOk, OnErr, All, flat_map, length, set, map, filter, take, drop};
 ghost use Rattle.sip_ledger.specs.Accounts.{paid_rows};
-ghost use Rattle.sip_ledger.specs.Debts.{counts_at, softened_debt, is_timely, debt_deadlines, paid_by, earliest};
+ghost use Rattle.sip_ledger.specs.Debts.{counts_at, is_timely, debt_deadlines, earliest};
 ghost use Rattle.sip_ledger.specs.Lists.{Rise, from_to};
 ghost use Rattle.sip_ledger.specs.Runs.{AreRuns};
 ghost use Rattle.sip_machine.specs.Naming.{AppendsAll};
@@ -216,21 +216,6 @@ impl Dues {
         rows!(&mut self.rows, accounts => accounts.expire_each(from, moment), _ => Ok(()))
     }
 
-    /// Takes out of the row the first debt that a send of the message at the moment pays, if there is one, and drops those that may be sent
-    /// and whose deadline is below the moment. On an error all is as before.
-    pub(crate) fn pay_and_expire(
-        &mut self,
-        row: usize,
-        message: u64,
-        moment: u64,
-    ) -> Result<(), AllocError>
-        requires { row < length self.old }
-        ensures ok { OnOk result (self.new ≡ set self.old row (filter (counts_at moment) (paid_by message moment (owed_in self.old row)))) }
-        ensures err { OnErr result (self.new ≡ self.old) }
-    {
-        rows!(&mut self.rows, accounts => accounts.pay_and_expire(row, message, moment), _ => Ok(()))
-    }
-
     /// Drops those debts of the row that may be sent, and whose deadline is below the moment. On an error all is as before.
     #[inline(always)]
     pub(crate) fn expire(&mut self, row: usize, moment: u64) -> Result<(), AllocError>
@@ -239,22 +224,6 @@ impl Dues {
         ensures err { OnErr result (self.new ≡ self.old) }
     {
         rows!(&mut self.rows, accounts => accounts.expire(row, moment), _ => Ok(()))
-    }
-
-    /// Lets the row owe what it did, but none of it must be sent any more.
-    pub(crate) fn soften(&mut self, row: usize)
-        requires { row < length self.old }
-        ensures { self.new ≡ set self.old row (map softened_debt (owed_in self.old row)) }
-    {
-        rows!(&mut self.rows, accounts => accounts.soften(row), _ => ())
-    }
-
-    /// Lets the row owe nothing.
-    pub(crate) fn clear(&mut self, row: usize)
-        requires { row < length self.old }
-        ensures { self.new ≡ set self.old row [] }
-    {
-        rows!(&mut self.rows, accounts => accounts.clear(row), _ => ())
     }
 
     /// The least deadline of what the row must send, and None if it must send nothing.

@@ -47,6 +47,10 @@ AreTos-only texts numbers book up kept tos new all left = record {
 pub to_of : (texts : Texts) (tos : List To) (number : ℕ) (text : List ℕ) → AreTos texts tos → Contains tos (record { number = number; text = text }) → IsToOf (text_of texts number) text
 to_of texts tos number text all has = grind (arith, nat_tests, All-contains)
 
+-- the order of Tos: by the numbers of their messages
+abbrev pub below : To → To → Type 0
+below a b = a.number < b.number
+
 -- what is read past the end of the list
 abbrev pub nobody : To
 nobody = record { number = 0; text = [] }

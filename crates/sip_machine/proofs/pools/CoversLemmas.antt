@@ -202,11 +202,6 @@ module _ {S : Type 0} where
       All P (from_to from to old) → P (get_or new k d)
   slice-at P from to k old found new d is after low le all = grind (arith, nat_tests, get_or_append_left, slice-get, length-drop, length-take-le, All-get_or)
 
-  -- whether states were put after the old ones or, on an error, none were, the old ones are as they were
-  pub before-either : {T E : Type 0} (r : Result T E) (old added new : List S) → OnOk r (new ≡ old ++ added) → OnErr r (new ≡ old) → take (length old) new ≡ old
-  before-either (Ok t) old added new ok err = ap (take (length old)) ok ∙ take-append_seam old added
-  before-either (Err e) old added new ok err = ap (take (length old)) err ∙ take_all (length old) old (omega arith)
-
 -- What follows is of what was found of states that were asked run by run: P says what each gives, `seen` what it stands for, `names` what it names.
 module _ {X S : Type 0} (names : S → List ℕ) (InRange : S → Type 0) (seen : Texts → S → X) (texts : Texts) (P : S → X → Type 0) where
   -- where what leads from the states between two indexes is found after the others, what leads from all up to the later index was found

@@ -124,20 +124,13 @@ put-here hash number (Some old) (Some new) changed =
 pub put-keeps : (hash number : ℕ) (old new : Option (List (ℕ × ℕ))) → IsChanged hash number true old new → (h n : ℕ) → IsUnder old h n → IsUnder new h n
 put-keeps hash number old None changed h n is = tt
 put-keeps hash number None (Some new) changed h n is = absurd changed
-put-keeps hash number (Some old) (Some new) changed h n is = changed h n ∙ still (h == hash && n == number) (holds old h n) is
-  where
-    -- a pair that was there is there, whether it is the one that is put or not
-    still : (here before : Bool) → before ≡ true → cond here true before ≡ true
-    still true before is = refl
-    still false before is = is
+put-keeps hash number (Some old) (Some new) changed h n is = grind (arith, nat_tests, changed h n)
 
 -- where a number is taken from a hash, other numbers stand where they stood
 pub taken-keeps : (hash number : ℕ) (old new : Option (List (ℕ × ℕ))) → IsChanged hash number false old new → (h n : ℕ) → n ≢ number → IsUnder old h n → IsUnder new h n
 taken-keeps hash number old None changed h n other is = tt
 taken-keeps hash number None (Some new) changed h n other is = absurd changed
--- the number is another one than that which is taken, so its pair is as it was
-taken-keeps hash number (Some old) (Some new) changed h n other is =
-    changed h n ∙ ap (λ b. cond (h == hash && b) false (holds old h n)) (ne_eqb n number other) ∙ ap (λ b. cond b false (holds old h n)) (and-false (h == hash)) ∙ is
+taken-keeps hash number (Some old) (Some new) changed h n other is = grind (arith, nat_tests, changed h n, ne_eqb, and-false)
 
 -- where no hashes are kept, nothing is claimed of them
 pub none-under : (hashes : Option (List (ℕ × ℕ))) (tos : List To) → is_some hashes ≡ false → AreUnder hashes tos

@@ -1,9 +1,9 @@
-use Rattle.std.proofs.Common.{◌∙◌, ap, get_or, subst}
-use Rattle.std.specs.Prelude.{IfOk}
+use Rattle.std.proofs.Common.{◌∙◌, ap, get_or, subst, sym}
+use Rattle.std.specs.Prelude.{All, IfOk}
 use Rattle.std.proofs.lemmas.Result.{IfOk-weaker}
 use Rattle.sip_standard.specs.Solid.{solid}
-use Rattle.sip_machine.specs.Owes.{owed_in}
-use Rattle.sip_machine.specs.Texts.{text_of}
+use Rattle.sip_machine.specs.Owes.{owed_in, owes_names}
+use Rattle.sip_machine.specs.Texts.{Keeps, text_of}
 use Rattle.sip_machine.specs.inner.Acks.{HasTo, PaysDebt}
 use Rattle.sip_machine.specs.inner.Paying.{FindsFirst}
 use Rattle.sip_message.proofs.lemmas.says.Reading.{says-no_fault}
@@ -28,6 +28,11 @@ pub returns-then-not-is_ack_for-clause-finds : goal.returns-then-not-is_ack_for-
 returns-then-not-is_ack_for-clause-finds c =
     λ k d low pays. AckOf-none _ _ _ c.in-Some.ack c.in-Some-2.invite c.is_ack_for.result
     (rw (c.in-Some.is, c.number.ensures) at c.in_ok-ack.ensures) (rw c.in-Some-2.is at c.in_ok-invite.ensures) c.is_ack_for.ensures c.if-not-is_ack_for.true pays.0
+
+-- the accounts have what each row owes, and the book keeps the messages of all that the row owes
+pub first_with_to-requires-clause-owed : goal.first_with_to-requires-clause-owed
+first_with_to-requires-clause-owed c =
+    subst (λ rows. All (Keeps c.args.book.now) (owes_names (owed_in rows c.args.row))) (sym c.in-Some-accounts.ensures.some) c.requires.owed
 
 -- an ACK pays the debts whose response has its To and belongs to the INVITE, so the first with that To is the first that it pays
 pub returns-clause-finds : goal.returns-clause-finds

@@ -50,7 +50,11 @@ fn is_own(alloc: Global, set: &AnySet, rules: Rules, number: u64) -> Result<bool
     let is_invite = number % 2 == 0;
     let method = if is_invite { "Invite" } else { "Plain" };
     let role = if number % 4 < 2 { "Client" } else { "Server" };
-    let without = if is_invite && rules == Rules::R3261 { "3261" } else { "" };
+    let without = if is_invite && rules == Rules::R3261 {
+        "3261"
+    } else {
+        ""
+    };
     let name = format!(in alloc; "{method}{role}{without}(")?;
     let told = format!(in alloc; "{set:?}")?;
     Ok(told.as_str().starts_with(name.as_str()))

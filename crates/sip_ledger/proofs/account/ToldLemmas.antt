@@ -1,7 +1,7 @@
 -- What an account owes, place by place: its debts, whether another account owes the same, and the least deadline of what it must send.
 use Rattle.sip_ledger.proofs.Words.{max, ◌≡◌, ◌≢◌, ℕ, ◌+◌, ◌<◌, ◌≤◌, ◌==◌, ◌&&◌, Bool, true, false, List, [], ◌∷◌, ◌++◌, length, take, drop, map, refl, sym, ap, ap₂, ◌∙◌, arith, append-nil, nat_tests, IsTrue, Option, Some, None, ◌↔◌, nat_le, option_to_list, OnTrue, and_left, and_right, cases_eq, cases_lt, eq-eqb, eqb-true, le-leb, true≢false, append_cancel_left, get_or-drop, get_or_default, length-append, length-drop, length-take-le, map-append, take-append-le, take_all, All-map, Debt, Entry, Account, Gains, Strike, debt_deadlines, earliest, debt_of, debts_from, IsGap, AreGains, IsAccount, SharesRest, account_debts, entries_of, entry_at, is_struck, must_at, owes_at, strikes_of, holds}
 use Rattle.sip_ledger.proofs.gains.LeftLemmas.{entries_long, gone-same, left-kept, owed-left, rising_kept}
-use Rattle.sip_ledger.proofs.debts.ListedLemmas.{back, back-none, back-same, back-set, earliest-first, earliest-push, front, front-gap, front-next, listed-All, listed-must, listed-none, listed-same, no_entry, parts}
+use Rattle.sip_ledger.proofs.debts.ListedLemmas.{back, back-none, back-same, back-set, earliest-first, earliest-push, front, front-gap, front-next, listed-All, listed-must, listed-none, no_entry, parts}
 use Rattle.sip_ledger.proofs.account.AccountLemmas.{must-below, must-from, past-end, soft-must}
 use Rattle.sip_ledger.proofs.account.WithoutLemmas.{before-start}
 
@@ -233,3 +233,15 @@ pub least-last : (gains : Gains) (strikes : List Strike) (a : Account) (from at 
     ((k : ℕ) → from ≤ k → k < at → holds gains.musts 0 k ≡ false) → a.end ≤ at → least ≡ earliest (debt_deadlines (account_debts gains strikes a))
 unfolding account_debts
 least-last gains strikes a from at least was gap past = grind (arith, nat_tests, least-end, cases_lt, gap-due, and_left, past-end, due-deadlines)
+
+-- a gain that must be sent was gained so, at `soft` or after it
+must-parts : (gains : Gains) (a : Account) (k : ℕ) → must_at gains a k ≡ true → (holds gains.musts 0 k ≡ true) × (a.soft ≤ k)
+must-parts gains a k is = grind (arith, nat_tests, cases_lt, true≢false, must-below, must-from)
+
+-- where deadlines rise and the first debt must be sent, its deadline is the least
+pub leading : (gains : Gains) (strikes : List Strike) (a : Account) (moment : ℕ) → AreGains gains → IsAccount gains strikes a → a.start < a.end → gains.rises ≡ true →
+    must_at gains a a.start ≡ true → moment ≡ (entry_at (entries_of gains) a.start).deadline → Some moment ≡ earliest (debt_deadlines (account_debts gains strikes a))
+leading gains strikes a moment are is some rises must here =
+    let parts = must-parts gains a a.start must in
+    let least = least-first gains strikes a a.start is (omega arith) parts.1 (omega arith) in
+    grind (arith, nat_tests, parts, least, least-first_due gains strikes a a.start a.start moment None)

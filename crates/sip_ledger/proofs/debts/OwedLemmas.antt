@@ -1,5 +1,5 @@
 -- What is owed once one place changes (o and m say which places are owed and which must be, o' and m' which then), what a payment leaves, and longer runs.
-use Rattle.sip_ledger.proofs.Words.{◌≡◌, ◌+◌, ◌-◌, List, [], ◌∷◌, ◌++◌, length, get_or, set, replicate, arith, nat_tests, cases_eq, flat_map-append, append-nil, append_assoc, drop_all, get_or_default, get_or-set_same, get_or-set_other, length-set, replicate_more, set_split, take-append-drop, drop_more, All-set, Debt, Run, debts_in, AreRuns, ◌∙◌, ℕ, All, refl, sym, ap, cond, IsTrue, false_from_ne_true, All-head, All-tail, IsWithoutFirst, is_payable, paid_by, ◌≢◌, ◌<◌, ◌≤◌, Bool, true, false, take, ap₂, subst, list_any, list_any-append, get_or-take, length-append, length-take-le, Entry, debt_of, debts_from, IsWithout, EndsWith}
+use Rattle.sip_ledger.proofs.Words.{◌≡◌, ◌+◌, ◌-◌, List, [], ◌∷◌, ◌++◌, length, get_or, set, arith, nat_tests, cases_eq, flat_map-append, append-nil, append_assoc, drop_all, get_or_default, get_or-set_same, get_or-set_other, length-set, replicate_more, set_split, take-append-drop, drop_more, All-set, Debt, Run, debts_in, AreRuns, ◌∙◌, ℕ, All, refl, sym, ap, cond, IsTrue, false_from_ne_true, All-head, All-tail, IsWithoutFirst, is_payable, paid_by, ◌≢◌, ◌<◌, ◌≤◌, Bool, true, false, take, ap₂, subst, list_any, list_any-append, get_or-take, length-append, length-take-le, Entry, debt_of, debts_from, IsWithout, EndsWith}
 use Rattle.sip_ledger.proofs.debts.ListedLemmas.{no_entry, front, back, parts, back-set, back-unset, back-same, back-none, front-same, listed-each}
 
 -- the new debts are the old ones without `debt`, which stood between those of `before` and those of `after`

@@ -52,15 +52,12 @@ pub(crate) fn owes(gains: &Gains, strikes: &[Strike], account: Account, place: u
     requires account { IsAccount gains.now strikes.now account }
     ensures { result ≡ owes_at gains.now strikes.now account place }
 {
-    // An account owes nothing before its start, and nothing from its end on. Where it owes anything, it owes what stands at its start.
+    // An account owes nothing before its start, and nothing from its end on.
     if place < account.start {
         return false;
     }
     if account.end <= place {
         return false;
-    }
-    if place == account.start {
-        return true;
     }
     if !gains.flags(place).left {
         return false;
@@ -494,9 +491,23 @@ pub(crate) fn gained_and_expired(
     Ok(left)
 }
 
-/// The least deadline of what the account must send.
+/// The least deadline of what the account must send. The first debt is looked at before the index is asked.
 #[inline(always)]
 pub(crate) fn earliest_must(gains: &Gains, strikes: &[Strike], account: Account) -> Option<u64>
+    requires gained { AreGains gains.now }
+    requires account { IsAccount gains.now strikes.now account }
+    ensures { result ≡ earliest (debt_deadlines (account_debts gains.now strikes.now account)) }
+{
+    // Where deadlines rise, and the first debt must be sent, its deadline is the least.
+    if account.start < account.end && gains.rises && must(gains, account, account.start) {
+        return Some(gains.entry(account.start).deadline);
+    }
+    least_must(gains, strikes, account)
+}
+
+/// The least deadline of what the account must send, by the index.
+#[inline(never)]
+fn least_must(gains: &Gains, strikes: &[Strike], account: Account) -> Option<u64>
     requires gained { AreGains gains.now }
     requires account { IsAccount gains.now strikes.now account }
     ensures { result ≡ earliest (debt_deadlines (account_debts gains.now strikes.now account)) }

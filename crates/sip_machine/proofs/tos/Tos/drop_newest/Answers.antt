@@ -2,7 +2,6 @@
 use Rattle.std.proofs.Common.{◌≡◌, ◌<◌, ◌-◌, All, AllPairs, Contains, arith, get_or, subst, sym, take}
 use Rattle.std.specs.Vec.{vec_len}
 use Rattle.std.proofs.lemmas.List.Elements.{All-take, Contains-get_or}
-use Rattle.sip_machine.specs.declared.tos.To.{To}
 use Rattle.sip_machine.specs.inner.Order.{full_hash}
 use Rattle.sip_machine.specs.inner.Tos.{AreUnder, IsUnder}
 use Rattle.sip_machine.proofs.acks.ToLemmas.{AllPairs-take, below, front_below, taken-keeps}

@@ -1,7 +1,6 @@
 -- Of the invariant of Tos (`c.self.invariant`) part 0 says that the numbers of the messages rise, and 1 that each stands under its hash, if hashes are kept.
-use Rattle.std.proofs.Common.{◌≡◌, ◌<◌, AllPairs, Contains, false, is_some, rules, subst, sym}
+use Rattle.std.proofs.Common.{◌≡◌, AllPairs, Contains, false, is_some, rules, subst, sym}
 use Rattle.std.proofs.lemmas.Fn.{All-from_retain}
-use Rattle.sip_machine.specs.declared.tos.To.{To}
 use Rattle.sip_machine.proofs.acks.ToLemmas.{AllPairs-picked, below, left_over, none-under}
 use Rattle.sip_machine.proofs.tos.Tos.retain.Goals as goal
 

@@ -1,5 +1,5 @@
 use Rattle.sip_ledger.proofs.Lemmas.{entries_of, IsLeastTo, length, ◌-◌}
-use Rattle.sip_ledger.proofs.accounts.account.earliest_must.Given as goal
+use Rattle.sip_ledger.proofs.accounts.account.least_must.Given as goal
 
 -- `least` is the least deadline of what the account must send before the place
 abbrev pub invariant-loop-place : goal.invariant-loop-place

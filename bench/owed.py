@@ -213,11 +213,13 @@ def two_that_meet(count, _):
 
 
 def finished_servers(count, states):
-    """Servers one after another, each of which stands in the states, refuses its INVITE and is acknowledged: it takes memory where states stay."""
+    """Servers a minute apart, each of which stands in the states and refuses its INVITE. The refusal is sent again, and acknowledged when all that is owed
+    is past: one state is left. It takes memory where the room of the others stays."""
     for number in range(count):
-        yield from widened(states, f"n{number}")
-        yield "S", 0, reply(486, "x", f"n{number}")
-        yield "R", 0, text("ACK sip:b SIP/2.0", "ACK", f"n{number}", "x")
+        begun, refusal = 60000 * number, reply(486, "x", f"n{number}")
+        for letter, moment, it in [*widened(states, f"n{number}"), ("S", 0, refusal), ("S", 10000, refusal)]:
+            yield letter, begun + moment, it
+        yield "R", begun + 15000, text("ACK sip:b SIP/2.0", "ACK", f"n{number}", "x")
 
 
 # The logs: what makes each, the least count, and the sets for which it is made.

@@ -317,10 +317,11 @@ impl<P: Phase> Pool<P> {
         }
     }
 
-    /// Moves the phases to memory of their own size, where there is such.
+    /// Gives memory back that nothing that is owed needs, and moves the phases to memory of their own size, where there is such.
     pub fn fit(&mut self)
         ensures { self.new ≡ self.old }
     {
+        self.dues.tidy();
         self.phases.shrink_to_fit();
     }
 

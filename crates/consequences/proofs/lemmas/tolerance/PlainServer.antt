@@ -1,32 +1,65 @@
--- What the non-INVITE server may send and must send are not paid by one send, where the same bytes are the same message.
--- In the lemmas x is the phase or the state before a step and y the state after it, and k is the kind of a message.
+-- The non-INVITE server by a wider tolerance: its rows stay, its windows open earlier and close later, and what may be sent and what must be are not paid by one
+-- send, where the same bytes are the same message.
+-- In the lemmas x is a phase, or the state before a step and y the state after it, k is the kind of a message, and h a moment or what is known of a row.
 -- In cases of `Emits` a message that is sent has a row (`row`, `is_row`, `to`), or pays a debt (`left`, `pays`), or changes nothing (`stays`,
 -- `same`), which only the INVITE server by RFC 3261 alone lets it (Stays). In cases of `Steps` a message that is received has a row, or has none and
 -- changes nothing (`none`, `same`), and a restart leaves idle as it is (`idle`) and ends any other phase (`other`).
 -- `Unit {0}` holds anyway, by `tt`.
-use Rattle.std.proofs.Common.{◌≡◌, inl, inr, ℕ, Bool, true, false, List, [], ◌∷◌, ◌++◌, All, filter, refl, sym, subst, ◌∙◌, arith}
-use Rattle.std.specs.List.{Any}
-use Rattle.std.proofs.lemmas.List.Elements.{All-nil, All-cons, All-head, All-tail, All-filter, All-push, All-weaker}
-use Rattle.sip_standard.specs.declared.action.Action.{Action}
-use Rattle.sip_standard.specs.declared.action.Action.TheVariants.{Sent, Received, Failed, Mark, Restart}
+use Rattle.std.proofs.Common.{◌≤◌, ◌*◌, ℕ, Bool, true, false, IsSomeAnd, IfSome, List, [], ◌∷◌, All, arith, if◌then◌else◌, ◌≡◌, inl, inr, filter, refl, sym, subst, ◌∙◌, ◌++◌}
+use Rattle.std.proofs.lemmas.List.Elements.{All-nil, All-cons, All-head, All-filter, All-push, All-weaker, All-tail}
 use Rattle.sip_standard.specs.declared.kind.Kind.{Kind}
 use Rattle.sip_standard.specs.declared.kind.Kind.TheVariants.{Request, Response}
 use Rattle.sip_standard.specs.Times.{Times}
 use Rattle.sip_standard.specs.MachineEvent.{MachineEvent}
+use Rattle.sip_standard.specs.Figure.{Change, Owing, changed, quiet, Emits, Steps}
+use Rattle.consequences.specs.Tolerance.{tolerant, AreOneKind}
+use Rattle.sip_standard.specs.declared.action.Action.{Action}
+use Rattle.sip_standard.specs.declared.action.Action.TheVariants.{Sent, Received, Failed, Mark, Restart}
 use Rattle.sip_standard.specs.Kind.{IsProvisional, IsFinal}
 use Rattle.sip_standard.specs.Provisional.{Is100}
 use Rattle.sip_standard.specs.Debts.{Owed, softened, IsWithoutFirst}
-use Rattle.sip_standard.specs.Figure.{Change, Owing, changed, quiet, Emits, Steps}
-use Rattle.sip_standard.specs.PlainServer.{PlainServerPhase, Idle, Trying, Proceeding, Completed, Receives, Sends, plain_server}
 use Rattle.sip_machine.specs.inner.DebtLaws.{All-without}
-use Rattle.consequences.specs.Events.{IsResponse, SendsResponse}
-use Rattle.consequences.specs.Tolerance.{AreOneKind}
 use Rattle.consequences.proofs.lemmas.server.Asleep.{nothing-to-pay}
+use Rattle.consequences.proofs.lemmas.run.Running.{IsKept, left_at, stands-run, run-keeps}
+use Rattle.std.specs.List.{Any}
+use Rattle.sip_standard.specs.PlainServer.{PlainServerPhase, Idle, Trying, Proceeding, Completed, Receives, Sends, timer_window, plain_server}
+use Rattle.consequences.specs.Events.{IsResponse, SendsResponse}
 use Rattle.consequences.proofs.lemmas.server.Said.{IsOut, IsSaid, said-later, codes-are-one}
 use Rattle.consequences.proofs.lemmas.run.Lists.{any-last, any-earlier}
-use Rattle.consequences.proofs.lemmas.run.Running.{IsKept, left_at, stands-run, run-keeps}
-use Rattle.consequences.proofs.lemmas.tolerance.Sorted.{same-bytes}
-use Rattle.consequences.proofs.lemmas.tolerance.Wider.{IsSorted}
+use Rattle.consequences.proofs.lemmas.tolerance.Moments.{IsWider}
+use Rattle.consequences.proofs.lemmas.tolerance.Sorted.{same-bytes, no-must, yes-must}
+use Rattle.consequences.proofs.lemmas.tolerance.Wider.{IsSteady, IsSorted, Widens}
+
+-- What follows is of the times p, and of q, the same with a wider tolerance: `early` and `late` are how early and how late an element may act by q.
+module _ (p : Times) (early late : ℕ) (wider : IsWider p (tolerant early late p)) where
+  -- the times with the wider tolerance
+  abbrev q : Times
+  q = tolerant early late p
+
+  -- of the non-INVITE server, a window that has opened by the times p has opened by the wider times q
+  plain-server-opens : (x : PlainServerPhase) (h : ℕ) → IsSomeAnd (timer_window p x) (λ w. w.0 ≤ h) → IsSomeAnd (timer_window q x) (λ w. w.0 ≤ h)
+  plain-server-opens (Completed reliable final set) h opening = wider.opens set (if reliable then 0 else 64 * p.t1) h opening
+  plain-server-opens x h opening = absurd opening
+
+  -- a window that has not closed by the times p has not closed by the wider times q
+  plain-server-closes : (x : PlainServerPhase) (h : ℕ) → IfSome (timer_window p x) (λ w. IfSome w.1 (λ close. h ≤ close)) → IfSome (timer_window q x) (λ w. IfSome w.1 (λ close. h ≤ close))
+  plain-server-closes (Completed reliable final set) h closing = wider.closes set (if reliable then 0 else 64 * p.t1) h closing
+  -- the other phases have no window
+  plain-server-closes Idle h closing = tt
+  plain-server-closes (Trying reliable) h closing = tt
+  plain-server-closes (Proceeding reliable last) h closing = tt
+
+  -- the non-INVITE server is steady: what the times p allow, the wider times q allow
+  plain-server-steady : IsSteady plain_server p q
+  plain-server-steady = record {
+    -- no row of this server speaks of times, and no phase has to send
+    received = λ x k e row h. h;
+    received_only = λ x k e row h. h;
+    sent = λ x k e row h. h;
+    opens = plain-server-opens;
+    closes = plain-server-closes;
+    sends_by = λ x h all. all;
+  }
 
 -- one of the events is of a final response with these bytes
 abbrev IsFinalSaid : List MachineEvent → List ℕ → Type 0
@@ -48,18 +81,10 @@ AreSorted es (Proceeding reliable last) owes = IsSaid es last × All (IsTold es)
 AreSorted es (Completed reliable final set) owes = IsFinalSaid es final × All (IsFinalOr es final) owes
 
 -- the message is one that only may be sent where it is owed in this phase: a 100 in proceeding, a provisional response in completed, and any elsewhere
-abbrev pub May : List MachineEvent → PlainServerPhase → List ℕ → Type 0
+abbrev May : List MachineEvent → PlainServerPhase → List ℕ → Type 0
 May es (Proceeding reliable last) message = Is100 message
 May es (Completed reliable final set) message = IsSaid es message
 May es x message = Unit {0}
-
--- false is not true
-no-must : ¬ (false ≡ true)
-no-must same = cc
-
--- true is not false
-yes-must : ¬ (true ≡ false)
-yes-must same = cc
 
 -- debts stay sorted after more events
 -- in idle and in trying nothing is owed; what was said before is said after more events too
@@ -192,9 +217,13 @@ module _ (p : Times) where
       (λ o is. (λ must said. not-said es final one sorted.0 (subst (IsSaid es) (is.0 must) said), is.1)) owes sorted.1
 
   -- the non-INVITE server is sorted
-  pub plain-server-sorted : IsSorted plain_server p May
+  plain-server-sorted : IsSorted plain_server p May
   plain-server-sorted = record {
     sorted = λ es m y one stands. told es y.phase y.owes one (run-keeps plain_server p (λ es h x. AreSorted es x.phase x.owes) kept es (quiet Idle) 0 m y refl (stands-run plain_server p es m y stands));
     decides = λ es x k e message may. same-bytes message e.text;
     alike = λ es x k e a b pays also may. subst (May es x) (also ∙ sym pays) may;
   }
+
+-- the non-INVITE server shows what a wider tolerance keeps
+pub plain_server_widens : Widens plain_server
+plain_server_widens = record { May = λ p. May; steady = plain-server-steady; sorted = plain-server-sorted }

@@ -456,9 +456,8 @@ impl<P: Phase> Pool<P> {
         Ok(())
     }
 
-    /// Puts a copy of each state from `from` up to `to`, which are in one phase, after the others that has paid the first debt that a
-    /// send of the message at the moment pays. States that can pay none, or must send something that is past then, are left out. On an
-    /// error all is as before.
+    /// Puts a copy of each state from `from` up to `to`, which are in one phase, after the others that has paid the first debt that a send of the message at
+    /// the moment pays. States that can pay none, or must send something that is past then, are left out. On an error all is as before.
     pub(crate) fn push_paid_each(
         &mut self,
         moment: u64,

@@ -275,8 +275,7 @@ fn expire(gains: &Gains, strikes: &mut Strikes, account: Account, place: usize, 
     Ok(left)
 }
 
-/// The account without what it may send and whose deadline is below the moment. The strikes that were there stay, also on an
-/// error.
+/// The account without what it may send and whose deadline is below the moment. The strikes that were there stay, also on an error.
 #[tactic(auto, using(crate::proofs::rows::PaidLemmas::expired_by_place))]
 #[inline(always)]
 pub(crate) fn expired(gains: &Gains, strikes: &mut Strikes, account: Account, moment: u64) -> Made
@@ -469,8 +468,7 @@ pub(crate) fn gained(
     })
 }
 
-/// The account with what was gained at the place, after all that it owes, and without what is past at the moment. The strikes that were
-/// there stay.
+/// The account with what was gained at the place, after all that it owes, and without what is past at the moment. The strikes that were there stay.
 pub(crate) fn gained_and_expired(
     gains: &Gains,
     strikes: &mut Strikes,

@@ -1,5 +1,4 @@
-//! The response to which an ACK belongs: the INVITE and the ACK are read anew, and tell all but the response, which is told by
-//! its To alone.
+//! The response to which an ACK belongs: the INVITE and the ACK are read anew, and tell all but the response, which is told by its To alone.
 ghost use Rattle.std.specs.Prelude.{◌≡◌, ◌<◌, IfOk, IfSome, All, length};
 ghost use Rattle.sip_machine.specs.Owes.{owed_in, owes_names};
 ghost use Rattle.sip_machine.specs.Texts.{Keeps, text_of};

@@ -10,7 +10,6 @@ use Rattle.sip_standard.specs.Says.{BytesTell}
 use Rattle.sip_standard.specs.Canonical.{unfolded, start_text, canonical}
 use Rattle.sip_standard.specs.Canonical as form
 use Rattle.sip_text.specs.Bytes.{crlf, colon, space}
-use Rattle.sip_message.specs.declared.name.Known.TheVariants as known_name
 use Rattle.sip_message.specs.Name.{name_of, long_name}
 use Rattle.sip_message.specs.Field.{Field, field_of}
 use Rattle.sip_message.specs.Message.{Message}

@@ -212,6 +212,16 @@ def two_that_meet(count, _):
         yield "S", 0, reply(180, "o0")
 
 
+def finished_servers(count, states):
+    """Servers a minute apart, each of which stands in the states and refuses its INVITE. The refusal is sent again, and acknowledged when all that is owed
+    is past: one state is left. It takes memory where the room of the others stays."""
+    for number in range(count):
+        begun, refusal = 60000 * number, reply(486, "x", f"n{number}")
+        for letter, moment, it in [*widened(states, f"n{number}"), ("S", 0, refusal), ("S", 10000, refusal)]:
+            yield letter, begun + moment, it
+        yield "R", begun + 15000, text("ACK sip:b SIP/2.0", "ACK", f"n{number}", "x")
+
+
 # The logs: what makes each, the least count, and the sets for which it is made.
 LOGS = [
     # Responses that are sent and asked for again.
@@ -235,6 +245,8 @@ LOGS = [
     (debt_and_payment, 1500, (128,)),
     (hundreds_then_past, 250, (2, 100, 1024)),
     (two_that_meet, 2000, (2,)),
+    # Sets that were wide, and are not any more.
+    (finished_servers, 25, (1024,)),
 ]
 
 

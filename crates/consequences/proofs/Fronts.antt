@@ -43,7 +43,7 @@ ends p es (item ∷ items) end v (e, sees, inl trouble) =
       last = inr (item, items, e, refl, subst (λ fs. Sees fs item e) (sym (append-nil es)) sees, subst (λ fs. HasTrouble p fs e v) (sym (append-nil es)) trouble);
     }
 -- the first item goes well, so it stands before the front of the later items
-ends p es (item ∷ items) end v (e, sees, inr (formed, runs, narrow, more)) =
+ends p es (item ∷ items) end v (e, sees, inr (fine, more)) =
     let later = ends p (es ++ e ∷ []) items end v more in
     let same : (es ++ e ∷ []) ++ later.front ≡ es ++ e ∷ later.front = append_assoc es (e ∷ []) later.front in
     record {
@@ -52,7 +52,7 @@ ends p es (item ∷ items) end v (e, sees, inr (formed, runs, narrow, more)) =
       -- what follows the front is what follows that of the later items
       rest = later.rest;
       whole = ap (λ xs. item ∷ xs) later.whole;
-      well = (sees, (formed, runs, narrow), later.well);
+      well = (sees, fine, later.well);
       last = subst (λ fs. ((later.rest ≡ []) × IsVerdictAfter p fs [] end v)
           ⊎ ((next : Item) × (after : List Item) × (f : Observation KeyParts) × (later.rest ≡ next ∷ after) × Sees fs next f × HasTrouble p fs f v)) same later.last;
     }

@@ -8,21 +8,16 @@ use Rattle.sip_standard.specs.LogSays.{LogEnd, Stops, LogSays, LacksHeader}
 use Rattle.sip_standard.specs.declared.log_reason.LogReason.{LogReason}
 use Rattle.sip_standard.specs.declared.log_reason.LogReason.TheVariants.{Header}
 use Rattle.sip_standard.specs.Observation.{Observation}
-use Rattle.sip_standard.specs.VerdictOf.{keys_in, Sees, RunsOver, IsWideAt, IsFirstKey}
+use Rattle.sip_standard.specs.VerdictOf.{keys_in, Sees, RunsOver, IsWideAt, IsFirstKey, IsFine}
 
 -- each transaction of these entries has a run over all of them
 abbrev pub AllRun : Times → List (Observation KeyParts) → Type 0
 AllRun p es = All (RunsOver p es) (keys_in es)
 
--- the entry after these is in no trouble: its message has no fault, each transaction has a run that takes it too, and none of them is too wide there
-abbrev pub IsUntroubled : Times → List (Observation KeyParts) → Observation KeyParts → Type 0
-IsUntroubled p front e =
-    (e.fault ≡ None) × AllRun p (front ++ e ∷ []) × All (λ key. ¬ (IsWideAt p front e key)) (keys_in (front ++ e ∷ []))
-
 -- `es` is what is observed of the items that come after the entries `front`, one of each item in turn, and none of them is in trouble
 abbrev pub GoWell : Times → List (Observation KeyParts) → List Item → List (Observation KeyParts) → Type 0
 GoWell p front [] [] = ⊤
-GoWell p front (item ∷ items) (e ∷ es) = Sees front item e × IsUntroubled p front e × GoWell p (front ++ e ∷ []) items es
+GoWell p front (item ∷ items) (e ∷ es) = Sees front item e × IsFine p front e × GoWell p (front ++ e ∷ []) items es
 GoWell p front items es = ⊥
 
 -- the log of the input has these times, its entry of this number is the first in trouble and is observed as e, and those before it are observed as `front`

@@ -2,7 +2,7 @@
 use Rattle.std.proofs.Common.{◌≡◌, ◌<◌, ◌≤◌, ◌+◌, ◌-◌, ◌++◌, ◌∙◌, ℕ, List, All, ap, arith, get_or, length, length-append, set, subst, sym, take}
 use Rattle.std.proofs.Math.Seq.{get_or-append_right}
 use Rattle.std.proofs.lemmas.List.Elements.{All-map, All-set, All-take}
-use Rattle.sip_machine.specs.Pools.{AreFirstOnes, picked}
+use Rattle.sip_machine.specs.inner.Pools.{AreFirstOnes, picked}
 
 -- In the lemmas `x` is what is taken at a place that is not in a list, and `rows` are the places of the elements that are picked.
 

@@ -2,7 +2,7 @@
 ghost use Rattle.std.specs.Prelude.{◌≡◌, ◌<◌, ◌≤◌, ℕ, List, All, AllPairs, IfOk, OnOk, length};
 ghost use Rattle.sip_machine.specs.NumberedEvent.{FitsBook};
 ghost use Rattle.sip_machine.specs.Owing.{CodeOwing};
-ghost use Rattle.sip_machine.specs.Pools.{AreFirstOnes, picked};
+ghost use Rattle.sip_machine.specs.inner.Pools.{AreFirstOnes, picked};
 ghost use Rattle.sip_machine.specs.Rules.{Knows};
 ghost use Rattle.sip_machine.specs.Texts.{Texts};
 

@@ -1,18 +1,9 @@
-use Rattle.std.specs.Prelude.{if◌then◌else◌, ◌≡◌, ◌==◌, ◌&&◌, ◌||◌, ℕ, Bool, false, true, Option, None, Some, List, [], ◌∷◌, ◌++◌, ◌≤◌, All, filter, map, min, nat_le}
+use Rattle.std.specs.Prelude.{if◌then◌else◌, ◌≡◌, ◌==◌, ◌&&◌, ◌||◌, ℕ, Bool, false, true, Option, None, Some, List, [], ◌∷◌, ◌≤◌, All, filter, map, min, nat_le}
 use Rattle.std.specs.List.{reduce}
+use Rattle.sip_standard.specs.Debts.{IsWithoutFirst}
 use Rattle.sip_ledger.specs.declared.debt.Debt.{Debt}
 
 -- What is owed: debts, of which the oldest is first.
-
--- ys are the elements of xs without the first of which P holds
-pub record IsWithoutFirst {X : Type 0} (P : X → Type 0) (xs ys : List X) : Type 0 where
-  pub before : List X
-  pub first : X
-  pub after : List X
-  pub whole : xs ≡ before ++ first ∷ after
-  pub holds : P first
-  pub none_before : All (λ x. ¬ (P x)) before
-  pub rest : ys ≡ before ++ after
 
 -- the debt counts still at t: it must be sent, or may be sent until t or later
 abbrev pub counts_at : ℕ → Debt → Bool

@@ -175,8 +175,7 @@ impl Accounts {
         Ok(())
     }
 
-    /// Lets the row owe one more debt, after its others, and drops what it may send and whose deadline is below the moment. On an error
-    /// all is as before.
+    /// Lets the row owe one more debt, after its others, and drops what it may send and whose deadline is below the moment. On an error all is as before.
     pub fn gain_and_expire(&mut self, row: usize, debt: Debt, moment: u64) -> Result<(), AllocError>
         requires { row < length self.old }
         ensures ok { OnOk result (self.new ≡ set self.old row (filter (counts_at moment) (owed_in self.old row ++ debt ∷ []))) }
@@ -267,8 +266,7 @@ impl Accounts {
         Ok(())
     }
 
-    /// Puts the numbers of the messages that rows owe after the others, from the least on, each once. On an error the vector is as
-    /// before.
+    /// Puts the numbers of the messages that rows owe after the others, from the least on, each once. On an error the vector is as before.
     pub fn all_names(&self, numbers: &mut Vec<u64>) -> Result<(), AllocError>
         ensures ok { OnOk result (AppendsOwed self.now numbers.old.items numbers.new.items) }
         ensures err { OnErr result (numbers.new.items ≡ numbers.old.items) }
@@ -319,8 +317,7 @@ impl Accounts {
         first_debts(alloc, &self.gains, &self.strikes, self.rows[row], most)
     }
 
-    /// Gives back what no row needs. It is to be called after each step: where many rows pay, what they paid is then looked at
-    /// once.
+    /// Gives back what no row needs. It is to be called after each step: where many rows pay, what they paid is then looked at once.
     pub fn tidy(&mut self)
         ensures { self.new ≡ self.old }
     {
@@ -330,6 +327,9 @@ impl Accounts {
         }
         drop_front(&mut self.gains, &self.strikes, &self.rows);
         self.thin();
+        if self.rows.len() < self.rows.capacity() / 8 {
+            self.rows.shrink_to_fit();
+        }
     }
 
     /// Lets strikes go that no row has, or that strike nothing that is left, where there are four times as many as rows have. Where there

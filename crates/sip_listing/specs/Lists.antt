@@ -6,9 +6,9 @@ use Rattle.sip_standard.specs.StateText.{state_text}
 use Rattle.sip_standard.specs.StateLines.{AreInOrder}
 use Rattle.sip_machine.specs.Texts.{Texts, text_of}
 use Rattle.sip_states.specs.Held.{Held}
-use Rattle.sip_states.specs.KeySets.{StateOf, by_machine}
+use Rattle.sip_states.specs.inner.KeySets.{StateOf, by_machine, meaning_of}
 use Rattle.sip_states.specs.declared.any_set.AnySet.{AnySet}
-use Rattle.sip_states.specs.AnySet.{meaning_of, OfSet}
+use Rattle.sip_states.specs.AnySet.{OfSet}
 
 -- each of these numbers of the book is the number by which its message is told
 abbrev pub Tells : (List ℕ → ℕ) → Texts → List ℕ → Type 0

@@ -25,8 +25,9 @@ pub use Rattle.sip_ledger.specs.Runs.{AreRuns}
 pub use Rattle.sip_ledger.specs.declared.debt.Debt.{Debt}
 pub use Rattle.sip_machine.specs.Naming.{AppendsAll}
 pub use Rattle.sip_machine.specs.Owes.{owed_in, owes_names}
-pub use Rattle.sip_machine.specs.Owing.{CodeOwing, at_rest, changed_debts, state_in}
-pub use Rattle.sip_machine.specs.Pools.{AreFirstOnes, picked}
+pub use Rattle.sip_machine.specs.Owing.{CodeOwing, at_rest}
+pub use Rattle.sip_machine.specs.inner.Turns.{changed_debts, state_in}
+pub use Rattle.sip_machine.specs.inner.Pools.{AreFirstOnes, picked}
 pub use Rattle.sip_machine.specs.Retained.{only}
 pub use Rattle.sip_machine.specs.Texts.{IsBook, Keeps, Texts, text_of}
 pub use Rattle.sip_machine.specs.declared.effects.Rest.{Rest}

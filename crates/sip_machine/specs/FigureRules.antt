@@ -4,18 +4,14 @@ use Rattle.sip_standard.specs.declared.kind.Kind.{Kind}
 use Rattle.sip_standard.specs.Times.{Times}
 use Rattle.sip_machine.specs.Limits.{IsWithin}
 use Rattle.sip_standard.specs.MachineEvent.{MachineEvent}
-use Rattle.sip_standard.specs.Debts.{Owed}
-use Rattle.sip_machine.specs.Deadlines.{unexpired, must_deadlines, earliest, unless_owed}
+use Rattle.sip_machine.specs.Deadlines.{unexpired, must_deadlines, unless_owed}
+use Rattle.sip_ledger.specs.Debts.{earliest}
 use Rattle.sip_machine.specs.Rules.{MachineRules}
-use Rattle.sip_standard.specs.Figure.{Change, drops, Figure, Owing, changed, quiet, Steps}
+use Rattle.sip_standard.specs.Figure.{Change, drops, Figure, Owing, quiet, Steps}
 
 -- where a row leads: to a phase, with a change of what is owed
 abbrev pub After : Type 0 → Type 0
 After X = X × Change
-
--- the state to which a row leads at t, from a phase that owed this
-abbrev pub led_to : {X : Type 0} → Times → ℕ → List Owed → After X → Owing X
-led_to p t owes after = record { phase = after.0; owes = changed p t after.1 owes }
 
 -- the moment at which a window closes, and no moment where it does not
 abbrev pub closes_of : Option (ℕ × Option ℕ) → List ℕ

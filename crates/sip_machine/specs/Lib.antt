@@ -8,8 +8,6 @@ pub mod Deadlines
 pub mod Owes
 pub mod FigureRules
 pub mod Owing
-pub mod Prints
-pub mod Pools
 pub mod inner
 pub mod Naming
 pub mod Retained

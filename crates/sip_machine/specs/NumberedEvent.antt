@@ -20,11 +20,6 @@ abbrev pub event_in : Texts → NumberedEvent → MachineEvent
 event_in texts e =
     record { moment = e.moment; action = e.action; text = text_of texts e.number; kind = e.kind; reliable = e.reliable }
 
--- the book keeps the message of the event, and its moment is within the limits
-pub record KeepsMessage (texts : Texts) (e : NumberedEvent) : Type 0 where
-  pub keeps : Keeps texts e.number
-  pub limit : e.moment ≤ last_moment
-
 -- the event fits the book: the book keeps its message, unless it is a restart, which has none; and its moment is within the limits
 pub record FitsBook (texts : Texts) (e : NumberedEvent) : Type 0 where
   pub keeps : e.action ≢ Restart → Keeps texts e.number

@@ -12,10 +12,6 @@ pub record MachineRules (X : Type 0) : Type 1 where
   pub window : X → Option (ℕ × Option ℕ)
   pub until : X → Option ℕ
 
--- a received message leads from x where P says; where P says nothing, it leaves x as it is
-abbrev pub OrStays : {X : Type 0} → (X → Type 0) → X → X → Type 0
-OrStays {X} P x y = P y ⊎ (((z : X) → ¬ (P z)) × (y ≡ x))
-
 -- the machine may wait in the state x until h
 abbrev pub Waits : {X : Type 0} → MachineRules X → X → ℕ → Type 0
 Waits r x h = IsWithin h (r.until x)

@@ -1,16 +1,13 @@
 //! What each of many states owes: accounts of all of them, if any owes something.
 ghost use Rattle.std.specs.Prelude.{◌≡◌, ◌↔◌, ◌<◌, ◌≤◌, ◌++◌, ◌∷◌, [], List, IsTrue, IfNone, IfOk, IfSome, OnOk, OnErr, All, flat_map, length, set, map, filter, take, drop};
-ghost use Rattle.std.specs.List.{list_any};
 ghost use Rattle.sip_ledger.specs.Accounts.{paid_rows};
-ghost use Rattle.sip_ledger.specs.Debts.{IsFirstPaid, PaysSome, counts_at, softened_debt, is_payable, is_timely, debt_deadlines, paid_by};
-ghost use Rattle.sip_ledger.specs.Indexes.{count_under, holds};
+ghost use Rattle.sip_ledger.specs.Debts.{counts_at, is_timely, debt_deadlines, earliest};
 ghost use Rattle.sip_ledger.specs.Lists.{Rise, from_to};
 ghost use Rattle.sip_ledger.specs.Runs.{AreRuns};
-ghost use Rattle.sip_machine.specs.Deadlines.{earliest};
 ghost use Rattle.sip_machine.specs.Naming.{AppendsAll};
 ghost use Rattle.sip_machine.specs.Owes.{owed_in, owes_names};
-ghost use Rattle.sip_machine.specs.Prints.{ArePrints};
-ghost use Rattle.sip_machine.specs.inner.Dues.{AreBetween, blank_rows};
+ghost use Rattle.sip_machine.specs.inner.Prints.{ArePrints};
+ghost use Rattle.sip_machine.specs.inner.Dues.{blank_rows};
 
 /// What `$with` gives of the accounts of the rows, and `$blank` of how many there are where none owes anything.
 macro_rules! rows {
@@ -22,7 +19,7 @@ macro_rules! rows {
     };
 }
 
-use sip_ledger::{Accounts, Debt, Index, Run};
+use sip_ledger::{Accounts, Debt, Run};
 use std::alloc::{AllocError, Global};
 use std::marker::Model;
 
@@ -38,7 +35,7 @@ pub(crate) enum Rows {
 /// What each of many states owes, oldest cause first, in a row of its own. Where none owes anything, nothing is allocated. Contracts see the rows.
 #[derive(Debug, Drop)]
 pub struct Dues {
-    rows: Rows,
+    pub(crate) rows: Rows,
 }
 
 impl Model for Dues {
@@ -62,6 +59,14 @@ impl Dues {
         Dues {
             rows: Rows::Blank(0),
         }
+    }
+
+    /// The accounts of the rows, if there are some: where there are none, no row owes anything.
+    pub(crate) fn accounts(&self) -> Option<&Accounts>
+        ensures some { IfSome result (λ accounts. accounts.now ≡ self.now) }
+        ensures none { IfNone result (self.now ≡ blank_rows (length self.now)) }
+    {
+        rows!(&self.rows, accounts => Some(&**accounts), _ => None)
     }
 
     /// How many rows there are.
@@ -135,13 +140,9 @@ impl Dues {
         ensures ok { OnOk result (self.new ≡ self.old ++ filter (is_timely moment) (from_to from to self.old)) }
         ensures err { OnErr result (self.new ≡ self.old) }
     {
-        match &mut self.rows {
-            Rows::WithAccounts(accounts) => accounts.push_timely(from, to, moment)?,
-            Rows::Blank(count) => {
-                let more = to.saturating_sub(from);
-                *count = count.checked_add(more).ok_or(AllocError)?;
-            }
-        }
+        rows!(&mut self.rows, accounts => accounts.push_timely(from, to, moment)?, count => {
+            *count = count.checked_add(to.saturating_sub(from)).ok_or(AllocError)?
+        });
         Ok(())
     }
 
@@ -215,30 +216,6 @@ impl Dues {
         rows!(&mut self.rows, accounts => accounts.expire_each(from, moment), _ => Ok(()))
     }
 
-    /// Takes out of the row the first debt that a send of the message at the moment pays, if there is one, and drops those that may be sent
-    /// and whose deadline is below the moment. On an error all is as before.
-    pub(crate) fn pay_and_expire(
-        &mut self,
-        row: usize,
-        message: u64,
-        moment: u64,
-    ) -> Result<(), AllocError>
-        requires { row < length self.old }
-        ensures ok { OnOk result (self.new ≡ set self.old row (filter (counts_at moment) (paid_by message moment (owed_in self.old row)))) }
-        ensures err { OnErr result (self.new ≡ self.old) }
-    {
-        rows!(&mut self.rows, accounts => accounts.pay_and_expire(row, message, moment), _ => Ok(()))
-    }
-
-    /// Whether the row has a debt that a send of the message at the moment pays.
-    pub(crate) fn can_pay(&mut self, row: usize, message: u64, moment: u64) -> bool
-        requires { row < length self.old }
-        ensures same { self.new ≡ self.old }
-        ensures can { result ≡ list_any (is_payable message moment) (owed_in self.old row) }
-    {
-        rows!(&mut self.rows, accounts => accounts.can_pay(row, message, moment), _ => false)
-    }
-
     /// Drops those debts of the row that may be sent, and whose deadline is below the moment. On an error all is as before.
     #[inline(always)]
     pub(crate) fn expire(&mut self, row: usize, moment: u64) -> Result<(), AllocError>
@@ -247,22 +224,6 @@ impl Dues {
         ensures err { OnErr result (self.new ≡ self.old) }
     {
         rows!(&mut self.rows, accounts => accounts.expire(row, moment), _ => Ok(()))
-    }
-
-    /// Lets the row owe what it did, but none of it must be sent any more.
-    pub(crate) fn soften(&mut self, row: usize)
-        requires { row < length self.old }
-        ensures { self.new ≡ set self.old row (map softened_debt (owed_in self.old row)) }
-    {
-        rows!(&mut self.rows, accounts => accounts.soften(row), _ => ())
-    }
-
-    /// Lets the row owe nothing.
-    pub(crate) fn clear(&mut self, row: usize)
-        requires { row < length self.old }
-        ensures { self.new ≡ set self.old row [] }
-    {
-        rows!(&mut self.rows, accounts => accounts.clear(row), _ => ())
     }
 
     /// The least deadline of what the row must send, and None if it must send nothing.
@@ -297,7 +258,12 @@ impl Dues {
         requires { from ≤ length self.now }
         ensures { IfOk result (λ prints. ArePrints self.now from prints.items) }
     {
-        rows!(&self.rows, accounts => Ok(accounts.prints(alloc, from)?), count => zeros(alloc, *count, from))
+        rows!(&self.rows, accounts => Ok(accounts.prints(alloc, from)?), count => {
+            // Rows that owe nothing have the same print.
+            let mut prints = Vec::new(alloc);
+            prints.resize(*count - from, 0)?;
+            Ok(prints)
+        })
     }
 
     /// Puts the number of the message of each debt of the row after those in the vector. On an error the vector is as before.
@@ -334,43 +300,6 @@ impl Dues {
         ensures { IfOk result (λ runs. AreRuns (owed_in self.now row) runs.items) }
     {
         rows!(&self.rows, accounts => accounts.runs(alloc, row), _ => Ok(Vec::new(alloc)))
-    }
-
-    /// What the row owes first: this many debts, or all where it owes fewer.
-    pub(crate) fn first_debts(
-        &self,
-        alloc: Global,
-        row: usize,
-        most: usize,
-    ) -> Result<Vec<Debt>, AllocError>
-        requires { row < length self.now }
-        ensures { IfOk result (λ debts. debts.items ≡ take most (owed_in self.now row)) }
-    {
-        rows!(&self.rows, accounts => accounts.first_debts(alloc, row, most), _ => Ok(Vec::new(alloc)))
-    }
-
-    /// The message of the first debt of the row whose message stands under the key and whose deadline is not before the moment, if there is
-    /// one. Where that is not told in `most` steps, the answer is None. It is told where fewer than `most` messages stand under the key.
-    pub(crate) fn first_payable(
-        &self,
-        row: usize,
-        index: &Index,
-        key: u64,
-        moment: u64,
-        most: usize,
-    ) -> Option<Option<u64>>
-        requires { row < length self.now }
-        ensures first { IfSome result (IsFirstPaid (PaysSome (holds index.now key) moment) moment (owed_in self.now row)) }
-        ensures told { IfNone result (most ≤ count_under index.now key) }
-    {
-        rows!(&self.rows, accounts => accounts.first_payable(row, index, key, moment, most), _ => Some(None))
-    }
-
-    /// Two numbers between which the numbers of all messages are that are owed.
-    pub(crate) fn span(&self) -> (u64, u64)
-        ensures { All (AreBetween result.0 result.1) self.now }
-    {
-        rows!(&self.rows, accounts => accounts.span(), _ => (0, 0))
     }
 
     /// Gives memory back that no row needs.
@@ -410,14 +339,4 @@ fn is_blank(accounts: &Accounts) -> bool
         }
     }
     true
-}
-
-/// A print for each row from `from` on of `rows` rows that owe nothing: the same for all.
-fn zeros(alloc: Global, rows: usize, from: usize) -> Result<Vec<u64>, AllocError>
-    requires { from ≤ rows }
-    ensures { IfOk result (λ prints. ArePrints (blank_rows rows) from prints.items) }
-{
-    let mut prints = Vec::with_capacity(alloc, rows - from)?;
-    prints.resize(rows - from, 0)?;
-    Ok(prints)
 }

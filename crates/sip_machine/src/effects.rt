@@ -3,10 +3,10 @@ ghost use Rattle.std.specs.Prelude.{◌≡◌, ◌<◌, ◌≤◌, ◌++◌, OnO
 ghost use Rattle.sip_ledger.specs.Debts.{counts_at};
 ghost use Rattle.sip_standard.specs.Times.{last_moment};
 ghost use Rattle.sip_machine.specs.Owes.{owed_in};
-ghost use Rattle.sip_machine.specs.Owing.{changed_debts};
+ghost use Rattle.sip_machine.specs.inner.Turns.{changed_debts};
 ghost use Rattle.sip_machine.specs.inner.Effects.{rested_debts};
 
-use crate::dues::Dues;
+use crate::dues::{Dues, Rows};
 use crate::phases::{Change, Turn};
 use sip_ledger::Debt;
 use sip_times::Params;
@@ -33,7 +33,7 @@ pub(crate) enum Rest {
 
 /// Drops what has expired of what the state owes, and does to the rest what the row does. On an error all is as before.
 #[inline(always)]
-#[tactic(auto, using(crate::proofs::debts::DueLemmas::set_again))]
+#[tactic(auto, using(crate::proofs::debts::DueLemmas::set_again, crate::proofs::debts::DuesEachLemmas::of_blank))]
 pub(crate) fn lead(
     alloc: Global,
     params: &Params,
@@ -50,10 +50,16 @@ pub(crate) fn lead(
     match change {
         Change::Keeps => dues.expire(row, moment)?,
         Change::Softens => {
-            dues.expire(row, moment)?;
-            dues.soften(row);
+            if let Rows::WithAccounts(accounts) = &mut dues.rows {
+                accounts.expire(row, moment)?;
+                accounts.soften(row);
+            }
         }
-        Change::Drops => dues.clear(row),
+        Change::Drops => {
+            if let Rows::WithAccounts(accounts) = &mut dues.rows {
+                accounts.clear(row);
+            }
+        }
         Change::Gains { must, message } => {
             // What is new counts at its own moment, so that it may come before what has expired goes.
             let debt = Debt {
@@ -119,6 +125,7 @@ fn lead_rows(
 /// Leaves the phase as it is: drops what has expired of what the state owes, and takes out the debt that is paid, if one is. On an error all is
 /// as before.
 #[inline(always)]
+#[tactic(auto, using(crate::proofs::debts::DuesEachLemmas::of_blank))]
 pub(crate) fn come_to_rest(
     moment: u64,
     rest: Rest,
@@ -131,6 +138,9 @@ pub(crate) fn come_to_rest(
 {
     match rest {
         Rest::Stays => dues.expire(row, moment),
-        Rest::Pays(message) => dues.pay_and_expire(row, message, moment),
+        Rest::Pays(message) => match &mut dues.rows {
+            Rows::WithAccounts(accounts) => accounts.pay_and_expire(row, message, moment),
+            Rows::Blank(_) => Ok(()),
+        },
     }
 }

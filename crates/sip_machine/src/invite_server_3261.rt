@@ -10,7 +10,7 @@ ghost use Rattle.sip_standard.specs.MachineEvent.{MachineEvent};
 ghost use Rattle.sip_machine.specs.NumberedEvent.{event_in};
 ghost use Rattle.sip_standard.specs.Kind.{IsSuccess};
 ghost use Rattle.sip_machine.specs.inner.InviteServer.{invite_server_seen};
-ghost use Rattle.sip_machine.specs.Owing.{turn_seen, turn_names, TurnInRange};
+ghost use Rattle.sip_machine.specs.inner.Turns.{turn_seen, turn_names, TurnInRange};
 ghost use Rattle.sip_standard.specs.InviteServer3261.{Passed, Receives, Sends, remembers};
 ghost use Rattle.sip_machine.specs.inner.InviteServer3261.{invite_server_3261_seen, invite_server_3261_names, InviteServer3261InRange};
 ghost use Rattle.sip_machine.specs.inner.InviteServer3261.Laws.{turn_within};

@@ -1,7 +1,7 @@
 //! Last moments, up to which something may be waited for.
 ghost use Rattle.std.specs.Prelude.{◌≡◌, ◌∷◌, MatchBool, Some, option_to_list};
 ghost use Rattle.sip_machine.specs.Limits.{IsWithin};
-ghost use Rattle.sip_machine.specs.Deadlines.{earliest};
+ghost use Rattle.sip_ledger.specs.Debts.{earliest};
 
 /// Whether the moment is after the last one, if there is a last one.
 pub(crate) fn is_past(moment: u64, last: Option<u64>) -> bool

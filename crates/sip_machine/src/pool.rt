@@ -7,10 +7,9 @@ ghost use Rattle.sip_ledger.specs.Lists.{from_to};
 ghost use Rattle.sip_ledger.specs.Runs.{AreRuns};
 ghost use Rattle.sip_standard.specs.Times.{last_moment};
 ghost use Rattle.sip_machine.specs.Owing.{CodeOwing, at_rest};
-ghost use Rattle.sip_machine.specs.Pools.{AreFirstOnes, picked};
-ghost use Rattle.sip_machine.specs.Prints.{ArePrints};
+ghost use Rattle.sip_machine.specs.inner.Pools.{AreFirstOnes, picked, AreMixedWith, IsRun, hash_by};
+ghost use Rattle.sip_machine.specs.inner.Prints.{ArePrints};
 ghost use Rattle.sip_machine.specs.inner.Effects.{led_by, repaid_at, rests_at, given_by};
-ghost use Rattle.sip_machine.specs.inner.Pools.{AreMixedWith, IsRun, hash_by};
 
 use crate::dues::Dues;
 use crate::effects::{Effect, Rest, come_to_rest, lead, lead_each};
@@ -307,17 +306,22 @@ impl<P: Phase> Pool<P> {
         end
     }
 
-    /// Gives memory back that nothing that is owed needs.
+    /// Gives memory back that nothing that is owed needs, and that of the phases where it has room for more than eight times as many. What made
+    /// so many states pays for the move.
     pub fn tidy(&mut self)
         ensures { self.new ≡ self.old }
     {
         self.dues.tidy();
+        if self.phases.len() < self.phases.capacity() / 8 {
+            self.phases.shrink_to_fit();
+        }
     }
 
-    /// Moves the phases to memory of their own size, where there is such.
+    /// Gives memory back that nothing that is owed needs, and moves the phases to memory of their own size, where there is such.
     pub fn fit(&mut self)
         ensures { self.new ≡ self.old }
     {
+        self.dues.tidy();
         self.phases.shrink_to_fit();
     }
 
@@ -452,9 +456,8 @@ impl<P: Phase> Pool<P> {
         Ok(())
     }
 
-    /// Puts a copy of each state from `from` up to `to`, which are in one phase, after the others that has paid the first debt that a
-    /// send of the message at the moment pays. States that can pay none, or must send something that is past then, are left out. On an
-    /// error all is as before.
+    /// Puts a copy of each state from `from` up to `to`, which are in one phase, after the others that has paid the first debt that a send of the message at
+    /// the moment pays. States that can pay none, or must send something that is past then, are left out. On an error all is as before.
     pub(crate) fn push_paid_each(
         &mut self,
         moment: u64,

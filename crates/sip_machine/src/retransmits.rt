@@ -2,7 +2,8 @@
 ghost use Rattle.std.specs.Prelude.{◌≤◌, ◌<◌, ◌^◌, ◌↔◌, IsTrue};
 ghost use Rattle.sip_standard.specs.Times.{last_moment};
 ghost use Rattle.sip_machine.specs.Texts.{Keeps, text_of};
-ghost use Rattle.sip_machine.specs.NumberedEvent.{KeepsMessage, event_in};
+ghost use Rattle.sip_machine.specs.NumberedEvent.{event_in};
+ghost use Rattle.sip_machine.specs.inner.Turns.{KeepsMessage};
 ghost use Rattle.sip_standard.specs.Retransmits.{Retransmits};
 
 use crate::book::Book;

@@ -1,9 +1,10 @@
 //! A request that a client sent, and that waits for its response (RFC 3261 sections 17.1.1.2 and 17.1.2.2).
 ghost use Rattle.std.specs.Prelude.{◌≡◌, ◌*◌, ◌↔◌, IsTrue, Some, [], map};
 ghost use Rattle.sip_machine.specs.Texts.{Keeps, text_of};
-ghost use Rattle.sip_machine.specs.NumberedEvent.{KeepsMessage, event_in};
+ghost use Rattle.sip_machine.specs.NumberedEvent.{event_in};
+ghost use Rattle.sip_machine.specs.inner.Turns.{KeepsMessage};
 ghost use Rattle.sip_standard.specs.Retransmits.{Retransmits};
-ghost use Rattle.sip_machine.specs.Deadlines.{earliest};
+ghost use Rattle.sip_ledger.specs.Debts.{earliest};
 ghost use Rattle.sip_machine.specs.inner.Waiting.{waiting_closes, waiting_seen, WaitingInRange};
 ghost use Rattle.sip_standard.specs.PhaseWords.{waiting_fields};
 ghost use Rattle.sip_machine.specs.Told.{field_of_code};

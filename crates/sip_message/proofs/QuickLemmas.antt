@@ -29,15 +29,15 @@ use Rattle.sip_standard.specs.Lines.{CutSays, OpensBlank}
 use Rattle.sip_message.specs.inner.Lines.{is_inner_byte, with_end}
 use Rattle.sip_message.specs.inner.Values.{is_value_byte, OtherText}
 use Rattle.sip_message.specs.declared.name.Known.{Known}
-use Rattle.sip_message.specs.Name.{FieldName, known, other, spellings, name_by, name_of}
-use Rattle.sip_standard.specs.StartLine.{StartLine, request, status}
-use Rattle.sip_message.specs.inner.StartLine.{StartText}
+use Rattle.sip_message.specs.Name.{FieldName, known, other, name_of}
+use Rattle.sip_standard.specs.StartLine.{StartLine, request, status, StartSays}
 use Rattle.sip_message.specs.Field.{Field}
 use Rattle.sip_message.specs.inner.FieldText.{NameText, ValueText, FieldText, FieldsText}
 use Rattle.sip_standard.specs.Canonical.{unfolded}
 use Rattle.sip_message.specs.inner.MessageText.{AreUnfolded}
 use Rattle.sip_message.specs.inner.Quick.{is_open, IsOpen, AreOrdinary, IsOrdinary}
 use Rattle.sip_message.specs.inner.Numbers.{small, filled, number_of}
+use Rattle.sip_message.proofs.lemmas.field.Spelled.{spellings, name_by, named-by}
 use Rattle.sip_message.proofs.lemmas.text.Cuts.{All, all_left, all_right}
 use Rattle.sip_message.proofs.lemmas.text.Each.{each-one, each-many, wsp-blank}
 use Rattle.sip_message.proofs.lemmas.field.OneWay.{each-token, blank-token, name_whole}
@@ -237,14 +237,12 @@ fields-unfolded (line ∷ lines) fields (f, fs, is, are, whole) clear =
     subst AreUnfolded (sym whole) (field-unfolded line f is clear.0, fields-unfolded lines fs are clear.1)
 
 -- a start line is not empty
-start-some : (line : List ℕ) (start : StartLine) → StartText line start → line ≡ [] → ⊥
+start-some : (line : List ℕ) (start : StartLine) → StartSays line start → line ≡ [] → ⊥
 -- a request line has its method and a SP
-start-some line (request method uri) is none =
-    let w = is.2 in
+start-some line (request method uri) w none =
     absurd (omega (arith, ap length (sym none ∙ w.4), length-append w.0 w.1, ap length w.3.4, length-append w.3.0 w.3.1, ap length w.3.2))
 -- a status line has its version and a SP
-start-some line (status code reason) is none =
-    let w = is.1 in
+start-some line (status code reason) w none =
     absurd (omega (arith, ap length (sym none ∙ w.4), length-append w.0 w.1, ap length w.3.4, length-append w.3.0 w.3.1, ap length w.3.2))
 
 -- the text from the place `from` up to the place `at` is whole lines without controls, and they are these fields
@@ -280,7 +278,7 @@ front-rest text front is = sym (take-append-drop (length front) text) ∙ ap (λ
 -- a start line without controls, lines that are fields, and an empty line are an ordinary head
 pub ordinary-head : (bytes text more rest : List ℕ) (start : StartLine) (fields : List Field) (end at : ℕ) → bytes ≡ text ++ more
     → IsOpen (take (end - 0) (drop 0 text)) → drop 0 text ≡ with_end (take (end - 0) (drop 0 text)) ++ drop (end + 2) text
-    → StartText (take (end - 0) (drop 0 text)) start → AreOrdinary text (end + 2) at fields → rest ≡ drop (at + 2) text ++ more → IsOrdinary bytes start fields rest
+    → StartSays (take (end - 0) (drop 0 text)) start → AreOrdinary text (end + 2) at fields → rest ≡ drop (at + 2) text ++ more → IsOrdinary bytes start fields rest
 ordinary-head bytes text more rest start fields end at bytes_is clear is is_start are rest_is =
     -- `first` is the start line, ls the text of the field lines, and `behind` what follows the empty line
     let first = take (end - 0) (drop 0 text) in
@@ -403,7 +401,7 @@ known-by : (text s : List ℕ) (k : Known) → Bytes text → Token text → map
 known-by text s k fits token is name found =
     -- the lower case of the text is the spelling s, by which the list has the name k
     let lower = small-folded text fits (each-token text token) (ap (list_all is_name_byte) is ∙ name) ∙ is in
-    sym (ap (λ t. spelled_by spellings t text) lower ∙ found)
+    sym (ap (λ t. spelled_by spellings t text) lower ∙ found) ∙ named-by text
 
 -- a token of at most eight bytes whose number is that of a spelling of a known name has that name
 -- n is the number of the token and k the known name; i is a place in the token
@@ -463,7 +461,7 @@ pub short-other : (text : List ℕ) → ((i : ℕ) → Fits w8 (get_or text i 0)
     → other text ≡ name_of text
 short-other text fits some few (via, (from, (to, (call_id, (cseq, (contact, (subject, (route, end)))))))) =
     -- the number differs from those of all names of 2 to 8 bytes; a spelling of one byte is too short, and one of more than 8 too long
-    sym (unlisted spellings text (name refl via, (one refl, (name refl from, (one refl, (name refl to, (one refl, (name refl call_id, (one refl, (name refl cseq, (long refl, (one refl, (name refl contact, (one refl, (long refl, (one refl, (long refl, (one refl, (name refl subject, (one refl, (long refl, (one refl, (name refl route, tt)))))))))))))))))))))))
+    sym (unlisted spellings text (name refl via, (one refl, (name refl from, (one refl, (name refl to, (one refl, (name refl call_id, (one refl, (name refl cseq, (long refl, (one refl, (name refl contact, (one refl, (long refl, (one refl, (long refl, (one refl, (name refl subject, (one refl, (long refl, (one refl, (name refl route, tt))))))))))))))))))))))) ∙ named-by text
   where
     -- a text that spells a name has the number of that name
     name : {s : List ℕ} → list_all is_name_byte s ≡ true → (number_of text ≡ from_le_bytes w64 (filled s) → ⊥) → folded text ≡ s → ⊥
@@ -483,7 +481,7 @@ pub halved-other : (text : List ℕ) → ((i : ℕ) → Fits w8 (get_or text i 0
     (codes "content-length" ∷ codes "content-encoding" ∷ codes "content-type" ∷ codes "supported" ∷ [])
     → other text ≡ name_of text
 halved-other text fits some (content_length, (content_encoding, (content_type, (supported, end)))) =
-    sym (unlisted spellings text (short refl, (short refl, (short refl, (short refl, (short refl, (short refl, (short refl, (short refl, (short refl, (name refl content_length, (short refl, (short refl, (short refl, (name refl content_encoding, (short refl, (name refl content_type, (short refl, (short refl, (short refl, (name refl supported, (short refl, (short refl, tt)))))))))))))))))))))))
+    sym (unlisted spellings text (short refl, (short refl, (short refl, (short refl, (short refl, (short refl, (short refl, (short refl, (short refl, (name refl content_length, (short refl, (short refl, (short refl, (name refl content_encoding, (short refl, (name refl content_type, (short refl, (short refl, (short refl, (name refl supported, (short refl, (short refl, tt))))))))))))))))))))))) ∙ named-by text
   where
     -- the text is not this spelling, since one of its halves has another number
     name : {s : List ℕ} → list_all is_name_byte s ≡ true

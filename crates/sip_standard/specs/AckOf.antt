@@ -26,5 +26,4 @@ pub record IsAckOf (ack invite response : Said) : Type 0 where
 
 -- the three texts say messages of which the first is the ACK for the third, a response to the second
 abbrev pub AckOf : List ℕ → List ℕ → List ℕ → Type 0
-AckOf ack invite response =
-    (a : Said) × (i : Said) × (r : Said) × Says ack (gives a) × Says invite (gives i) × Says response (gives r) × IsAckOf a i r
+AckOf ack invite response = (a : Said) × (i : Said) × (r : Said) × Says ack (gives a) × Says invite (gives i) × Says response (gives r) × IsAckOf a i r

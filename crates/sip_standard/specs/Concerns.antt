@@ -23,8 +23,7 @@ abbrev pub sent_by_of : Role → SaidVia → List ℕ
 sent_by_of Client via = []
 sent_by_of Server via = sent_by via.host via.port
 
--- the method of the request that made the transaction: an ACK matches an INVITE (section 17.2.3), and a
--- response names the method in its CSeq (section 17.1.3)
+-- the method of the request that made the transaction: an ACK matches an INVITE (section 17.2.3), and a response names it in its CSeq (section 17.1.3)
 abbrev pub method_of : StartLine → List ℕ → List ℕ
 method_of (request method uri) cseq = if bytes_eq method (codes "ACK") then codes "INVITE" else method
 method_of (status code reason) cseq = cseq

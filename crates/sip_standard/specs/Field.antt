@@ -55,8 +55,7 @@ is_lws_byte byte = (byte == 0x20 || byte == 0x09) || (byte == 0x0D || byte == 0x
 
 -- the text neither begins nor ends with a byte of a blank run
 abbrev pub IsTrimmed : List ℕ → Type 0
-IsTrimmed text =
-    ¬ ((One is_lws_byte then (λ behind. ⊤)) text) × ¬ (((λ before. ⊤) then One is_lws_byte) text)
+IsTrimmed text = ¬ ((One is_lws_byte then (λ behind. ⊤)) text) × ¬ (((λ before. ⊤) then One is_lws_byte) text)
 
 -- 4 and 5: a line is a field: a token, any SP and HTAB, a colon, and a value of the name without the blanks at its ends (section 7.3)
 abbrev pub FieldSays : ℕ → List ℕ → Outcome SaidField → Type 0

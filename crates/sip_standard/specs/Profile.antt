@@ -42,8 +42,7 @@ Quoted =
 
 -- domainlabel = alphanum / alphanum *( alphanum / "-" ) alphanum, and toplabel, whose first is ALPHA
 abbrev pub Label : (ℕ → Bool) → List ℕ → Type 0
-Label is_first =
-    One is_first or (One is_first then Many (One (λ byte. is_ascii_alphanumeric byte || byte == 0x2D)) then One is_ascii_alphanumeric)
+Label is_first = One is_first or (One is_first then Many (One (λ byte. is_ascii_alphanumeric byte || byte == 0x2D)) then One is_ascii_alphanumeric)
 
 -- hostname = *( domainlabel "." ) toplabel [ "." ]
 abbrev pub Hostname : List ℕ → Type 0
@@ -57,9 +56,8 @@ Ipv4 = let Group = Between 1 3 (One is_ascii_digit) in Group then Lit "." then G
 abbrev pub Hexseq : List ℕ → Type 0
 Hexseq = let Hex4 = Between 1 4 (One is_ascii_hexdigit) in Hex4 then Many (Lit ":" then Hex4)
 
--- IPv6address = hexpart [ ":" IPv4address ], hexpart = hexseq / hexseq "::" [ hexseq ] / "::" [ hexseq ]
--- Lenient: after a hexpart that ends with "::" the ":" may be missing.
--- As in the standard, the number of groups is not limited (RFC 5954 narrows this).
+-- IPv6address = hexpart [ ":" IPv4address ], hexpart = hexseq / hexseq "::" [ hexseq ] / "::" [ hexseq ]. As in the standard,
+-- the number of groups is not limited (RFC 5954 narrows this). Lenient: after a hexpart that ends with "::" the ":" may be missing.
 abbrev pub Ipv6 : List ℕ → Type 0
 Ipv6 =
     ((Hexseq or (Hexseq then Lit "::" then Optional Hexseq) or (Lit "::" then Optional Hexseq)) then Optional (Lit ":" then Ipv4))
@@ -79,8 +77,7 @@ Port text = Between 1 5 (One is_ascii_digit) text × (digits_value 10 text ≤ 6
 
 -- one of these characters / unreserved / escaped: unreserved = alphanum / mark, escaped = "%" HEXDIG HEXDIG
 abbrev pub Char : String → List ℕ → Type 0
-Char others =
-    One (is_among others) or One (is_alphanum_or "-_.!~*'()") or (Lit "%" then One is_ascii_hexdigit then One is_ascii_hexdigit)
+Char others = One (is_among others) or One (is_alphanum_or "-_.!~*'()") or (Lit "%" then One is_ascii_hexdigit then One is_ascii_hexdigit)
 
 -- user = 1*( unreserved / escaped / user-unreserved ). Own: a telephone-subscriber is read as a user.
 abbrev pub User : List ℕ → Type 0

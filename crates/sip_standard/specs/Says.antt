@@ -41,8 +41,7 @@ pub record Said : Type 0 where
 -- what the values of Via say, one after another
 abbrev pub ViasTell : List (List ℕ) → List SaidVia → Type 0
 ViasTell [] vias = vias ≡ []
-ViasTell (value ∷ values) vias =
-    (now : List SaidVia) × (more : List SaidVia) × ViasSay now value × ViasTell values more × (vias ≡ now ++ more)
+ViasTell (value ∷ values) vias = (now : List SaidVia) × (more : List SaidVia) × ViasSay now value × ViasTell values more × (vias ≡ now ++ more)
 
 -- the text is the first of these values
 abbrev pub IsFirstOf : List (List ℕ) → List ℕ → Type 0

@@ -13,9 +13,8 @@ pub data StartLine : Type 0 where
   request : List ℕ → List ℕ → StartLine
   status : ℕ → List ℕ → StartLine
 
--- Request-Line = Method SP Request-URI SP SIP-Version
--- Status-Line = SIP-Version SP Status-Code SP Reason-Phrase, SIP-Version = "SIP/2.0", without case
--- Own: codes from 100 to 699; a reason is any of %x20-7E, HTAB, and the bytes from %x80 on.
+-- Request-Line = Method SP Request-URI SP SIP-Version, Status-Line = SIP-Version SP Status-Code SP Reason-Phrase, SIP-Version = "SIP/2.0",
+-- without case. Own: codes from 100 to 699; a reason is any of %x20-7E, HTAB, and the bytes from %x80 on.
 abbrev pub StartSays : List ℕ → StartLine → Type 0
 StartSays line (request method uri) = ((Token is method) then Lit " " then (Uri is uri) then Lit " " then AnyCase "sip/2.0") line
 StartSays line (status code why) =

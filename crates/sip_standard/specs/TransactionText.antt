@@ -16,8 +16,7 @@ key_text key = role_text key.role ++ codes " " ++ key.method
 
 -- the line of the transaction with this number and key, which tells how many states it has
 abbrev pub transaction_line : ℕ → KeyParts → ℕ → List ℕ
-transaction_line number key count =
-    codes "transaction " ++ decimal number ++ codes " " ++ key_text key ++ (codes " states " ++ decimal count) ++ codes "\n"
+transaction_line number key count = codes "transaction " ++ decimal number ++ codes " " ++ key_text key ++ (codes " states " ++ decimal count) ++ codes "\n"
 
 -- the line of a transaction, and the lines of its states after it
 abbrev pub transaction_text : ℕ → KeyParts → List (List ℕ) → List ℕ

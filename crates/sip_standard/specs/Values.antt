@@ -8,9 +8,8 @@ use Rattle.sip_standard.specs.Chars.{Lit, is_among, ◌is◌}
 use Rattle.sip_standard.specs.Profile.{Token, Blanks, Sws, Mark, Quoted, Uri}
 use Rattle.sip_standard.specs.Via.{GenValue}
 
--- from-spec = ( name-addr / addr-spec ) *( SEMI generic-param ), name-addr = [ display-name ] LAQUOT addr-spec RAQUOT,
--- display-name = *( token LWS ) / quoted-string. Lenient: no blank is needed before "<".
--- An addr-spec without "<" holds no comma, question mark or semicolon (section 20).
+-- from-spec = ( name-addr / addr-spec ) *( SEMI generic-param ), name-addr = [ display-name ] LAQUOT addr-spec RAQUOT, display-name = *( token LWS )
+-- / quoted-string. Lenient: no blank is needed before "<". An addr-spec without "<" holds no comma, question mark or semicolon (section 20).
 abbrev pub Address : List ℕ → Type 0
 Address =
     let Display = Quoted or (Token then Many (Blanks then Token)) in

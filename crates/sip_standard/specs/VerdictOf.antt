@@ -33,13 +33,19 @@ RunsOver p es key =
     let key_machine = transaction_of (machine_of_key p.rules key) in
     (y : Owing key_machine.Phase) × Stands key_machine.figure p (events_for key es) (fold (λ moment e. e.event.moment) 0 es) y
 
+-- how many last states of a run are followed (own: where there are more, the log is undecided)
+abbrev pub widest : ℕ
+widest = 1024
+
+-- P holds of more states than are followed
+abbrev pub IsWide : {X : Type 0} → (X → Type 0) → Type 0
+IsWide {X} P = (many : List X) × AllPairs (λ x y. x ≢ y) many × (widest < length many) × All P many
+
 -- the entry after these concerns the key, and its runs that end with the entry's step can stand in more than 1,024 states
 abbrev pub IsWideAt : Times → List (Observation KeyParts) → Observation KeyParts → KeyParts → Type 0
 IsWideAt p front e key =
     let key_machine = transaction_of (machine_of_key p.rules key) in
-    (list_any (same_key key) e.keys ≡ true)
-    × ((many : List (Owing key_machine.Phase)) × AllPairs (λ x y. x ≢ y) many × (1024 < length many)
-    × All (StandsAfter key_machine.figure p (events_for key front) e.event) many)
+    (list_any (same_key key) e.keys ≡ true) × IsWide (StandsAfter key_machine.figure p (events_for key front) e.event)
 
 -- the number, from 1, of the first key of which P holds
 abbrev pub IsFirstKey : (KeyParts → Type 0) → List KeyParts → ℕ → Type 0
@@ -57,16 +63,19 @@ HasTrouble p front e (Undecided entry transaction) =
     × IsFirstKey (IsWideAt p front e) (keys_in (front ++ e ∷ [])) transaction
 HasTrouble p front e v = ⊥
 
+-- the entry after these is in no trouble: its message has no fault, each transaction so far has a run that takes it too, and none is too wide at it
+pub record IsFine (p : Times) (front : List (Observation KeyParts)) (e : Observation KeyParts) : Type 0 where
+  pub formed : e.fault ≡ None
+  pub runs : All (RunsOver p (front ++ e ∷ [])) (keys_in (front ++ e ∷ []))
+  pub narrow : All (λ key. ¬ (IsWideAt p front e key)) (keys_in (front ++ e ∷ []))
+
 -- the verdict of the entries that are left and of how they end, after others in no trouble: that the log is legal, or that the next entry
 -- cannot be read; or that of the next entry, if it is in trouble, and if it is not, that of what is left after it
 abbrev pub IsVerdictAfter : Times → List (Observation KeyParts) → List Item → LogEnd → Verdict → Type 0
 IsVerdictAfter p es [] Clean v = v ≡ Legal (length es) (length (keys_in es))
 IsVerdictAfter p es [] (Stops fault) v = v ≡ LogFault (length es + 1) fault
 IsVerdictAfter p es (item ∷ items) end v =
-    (e : Observation KeyParts) × Sees es item e
-    × (HasTrouble p es e v
-    ⊎ ((e.fault ≡ None) × All (RunsOver p (es ++ e ∷ [])) (keys_in (es ++ e ∷ [])) × All (λ key. ¬ (IsWideAt p es e key)) (keys_in (es ++ e ∷ []))
-    × IsVerdictAfter p (es ++ e ∷ []) items end v))
+    (e : Observation KeyParts) × Sees es item e × (HasTrouble p es e v ⊎ (IsFine p es e × IsVerdictAfter p (es ++ e ∷ []) items end v))
 
 -- the verdict of an input, its messages being those of RFC 3261: that of its header, or of its entries
 abbrev pub IsVerdictOf : List ℕ → Verdict → Type 0

@@ -1,5 +1,6 @@
 -- The runs of machines, and what they send.
 pub mod Reaching
+pub mod Steps
 pub mod RunLemmas
 pub mod StandsLemmas
 pub mod FewerLemmas

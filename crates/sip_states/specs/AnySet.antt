@@ -4,30 +4,14 @@ use Rattle.sip_standard.specs.Key.{KeyParts}
 use Rattle.sip_standard.specs.Times.{Times}
 use Rattle.sip_machine.specs.Texts.{Texts}
 use Rattle.sip_machine.specs.NumberedEvent.{NumberedEvent}
-use Rattle.sip_machine.specs.FigureRules.{rules_of as rules_of_figure, until_of}
-use Rattle.sip_machine.specs.Owing.{owing_seen, owing_names, OwingInRange}
 use Rattle.sip_machine.specs.inner.Coded.{idle_state, ended_state}
-use Rattle.sip_states.specs.Runs.{IsWide}
+use Rattle.sip_standard.specs.VerdictOf.{IsWide}
 use Rattle.sip_states.specs.Held.{Held}
-use Rattle.sip_standard.specs.KeyMachine.{MachineKind, machine_of_key, transaction_of}
-use Rattle.sip_states.specs.KeySets.{coded_of, PhaseOf, StateOf, set_of, by_machine, start_of_machine}
+use Rattle.sip_standard.specs.KeyMachine.{MachineKind, machine_of_key}
+use Rattle.sip_states.specs.inner.KeySets.{coded_of, StateOf, set_of, meaning_of, by_machine, start_of_machine}
+use Rattle.sip_states.specs.KeyRules.{PhaseOf}
 use Rattle.sip_states.specs.Meaning.{Meaning, IsKeptBy, IsKnown, Given, HasWaited, HasTaken, HasAgenda}
 use Rattle.sip_states.specs.declared.any_set.AnySet.{AnySet}
-
--- what the states of a machine mean
-abbrev pub meaning_of : (machine : MachineKind) → Meaning (PhaseOf machine) Times (StateOf machine)
-meaning_of machine =
-    let figure = (transaction_of machine).figure in
-    let c = coded_of machine in
-    record {
-      names = owing_names c.names;
-      seen = owing_seen c.seen;
-      in_range = OwingInRange c.InRange;
-      -- the rules by which it steps, how long it lasts, and its ended state
-      rules = rules_of_figure figure;
-      until = λ p x. until_of figure p (owing_seen c.seen [] x);
-      ended = λ p. ended_state c;
-    }
 
 -- What follows is of a property P of a set, whichever machine it has.
 module _ (P : (X M S : Type 0) → Meaning X M S → Held M S → Type 0) where

@@ -1,7 +1,7 @@
 -- What a set of states holds.
 use Rattle.std.specs.Prelude.{◌≢◌, ◌≤◌, ◌+◌, ◌⊎◌, ℕ, Option, List, All, AllPairs, Contains, length}
 use Rattle.sip_machine.specs.Limits.{IsWithin}
-use Rattle.sip_states.specs.Runs.{widest}
+use Rattle.sip_standard.specs.VerdictOf.{widest}
 
 -- what a set of states holds: its machine, its moment, and its states
 pub record Held (M S : Type 0) : Type 0 where

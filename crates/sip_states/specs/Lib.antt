@@ -1,7 +1,7 @@
-pub mod Runs
+pub mod Waits
 pub mod Held
 pub mod inner
-pub mod KeySets
+pub mod KeyRules
 pub mod Meaning
 pub mod AnySet
 pub mod Told

@@ -3,7 +3,8 @@ use Rattle.std.specs.Prelude.{◌≡◌, ◌≤◌, ◌+◌, ℕ, Option, List, 
 use Rattle.sip_machine.specs.Texts.{Texts, IsBook}
 use Rattle.sip_machine.specs.NumberedEvent.{NumberedEvent, event_in}
 use Rattle.sip_machine.specs.Rules.{MachineRules, Knows, StandFor}
-use Rattle.sip_states.specs.Runs.{Wait, RunGives, IsAgenda, widest}
+use Rattle.sip_states.specs.Waits.{Wait, RunGives, IsAgenda}
+use Rattle.sip_standard.specs.VerdictOf.{widest}
 use Rattle.sip_states.specs.Held.{Held, IsKept}
 
 -- what a machine M with states S of the code means: the messages that a state names, what it stands for, whether its moments are in range, the

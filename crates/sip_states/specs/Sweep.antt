@@ -6,7 +6,7 @@ use Rattle.sip_machine.specs.Naming.{AppendsAll}
 use Rattle.sip_states.specs.Held.{Held}
 use Rattle.sip_states.specs.Naming.{MayName}
 use Rattle.sip_standard.specs.KeyMachine.{MachineKind}
-use Rattle.sip_states.specs.KeySets.{coded_of, StateOf, by_machine}
+use Rattle.sip_states.specs.inner.KeySets.{coded_of, StateOf, by_machine}
 use Rattle.sip_states.specs.declared.any_set.AnySet.{AnySet}
 use Rattle.sip_states.specs.AnySet.{SetWaits}
 use Rattle.sip_states.specs.Tables.{Tabled}

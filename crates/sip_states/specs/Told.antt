@@ -7,7 +7,7 @@ use Rattle.sip_machine.specs.Told.{told_of, messages_told}
 use Rattle.sip_standard.specs.Told.{Told, told_by}
 use Rattle.sip_standard.specs.PhaseWords.{words_of}
 use Rattle.sip_machine.specs.Owing.{CodeOwing}
-use Rattle.sip_states.specs.KeySets.{coded_of, by_machine}
+use Rattle.sip_states.specs.inner.KeySets.{coded_of, by_machine}
 use Rattle.sip_states.specs.declared.any_set.AnySet.{AnySet}
 use Rattle.sip_states.specs.declared.told.ToldState.{ToldState}
 

@@ -7,10 +7,11 @@ ghost use Rattle.sip_machine.specs.NumberedEvent.{FitsBook, event_in};
 ghost use Rattle.sip_machine.specs.Naming.{AppendsAll};
 ghost use Rattle.sip_machine.specs.Owing.{CodeOwing, owing_names};
 ghost use Rattle.sip_machine.specs.Rules.{Knows, StandFor};
-ghost use Rattle.sip_machine.specs.Pools.{picked};
+ghost use Rattle.sip_machine.specs.inner.Pools.{picked};
 ghost use Rattle.sip_states.specs.Held.{IsKept};
 ghost use Rattle.sip_states.specs.Naming.{MayName};
-ghost use Rattle.sip_states.specs.Runs.{Wait, RunGives, IsAgenda, IsWide, widest};
+ghost use Rattle.sip_states.specs.Waits.{Wait, RunGives, IsAgenda};
+ghost use Rattle.sip_standard.specs.VerdictOf.{IsWide, widest};
 ghost use Rattle.sip_states.specs.inner.Ways.{GivesAfter};
 
 use crate::ends::{advance_states, last_of_all};

@@ -1,5 +1,5 @@
 -- What a legal log is.
-use Rattle.std.specs.Prelude.{◌≡◌, ℕ, false, None, List, [], ◌∷◌, ◌++◌, length, All, IfSome}
+use Rattle.std.specs.Prelude.{◌≡◌, ℕ, false, List, [], ◌∷◌, ◌++◌, length, All, IfSome}
 use Rattle.sip_standard.specs.Outcome.{gives}
 use Rattle.sip_standard.specs.Says.{Said, Says}
 use Rattle.sip_standard.specs.declared.role.Direction.{Direction}
@@ -10,13 +10,7 @@ use Rattle.sip_standard.specs.LogEntry.{Item}
 use Rattle.sip_standard.specs.LogSays.{Clean, LogSays}
 use Rattle.sip_standard.specs.Observation.{Observation, direction_of}
 use Rattle.sip_standard.specs.Seen.{AreSeen}
-use Rattle.sip_standard.specs.VerdictOf.{keys_in, RunsOver, IsWideAt}
-
--- the entry after these is in no trouble: its message has no fault, each transaction so far has a run over it, and none is too wide at it
-pub record IsFine (p : Times) (front : List (Observation KeyParts)) (e : Observation KeyParts) : Type 0 where
-  pub formed : e.fault ≡ None
-  pub runs : All (RunsOver p (front ++ e ∷ [])) (keys_in (front ++ e ∷ []))
-  pub narrow : All (λ key. ¬ (IsWideAt p front e key)) (keys_in (front ++ e ∷ []))
+use Rattle.sip_standard.specs.VerdictOf.{keys_in, RunsOver, IsFine}
 
 -- no entry is in trouble
 abbrev pub IsGood : Times → List (Observation KeyParts) → Type 0

@@ -8,7 +8,7 @@ use Rattle.sip_standard.specs.Observation.{Observation}
 use Rattle.sip_standard.specs.VerdictOf.{events_for}
 use Rattle.sip_standard.specs.PhaseWords.{words_of}
 use Rattle.sip_machine.specs.Told.{messages_told}
-use Rattle.sip_states.specs.KeySets.{PhaseOf}
+use Rattle.sip_states.specs.KeyRules.{PhaseOf}
 use Rattle.sip_verdict.specs.Entries.{newest_moment}
 
 -- the messages that a state names: those that its phase tells of, and those that are owed

@@ -6,13 +6,14 @@ use Rattle.sip_standard.specs.Times.{Times}
 use Rattle.sip_standard.specs.MachineEvent.{MachineEvent}
 use Rattle.sip_standard.specs.Figure.{Owing, quiet}
 use Rattle.sip_standard.specs.Stands.{Stands}
-use Rattle.sip_standard.specs.KeyMachine.{MachineKind, transaction_of}
+use Rattle.sip_standard.specs.KeyMachine.{MachineKind, machine_of_key, transaction_of}
 use Rattle.sip_standard.specs.LogEntry.{Item}
 use Rattle.sip_verdict.specs.declared.finding.Finding.{Finding}
 use Rattle.sip_verdict.specs.declared.finding.Finding.TheVariants.{Malformed, Breach, Undecided}
 use Rattle.sip_standard.specs.Observation.{Observation}
 use Rattle.sip_standard.specs.Seen.{AreSeen}
-use Rattle.sip_standard.specs.VerdictOf.{keys_in}
+use Rattle.sip_standard.specs.VerdictOf.{keys_in, events_for}
+use Rattle.sip_verdict.specs.Entries.{newest_moment}
 use Rattle.sip_verdict.specs.SurveyOf.{Breaks, Widens, HoldsOf}
 
 -- What follows is of the transactions in trouble.
@@ -67,11 +68,19 @@ HasSameTrouble p es cuts key =
     (front back : List (Observation KeyParts)) (e cut : Observation KeyParts) (rest others : List (Observation KeyParts)) → es ≡ front ++ e ∷ rest → cuts ≡ back ++ cut ∷ others
     → length front ≡ length back → (Breaks p front e key ↔ Breaks p back cut key) × (Widens p front e key ↔ Widens p back cut key)
 
--- what the log of some keys keeps of the whole log: the chosen keys in their order, and the trouble of each
+-- the key's runs over the first entries of both logs, as many of the one as of the other, stand in the same states at the newest moment
+abbrev pub HasSameRuns : Times → List (Observation KeyParts) → List (Observation KeyParts) → KeyParts → Type 0
+HasSameRuns p es cuts key =
+    let key_machine = transaction_of (machine_of_key p.rules key) in
+    (front back rest others : List (Observation KeyParts)) (x : Owing key_machine.Phase) → es ≡ front ++ rest → cuts ≡ back ++ others → length front ≡ length back
+    → Stands key_machine.figure p (events_for key front) (newest_moment front) x ↔ Stands key_machine.figure p (events_for key back) (newest_moment back) x
+
+-- what the log of some keys keeps of the whole log: the chosen keys in their order, and the runs and the trouble of each
 pub record Keeps (p : Times) (chosen : KeyParts → Bool) (es : List (Observation KeyParts)) (cuts : List Item) : Type 0 where
   pub seen : List (Observation KeyParts)
   pub are : AreSeen [] cuts seen
   pub keys : keys_in seen ≡ chosen_in chosen es
+  pub runs : (key : KeyParts) → chosen key ≡ true → HasSameRuns p es seen key
   pub troubles : (key : KeyParts) → chosen key ≡ true → HasSameTrouble p es seen key
 
 -- What follows is of a transaction that is over.

@@ -10,7 +10,7 @@ use Rattle.sip_standard.specs.Observation.{Observation}
 use Rattle.sip_verdict.specs.Entries.{newest_moment}
 use Rattle.sip_standard.specs.Stands.{Stands}
 use Rattle.sip_standard.specs.KeyMachine.{machine_of_key, transaction_of}
-use Rattle.sip_states.specs.KeySets.{PhaseOf}
+use Rattle.sip_states.specs.KeyRules.{PhaseOf}
 use Rattle.sip_verdict.specs.Named.{AreMany, key_messages}
 use Rattle.sip_verdict.specs.Room.{HasRoom}
 use Rattle.sip_verdict.specs.SurveyOf.{IsSound}

@@ -8,7 +8,6 @@ ghost use Rattle.sip_standard.specs.Times.{Times};
 ghost use Rattle.sip_standard.specs.MachineEvent.{MachineEvent};
 ghost use Rattle.sip_machine.specs.NumberedEvent.{event_in, FitsBook};
 ghost use Rattle.sip_standard.specs.KeyMachine.{MachineKind};
-ghost use Rattle.sip_states.specs.KeySets.{key_rules};
 ghost use Rattle.sip_states.specs.AnySet.{moment_of, IsEmpty, IsKnownSet};
 ghost use Rattle.sip_states.specs.Tables.{IsGiven, due_of};
 ghost use Rattle.sip_standard.specs.Observation.{Observation};
@@ -69,7 +68,7 @@ pub(crate) fn hear(
     ensures numbered { IfOk result (IsOwnOutcome number) }
     ensures some { IfOk result (λ outcome. outcome ≡ Outcome.Fine → ¬ IsEmpty set.new) }
     ensures stepped { IfOk result (λ outcome. (p : Times) (machine : MachineKind) (events : List MachineEvent) (from : ℕ) → from ≤ event.now.moment → LeadsOf book.now p machine events from set.old
-        → IsStepped (key_rules p machine) events (event_in book.now event.now) (λ es. LeadsOf book.now p machine es event.now.moment set.new) (λ e. StandsOf book.now p machine events e set.new) outcome) }
+        → IsStepped p machine events (event_in book.now event.now) (λ es. LeadsOf book.now p machine es event.now.moment set.new) (λ e. StandsOf book.now p machine events e set.new) outcome) }
 {
     match set.take(book, event) {
         // No state of the set takes the event, so that no run is left.

@@ -75,8 +75,8 @@ pub fn a_survey_names_a_transaction_once()
 {}
 
 /// A log may be cut by its transactions, where all keys that an entry concerns are chosen, or none of them. The cut log has a mark in place of
-/// each entry that concerns no chosen key. It has the chosen transactions in their order, and each of them breaks, or is followed no further,
-/// at the same entry as in the whole log.
+/// each entry that concerns no chosen key. It has the chosen transactions in their order. After as many entries of both logs the runs of each of
+/// them stand in the same states, and each breaks, or is followed no further, at the same entry as in the whole log.
 pub fn a_log_may_be_cut()
     ensures { (p : Times) (chosen : KeyParts → Bool) (items : List Item) (es : List (Observation KeyParts)) (cuts : List Item) → AreSeen [] items es
         → IsCutLog chosen items es cuts → Keeps p chosen es cuts }

@@ -44,24 +44,20 @@ impl BuildHasher for AllZero {
     }
 }
 
-/// Touches the key of the transaction with this number. Returns the number that it got, and whether its set is of its machine by these rules.
-fn number_of<H: BuildHasher + Drop>(
-    alloc: Global,
-    tables: &mut Tables<H>,
-    rules: Rules,
-    number: u64,
-) -> Result<(u64, bool), Fail> {
-    let given = touch(alloc, tables, number)??;
-    // The machine of a transaction follows from what is left of its number after division by 4, as `keys.rt` has it, and from the rules.
-    let is_own = match tables.set(given) {
-        AnySet::InviteClient(_) => number % 4 == 0 && rules == Rules::R6026,
-        AnySet::PlainClient(_) => number % 4 == 1,
-        AnySet::InviteServer(_) => number % 4 == 2 && rules == Rules::R6026,
-        AnySet::PlainServer(_) => number % 4 == 3,
-        AnySet::InviteClient3261(_) => number % 4 == 0 && rules == Rules::R3261,
-        AnySet::InviteServer3261(_) => number % 4 == 2 && rules == Rules::R3261,
+/// Whether the set is of the machine of the transaction with this number by these rules, by the name under which `{:?}` writes it.
+fn is_own(alloc: Global, set: &AnySet, rules: Rules, number: u64) -> Result<bool, Fail> {
+    // The method and the role follow from what is left of the number after division by 4, as `keys.rt` has it.
+    let is_invite = number % 2 == 0;
+    let method = if is_invite { "Invite" } else { "Plain" };
+    let role = if number % 4 < 2 { "Client" } else { "Server" };
+    let without = if is_invite && rules == Rules::R3261 {
+        "3261"
+    } else {
+        ""
     };
-    Ok((given, is_own))
+    let name = format!(in alloc; "{method}{role}{without}(")?;
+    let told = format!(in alloc; "{set:?}")?;
+    Ok(told.as_str().starts_with(name.as_str()))
 }
 
 /// Asserts that the key of the transaction with this number gets that number and a set of its machine, and that there are `count` keys.
@@ -72,10 +68,11 @@ fn is_numbered<H: BuildHasher + Drop>(
     number: u64,
     count: u64,
 ) -> Result<(), Fail> {
-    let (given, is_own) = number_of(rt.alloc(), tables, rules, number)?;
+    let given = touch(rt.alloc(), tables, number)??;
+    let own = is_own(rt.alloc(), tables.set(given), rules, number)?;
     is(
         rt,
-        (given, is_own, tables.len()),
+        (given, own, tables.len()),
         (number, true, count),
         "a key",
     );

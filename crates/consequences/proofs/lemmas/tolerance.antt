@@ -1,7 +1,10 @@
 -- What a wider tolerance keeps, machine by machine.
+pub mod Moments
 pub mod Wider
-pub mod AllWider
-pub mod Steady
 pub mod Sorted
-pub mod SortedPlainServer
+pub mod InviteClients
+pub mod PlainClient
+pub mod InviteServers
+pub mod PlainServer
+pub mod AllWider
 pub mod SeenKinds

@@ -1,13 +1,9 @@
 -- An account loses one of its debts, or gains one: a is the account before and b after it, and `old` and `new` are the strikes before and after it.
 -- w is the worth of the debt that is lost, and `print` the print without it, or that the new account has that print.
-use Rattle.sip_ledger.proofs.Words.{◌≡◌, ◌≢◌, ℕ, ◌+◌, ◌<◌, ◌≤◌, ◌%◌, ◌^◌, ◌&&◌, true, false, List, [], ◌∷◌, ◌++◌, length, get_or, sym, ap, ◌∙◌, arith, nat_tests, nat_le, and_right, cases_lt, le-leb, lt-leb, lt-ltb, and-false, or-false, or-true, get_or_push, length-append, sum_by_push, mod-add-mod, Debt, Account, Gains, Strike, debts_print, worth_of, debt_of, IsAccount, IsGain, IsNextGain, IsStruck, KeepsAccounts, account_debts, entries_of, entry_at, is_left, is_struck, must_at, owes_at, strikes_of, holds, common_steps, ◌-◌, Bool, not, refl, lit<, nat_lt, sum_by, eq-eqb, ne_eqb, true≢false, sum_by-append, sum_by-cons, mod_below, add-mod_right, mod-eq_of_lt, IsWithout, is_gone}
+use Rattle.sip_ledger.proofs.Words.{◌≡◌, ◌≢◌, ℕ, ◌+◌, ◌<◌, ◌≤◌, ◌%◌, ◌^◌, ◌&&◌, true, false, List, [], ◌∷◌, ◌++◌, length, get_or, sym, ap, ◌∙◌, arith, nat_tests, nat_le, and_right, cases_lt, le-leb, lt-leb, lt-ltb, and-false, or-false, or-true, get_or_push, length-append, sum_by_push, mod-add-mod, Debt, Account, Gains, Strike, debts_print, worth_of, debt_of, IsAccount, IsGain, IsNextGain, IsStruck, KeepsAccounts, account_debts, entries_of, entry_at, is_left, is_struck, must_at, owes_at, strikes_of, holds, common_steps, ◌-◌, not, refl, lit<, nat_lt, eq-eqb, ne_eqb, true≢false, sum_by-append, sum_by-cons, mod_below, add-mod_right, mod-eq_of_lt, IsWithout, is_gone}
 use Rattle.sip_ledger.proofs.debts.OwedLemmas.{gained-debts, IsCut, cut-at}
 use Rattle.sip_ledger.proofs.gains.LeftLemmas.{entries_long, gone-left, gone-same, gone-struck, held_left, left-kept, owed-left}
 use Rattle.sip_ledger.proofs.account.AccountLemmas.{grown-alike, over-all, past-end, owed-within, same-keeps, soft-must}
-
--- the sum of the worths of debts, of which their print is made
-abbrev worths : List Debt → ℕ
-worths debts = sum_by (λ debt. worth_of debt.message debt.deadline) debts
 
 -- the print of debts, with the worth of the one that was taken out, is the print of those of before
 pub cut-print : {before after : List Debt} (debt : Debt) (old new : List Debt) → IsCut before debt after old new → (w : ℕ) → w ≡ worth_of debt.message debt.deadline →
@@ -18,15 +14,11 @@ cut-print {before} {after} debt old new cut w is = grind (arith, nat_tests, comm
 -- a print is a number of 64 bits: it is a remainder by 2^64, which is not 0 (`lit< tt`)
 pub print-fits : (debts : List Debt) → debts_print debts < 2 ^ 64
 unfolding debts_print
-print-fits debts = mod_below (worths debts) (2 ^ 64) (lit< tt)
+print-fits debts = mod_below _ (2 ^ 64) (lit< tt)
 
 -- a number that was added modulo 2^64 can be taken away again
 taken-print : (q w : ℕ) → q < 2 ^ 64 → w < 2 ^ 64 → ((q + w) % 2 ^ 64 + (2 ^ 64 - w)) % 2 ^ 64 ≡ q
 taken-print q w fits less = grind (arith, nat_tests, mod-add-mod, add-mod_right, mod-eq_of_lt)
-
--- whether the account owes what was gained at a place, from its start on
-abbrev rest : Gains → List Strike → Account → ℕ → Bool
-rest gains own a k = nat_lt k a.end && not (is_gone gains own k)
 
 -- an account owes nothing before its start
 pub before-start : (gains : Gains) (strikes : List Strike) (a : Account) (k : ℕ) → k < a.start → owes_at gains strikes a k ≡ false

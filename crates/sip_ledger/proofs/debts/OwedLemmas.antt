@@ -1,5 +1,5 @@
 -- What is owed once one place changes (o and m say which places are owed and which must be, o' and m' which then), what a payment leaves, and longer runs.
-use Rattle.sip_ledger.proofs.Words.{◌≡◌, ◌+◌, ◌-◌, List, [], ◌∷◌, ◌++◌, length, get_or, set, replicate, arith, nat_tests, cases_eq, flat_map-append, append-nil, append_assoc, drop_all, get_or_default, get_or-set_same, get_or-set_other, length-set, replicate_more, set_split, take-append-drop, drop_more, All-set, Debt, Run, debts_in, AreRuns, ◌∙◌, ℕ, All, refl, sym, ap, cond, IsTrue, false_from_ne_true, All-head, All-tail, IsWithoutFirst, is_payable, paid_by, ◌≢◌, ◌<◌, ◌≤◌, Bool, true, false, take, ap₂, subst, list_any, list_any-append, get_or-take, length-append, length-take-le, Entry, debt_of, debts_from, IsWithout, EndsWith}
+use Rattle.sip_ledger.proofs.Words.{◌≡◌, ◌+◌, ◌-◌, List, [], ◌∷◌, ◌++◌, length, get_or, set, arith, nat_tests, cases_eq, flat_map-append, append-nil, append_assoc, drop_all, get_or_default, get_or-set_same, get_or-set_other, length-set, replicate_more, set_split, take-append-drop, drop_more, All-set, Debt, Run, debts_in, AreRuns, ◌∙◌, ℕ, All, refl, sym, ap, cond, IsTrue, false_from_ne_true, All-head, All-tail, IsWithoutFirst, is_payable, paid_by, ◌≢◌, ◌<◌, ◌≤◌, Bool, true, false, take, ap₂, subst, list_any, list_any-append, get_or-take, length-append, length-take-le, Entry, debt_of, debts_from, IsWithout, EndsWith}
 use Rattle.sip_ledger.proofs.debts.ListedLemmas.{no_entry, front, back, parts, back-set, back-unset, back-same, back-none, front-same, listed-each}
 
 -- the new debts are the old ones without `debt`, which stood between those of `before` and those of `after`
@@ -90,10 +90,6 @@ module _ (message t : ℕ) where
   pub unpaid-is : (debts : List Debt) → All Unpaid debts → paid_by message t debts ≡ debts
   unpaid-is [] none = refl
   unpaid-is (debt ∷ debts) none = grind (arith, nat_tests, false_from_ne_true, All-head, All-tail, unpaid-is debts (All-tail Unpaid debt debts none))
-
--- the debts of a run
-abbrev each : Run → List Debt
-each run = replicate run.count run.debt
 
 -- where the last run is one longer, its debts are those of the runs before and one more of its own
 more-debts : (xs : List Run) (run : Run) → debts_in (xs ++ (record { debt = run.debt; count = run.count + 1 }) ∷ []) ≡ debts_in (xs ++ run ∷ []) ++ run.debt ∷ []

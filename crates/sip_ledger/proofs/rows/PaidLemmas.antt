@@ -58,16 +58,12 @@ unfolding account_debts
 debts-late gains strikes a t are late =
     listed-each (λ (d : Debt). t ≤ d.deadline) (owes_at gains strikes a) (must_at gains a) (entries_of gains) (λ k below owed. late k (left-kept gains k are (owed-left gains strikes a k owed)))
 
--- a debt that is not past counts still
-late-counts : (t : ℕ) (d : Debt) → t ≤ d.deadline → counts_at t d ≡ true
-late-counts t d late = or_right d.must (nat_le t d.deadline) (le-leb t d.deadline late)
-
 -- where no gain that is kept is past, an account has no debt that goes
 pub none-goes : (gains : Gains) (strikes : List Strike) (a : Account) (t : ℕ) → AreGains gains → ((k : ℕ) → IsKept gains k → t ≤ (entry_at (entries_of gains) k).deadline) →
     filter (counts_at t) (account_debts gains strikes a) ≡ account_debts gains strikes a
 none-goes gains strikes a t are late =
     let debts = account_debts gains strikes a in
-    kept-each t debts (All-weaker (λ (d : Debt). t ≤ d.deadline) (λ d. counts_at t d ≡ true) (late-counts t) debts (debts-late gains strikes a t are late))
+    kept-each t debts (All-weaker (λ (d : Debt). t ≤ d.deadline) (λ d. counts_at t d ≡ true) (λ d late. or_right d.must (nat_le t d.deadline) (le-leb t d.deadline late)) debts (debts-late gains strikes a t are late))
 
 -- where no gain that is kept is past, no row has a debt that goes
 rows-same : (gains : Gains) (strikes : List Strike) (rows : List Account) (t : ℕ) → AreGains gains → ((k : ℕ) → IsKept gains k → t ≤ (entry_at (entries_of gains) k).deadline) →
@@ -102,21 +98,13 @@ none_late gains strikes a t are late =
 -- lemmas for the prover under one name: what rows owe once some of them have gained a debt
 pub ruleset gained_by_rows = (changing-all, debts-count, gained-front, gained-grown, gained-more, gained-over, on-error)
 
--- whether a row is paid, and what is left to it
-abbrev pub is_paid : ℕ → ℕ → List Debt → Bool
-is_paid message t owes = list_any (is_payable message t) owes && is_timely t owes
-
 -- the debts that a payment leaves
 abbrev pub left_by : ℕ → ℕ → List Debt → List Debt
 left_by message t owes = filter (counts_at t) (paid_by message t owes)
 
--- a row that is not paid is left out
-unpaid-row : (message t : ℕ) (owes : List Debt) → is_paid message t owes ≡ false → [] ≡ paid_rows message t (owes ∷ [])
-unpaid-row message t owes is = ap (λ b. map (left_by message t) (cond b (owes ∷ []) [])) (sym is)
-
 -- a row with no debt that the send pays is left out
 pub other-row : (message t : ℕ) (owes : List Debt) → list_any (is_payable message t) owes ≡ false → [] ≡ paid_rows message t (owes ∷ [])
-other-row message t owes none = unpaid-row message t owes (ap (λ b. b && is_timely t owes) none)
+other-row message t owes none = ap (λ b. map (left_by message t) (cond b (owes ∷ []) [])) (sym (ap (λ b. b && is_timely t owes) none))
 
 -- a row that is paid stands there with what is left to it
 pub paid-row : (message t : ℕ) (owes debts : List Debt) → list_any (is_payable message t) owes ≡ true → is_timely t owes ≡ true → debts ≡ left_by message t owes →
@@ -173,10 +161,6 @@ pub ruleset paid_of_row = (paid-account, unpaid-account, unpaid-is, other-row, p
 -- lemmas for the prover under one name: what a send pays of many rows
 pub ruleset paid_of_rows = (from_to-end, debts_length, account-there, paid-front, paid-grown, paid-next, row-there, on-error)
 
--- whether what is owed at a place counts still at t: it must be sent, or its deadline is not past
-abbrev counting : ℕ → List Entry → (ℕ → Bool) → (ℕ → Bool) → ℕ → Bool
-counting t entries m o k = o k && (m k || nat_le t (entry_at entries k).deadline)
-
 -- IsExpiredTo holds at the start of an account: nothing is owed before it
 pub expired-start : (t : ℕ) (gains : Gains) (strikes : List Strike) (m : ℕ → Bool) (a : Account) →
     IsExpiredTo t (entries_of gains) m (owes_at gains strikes a) (owes_at gains strikes a) a.start
@@ -193,7 +177,7 @@ goes t entries m o o' o'' place was late may without = grind (arith, nat_tests, 
 
 -- an account that owes at each place just what counts still at t has the debts that count at t
 finished : (gains : Gains) (old new : List Strike) (a b : Account) (t : ℕ) → b.soft ≡ a.soft →
-    ((k : ℕ) → k < length (entries_of gains) → owes_at gains new b k ≡ counting t (entries_of gains) (must_at gains a) (owes_at gains old a) k) →
+    ((k : ℕ) → k < length (entries_of gains) → owes_at gains new b k ≡ (owes_at gains old a k && (must_at gains a k || nat_le t (entry_at (entries_of gains) k).deadline))) →
     account_debts gains new b ≡ filter (counts_at t) (account_debts gains old a)
 unfolding account_debts
 finished gains old new a b t soft each = grind (arith, listed-same, soft-must, listed-counting, get_or_default)

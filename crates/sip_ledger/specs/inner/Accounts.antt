@@ -294,13 +294,6 @@ pub record IsClearedTo (place : ℕ) (strikes : List Strike) (rows : List Accoun
 abbrev pub StartFrom : ℕ → List Account → Type 0
 StartFrom place rows = All (λ a. a.start < a.end → place ≤ a.start) rows
 
--- two accounts begin and end alike, their strikes are the same, and what was gained below the same place (`soft`) neither must send
-pub record AreAlike (strikes : List Strike) (one other : Account) : Type 0 where
-  pub start : one.start ≡ other.start
-  pub end : one.end ≡ other.end
-  pub soft : one.soft ≡ other.soft
-  pub own : strikes_of strikes one ≡ strikes_of strikes other
-
 -- two accounts owe the same from a place on
 pub record SharesRest (strikes : List Strike) (one other : Account) (place : ℕ) : Type 0 where
   pub soft : one.soft ≡ other.soft

@@ -7,9 +7,10 @@ pub use Rattle.std.specs.Ordering.{is_eq, is_gt}
 pub use Rattle.std.specs.Prelude.{All, Bool, Contains, Err, IfNone, IfOk, IfSome, IsErr, IsTrue, List, MatchOption, None, Ok, OnErr, OnOk, Option, Result, Some, [], bit_xor, cond, drop, false, filter, fold, get_or, is_err, is_some, length, map, max, min, nat_le, nat_lt, option_to_list, replicate, take, true, ℕ, ◌%◌, ◌&&◌, ◌*◌, ◌++◌, ◌+◌, ◌-◌, ◌<◌, ◌==◌, ◌^◌, ◌↔◌, ◌∷◌, ◌≡◌, ◌≢◌, ◌≤◌, ◌⊎◌}
 pub use Rattle.std.specs.Vec.{vec_capacity}
 pub use Rattle.std.specs.declared.ops.Bound.TheVariants.{Included, Unbounded}
+pub use Rattle.sip_standard.specs.Debts.{IsWithoutFirst}
 pub use Rattle.sip_ledger.specs.Accounts.{AppendsOwed, owed_in, owes_message, paid_rows, some_owes}
 unfoldable pub use Rattle.sip_ledger.specs.Accounts.{debts_print, worth_of}
-pub use Rattle.sip_ledger.specs.Debts.{IsFirstPaid, IsWithoutFirst, PaysSome, counts_at, debt_deadlines, earliest, is_payable, is_timely, is_within, paid_by, softened_debt}
+pub use Rattle.sip_ledger.specs.Debts.{IsFirstPaid, PaysSome, counts_at, debt_deadlines, earliest, is_payable, is_timely, is_within, paid_by, softened_debt}
 pub use Rattle.sip_ledger.specs.Entries.{IsGap, debt_of, debts_from}
 pub use Rattle.sip_ledger.specs.Indexes.{IsFirstFrom, IsFrom, IsNextUnder, NoneFrom, count_under, pair_cmp}
 unfoldable pub use Rattle.sip_ledger.specs.Indexes.{holds}
@@ -22,5 +23,5 @@ pub use Rattle.sip_ledger.specs.declared.accounts.strikes.Strike.{Strike}
 pub use Rattle.sip_ledger.specs.declared.debt.Debt.{Debt}
 pub use Rattle.sip_ledger.specs.declared.debt.Entry.{Entry}
 pub use Rattle.sip_ledger.specs.declared.run.Run.{Run}
-pub use Rattle.sip_ledger.specs.inner.Accounts.{AreAccounts, AreAlike, AreAppended, AreFlags, AreGains, AreKept, AreMoved, AreRising, AreSameGains, EndsWith, IsAccount, IsClearedTo, IsDropped, IsExpiredTo, IsFirstOf, IsFirstPayable, IsGain, IsGainAt, IsKept, IsLetGo, IsMoved, IsNext, IsNextGain, IsNoneBetween, IsNoted, IsPlaceOf, IsSeek, IsStruck, IsWithout, IsWritten, KeepsAccounts, Lengthens, PaysSomeAt, Reaches, SharesRest, StartFrom, StrikeToo, StrikesNoneFrom, blank, entry_at, first_after, flags_at, is_out, no_flags, pays_at, sooner, strikes_of}
+pub use Rattle.sip_ledger.specs.inner.Accounts.{AreAccounts, AreAppended, AreFlags, AreGains, AreKept, AreMoved, AreRising, AreSameGains, EndsWith, IsAccount, IsClearedTo, IsDropped, IsExpiredTo, IsFirstOf, IsFirstPayable, IsGain, IsGainAt, IsKept, IsLetGo, IsMoved, IsNext, IsNextGain, IsNoneBetween, IsNoted, IsPlaceOf, IsSeek, IsStruck, IsWithout, IsWritten, KeepsAccounts, Lengthens, PaysSomeAt, Reaches, SharesRest, StartFrom, StrikeToo, StrikesNoneFrom, blank, entry_at, first_after, flags_at, is_out, no_flags, pays_at, sooner, strikes_of}
 unfoldable pub use Rattle.sip_ledger.specs.inner.Accounts.{account_debts, accounts_debts, entries_of, is_gone, is_left, is_struck, must_at, owes_at}

@@ -1,6 +1,6 @@
 //! What one row owes of what was gained.
 ghost use Rattle.std.specs.Prelude.{◌≡◌, ◌≢◌, ◌↔◌, ◌<◌, ◌≤◌, ◌*◌, ◌%◌, ◌^◌, ◌++◌, ◌∷◌, ◌+◌};
-ghost use Rattle.sip_ledger.specs.inner.Words.{[], ℕ, Bool, true, false, Some, IfOk, IfSome, IfNone, IsTrue, OnOk, OnErr, bit_xor, filter, length, option_to_list, take, OnTrue, counts_at, debt_deadlines, earliest, is_timely, paid_by, worth_of, debt_of, Account, AreAlike, AreGains, IsAccount, IsExpiredTo, IsFirstOf, IsFirstPayable, IsGainAt, IsKept, IsNextGain, IsPlaceOf, IsSeek, IsStruck, IsWithout, KeepsAccounts, SharesRest, account_debts, entries_of, entry_at, is_gone, is_struck, must_at, owes_at, pays_at, sooner, strikes_of, count_under, holds};
+ghost use Rattle.sip_ledger.specs.inner.Words.{[], ℕ, Bool, true, false, Some, IfOk, IfSome, IfNone, IsTrue, OnOk, OnErr, bit_xor, filter, length, option_to_list, take, OnTrue, counts_at, debt_deadlines, earliest, is_timely, paid_by, worth_of, debt_of, Account, AreGains, IsAccount, IsExpiredTo, IsFirstOf, IsFirstPayable, IsGainAt, IsKept, IsNextGain, IsPlaceOf, IsSeek, IsStruck, IsWithout, KeepsAccounts, SharesRest, account_debts, entries_of, entry_at, is_gone, is_struck, must_at, owes_at, pays_at, sooner, strikes_of, count_under, holds};
 
 use crate::accounts::gains::Gains;
 use crate::accounts::seek::Seek;
@@ -275,8 +275,7 @@ fn expire(gains: &Gains, strikes: &mut Strikes, account: Account, place: usize, 
     Ok(left)
 }
 
-/// The account without what it may send and whose deadline is below the moment. The strikes that were there stay, also on an
-/// error.
+/// The account without what it may send and whose deadline is below the moment. The strikes that were there stay, also on an error.
 #[tactic(auto, using(crate::proofs::rows::PaidLemmas::expired_by_place))]
 #[inline(always)]
 pub(crate) fn expired(gains: &Gains, strikes: &mut Strikes, account: Account, moment: u64) -> Made
@@ -322,18 +321,14 @@ pub(crate) fn paid_and_expired(
     ensures debts { IfOk result (λ new. account_debts gains.now strikes.new.items new ≡ filter (counts_at moment) (paid_by message moment (account_debts gains.now strikes.old.items account))) }
 {
     let mut seek = Seek::new(gains, message, account.start);
-    match find(gains, strikes, account, &mut seek, message, moment) {
-        // The debt at the place is paid, and then what is past goes.
-        Some(place) => {
-            let rest = without(gains, strikes, account, place)?;
-            let left = expired(gains, strikes, rest, moment)?;
-            Ok(left)
-        }
-        None => {
-            let left = expired(gains, strikes, account, moment)?;
-            Ok(left)
-        }
-    }
+    let Some(place) = find(gains, strikes, account, &mut seek, message, moment) else {
+        let left = expired(gains, strikes, account, moment)?;
+        return Ok(left);
+    };
+    // The debt at the place is paid, and then what is past goes.
+    let rest = without(gains, strikes, account, place)?;
+    let left = expired(gains, strikes, rest, moment)?;
+    Ok(left)
 }
 
 /// A place at which the account can gain the debt: one of another account, or a new one. The place at which another account gained it, if
@@ -473,8 +468,7 @@ pub(crate) fn gained(
     })
 }
 
-/// The account with what was gained at the place, after all that it owes, and without what is past at the moment. The strikes that were
-/// there stay.
+/// The account with what was gained at the place, after all that it owes, and without what is past at the moment. The strikes that were there stay.
 pub(crate) fn gained_and_expired(
     gains: &Gains,
     strikes: &mut Strikes,
@@ -502,30 +496,11 @@ pub(crate) fn earliest_must(gains: &Gains, strikes: &[Strike], account: Account)
     requires account { IsAccount gains.now strikes.now account }
     ensures { result ≡ earliest (debt_deadlines (account_debts gains.now strikes.now account)) }
 {
-    match first_must(gains, account) {
-        Some(moment) => Some(moment),
-        None => least_must(gains, strikes, account),
+    // Where deadlines rise, and the first debt must be sent, its deadline is the least.
+    if account.start < account.end && gains.rises && must(gains, account, account.start) {
+        return Some(gains.entry(account.start).deadline);
     }
-}
-
-/// The deadline of the account's first debt, if that must be sent and deadlines rise.
-fn first_must(gains: &Gains, account: Account) -> Option<u64>
-    requires gained { AreGains gains.now }
-    requires order { account.start ≤ account.end }
-    requires kept { account.start < account.end → IsKept gains.now account.start }
-    ensures { IfSome result (λ moment. (account.start < account.end) × (gains.now.rises ≡ true) × (must_at gains.now account account.start ≡ true)
-        × (moment ≡ (entry_at (entries_of gains.now) account.start).deadline)) }
-{
-    if account.start == account.end {
-        return None;
-    }
-    if !gains.rises {
-        return None;
-    }
-    if !must(gains, account, account.start) {
-        return None;
-    }
-    Some(gains.entry(account.start).deadline)
+    least_must(gains, strikes, account)
 }
 
 /// The least deadline of what the account must send, by the index.
@@ -593,24 +568,8 @@ fn debt_for(gains: &Gains, account: Account, place: usize) -> Debt
     }
 }
 
-/// Whether the accounts begin and end alike and have the same strikes, so that they owe the same.
-fn is_alike(strikes: &[Strike], one: Account, other: Account) -> bool
-    requires first { one.first ≤ one.last }
-    requires last { one.last ≤ length strikes.now }
-    requires first_other { other.first ≤ other.last }
-    requires last_other { other.last ≤ length strikes.now }
-    ensures { OnTrue result (AreAlike strikes.now one other) }
-{
-    if one.start != other.start || one.end != other.end {
-        return false;
-    }
-    if one.soft != other.soft {
-        return false;
-    }
-    are_same(own(strikes, one), own(strikes, other))
-}
-
-/// Whether the accounts are known to owe the same from the place on: they end alike, have the same `soft`, and no strike of theirs goes past it.
+/// Whether the accounts are known to owe the same from the place on: they end alike, have the same `soft`, and the same strikes or none that
+/// goes past the place.
 fn shares_rest(strikes: &[Strike], one: Account, other: Account, place: usize) -> bool
     requires first { one.first ≤ one.last }
     requires last { one.last ≤ length strikes.now }
@@ -622,6 +581,9 @@ fn shares_rest(strikes: &[Strike], one: Account, other: Account, place: usize) -
 {
     if one.end != other.end || one.soft != other.soft {
         return false;
+    }
+    if are_same(own(strikes, one), own(strikes, other)) {
+        return true;
     }
     end_by(own(strikes, one), place) && end_by(own(strikes, other), place)
 }
@@ -635,9 +597,6 @@ pub(crate) fn same(gains: &Gains, strikes: &[Strike], one: Account, other: Accou
 {
     if one.print != other.print {
         return false;
-    }
-    if is_alike(strikes, one, other) {
-        return true;
     }
     // Both are walked side by side, from debt to debt.
     let mut at = one.start;

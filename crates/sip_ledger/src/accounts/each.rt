@@ -50,8 +50,7 @@ impl Accounts {
         Ok(())
     }
 
-    /// Drops what each row from one on may send and whose deadline is below the moment. On an error these rows are gone, and those before
-    /// them are left.
+    /// Drops what each row from one on may send and whose deadline is below the moment. On an error these rows are gone, and those before them are left.
     pub fn expire_each(&mut self, from: usize, moment: u64) -> Result<(), AllocError>
         ensures ok { OnOk result (self.new ≡ take from self.old ++ map (filter (counts_at moment)) (drop from self.old)) }
         ensures err { OnErr result (self.new ≡ take from self.old) }
@@ -195,12 +194,10 @@ fn paid(
     if !is_timely(gains, strikes, account, moment) {
         return Ok(None);
     }
-    match find(gains, strikes, account, seek, message, moment) {
-        Some(place) => {
-            let rest = without(gains, strikes, account, place)?;
-            let left = expired(gains, strikes, rest, moment)?;
-            Ok(Some(left))
-        }
-        None => Ok(None),
-    }
+    let Some(place) = find(gains, strikes, account, seek, message, moment) else {
+        return Ok(None);
+    };
+    let rest = without(gains, strikes, account, place)?;
+    let left = expired(gains, strikes, rest, moment)?;
+    Ok(Some(left))
 }

@@ -153,10 +153,8 @@ impl Gains {
         requires { AreGains self.now }
         ensures { IsNext self.now message from result }
     {
-        match self.messages.next(message, from as u64) {
-            Some(at) => Some(at as usize),
-            None => None,
-        }
+        let at = self.messages.next(message, from as u64)?;
+        Some(at as usize)
     }
 
     /// The first message after this one of which something is left, or the first of all where none is given.
@@ -178,10 +176,8 @@ impl Gains {
         ensures found { IfSome result (λ found. (k : ℕ) × IsFirstFrom self.now.messages message place (found, k)) }
         ensures none { IfNone result (NoneFrom self.now.messages message place) }
     {
-        match self.messages.first_from(message, place) {
-            Some(found) => Some(found.0),
-            None => None,
-        }
+        let found = self.messages.first_from(message, place)?;
+        Some(found.0)
     }
 
     /// Whether there is a place, and no gain that is kept up to it has a greater message than the one there.
@@ -210,10 +206,8 @@ impl Gains {
         if self.first() <= from && self.flags(from).must {
             return Some(from);
         }
-        match self.musts.next(0, from as u64) {
-            Some(at) => Some(at as usize),
-            None => None,
-        }
+        let at = self.musts.next(0, from as u64)?;
+        Some(at as usize)
     }
 
     /// Lets the gain at the place go: it is not left any more.

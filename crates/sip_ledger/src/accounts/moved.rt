@@ -43,8 +43,7 @@ fn move_one(gains: &Gains, strikes: &[Strike], kept: &mut Strikes, account: Acco
     })
 }
 
-/// Writes strikes after the kept ones: those that strike a gain that is left, at `place` or after it. On an error some of them are
-/// there.
+/// Writes strikes after the kept ones: those that strike a gain that is left, at `place` or after it. On an error some of them are there.
 fn append_some(gains: &Gains, kept: &mut Strikes, strikes: &[Strike], place: usize) -> Written
     requires { AreGains gains.now }
     ensures { OnOk result (AreAppended gains.now place strikes.now kept.old.items kept.new.items) }

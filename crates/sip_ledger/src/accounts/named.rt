@@ -8,8 +8,7 @@ use crate::accounts::seek::Seek;
 use crate::accounts::strikes::Strike;
 use std::alloc::AllocError;
 
-/// Puts the numbers of the messages that accounts owe after the others, from the least on, each once. On an error some of them are
-/// there.
+/// Puts the numbers of the messages that accounts owe after the others, from the least on, each once. On an error some of them are there.
 #[tactic(auto, using(crate::proofs::rows::SeenLemmas::named_by_message))]
 pub(crate) fn name_all(
     gains: &Gains,

@@ -72,8 +72,7 @@ pub(crate) fn end_by(strikes: &[Strike], place: usize) -> bool
     true
 }
 
-/// Writes the strikes from one up to another after all others, but for those that end at a place or before it. On an error some of them
-/// are there.
+/// Writes the strikes from one up to another after all others, but for those that end at a place or before it. On an error some of them are there.
 fn copy_some(strikes: &mut Strikes, first: usize, last: usize, start: usize) -> Written
     requires order { first ≤ last }
     requires within { last ≤ length strikes.old.items }

@@ -1,5 +1,5 @@
 -- The To that stands beside a kept message stays what it is, and tells which of the messages has a To.
-use Rattle.sip_machine.proofs.Words.{◌≡◌, ◌≢◌, ◌<◌, ◌≤◌, ◌↔◌, ◌-◌, ◌+◌, ◌==◌, ◌&&◌, ℕ, Bool, true, false, cond, IfSome, IsTrue, Option, Some, None, bytes_eq, List, [], ◌∷◌, ◌++◌, All, AllPairs, Contains, is_some, length, map, slice_get, take, items_where_true, bytes_decides, true≢false, inl, inr, refl, sym, ◌∙◌, ap, ap₂, subst, arith, get_or, nat_tests, and-false, cases_lt, eq-eqb, ne_eqb, get_or_picked, slice_get-get_or, get_or_from_slice_get, get_or-map, get_or-take, get_or_default, length-map, length-take-le, take_all, All-contains, All-get_or, All-push, All-weaker, Contains-get_or, AllPairs-cons, AllPairs-head, AllPairs-tail, holds, same_reading, solid, Texts, IsBook, Keeps, text_of, only, To, full_hash, IsToOf, IsTo, AreTos, AreUnder, StandUnder, IsChanged, IsUnder, count_between}
+use Rattle.sip_machine.proofs.Words.{◌≡◌, ◌≢◌, ◌<◌, ◌≤◌, ◌↔◌, ◌-◌, ◌+◌, ◌&&◌, ℕ, Bool, true, false, cond, IfSome, IsTrue, Option, Some, None, bytes_eq, List, [], ◌∷◌, ◌++◌, All, AllPairs, Contains, is_some, length, map, slice_get, take, items_where_true, bytes_decides, true≢false, inl, inr, refl, sym, ◌∙◌, ap, ap₂, subst, arith, get_or, nat_tests, and-false, cases_lt, eq-eqb, ne_eqb, get_or_picked, slice_get-get_or, get_or_from_slice_get, get_or-map, get_or-take, get_or_default, length-map, length-take-le, take_all, All-contains, All-get_or, All-push, All-weaker, Contains-get_or, AllPairs-cons, AllPairs-head, AllPairs-tail, holds, same_reading, solid, Texts, IsBook, Keeps, text_of, only, To, full_hash, IsToOf, IsTo, AreTos, AreUnder, StandUnder, IsChanged, IsUnder, count_between}
 use Rattle.sip_machine.proofs.texts.BesideLemmas.{among-all, count_between-is, many}
 use Rattle.sip_machine.proofs.texts.TextLaws.{Keeps-grow, text_of-grow}
 use Rattle.sip_machine.proofs.texts.RetainLemmas.{only-Keeps, text_of-only}
@@ -8,7 +8,7 @@ use Rattle.sip_machine.proofs.texts.RetainLemmas.{only-Keeps, text_of-only}
 pub IsToOf-same : (bytes to text : List ℕ) → IsToOf bytes text → IsTrue (bytes_eq text to) ↔ IsToOf bytes to
 IsToOf-same bytes to text is = (
   λ same. subst (IsToOf bytes) ((bytes_decides text to).0 same) is,
-  λ its. (bytes_decides text to).1 (is.is ∙ ap (λ r. solid r.parts.to.0) (same_reading bytes is.message its.message is.reads its.reads) ∙ sym its.is),
+  λ its. (bytes_decides text to).1 (is.is ∙ ap (λ r. solid r.parts.to) (same_reading bytes is.message its.message is.reads its.reads) ∙ sym its.is),
 )
 
 -- bytes have one To
@@ -46,6 +46,10 @@ AreTos-only texts numbers book up kept tos new all left = record {
 -- where the list has a text as the To of a number, it is the To of the message with that number
 pub to_of : (texts : Texts) (tos : List To) (number : ℕ) (text : List ℕ) → AreTos texts tos → Contains tos (record { number = number; text = text }) → IsToOf (text_of texts number) text
 to_of texts tos number text all has = grind (arith, nat_tests, All-contains)
+
+-- the order of Tos: by the numbers of their messages
+abbrev pub below : To → To → Type 0
+below a b = a.number < b.number
 
 -- what is read past the end of the list
 abbrev pub nobody : To
@@ -120,20 +124,13 @@ put-here hash number (Some old) (Some new) changed =
 pub put-keeps : (hash number : ℕ) (old new : Option (List (ℕ × ℕ))) → IsChanged hash number true old new → (h n : ℕ) → IsUnder old h n → IsUnder new h n
 put-keeps hash number old None changed h n is = tt
 put-keeps hash number None (Some new) changed h n is = absurd changed
-put-keeps hash number (Some old) (Some new) changed h n is = changed h n ∙ still (h == hash && n == number) (holds old h n) is
-  where
-    -- a pair that was there is there, whether it is the one that is put or not
-    still : (here before : Bool) → before ≡ true → cond here true before ≡ true
-    still true before is = refl
-    still false before is = is
+put-keeps hash number (Some old) (Some new) changed h n is = grind (arith, nat_tests, changed h n)
 
 -- where a number is taken from a hash, other numbers stand where they stood
 pub taken-keeps : (hash number : ℕ) (old new : Option (List (ℕ × ℕ))) → IsChanged hash number false old new → (h n : ℕ) → n ≢ number → IsUnder old h n → IsUnder new h n
 taken-keeps hash number old None changed h n other is = tt
 taken-keeps hash number None (Some new) changed h n other is = absurd changed
--- the number is another one than that which is taken, so its pair is as it was
-taken-keeps hash number (Some old) (Some new) changed h n other is =
-    changed h n ∙ ap (λ b. cond (h == hash && b) false (holds old h n)) (ne_eqb n number other) ∙ ap (λ b. cond b false (holds old h n)) (and-false (h == hash)) ∙ is
+taken-keeps hash number (Some old) (Some new) changed h n other is = grind (arith, nat_tests, changed h n, ne_eqb, and-false)
 
 -- where no hashes are kept, nothing is claimed of them
 pub none-under : (hashes : Option (List (ℕ × ℕ))) (tos : List To) → is_some hashes ≡ false → AreUnder hashes tos

@@ -1,10 +1,10 @@
 -- Lists of states that cover what holds of some states, where one may be covered more than once.
 use Prim.Native.Nat.{suc, zero}
 use Rattle.std.specs.Prelude.{◌≡◌, ◌≤◌, ◌<◌, ◌+◌, ◌-◌, ◌↔◌, ◌⊎◌, ℕ, Bool, true, false, Option, Some, None, List, [], ◌∷◌, ◌++◌, All, drop, filter, get_or, length, map, option_to_list, take}
-use Rattle.std.proofs.Common.{Result, Ok, Err, OnOk, OnErr, inl, inr, refl, sym, ◌∙◌, ap, subst, cond, arith, append-nil, append_assoc, length-append}
+use Rattle.std.proofs.Common.{inl, inr, refl, sym, ◌∙◌, ap, subst, cond, arith, append-nil, append_assoc, length-append}
 use Rattle.std.proofs.lemmas.Bool.Decides.{nat_tests}
 use Rattle.std.proofs.Math.Seq.{take-append_seam}
-use Rattle.std.proofs.lemmas.List.{get_or-drop, get_or-take, get_or_append_left, length-drop, length-take-le, map-append, take-append-le, take_all}
+use Rattle.std.proofs.lemmas.List.{get_or-drop, get_or-take, get_or_append_left, length-drop, length-take-le, map-append, take-append-le}
 use Rattle.std.proofs.lemmas.List.Elements.{All-append, All-drop, All-get_or, All-head, All-nil, All-tail, All-take, Contains-append_cases, Contains-append_left, Contains-append_right}
 use Rattle.sip_ledger.specs.Lists.{from_to}
 use Rattle.sip_machine.specs.Texts.{Texts}
@@ -201,11 +201,6 @@ module _ {S : Type 0} where
   pub slice-at : (P : S → Type 0) (from to k : ℕ) (old found new : List S) (d : S) → new ≡ old ++ found → from ≤ k → k < to → to ≤ length old →
       All P (from_to from to old) → P (get_or new k d)
   slice-at P from to k old found new d is after low le all = grind (arith, nat_tests, get_or_append_left, slice-get, length-drop, length-take-le, All-get_or)
-
-  -- whether states were put after the old ones or, on an error, none were, the old ones are as they were
-  pub before-either : {T E : Type 0} (r : Result T E) (old added new : List S) → OnOk r (new ≡ old ++ added) → OnErr r (new ≡ old) → take (length old) new ≡ old
-  before-either (Ok t) old added new ok err = ap (take (length old)) ok ∙ take-append_seam old added
-  before-either (Err e) old added new ok err = ap (take (length old)) err ∙ take_all (length old) old (omega arith)
 
 -- What follows is of what was found of states that were asked run by run: P says what each gives, `seen` what it stands for, `names` what it names.
 module _ {X S : Type 0} (names : S → List ℕ) (InRange : S → Type 0) (seen : Texts → S → X) (texts : Texts) (P : S → X → Type 0) where

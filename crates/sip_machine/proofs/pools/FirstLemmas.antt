@@ -12,9 +12,8 @@ use Rattle.std.proofs.lemmas.List.Quantifiers.{Any-push, all_pairs_push}
 use Rattle.sip_ledger.specs.declared.debt.Debt.{Debt}
 use Rattle.sip_machine.specs.Owes.{owed_in}
 use Rattle.sip_machine.specs.Owing.{CodeOwing}
-use Rattle.sip_machine.specs.Pools.{AreFirstOnes, picked}
-use Rattle.sip_machine.specs.Prints.{ArePrints}
-use Rattle.sip_machine.specs.inner.Pools.{AreMixedWith, IsRun, beside, hash_by}
+use Rattle.sip_machine.specs.inner.Pools.{AreFirstOnes, picked, AreMixedWith, IsRun, beside, hash_by}
+use Rattle.sip_machine.specs.inner.Prints.{ArePrints}
 use Rattle.sip_machine.proofs.pools.PoolLemmas.{beside-length, state-at}
 
 -- What follows is of rows of the list xs: those of its elements that have no equal before them.

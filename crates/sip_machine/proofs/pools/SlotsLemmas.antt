@@ -1,5 +1,5 @@
 -- Prints by slots: how the newest print of each slot, and beside each print the one before it in its slot, lead to an equal print.
-use Rattle.std.proofs.Common.{◌≡◌, ◌≢◌, ◌<◌, ◌≤◌, ◌+◌, ◌-◌, ◌++◌, ◌∷◌, ◌∙◌, [], ℕ, List, inl, inr, get_or, length, arith, ap, subst, sym, set}
+use Rattle.std.proofs.Common.{◌≡◌, ◌≢◌, ◌<◌, ◌≤◌, ◌+◌, ◌-◌, ◌++◌, ◌∷◌, ◌∙◌, [], ℕ, List, get_or, length, arith, ap, subst, sym, set}
 use Rattle.std.proofs.lemmas.Bool.Decides.{nat_tests}
 use Rattle.std.proofs.lemmas.List.{get_or-map, length-map, map-append, length-set, length_push, get_or_append_left, get_or_push, get_or-set_same, get_or-set_other}
 use Rattle.std.proofs.lemmas.Bool.{cases_eq, cases_lt}
@@ -34,20 +34,7 @@ newest-here slots prints print = grind (arith, nat_tests, length_push, get_or_pu
 -- a print of another slot changes nothing of the newest one of this slot
 newest-other : (slots : ℕ) (prints : List ℕ) (slot newest print : ℕ) → slot ≢ slot_of slots print → IsNewest slots prints slot (length prints) newest →
     IsNewest slots (prints ++ print ∷ []) slot (length (prints ++ print ∷ [])) newest
-newest-other slots prints slot newest print other is =
-    let long = length_push prints print in
-    let old = newest-before slots prints slot (length prints) newest print (omega arith) is in
-    let within = old.within in
-    record {
-      -- the newest print of this slot is the one that it was
-      within = omega (arith, long, within);
-      of_slot = old.of_slot;
-      -- a later print of this slot would be the new one, which is of another slot
-      last = λ k high low here. elim (cases_lt k (length prints)) [
-        | inl below ↦ old.last k high below here
-        | inr at ↦ other (sym here ∙ ap (slot_of slots) (get_or_push prints print 0 k (omega (arith, at, low, long))))
-      ];
-    }
+newest-other slots prints slot newest print other is = grind (arith, nat_tests, cases_lt, length_push, get_or_push, get_or_append_left)
 
 -- where a print is put after the others, and its slot leads to it and it to the one before it in the slot, each leads rightly
 slots-grow : (s : Slotted) (print slot newest : ℕ) → AreSlots s → slot ≡ slot_of (length s.newest) print → slot < length s.newest → newest ≡ length s.prints + 1 →

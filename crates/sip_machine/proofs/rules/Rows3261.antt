@@ -26,7 +26,7 @@ use Rattle.sip_machine.specs.inner.InviteServer.{invite_server_seen, invite_serv
 use Rattle.sip_standard.specs.InviteServer3261 as server_3261
 use Rattle.sip_standard.specs.InviteServer3261.{InviteServer3261Phase, In, Within}
 use Rattle.sip_machine.specs.inner.InviteServer3261.{invite_server_3261_seen, invite_server_3261_names, InviteServer3261InRange}
-use Rattle.sip_machine.specs.Owing.{turn_seen, turn_names, TurnInRange}
+use Rattle.sip_machine.specs.inner.Turns.{turn_seen, turn_names, TurnInRange}
 use Rattle.sip_machine.specs.inner.Single.{AnswersOne}
 use Rattle.sip_machine.specs.inner.InviteClient3261.Laws.{IsEndedBy}
 use Rattle.sip_machine.specs.inner.InviteServer3261.Laws.{turn_within}

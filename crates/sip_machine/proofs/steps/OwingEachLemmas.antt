@@ -10,7 +10,7 @@ use Rattle.std.proofs.lemmas.List.Elements.{All-append, All-head, All-weaker}
 use Rattle.sip_standard.specs.declared.action.Action.{Action}
 use Rattle.sip_standard.specs.declared.action.Action.TheVariants.{Sent, Received}
 use Rattle.sip_ledger.specs.declared.debt.Debt.{Debt}
-use Rattle.sip_ledger.specs.Debts.{debt_deadlines, is_payable, is_timely, is_within}
+use Rattle.sip_ledger.specs.Debts.{debt_deadlines, is_payable, is_timely, is_within, earliest}
 use Rattle.sip_ledger.specs.Lists.{from_to}
 use Rattle.sip_machine.specs.declared.phases.Change.TheVariants as code
 use Rattle.sip_machine.specs.declared.phases.Turn.{Turn}
@@ -21,11 +21,12 @@ use Rattle.sip_machine.specs.Texts.{Texts, Keeps}
 use Rattle.sip_standard.specs.MachineEvent.{MachineEvent}
 use Rattle.sip_machine.specs.Rules.{Covers, FromSome, Knows}
 use Rattle.sip_standard.specs.Debts.{Owed}
-use Rattle.sip_machine.specs.Deadlines.{earliest, must_deadlines, unexpired}
+use Rattle.sip_machine.specs.Deadlines.{must_deadlines, unexpired}
 use Rattle.sip_machine.specs.Owes.{owes_names, owes_seen}
 use Rattle.sip_standard.specs.Figure.{Figure, Owing, Steps}
 use Rattle.sip_machine.specs.FigureRules.{TakeOf, closes_at, until_of}
-use Rattle.sip_machine.specs.Owing.{CodeOwing, turn_seen, turn_names, TurnInRange, owing_seen, owing_names, OwingInRange, at_rest}
+use Rattle.sip_machine.specs.Owing.{CodeOwing, owing_seen, owing_names, OwingInRange, at_rest}
+use Rattle.sip_machine.specs.inner.Turns.{turn_seen, turn_names, TurnInRange}
 use Rattle.sip_machine.specs.inner.Single.{AnswersOne}
 use Rattle.sip_machine.specs.inner.DebtLaws.{IsWithin-earliest, All-front, All-back}
 use Rattle.sip_machine.specs.inner.OwesLaws.{must_deadlines-seen, unexpired-seen, All-names}

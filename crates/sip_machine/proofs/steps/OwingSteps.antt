@@ -20,18 +20,19 @@ use Rattle.sip_standard.specs.Window.{close_at}
 use Rattle.sip_machine.specs.Limits.{IsWithin}
 use Rattle.sip_machine.specs.Texts.{Texts, Keeps}
 use Rattle.sip_standard.specs.MachineEvent.{MachineEvent}
-use Rattle.sip_machine.specs.Rules.{Knows, OrStays}
+use Rattle.sip_machine.specs.Rules.{Knows}
+use Rattle.sip_machine.specs.inner.Effects.{OrStays, Hears, Rests, unexpired_at, led_by, repaid_at, rests_at, quiets, given_by}
 use Rattle.sip_standard.specs.Debts.{Owed, IsWithoutFirst, softened}
 use Rattle.sip_machine.specs.Deadlines.{unexpired}
 use Rattle.sip_machine.specs.Owes.{owed_seen, owes_seen, owes_names, OwesInRange}
 use Rattle.sip_standard.specs.Figure.{Figure, Change, keeps, softens, drops, gains, Owing, changed, quiet, Follows, Repays, Emits, Fails, Restarts, Steps}
-use Rattle.sip_machine.specs.FigureRules.{IsFigure, After, led_to, TakeOf, until_of}
-use Rattle.sip_machine.specs.Owing.{CodeOwing, change_seen, change_names, turn_seen, turn_names, TurnInRange, owing_seen, owing_names, OwingInRange, changed_debts}
+use Rattle.sip_machine.specs.FigureRules.{IsFigure, After, TakeOf, until_of}
+use Rattle.sip_machine.specs.inner.Turns.{led_to, change_seen, change_names, turn_seen, turn_names, TurnInRange, changed_debts}
+use Rattle.sip_machine.specs.Owing.{CodeOwing, owing_seen, owing_names, OwingInRange}
 use Rattle.sip_machine.specs.inner.Single.{IsTheOne, AnswersOne}
 use Rattle.sip_machine.specs.inner.Both.{AnswersBoth}
 use Rattle.sip_ledger.specs.Debts.{counts_at, softened_debt, paid_by}
 use Rattle.sip_machine.specs.inner.Paying.{PaysFor, FindsFirst}
-use Rattle.sip_machine.specs.inner.Effects.{Hears, Rests, unexpired_at, led_by, repaid_at, rests_at, quiets, given_by}
 use Rattle.sip_machine.specs.inner.DebtLaws.{IsWithoutFirst-none, IsWithoutFirst-map, IsWithoutFirst-same, All-without, All-front, All-back}
 use Rattle.sip_machine.specs.inner.OwesLaws.{unexpired-seen, softened-seen, All-names}
 use Rattle.sip_machine.proofs.texts.TextLaws.{Contains-nil}

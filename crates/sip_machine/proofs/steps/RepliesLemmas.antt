@@ -11,7 +11,7 @@ use Rattle.sip_machine.specs.Owes.{owes_names}
 use Rattle.sip_machine.specs.FigureRules.{After}
 use Rattle.sip_standard.specs.Figure.{gains}
 use Rattle.sip_standard.specs.Replies.{Replies}
-use Rattle.sip_machine.specs.Owing.{turn_seen, turn_names, TurnInRange}
+use Rattle.sip_machine.specs.inner.Turns.{turn_seen, turn_names, TurnInRange}
 use Rattle.sip_machine.specs.inner.Single.{IsTheOne}
 use Rattle.sip_ledger.specs.Debts.{is_payable}
 use Rattle.sip_machine.specs.inner.Paying.{PaysFor, FindsFirst}

@@ -7,7 +7,7 @@ use Rattle.std.proofs.lemmas.List.{map-append}
 use Rattle.std.proofs.lemmas.List.Elements.{All-head, All-tail, All-nil, All-cons, All-map, All-append, All-weaker}
 use Rattle.sip_machine.specs.Limits.{IsWithin}
 use Rattle.sip_standard.specs.Debts.{IsWithoutFirst}
-use Rattle.sip_machine.specs.Deadlines.{earliest}
+use Rattle.sip_ledger.specs.Debts.{earliest}
 
 -- to map a list, before which x stands if b is true, is to map the list and put f x before it if b is true
 map-cond : {X Y : Type 0} (f : X → Y) (b : Bool) (x : X) (xs : List X) → cond b (f x ∷ map f xs) (map f xs) ≡ map f (cond b (x ∷ xs) xs)

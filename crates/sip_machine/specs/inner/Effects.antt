@@ -13,11 +13,15 @@ use Rattle.sip_standard.specs.Times.{Times}
 use Rattle.sip_machine.specs.Limits.{IsWithin}
 use Rattle.sip_machine.specs.Texts.{Texts}
 use Rattle.sip_standard.specs.MachineEvent.{MachineEvent}
-use Rattle.sip_machine.specs.Rules.{OrStays}
 use Rattle.sip_standard.specs.Figure.{Figure, Owing, Follows, Repays}
 use Rattle.sip_machine.specs.FigureRules.{until_of}
-use Rattle.sip_machine.specs.Owing.{CodeOwing, changed_debts, owing_seen}
+use Rattle.sip_machine.specs.Owing.{CodeOwing, owing_seen}
+use Rattle.sip_machine.specs.inner.Turns.{changed_debts}
 use Rattle.sip_ledger.specs.Debts.{counts_at, paid_by}
+
+-- a received message leads from x where P says; where P says nothing, it leaves x as it is
+abbrev pub OrStays : {X : Type 0} → (X → Type 0) → X → X → Type 0
+OrStays {X} P x y = P y ⊎ (((z : X) → ¬ (P z)) × (y ≡ x))
 
 -- a received message leads from the state x: where its row does, or it leaves x as it is where it has none
 abbrev pub Hears : {X : Type 0} → Figure X → Times → MachineEvent → Owing X → Owing X → Type 0

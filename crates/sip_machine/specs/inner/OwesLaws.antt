@@ -9,10 +9,10 @@ use Rattle.std.proofs.lemmas.List.Elements.{All-head, All-tail, All-nil, All-con
 use Rattle.sip_ledger.specs.declared.debt.Debt.{Debt}
 use Rattle.sip_machine.specs.Limits.{IsWithin}
 use Rattle.sip_machine.specs.Texts.{Texts, IsBook, Keeps, text_of}
-use Rattle.sip_standard.specs.Debts.{Owed, softened}
-use Rattle.sip_machine.specs.Deadlines.{unexpired, Pays, must_deadlines, earliest}
+use Rattle.sip_standard.specs.Debts.{Owed, softened, IsWithoutFirst}
+use Rattle.sip_machine.specs.Deadlines.{unexpired, must_deadlines}
+use Rattle.sip_ledger.specs.Debts.{earliest, counts_at, softened_debt, is_payable, debt_deadlines}
 use Rattle.sip_machine.specs.Owes.{owed_seen, owes_seen, owes_names}
-use Rattle.sip_ledger.specs.Debts.{counts_at, softened_debt, is_payable, debt_deadlines}
 use Rattle.sip_machine.specs.inner.DebtLaws.{filter-map, All-front, All-back, All-without, IsWithin-earliest}
 
 -- where two tests pass together, each does
@@ -125,7 +125,7 @@ AreDue-unexpired t owes due =
     All-filter (λ owed. owed.must || nat_le t owed.deadline) (λ owed. owed.must ≡ true → t ≤ owed.deadline) owes due
 
 -- where what must be sent has no deadline before t, it has none once a message was paid
-pub AreDue-paid : (Satisfies : List ℕ → Type 0) (t : ℕ) (owes left : List Owed) → Pays Satisfies t owes left → AreDue t owes → AreDue t left
+pub AreDue-paid : (Satisfies : List ℕ → Type 0) (t : ℕ) (owes left : List Owed) → IsWithoutFirst (λ owed. Satisfies owed.message × (t ≤ owed.deadline)) owes left → AreDue t owes → AreDue t left
 AreDue-paid Satisfies t owes left pays due =
     All-without (λ owed. Satisfies owed.message × (t ≤ owed.deadline)) (λ owed. owed.must ≡ true → t ≤ owed.deadline) owes left pays due
 

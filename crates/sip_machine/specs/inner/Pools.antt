@@ -1,10 +1,22 @@
-use Rattle.std.specs.Prelude.{◌≡◌, ◌≢◌, ◌<◌, ◌≤◌, ◌+◌, ℕ, Option, None, Some, List, [], ◌∷◌, bit_xor, fold, get_or, length}
+use Rattle.std.specs.Prelude.{◌≡◌, ◌≢◌, ◌<◌, ◌≤◌, ◌+◌, ℕ, Option, None, Some, List, [], ◌∷◌, All, AllPairs, bit_xor, fold, get_or, length, map}
+use Rattle.std.specs.List.{Any}
 use Rattle.std.specs.Hash.FoldHasher.{initial, write, finish}
 use Rattle.sip_ledger.specs.declared.debt.Debt.{Debt}
 use Rattle.sip_machine.specs.Owing.{CodeOwing}
 use Rattle.sip_machine.specs.inner.Slots.{IsLastBefore}
 
--- The states of a pool, which keeps their phases and what they owe apart.
+-- The states of a pool, which keeps their phases and what they owe apart, and the indices of those that count.
+
+-- the rows are the indices, rising, of the elements from one index up to another, where of equal ones the first alone counts
+pub record AreFirstOnes {X : Type 0} (xs : List X) (from to : ℕ) (rows : List ℕ) : Type 0 where
+  pub within : All (λ row. (from ≤ row) × (row < to)) rows
+  pub rising : AllPairs (λ a b. a < b) rows
+  pub each : (k : ℕ) (x : X) → from ≤ k → k < to → Any (λ row. get_or xs row x ≡ get_or xs k x) rows
+  pub apart : (x : X) → AllPairs (λ a b. get_or xs a x ≢ get_or xs b x) rows
+
+-- the elements of a list at these indices
+abbrev pub picked : {X : Type 0} → List X → X → List ℕ → List X
+picked xs x rows = map (λ row. get_or xs row x) rows
 
 -- the states of these phases, each of which owes what its row has, and nothing where there is none
 abbrev pub beside : {S : Type 0} → List S → List (List Debt) → List (CodeOwing S)

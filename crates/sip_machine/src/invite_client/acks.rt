@@ -1,5 +1,4 @@
-//! The response to which an ACK belongs: the INVITE and the ACK are read anew, and tell all but the response, which is told by
-//! its To alone.
+//! The response to which an ACK belongs: the INVITE and the ACK are read anew, and tell all but the response, which is told by its To alone.
 ghost use Rattle.std.specs.Prelude.{◌≡◌, ◌<◌, IfOk, IfSome, All, length};
 ghost use Rattle.sip_machine.specs.Owes.{owed_in, owes_names};
 ghost use Rattle.sip_machine.specs.Texts.{Keeps, text_of};
@@ -11,11 +10,12 @@ use crate::dues::Dues;
 use crate::event::Event;
 use crate::hashed::Hashed;
 use sip_key::{is_ack_for, solid_of};
-use sip_ledger::Debt;
+use sip_ledger::{Accounts, Debt};
 use std::alloc::{AllocError, Global};
 
 /// The message of the first debt of the row that is a response to the INVITE to which the event's ACK belongs (RFC 3261,
 /// section 17.1.1.3), and whose deadline has not passed; None if there is none.
+#[tactic(auto, using(crate::proofs::debts::DuesEachLemmas::of_blank))]
 pub(crate) fn first_acked(
     alloc: Global,
     book: &Book,
@@ -46,9 +46,12 @@ pub(crate) fn first_acked(
     if !is_ack_for(&ack, &invite) {
         return Ok(None);
     }
-    let to = solid_of(alloc, ack.to().whole)?;
+    let to = solid_of(alloc, ack.to())?;
     let to = Hashed::of(to);
-    first_with_to(alloc, book, &to, event.moment(), dues, row)
+    let Some(accounts) = dues.accounts() else {
+        return Ok(None);
+    };
+    first_with_to(alloc, book, &to, event.moment(), accounts, row)
 }
 
 /// The message of the first debt of the row whose message has this To, from which the blanks were taken, and whose deadline has
@@ -59,16 +62,16 @@ fn first_with_to(
     book: &Book,
     to: &Hashed,
     moment: u64,
-    dues: &Dues,
+    accounts: &Accounts,
     row: usize,
 ) -> Result<Option<u64>, AllocError>
-    requires row { row < length dues.now }
-    requires owed { All (Keeps book.now) (owes_names (owed_in dues.now row)) }
-    ensures { IfOk result (FindsFirst (HasTo book.now to.now moment) moment (owed_in dues.now row)) }
+    requires row { row < length accounts.now }
+    requires owed { All (Keeps book.now) (owes_names (owed_in accounts.now row)) }
+    ensures { IfOk result (FindsFirst (HasTo book.now to.now moment) moment (owed_in accounts.now row)) }
 {
     let mut most = 8;
     loop {
-        let debts = dues.first_debts(alloc, row, most)?;
+        let debts = accounts.first_debts(alloc, row, most)?;
         let found = first_of(alloc, book, to, &debts, moment)?;
         if found.is_some() {
             return Ok(found);
@@ -78,7 +81,7 @@ fn first_with_to(
             return Ok(None);
         }
         most = most.saturating_mul(8);
-        if let Some(found) = first_under(alloc, book, to, moment, dues, row, most)? {
+        if let Some(found) = first_under(alloc, book, to, moment, accounts, row, most)? {
             return Ok(found);
         }
     }
@@ -91,21 +94,21 @@ fn first_under(
     book: &Book,
     to: &Hashed,
     moment: u64,
-    dues: &Dues,
+    accounts: &Accounts,
     row: usize,
     most: usize,
 ) -> Result<Option<Option<u64>>, AllocError>
-    requires row { row < length dues.now }
-    requires owed { All (Keeps book.now) (owes_names (owed_in dues.now row)) }
-    ensures { IfOk result (λ found. IfSome found (FindsFirst (HasTo book.now to.now moment) moment (owed_in dues.now row))) }
+    requires row { row < length accounts.now }
+    requires owed { All (Keeps book.now) (owes_names (owed_in accounts.now row)) }
+    ensures { IfOk result (λ found. IfSome found (FindsFirst (HasTo book.now to.now moment) moment (owed_in accounts.now row))) }
 {
-    let (low, high) = dues.span();
+    let (low, high) = accounts.span();
     // Where hashes are not kept, or some message between the two numbers has no To beside it, they tell nothing.
     let Some(hashes) = book.hashes(low, high) else {
         return Ok(None);
     };
     // So many messages stand under the hash that a look at each debt may cost less.
-    let Some(first) = dues.first_payable(row, hashes, to.hash(), moment, most) else {
+    let Some(first) = accounts.first_payable(row, hashes, to.hash(), moment, most) else {
         book.count_steps(most);
         return Ok(None);
     };

@@ -7,7 +7,8 @@ ghost use Rattle.sip_standard.specs.declared.action.Action.TheVariants.{Received
 ghost use Rattle.sip_ledger.specs.declared.debt.Debt.{Debt};
 ghost use Rattle.sip_ledger.specs.Lists.{from_to};
 ghost use Rattle.sip_standard.specs.Window.{close_at};
-ghost use Rattle.sip_machine.specs.NumberedEvent.{FitsBook, KeepsMessage, event_in};
+ghost use Rattle.sip_machine.specs.NumberedEvent.{FitsBook, event_in};
+ghost use Rattle.sip_machine.specs.inner.Turns.{KeepsMessage};
 ghost use Rattle.sip_machine.specs.Rules.{Covers, FromSome, Knows};
 ghost use Rattle.sip_machine.specs.FigureRules.{TakeOf};
 ghost use Rattle.sip_machine.specs.Owing.{CodeOwing, owing_seen, owing_names, OwingInRange};

@@ -6,12 +6,12 @@ use Rattle.sip_standard.specs.Times.{Times}
 use Rattle.sip_machine.specs.NumberedEvent.{NumberedEvent}
 use Rattle.sip_machine.specs.Texts.{Texts, IsBook}
 use Rattle.sip_machine.specs.Rules.{StandFor}
-use Rattle.sip_states.specs.Runs.{widest}
+use Rattle.sip_standard.specs.VerdictOf.{widest}
 use Rattle.sip_states.specs.Held.{Held}
-use Rattle.sip_states.specs.KeySets.{StateOf, set_of, each_set, by_machine, held_at_start, start_of_machine}
+use Rattle.sip_states.specs.inner.KeySets.{StateOf, set_of, each_set, by_machine, held_at_start, start_of_machine, meaning_of}
 use Rattle.sip_states.proofs.keyed.KeySetLaws.{by_machine_is, of_machine}
 use Rattle.sip_states.specs.Meaning.{IsKnown, Waiting, Given, HasWaited, HasTaken}
-use Rattle.sip_states.specs.AnySet.{meaning_of, start_of, IsSetOf}
+use Rattle.sip_states.specs.AnySet.{start_of, IsSetOf}
 use Rattle.sip_states.specs.declared.any_set.AnySet.{AnySet}
 
 -- the machine of the set

@@ -1,5 +1,5 @@
 -- A set of any machine, seen as a set of that machine.
-use Rattle.std.proofs.Common.{◌≡◌, [], ◌∷◌, ◌++◌, inl, inr, ℕ, List, All, Contains, refl, sym, ap, ◌∙◌, subst}
+use Rattle.std.proofs.Common.{◌≡◌, [], ◌++◌, inl, inr, ℕ, List, All, Contains, refl, sym, ap, ◌∙◌, subst}
 use Rattle.std.proofs.lemmas.List.Elements.{All-nil}
 use Rattle.sip_standard.specs.Times.{Times}
 use Rattle.sip_machine.specs.Texts.{Texts, Keeps, text_of}
@@ -12,10 +12,11 @@ use Rattle.sip_machine.specs.inner.FigureLaws.{rules_lawful}
 use Rattle.sip_machine.specs.inner.OwingLaws.{owing_by_names, quiet_stands}
 use Rattle.sip_states.specs.Held.{Held}
 use Rattle.sip_standard.specs.KeyMachine.{MachineKind, transaction_of}
-use Rattle.sip_states.specs.KeySets.{coded_of, PhaseOf, StateOf, set_of, each_set, held_at_start, start_of_machine}
+use Rattle.sip_states.specs.inner.KeySets.{coded_of, StateOf, set_of, each_set, held_at_start, start_of_machine, meaning_of}
+use Rattle.sip_states.specs.KeyRules.{PhaseOf}
 use Rattle.sip_states.proofs.keyed.KeySetLaws.{coded_holds, by_machine_is, of_machine, to_machine}
 use Rattle.sip_states.specs.Meaning.{Meaning}
-use Rattle.sip_states.specs.AnySet.{meaning_of, IsQuietIn, IsQuietSet, OfHeld, OfSet, IsSetOf, OfHelds, OfSets, moment_of}
+use Rattle.sip_states.specs.AnySet.{IsQuietIn, IsQuietSet, OfHeld, OfSet, IsSetOf, OfHelds, OfSets, moment_of}
 use Rattle.sip_states.specs.Sweep.{names_of, numbers_of, AppendsNumbers}
 use Rattle.sip_states.specs.declared.any_set.AnySet.{AnySet}
 

@@ -2,11 +2,11 @@
 use Rattle.std.specs.Prelude.{◌≡◌}
 use Rattle.std.proofs.Common.{refl, subst, sym}
 use Rattle.sip_standard.specs.Times.{Times}
-use Rattle.sip_standard.specs.KeyMachine.{MachineKind, OfInviteClient, OfPlainClient, OfInviteServer, OfPlainServer, OfInviteClient3261, OfInviteServer3261, transaction_of}
+use Rattle.sip_standard.specs.KeyMachine.{MachineKind, OfInviteClient, transaction_of}
 use Rattle.sip_standard.specs.PhaseWords.{words_of}
 use Rattle.sip_machine.specs.inner.Coded.{IsCoded}
 use Rattle.sip_states.specs.Held.{Held}
-use Rattle.sip_states.specs.KeySets.{code_of, coded_of, StateOf, set_of, by_machine}
+use Rattle.sip_states.specs.inner.KeySets.{code_of, coded_of, StateOf, set_of, by_machine}
 
 -- the code has the figure of each machine
 pub coded_holds : (machine : MachineKind) → IsCoded (transaction_of machine).figure (words_of machine) (coded_of machine)
@@ -14,12 +14,9 @@ coded_holds machine = (code_of machine).are_coded
 
 -- `of`, asked by the machine of a set, is `of` of this machine where the set is made for it
 pub by_machine_is {ℓ} : {A : Type ℓ} (of : (machine : MachineKind) → Held Times (StateOf machine) → A) (machine : MachineKind) (s : Held Times (StateOf machine)) → by_machine of (set_of machine s) ≡ of machine s
+-- The second line is of every other machine: each of them computes as the first does.
 by_machine_is of OfInviteClient s = refl
-by_machine_is of OfPlainClient s = refl
-by_machine_is of OfInviteServer s = refl
-by_machine_is of OfPlainServer s = refl
-by_machine_is of OfInviteClient3261 s = refl
-by_machine_is of OfInviteServer3261 s = refl
+by_machine_is of machine s = refl
 
 -- What follows is of a property P of a machine and of what its set holds.
 module _ (P : (machine : MachineKind) → Held Times (StateOf machine) → Type 0) where

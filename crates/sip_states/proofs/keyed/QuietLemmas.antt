@@ -7,13 +7,14 @@ use Rattle.sip_machine.specs.Texts.{Texts}
 use Rattle.sip_standard.specs.MachineEvent.{MachineEvent}
 use Rattle.sip_machine.specs.Rules.{MachineRules, IsLawful, StandFor, Knows}
 use Rattle.sip_standard.specs.Figure.{Figure, Owing, quiet, Restarts, Steps}
-use Rattle.sip_states.specs.Runs.{Wait, RunGives}
+use Rattle.sip_states.specs.Waits.{Wait, RunGives}
 use Rattle.sip_states.specs.Held.{Held}
 use Rattle.sip_standard.specs.KeyMachine.{MachineKind, transaction_of}
-use Rattle.sip_states.specs.KeySets.{PhaseOf, StateOf, key_rules}
+use Rattle.sip_states.specs.inner.KeySets.{StateOf, meaning_of}
+use Rattle.sip_states.specs.KeyRules.{PhaseOf, key_rules}
 use Rattle.sip_states.proofs.keyed.KeySetLaws.{coded_holds}
-use Rattle.sip_states.specs.AnySet.{meaning_of, IsQuietIn}
-use Rattle.sip_states.proofs.sets.Waiting.{StaysFrom, EndsFrom, IsWithin-none, IsOpenAt-none, Wait-stay, Wait-cases}
+use Rattle.sip_states.specs.AnySet.{IsQuietIn}
+use Rattle.sip_states.proofs.sets.Waiting.{IsWithin-none, IsOpenAt-none}
 use Rattle.sip_states.proofs.keyed.ByMachine.{first_of, last_of, first_is_of, last_is_of, first_knows, last_knows, lawful_of}
 use Rattle.sip_states.proofs.lists.Listed.{Contains-single}
 
@@ -31,12 +32,12 @@ module _ {X : Type 0} (r : MachineRules X) (lawful : IsLawful r) (q : X) (endles
   -- C holds of the states at the moment h, of which q is the only one, and y is a state at the later moment n
   pub wait_still : (C : X → Type 0) → ((x : X) → C x ↔ (x ≡ q)) → (h n : ℕ) → h ≤ n → (y : X) → Wait r C h n y ↔ (y ≡ q)
   wait_still C only h n low y = (
-    λ w. go ((Wait-cases r lawful C h n y).0 w),
-    λ same. Wait-stay r C h n y (record { among = (only y).1 same; reached = low; waits = IsWithin-none n (r.until y) (ap r.until same ∙ stays) }),
+    go,
+    λ same. inl (record { among = (only y).1 same; reached = low; waits = IsWithin-none n (r.until y) (ap r.until same ∙ stays) }),
   )
     where
       -- the wait leads to q, whether the state stays or ends: q has no end
-      go : StaysFrom r C h n y ⊎ EndsFrom r C h n y → y ≡ q
+      go : Wait r C h n y → y ≡ q
       go (inl stay) = (only y).0 stay.among
       go (inr end) = absurd (IsOpenAt-none end.at (r.window end.start) (ap r.window ((only end.start).0 end.among) ∙ endless) end.hides.opened)
 

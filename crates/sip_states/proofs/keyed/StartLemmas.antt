@@ -3,11 +3,11 @@ use Rattle.std.proofs.Common.{ℕ, Bool, List, None, Contains, inl, inr, map, sl
 use Rattle.sip_standard.specs.Key.{KeyParts}
 use Rattle.sip_standard.specs.Times.{Times}
 use Rattle.sip_machine.specs.Texts.{Texts}
-use Rattle.sip_states.specs.Runs.{IsAgenda}
+use Rattle.sip_states.specs.Waits.{IsAgenda}
 use Rattle.sip_standard.specs.KeyMachine.{MachineKind, machine_of_key}
-use Rattle.sip_states.specs.KeySets.{held_at_start, start_of_machine}
+use Rattle.sip_states.specs.inner.KeySets.{held_at_start, start_of_machine, meaning_of}
 use Rattle.sip_states.specs.Meaning.{HasAgenda}
-use Rattle.sip_states.specs.AnySet.{IsAgendaOf, meaning_of, start_of}
+use Rattle.sip_states.specs.AnySet.{IsAgendaOf, start_of}
 use Rattle.sip_states.specs.declared.any_set.AnySet.{AnySet}
 use Rattle.sip_states.specs.inner.Marks.{ElseHolds}
 use Rattle.sip_states.proofs.lists.Places.{set_place}

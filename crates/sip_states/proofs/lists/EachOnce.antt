@@ -3,7 +3,7 @@ use Rattle.std.specs.Prelude.{◌≡◌, ◌≢◌, ◌↔◌, ◌≤◌, ◌<�
 use Rattle.std.proofs.Common.{◌∙◌, sym, ap, subst, arith}
 use Rattle.std.proofs.lemmas.List.{get_or-drop, get_or-map, get_or_default, length-drop, length-map}
 use Rattle.std.proofs.lemmas.List.Elements.{All-contains}
-use Rattle.sip_machine.specs.Pools.{AreFirstOnes, picked}
+use Rattle.sip_machine.specs.inner.Pools.{AreFirstOnes, picked}
 use Rattle.sip_states.proofs.lists.Listed.{Contains-map, Contains-from_map}
 
 -- What follows is of `rows`, the places of those elements of ys from `first` on that have no equal before them; x is any element.

@@ -22,13 +22,13 @@ use Rattle.sip_standard.specs.Kind.{IsFinal}
 use Rattle.sip_standard.specs.Debts.{Owed}
 use Rattle.sip_machine.specs.Deadlines.{unexpired}
 use Rattle.sip_standard.specs.Figure.{Figure, Owing, Emits, Fails, Steps}
-use Rattle.sip_machine.specs.FigureRules.{After as Row, led_to, rules_of as rules_of_figure}
+use Rattle.sip_machine.specs.FigureRules.{After as Row, rules_of as rules_of_figure}
+use Rattle.sip_machine.specs.inner.Turns.{led_to}
 use Rattle.sip_standard.specs.InviteClient as invite
 use Rattle.sip_standard.specs.PlainClient as plain
-use Rattle.sip_states.specs.Runs.{Step, Hides, Takes, Does, Goes, taken}
-use Rattle.sip_states.specs.inner.RuledRuns.{AfterRun}
+use Rattle.sip_states.proofs.runs.Steps.{Step, Hides, Takes, Does, Goes, taken, AfterRun}
 use Rattle.sip_standard.specs.KeyMachine.{OfInviteClient, OfPlainClient, machine_of}
-use Rattle.sip_states.specs.KeySets.{PhaseOf, key_rules}
+use Rattle.sip_states.specs.KeyRules.{PhaseOf, key_rules}
 use Rattle.sip_states.proofs.runs.RunLemmas.{Goes-last}
 use Rattle.sip_states.proofs.runs.FewerLemmas.{Goes-through}
 

@@ -6,8 +6,7 @@ use Rattle.std.proofs.Math.Decide.{dec_le}
 use Rattle.std.proofs.lemmas.List.Elements.{All-nil, All-cons, All-head, All-tail, All-weaker}
 use Rattle.sip_standard.specs.MachineEvent.{MachineEvent}
 use Rattle.sip_machine.specs.Rules.{MachineRules, Waits, Hide}
-use Rattle.sip_states.specs.Runs.{Step, Hides, Takes, moment_of_step, Does, Goes, Reaches, taken}
-use Rattle.sip_states.specs.inner.RuledRuns.{RuledRun}
+use Rattle.sip_states.proofs.runs.Steps.{Step, Hides, Takes, moment_of_step, Does, Goes, Reaches, taken, RuledRun}
 use Rattle.sip_states.proofs.sets.Waiting.{IsWithin-earlier}
 
 -- the event is not before the moment

@@ -1,10 +1,11 @@
 -- Lemmas of runs, one step at a time: a run is a run to its last event and a wait from there.
 -- In the lemmas y is the state in which a run stands at the moment m.
-use Rattle.std.proofs.Common.{◌≡◌, ◌≤◌, ◌↔◌, ℕ, List, [], ◌∷◌, ◌++◌, map, refl, ap, subst, ◌∙◌}
+use Rattle.std.proofs.Common.{◌≡◌, ◌≤◌, ◌↔◌, inl, inr, ℕ, List, [], ◌∷◌, ◌++◌, map, refl, sym, ap, subst, arith, ◌∙◌}
 use Rattle.sip_standard.specs.MachineEvent.{MachineEvent}
-use Rattle.sip_machine.specs.Rules.{MachineRules}
-use Rattle.sip_states.specs.Runs.{Step, Hides, Takes, moment_of_step, Does, Goes, Reaches, taken, Wait, RunGives}
-use Rattle.sip_states.specs.inner.RuledRuns.{RuledRun, AfterRun}
+use Rattle.sip_machine.specs.Rules.{MachineRules, IsLawful}
+use Rattle.sip_states.specs.Waits.{Wait, RunGives}
+use Rattle.sip_states.proofs.runs.Steps.{Step, Hides, Takes, moment_of_step, Does, Goes, Reaches, taken, HidesFrom, RuledRun, AfterRun}
+use Rattle.sip_states.proofs.sets.Waiting.{IsWithin-none, ends_once}
 
 -- hidden steps take no event
 pub taken-hides : (ends : List ℕ) → taken (map Hides ends) ≡ []
@@ -97,9 +98,9 @@ module _ {X : Type 0} (r : MachineRules X) where
       let (z, low, does, goes) = l.goes in
       (z, low, does, Goes-push z (moment_of_step s) front step y (record { before = l.before; at = l.at; goes = goes; low = l.low; does = l.does }))
 
-  -- a run over the events fs and then f is a wait from a state after f
-  wait_of_run : (fs : List MachineEvent) (f : MachineEvent) (m : ℕ) (y : X) (run : RuledRun r (fs ++ f ∷ []) m y) → SplitAt run.steps fs f → Wait r (AfterRun r fs f) f.moment m y
-  wait_of_run fs f m y run s =
+  -- a run over the events fs and then f takes hidden steps alone from a state after f
+  hides_of_run : (fs : List MachineEvent) (f : MachineEvent) (m : ℕ) (y : X) (run : RuledRun r (fs ++ f ∷ []) m y) → SplitAt run.steps fs f → HidesFrom r (AfterRun r fs f) f.moment m y
+  hides_of_run fs f m y run s =
       let p = Goes-split r.first 0 s.front (Takes f) (map Hides s.ends) y run.stands.last (subst (λ steps. Goes r r.first 0 steps y run.stands.last) s.is run.stands.goes) in
       record {
         start = p.middle;
@@ -108,9 +109,9 @@ module _ {X : Type 0} (r : MachineRules X) where
         stands = record { last = run.stands.last; goes = p.then; reached = run.stands.reached; waits = run.stands.waits };
       }
 
-  -- a wait from a state after f is a run over the events fs and then f
-  run_of_wait : (fs : List MachineEvent) (f : MachineEvent) (m : ℕ) (y : X) → Wait r (AfterRun r fs f) f.moment m y → RuledRun r (fs ++ f ∷ []) m y
-  run_of_wait fs f m y w =
+  -- hidden steps from a state after f are the end of a run over the events fs and then f
+  run_of_hides : (fs : List MachineEvent) (f : MachineEvent) (m : ℕ) (y : X) → HidesFrom r (AfterRun r fs f) f.moment m y → RuledRun r (fs ++ f ∷ []) m y
+  run_of_hides fs f m y w =
       record {
         steps = w.begins.steps ++ Takes f ∷ map Hides w.ends;
         -- the steps to f, f itself and the hidden ends after it are one run
@@ -123,13 +124,13 @@ module _ {X : Type 0} (r : MachineRules X) where
         takes = taken-append w.begins.steps (Takes f ∷ map Hides w.ends) ∙ ap (λ s. s ++ f ∷ taken (map Hides w.ends)) w.begins.takes ∙ ap (λ s. fs ++ f ∷ s) (taken-hides w.ends);
       }
 
-  -- the runs over the events fs and then f stand where one can wait from the last states after f
-  pub Run-wait : (fs : List MachineEvent) (f : MachineEvent) (m : ℕ) (y : X) → RuledRun r (fs ++ f ∷ []) m y ↔ Wait r (AfterRun r fs f) f.moment m y
-  Run-wait fs f m y = (λ run. wait_of_run fs f m y run (split_last run.steps fs f run.takes), run_of_wait fs f m y)
+  -- the runs over the events fs and then f stand where hidden steps lead from the last states after f
+  pub Run-hides : (fs : List MachineEvent) (f : MachineEvent) (m : ℕ) (y : X) → RuledRun r (fs ++ f ∷ []) m y ↔ HidesFrom r (AfterRun r fs f) f.moment m y
+  Run-hides fs f m y = (λ run. hides_of_run fs f m y run (split_last run.steps fs f run.takes), run_of_hides fs f m y)
 
-  -- the runs over no event stand where one can wait from the first state
-  pub Run-wait_first : (m : ℕ) (y : X) → RuledRun r [] m y ↔ Wait r (λ x. x ≡ r.first) 0 m y
-  Run-wait_first m y = (
+  -- the runs over no event stand where hidden steps lead from the first state
+  Run-hides_first : (m : ℕ) (y : X) → RuledRun r [] m y ↔ HidesFrom r (λ x. x ≡ r.first) 0 m y
+  Run-hides_first m y = (
     λ run. let none = none_taken run.steps run.takes in
         record { start = r.first; begins = refl; ends = none.0; stands = subst (λ steps. Reaches r r.first 0 steps y m) none.1 run.stands },
     λ w. record { steps = map Hides w.ends; stands = subst (λ x. Reaches r x 0 (map Hides w.ends) y m) w.begins w.stands; takes = taken-hides w.ends },
@@ -152,4 +153,54 @@ module _ {X : Type 0} (r : MachineRules X) where
           (record { before = g.before; at = stands.last; goes = stands.goes; low = stands.reached; does = (stands.waits, g.takes) });
       takes = g.among.takes;
     },
+  )
+
+-- What follows is of the runs by the lawful rules r of a machine: since the ended state has no end, hidden steps are one at most.
+module _ {X : Type 0} (r : MachineRules X) (lawful : IsLawful r) where
+  -- hidden steps that lead from a state of S are none, in which case it stays, or one end
+  -- x is a state of S at the moment h, and the hidden steps end it at these moments and lead to y at the moment m
+  hidden : (S : X → Type 0) (h m : ℕ) (y : X) (x : X) → S x → (ends : List ℕ) → Reaches r x h (map Hides ends) y m → Wait r S h m y
+  hidden S h m y x among [] stands =
+      inl (record { among = subst S (sym stands.goes.0) among; reached = let e = stands.goes.1 in let k = stands.reached in omega arith; waits = stands.waits })
+  -- the one hidden step is the end
+  hidden S h m y x among (t ∷ []) stands =
+      let (z, low, hides, rest) = stands.goes in
+      inr
+      (record {
+        start = x;
+        among = among;
+        -- the state ends at t, which is not after m
+        at = t;
+        after = low;
+        before = let e = rest.1 in let k = stands.reached in omega arith;
+        hides = rw rest.0 hides;
+      })
+  -- two hidden steps cannot be, since a state ends once
+  hidden S h m y x among (t ∷ u ∷ ts) stands =
+      let (z, low, first, more) = stands.goes in let (v, _, second, _) = more in absurd (ends_once r lawful x t u z v first second)
+
+  -- a wait takes no hidden step where the state stays, and one where it ends, after which it stands in the ended state
+  -- S are the states at the moment h, and y is one at the moment m
+  steps_of_wait : (S : X → Type 0) (h m : ℕ) (y : X) → Wait r S h m y → HidesFrom r S h m y
+  steps_of_wait S h m y (inl s) = record { start = y; begins = s.among; ends = []; stands = record { last = h; goes = (refl, refl); reached = s.reached; waits = s.waits } }
+  steps_of_wait S h m y (inr e) =
+      record {
+        start = e.start;
+        begins = e.among;
+        ends = e.at ∷ [];
+        stands = record { last = e.at; goes = (y, e.after, e.hides, (refl, refl)); reached = e.before; waits = IsWithin-none m (r.until y) (rw e.hides.gives lawful.ended_stays) };
+      }
+
+  -- the runs over the events fs and then f stand where one can wait from the last states after f
+  pub Run-wait : (fs : List MachineEvent) (f : MachineEvent) (m : ℕ) (y : X) → RuledRun r (fs ++ f ∷ []) m y ↔ Wait r (AfterRun r fs f) f.moment m y
+  Run-wait fs f m y = (
+    λ run. let w = (Run-hides r fs f m y).0 run in hidden (AfterRun r fs f) f.moment m y w.start w.begins w.ends w.stands,
+    λ w. (Run-hides r fs f m y).1 (steps_of_wait (AfterRun r fs f) f.moment m y w),
+  )
+
+  -- the runs over no event stand where one can wait from the first state
+  pub Run-wait_first : (m : ℕ) (y : X) → RuledRun r [] m y ↔ Wait r (λ x. x ≡ r.first) 0 m y
+  Run-wait_first m y = (
+    λ run. let w = (Run-hides_first r m y).0 run in hidden (λ x. x ≡ r.first) 0 m y w.start w.begins w.ends w.stands,
+    λ w. (Run-hides_first r m y).1 (steps_of_wait (λ x. x ≡ r.first) 0 m y w),
   )

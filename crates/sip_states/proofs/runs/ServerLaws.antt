@@ -18,10 +18,9 @@ use Rattle.sip_standard.specs.Debts.{Owed}
 use Rattle.sip_machine.specs.Deadlines.{unexpired}
 use Rattle.sip_standard.specs.Figure.{Figure, Owing, quiet, Emits, Fails, Steps}
 use Rattle.sip_machine.specs.FigureRules.{After as Row, rules_of as rules_of_figure}
-use Rattle.sip_states.specs.Runs.{Step, Hides, Takes, Goes, taken}
-use Rattle.sip_states.specs.inner.RuledRuns.{AfterRun}
+use Rattle.sip_states.proofs.runs.Steps.{Step, Hides, Takes, Goes, taken, AfterRun}
 use Rattle.sip_standard.specs.KeyMachine.{machine_of, transaction_of}
-use Rattle.sip_states.specs.KeySets.{PhaseOf, key_rules}
+use Rattle.sip_states.specs.KeyRules.{PhaseOf, key_rules}
 use Rattle.sip_states.proofs.sets.Waiting.{IsOpenAt-none}
 use Rattle.sip_states.proofs.runs.RunLemmas.{Goes-last}
 

@@ -1,6 +1,6 @@
 -- A run told in the words of the standard is a run by the rules of its figure.
 -- In the lemmas y is the state in which one stands at the moment m.
-use Rattle.std.proofs.Common.{◌≡◌, ◌≤◌, ◌↔◌, ℕ, Option, Some, None, IfSome, IsSomeAnd, Bool, true, false, List, [], ◌∷◌, ◌++◌, All, if◌then◌else◌, refl, sym, ◌∙◌, subst, arith}
+use Rattle.std.proofs.Common.{◌≡◌, ◌≤◌, ◌↔◌, inl, ℕ, Option, Some, None, IfSome, IsSomeAnd, Bool, true, false, List, [], ◌∷◌, ◌++◌, All, if◌then◌else◌, refl, sym, ◌∙◌, subst, arith}
 use Rattle.std.specs.List.{list_any}
 use Rattle.std.proofs.lemmas.List.{append_assoc, append-nil}
 use Rattle.std.proofs.lemmas.List.Elements.{All-head, All-nil, All-cons, All-append}
@@ -16,9 +16,9 @@ use Rattle.sip_machine.specs.inner.FigureLaws.{rules_lawful}
 use Rattle.sip_standard.specs.Stands.{Stands, begins, waits, ends, takes, StandsAfter}
 use Rattle.sip_standard.specs.KeyMachine.{MachineKind, transaction_of}
 use Rattle.sip_states.proofs.keyed.KeySetLaws.{coded_holds}
-use Rattle.sip_states.specs.Runs.{Step, Hides, Takes, Goes, taken, Wait, RunGives}
-use Rattle.sip_states.specs.inner.RuledRuns.{RuledRun, AfterRun}
-use Rattle.sip_states.proofs.sets.Waiting.{IsWithin-none, Wait-stay, Wait-iff, Gives-iff}
+use Rattle.sip_states.specs.Waits.{Wait, RunGives}
+use Rattle.sip_states.proofs.runs.Steps.{Step, Hides, Takes, Goes, taken, RuledRun, AfterRun}
+use Rattle.sip_states.proofs.sets.Waiting.{IsWithin-none, Wait-iff, Gives-iff}
 use Rattle.sip_states.proofs.runs.RunLemmas.{taken-append, Goes-push, Run-wait, Run-wait_first, After-run}
 use Rattle.sip_states.proofs.runs.FewerLemmas.{Run-fewer}
 
@@ -137,8 +137,8 @@ module _ {X : Type 0} (f : Figure X) (is : IsFigure f) (p : Times) where
       let run = stands-run events e.moment x stands in
       let r = rules_of f p in
       let taking : r.Take x e y = (run.stands.waits, led) in
-      (Run-wait r events e e.moment y).1
-      (Wait-stay r (AfterRun r events e) e.moment e.moment y
+      (Run-wait r (rules_lawful f is p) events e e.moment y).1
+      (inl
       (record { among = (After-run r events e y).1 (record { before = x; among = run; takes = taking }); reached = omega arith; waits = (rules_lawful f is p).fresh x e y taking }))
 
   -- what stands at a moment lasts until then
@@ -167,7 +167,7 @@ module _ {X : Type 0} (f : Figure X) (is : IsFigure f) (p : Times) where
   pub stands-wait_first : (m : ℕ) (y : Owing X) → Stands f p [] m y ↔ Wait (rules_of f p) (λ x. x ≡ (rules_of f p).first) 0 m y
   stands-wait_first m y =
       let runs = stands-runs [] m y in
-      let waiting = Run-wait_first (rules_of f p) m y in
+      let waiting = Run-wait_first (rules_of f p) (rules_lawful f is p) m y in
       (λ s. waiting.0 (runs.0 s), λ w. runs.1 (waiting.1 w))
 
   -- a run over some events stands where one can wait from the states to which the last of them leads
@@ -176,7 +176,7 @@ module _ {X : Type 0} (f : Figure X) (is : IsFigure f) (p : Times) where
       let r = rules_of f p in
       -- `runs` tells the run by the rules, `waiting` cuts it at e, and `same` says that the event leads to the same states in both words
       let runs = stands-runs (events ++ e ∷ []) m y in
-      let waiting = Run-wait r events e m y in
+      let waiting = Run-wait r (rules_lawful f is p) events e m y in
       let same = Wait-iff r (StandsAfter f p events e) (AfterRun r events e) (stands-after events e) e.moment m y in
       (λ s. same.1 (waiting.0 (runs.0 s)), λ w. runs.1 (waiting.1 (same.0 w)))
 

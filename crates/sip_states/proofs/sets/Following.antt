@@ -6,10 +6,10 @@ use Rattle.std.proofs.lemmas.List.Elements.{All-nil, All-contains, Contains-get_
 use Rattle.sip_machine.specs.Limits.{IsWithin, IsOpenAt}
 use Rattle.sip_machine.specs.Texts.{Texts, IsBook, Keeps}
 use Rattle.sip_machine.specs.Rules.{MachineRules, IsLawful, Waits, Knows, StandFor}
-use Rattle.sip_states.specs.Runs.{Wait}
+use Rattle.sip_states.specs.Waits.{EndsFrom, Wait}
 use Rattle.sip_states.specs.inner.Ways.{SomeCanEnd, SomeCanReach, Advances}
 use Rattle.sip_states.proofs.lists.Listed.{Contains-map, Contains-from_map}
-use Rattle.sip_states.proofs.sets.Waiting.{EndsFrom, IsWithin-none, Wait-stay, Wait-end, Wait-cases}
+use Rattle.sip_states.proofs.sets.Waiting.{IsWithin-none}
 
 -- states of the code follow the rules: their windows and last moments are those of the states for which they stand, and no two stand for one
 pub record Follows {X S : Type 0} (names : S → List ℕ) (seen : Texts → S → X) (r : MachineRules X) (ended : S) (window : S → Option (ℕ × Option ℕ)) (until : S → Option ℕ) : Type 0 where
@@ -94,13 +94,12 @@ module _ {X S : Type 0} (names : S → List ℕ) (InRange : S → Type 0) (seen 
         -- a state of the code stays, or it ends
         | inl stays ↦ (
           seen texts x,
-          Wait-stay r (Contains (map (seen texts) xs)) h m (seen texts x)
-              (record { among = Contains-map (seen texts) xs x (k, within, is); reached = low; waits = (seen_waits m x).1 stays }),
+          inl (record { among = Contains-map (seen texts) xs x (k, within, is); reached = low; waits = (seen_waits m x).1 stays }),
         )
-        | inr ends ↦ (r.ended, Wait-end r follows.lawful (Contains (map (seen texts) xs)) h m r.ended (seen_ends xs h m (k, x, within, is, ends)))
+        | inr ends ↦ (r.ended, inr (seen_ends xs h m (k, x, within, is, ends)))
       ],
       -- a state that stands for one of the code stays, or ends
-      λ (y, wait). elim ((Wait-cases r follows.lawful (Contains (map (seen texts) xs)) h m y).0 wait) [
+      λ (y, wait). elim wait [
         | inl s ↦
             let (x, (k, within, is), same) = Contains-from_map (seen texts) xs y s.among in
             (k, x, within, is, inl ((seen_waits m x).0 (rw same s.waits)))
@@ -114,17 +113,14 @@ module _ {X S : Type 0} (names : S → List ℕ) (InRange : S → Type 0) (seen 
         -- y is the state x of the code: one of the old states that stays in its window, or the ended one, to which some old state waits
         let (within, ways) = (a.members x).0 member in
         elim ways [
-          | inl stays ↦
-              Wait-stay r (Contains (map (seen texts) xs)) h m (seen texts x)
-              (record { among = Contains-map (seen texts) xs x stays; reached = low; waits = (seen_waits m x).1 within })
-          | inr (is_ended, some) ↦
-              rw (is_ended, follows.ended_is texts) (Wait-end r follows.lawful (Contains (map (seen texts) xs)) h m r.ended (seen_ends xs h m some))
+          | inl stays ↦ inl (record { among = Contains-map (seen texts) xs x stays; reached = low; waits = (seen_waits m x).1 within })
+          | inr (is_ended, some) ↦ inr (rw (is_ended, follows.ended_is texts) (seen_ends xs h m some))
         ]
 
     -- each state in which one can stand after waiting is one for which a state to which the code waits stands
     waited_seen : (ys : List S) → Advances InRange window until ended h m xs ys → (y : X) → Wait r (Contains (map (seen texts) xs)) h m y → Contains (map (seen texts) ys) y
     waited_seen ys a y wait =
-        elim ((Wait-cases r follows.lawful (Contains (map (seen texts) xs)) h m y).0 wait) [
+        elim wait [
           | inl s ↦
               let (x, member, same) = Contains-from_map (seen texts) xs y s.among in
               rw (← same) (Contains-map (seen texts) ys x ((a.members x).1 ((seen_waits m x).0 (rw same s.waits), inl member)))

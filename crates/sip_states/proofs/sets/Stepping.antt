@@ -9,7 +9,6 @@ use Rattle.sip_standard.specs.MachineEvent.{MachineEvent}
 use Rattle.sip_machine.specs.Rules.{MachineRules, Covers, FromSome, IsLawful, Knows, StandFor}
 use Rattle.sip_states.specs.inner.Ways.{SomeCanEnd, GivesFrom, GivesAfter}
 use Rattle.sip_states.proofs.lists.Listed.{Contains-none, Contains-here, Contains-there, Contains-cons, Contains-single, Contains-map, Contains-from_map}
-use Rattle.sip_states.proofs.sets.Waiting.{Wait-stay, Wait-end, Wait-cases}
 use Rattle.sip_states.proofs.sets.Following.{Follows, seen_ends, ends_seen, distinct_seen}
 
 -- What follows is of states of the code: `names` gives the messages that one names, InRange says that its numbers are in range,
@@ -65,14 +64,14 @@ module _ {X S : Type 0} (names : S → List ℕ) (InRange : S → Type 0) (seen 
   stayed_gives y g =
       record {
         before = g.before;
-        among = Wait-stay r (Contains (map (seen texts) xs)) h e.moment g.before (record { among = g.among.0; reached = low; waits = g.among.1 });
+        among = inl (record { among = g.among.0; reached = low; waits = g.among.1 });
         takes = g.takes;
       }
 
   -- what the event gives after waiting is given from a state that can wait, or from the ended one where some state can end
   after_gives : (y : X) → GivesAfter seen texts r xs h e y → GivesFrom seen texts r xs e y ⊎ (SomeCanEnd window until h e.moment xs × r.Take (seen texts ended) e y)
   after_gives y g =
-      elim ((Wait-cases r follows.lawful (Contains (map (seen texts) xs)) h e.moment g.before).0 g.among) [
+      elim g.among [
         | inl s ↦ inl (record { before = g.before; among = (s.among, s.waits); takes = g.takes })
         | inr ends ↦ inr (ends_seen names InRange seen r ended window until follows texts xs h e.moment g.before ends, rw (follows.ended_is texts, ← ends.hides.gives) g.takes)
       ]
@@ -95,7 +94,7 @@ module _ {X S : Type 0} (names : S → List ℕ) (InRange : S → Type 0) (seen 
           | inl from ↦ stayed_gives y from
           | inr takes ↦ record {
             before = seen texts ended;
-            among = rw (follows.ended_is texts) (Wait-end r follows.lawful (Contains (map (seen texts) xs)) h e.moment r.ended (seen_ends names InRange seen r ended window until follows texts xs h e.moment some));
+            among = inr (rw (follows.ended_is texts) (seen_ends names InRange seen r ended window until follows texts xs h e.moment some));
             takes = takes;
           }
         ],

@@ -10,7 +10,8 @@ use Rattle.sip_standard.specs.MachineEvent.{MachineEvent}
 use Rattle.sip_machine.specs.Rules.{MachineRules, IsLawful, Waits, StandFor}
 use Rattle.sip_states.specs.Held.{IsKept}
 use Rattle.sip_states.specs.inner.Ways.{Advances}
-use Rattle.sip_states.specs.Runs.{RunGives, IsWide, widest}
+use Rattle.sip_states.specs.Waits.{RunGives}
+use Rattle.sip_standard.specs.VerdictOf.{IsWide, widest}
 use Rattle.sip_standard.proofs.Few.{distinct_few}
 use Rattle.sip_states.proofs.sets.Following.{Follows, seen_waits, ended_stays}
 use Rattle.sip_states.proofs.lists.Listed.{Contains-map}
@@ -19,21 +20,20 @@ use Rattle.sip_states.proofs.sets.Waiting.{IsWithin-none}
 -- where more states stand for a set than are followed, the set is too wide
 pub many_wide : {X S : Type 0} (names : S → List ℕ) (InRange : S → Type 0) (seen : Texts → S → X) (texts : Texts) (P : X → Type 0) (new : List S) →
     StandFor names InRange seen texts P new → widest < length new → IsWide P
-many_wide names InRange seen texts P new s many =
-    record {
-      many = map (seen texts) new;
-      distinct = s.distinct;
-      wide = rw length-map many;
-      each = All-weaker (Contains (map (seen texts) new)) P (λ x. (s.members x).0) (map (seen texts) new) (All-contains_itself (map (seen texts) new));
-    }
+many_wide names InRange seen texts P new s many = (
+  map (seen texts) new,
+  s.distinct,
+  rw length-map many,
+  All-weaker (Contains (map (seen texts) new)) P (λ x. (s.members x).0) (map (seen texts) new) (All-contains_itself (map (seen texts) new)),
+)
 
 -- a set with all that a too wide set has is too wide
 pub wide_among : {X : Type 0} (P Q : X → Type 0) → ((x : X) → P x → Q x) → IsWide P → IsWide Q
-wide_among P Q among w = record { many = w.many; distinct = w.distinct; wide = w.wide; each = All-weaker P Q among w.many w.each }
+wide_among P Q among (many, distinct, wide, each) = (many, distinct, wide, All-weaker P Q among many each)
 
 -- a too wide set has a state
 pub wide_some : {X : Type 0} (P : X → Type 0) → IsWide P → (x : X) × P x
-wide_some {X} P w = go w.many w.wide w.each
+wide_some {X} P (many, distinct, wide, each) = go many wide each
   where
     -- a list that is longer than the widest set has a first element
     go : (many : List X) → widest < length many → All P many → (x : X) × P x
@@ -43,9 +43,8 @@ wide_some {X} P w = go w.many w.wide w.each
 -- where states that are followed stand for a set, the set is not too wide
 pub few_narrow : {X S : Type 0} (names : S → List ℕ) (InRange : S → Type 0) (seen : Texts → S → X) (texts : Texts) (P : X → Type 0) (new : List S) →
     StandFor names InRange seen texts P new → length new ≤ widest → IsWide P → ⊥
-few_narrow names InRange seen texts P new stands few w =
-    let fits = distinct_few w.many (map (seen texts) new) w.distinct (All-weaker P (Contains (map (seen texts) new)) (λ x. (stands.members x).1) w.many w.each) in
-    let wide = w.wide in
+few_narrow names InRange seen texts P new stands few (many, distinct, wide, each) =
+    let fits = distinct_few many (map (seen texts) new) distinct (All-weaker P (Contains (map (seen texts) new)) (λ x. (stands.members x).1) many each) in
     omega (arith, fits, length-map new (seen texts))
 
 -- What follows is of the states of a set by the rules r of a machine: `names` gives the messages that a state names, InRange says that its moments are in

@@ -5,7 +5,7 @@ use Rattle.sip_machine.specs.Limits.{IsWithin, IsOpenAt}
 use Rattle.sip_machine.specs.Texts.{Texts}
 use Rattle.sip_standard.specs.MachineEvent.{MachineEvent}
 use Rattle.sip_machine.specs.Rules.{MachineRules, Waits}
-use Rattle.sip_states.specs.Runs.{Wait, RunGives}
+use Rattle.sip_states.specs.Waits.{Wait, RunGives}
 
 -- whether the moment is within the limit, where there is one
 abbrev pub is_within : ℕ → Option ℕ → Bool

@@ -16,7 +16,7 @@ use Rattle.sip_verdict.specs.Judging.{Judging, StandsFor, CanWaitUntil}
 use Rattle.sip_standard.specs.Observation.{Observation}
 use Rattle.sip_standard.specs.VerdictOf.{keys_in, events_for}
 use Rattle.sip_verdict.specs.Entries.{newest_moment}
-use Rattle.sip_verdict.proofs.keys.RunsStand.{StandsUntil, run-stands, stands-run}
+use Rattle.sip_verdict.specs.inner.Stepping.{RunsUntil}
 use Rattle.sip_verdict.specs.inner.TablesTracking.{LeadsOf, key_keeping, transactions_of, MayPass, MayTake, AllAreOnRecord, TablesTrack}
 use Rattle.sip_verdict.specs.inner.Tracking.{IsReady}
 use Rattle.sip_verdict.proofs.tables.Halfway.{All-position_None, not_passing}
@@ -29,7 +29,7 @@ module _ (texts : Texts) (t : Tabled) (es : List (Observation KeyParts)) (from :
     (newest : newest_moment es ≤ moment) (later : from ≤ moment) where
   -- the key has a run over the entries that stands at the moment
   abbrev Runs : KeyParts → Type 0
-  Runs key = StandsUntil t.times (machine_of_key t.times.rules key) (events_for key es) moment
+  Runs key = RunsUntil t.times (machine_of_key t.times.rules key) (events_for key es) moment
 
   -- What follows is of the key with the number n, its set s and its last moment on record.
   module _ (n : ℕ) (key : KeyParts) (s : AnySet) (at : slice_get t.keys n ≡ Some key) (here : slice_get t.sets n ≡ Some s) where
@@ -46,16 +46,14 @@ module _ (texts : Texts) (t : Tabled) (es : List (Observation KeyParts)) (from :
     late : (r : Option (Option ℕ)) → slice_get t.records n ≡ Some r → is_overdue moment r ≡ true → ¬ Runs key
     late None on is = absurd (false≢true is)
     late (Some limit) on is = λ run.
-        overdue_none texts t.times (machine_of_key t.times.rules key) (events_for key es) (newest_moment es) s leads limit (recorded.each n s (Some limit) here on) moment newest low is
-        (stands-run t.times (machine_of_key t.times.rules key) (events_for key es) moment run)
+        overdue_none texts t.times (machine_of_key t.times.rules key) (events_for key es) (newest_moment es) s leads limit (recorded.each n s (Some limit) here on) moment newest low is run
 
     -- a key whose last moment on record is not past has a run that stands at the moment
     -- each key has a last moment on record
     in_time : (r : Option (Option ℕ)) → slice_get t.records n ≡ Some r → is_overdue moment r ≡ false → Runs key
     in_time None on is = absurd (false≢true (recorded.each n s None here on))
     in_time (Some limit) on is =
-        run-stands t.times (machine_of_key t.times.rules key) (events_for key es) moment
-        (in_time_some texts t.times (machine_of_key t.times.rules key) (events_for key es) (newest_moment es) s leads limit (recorded.each n s (Some limit) here on) moment newest low is)
+        in_time_some texts t.times (machine_of_key t.times.rules key) (events_for key es) (newest_moment es) s leads limit (recorded.each n s (Some limit) here on) moment newest low is
 
   -- each key has a set
   set_of_key : (n : ℕ) (key : KeyParts) → slice_get t.keys n ≡ Some key → (s : AnySet) × (slice_get t.sets n ≡ Some s)

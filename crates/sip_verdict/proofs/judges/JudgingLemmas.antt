@@ -41,9 +41,7 @@ judges_front p end v before (item ∷ items) rest (e ∷ es) seen good left =
       seen.0,
       -- the entry is formed, each key has a run, and none is too wide
       inr (
-        fine.formed,
-        fine.runs,
-        fine.narrow,
+        fine,
         judges_front p end v (before ++ e ∷ []) items rest es seen.1 (subst (IsGood p) (sym along) good) (subst (λ fs. IsVerdictAfter p fs rest end v) (sym along) left),
       ),
     )

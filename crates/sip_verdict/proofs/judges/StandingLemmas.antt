@@ -18,9 +18,11 @@ use Rattle.sip_machine.specs.Texts.{Texts, Keeps, text_of}
 use Rattle.sip_machine.specs.NumberedEvent.{event_in, FitsBook, NumberedEvent}
 use Rattle.sip_machine.specs.Rules.{Knows}
 use Rattle.sip_machine.proofs.texts.TextLaws.{Keeps-grow, Keeps-grow_cases}
-use Rattle.sip_standard.specs.KeyMachine.{machine_of_key}
+use Rattle.sip_standard.specs.KeyMachine.{machine_of_key, transaction_of}
+use Rattle.sip_standard.specs.Stands.{Stands}
 use Rattle.sip_states.specs.Meaning.{IsKnown}
-use Rattle.sip_states.specs.AnySet.{IsKnownSet, meaning_of}
+use Rattle.sip_states.specs.AnySet.{IsKnownSet}
+use Rattle.sip_states.specs.inner.KeySets.{meaning_of}
 use Rattle.sip_states.specs.Tables.{Tabled, IsGiven}
 use Rattle.sip_states.specs.declared.any_set.AnySet.{AnySet}
 use Rattle.sip_standard.specs.LogEntry.{Item}
@@ -99,7 +101,7 @@ module _ (old new : Texts) (number : ℕ) (bytes : List ℕ) where
           -- the set has the same machine beside the new book, and its states name the same bytes
           record {
             machine_is = leads.machine_is;
-            leads = Leads-grow m.names m.seen (seen_by_names_of machine) old number bytes (m.rules p) (events_for t.0 es) (newest_moment es) s.moment s.states leads.leads;
+            leads = Leads-grow m.names m.seen (seen_by_names_of machine) old number bytes (m.rules p) (Stands (transaction_of machine).figure p (events_for t.0 es)) (newest_moment es) s.moment s.states leads.leads;
           },
         )
 

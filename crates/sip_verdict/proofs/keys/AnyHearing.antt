@@ -5,18 +5,20 @@ use Rattle.sip_standard.specs.Times.{Times}
 use Rattle.sip_machine.specs.Texts.{Texts}
 use Rattle.sip_machine.specs.NumberedEvent.{NumberedEvent, event_in}
 use Rattle.sip_standard.specs.MachineEvent.{MachineEvent}
-use Rattle.sip_states.specs.Runs.{IsWide}
-use Rattle.sip_states.specs.inner.RuledRuns.{AfterRun}
+use Rattle.sip_standard.specs.VerdictOf.{IsWide}
+use Rattle.sip_standard.specs.Stands.{Stands, StandsAfter}
 use Rattle.sip_states.specs.Held.{Held}
-use Rattle.sip_standard.specs.KeyMachine.{MachineKind}
-use Rattle.sip_states.specs.KeySets.{key_rules, StateOf, set_of}
+use Rattle.sip_standard.specs.KeyMachine.{MachineKind, transaction_of}
+use Rattle.sip_states.specs.inner.KeySets.{StateOf, set_of, meaning_of}
+use Rattle.sip_states.specs.KeyRules.{PhaseOf}
 use Rattle.sip_states.specs.Meaning.{IsKnown, Given, HasTaken}
-use Rattle.sip_states.specs.AnySet.{meaning_of, moment_of, IsEmpty, IsKnownSet, SetTakes, IsSetTooWide}
+use Rattle.sip_states.specs.AnySet.{moment_of, IsEmpty, IsKnownSet, SetTakes, IsSetTooWide}
 use Rattle.sip_states.specs.declared.any_set.AnySet.{AnySet}
 use Rattle.sip_verdict.specs.declared.passing.Outcome.TheVariants as all
 use Rattle.sip_verdict.specs.inner.Stepping.{RunsUntil, IsStepped}
 use Rattle.sip_verdict.specs.inner.TablesTracking.{LeadsOf, StandsOf}
 use Rattle.sip_verdict.proofs.keys.Hearing.{heard_none, heard_some, heard_wide}
+use Rattle.sip_verdict.proofs.keys.RunsStand.{stands_next, stands_given}
 use Rattle.sip_states.proofs.keyed.ByMachine.{lawful_of, moment_is, some_machine, of_set, to_set, of_sets}
 
 -- the set that is left after an event is a set of the same machine
@@ -47,26 +49,40 @@ module _ (texts : Texts) (p : Times) (machine : MachineKind) (events : List Mach
 
   -- What follows is of e, an event that the transaction hears at the moment of the set or later.
   module _ (e : NumberedEvent) (late : from ≤ e.moment) (low : moment_of old ≤ e.moment) where
+    -- the event as the definitions have it
+    abbrev f : MachineEvent
+    f = event_in texts e
+
+    -- where e leads from where the runs over the events stand at its moment
+    abbrev After : PhaseOf machine → Type 0
+    After = StandsAfter (transaction_of machine).figure p events f
+
+    -- where the runs over the events and e stand
+    abbrev Next : ℕ → PhaseOf machine → Type 0
+    Next = Stands (transaction_of machine).figure p (events ++ f ∷ [])
+
     -- where no state is left, no run takes the event
-    pub hears_none : SetTakes texts e old new → IsEmpty new → ¬ RunsUntil (key_rules p machine) (events ++ event_in texts e ∷ []) e.moment
+    pub hears_none : SetTakes texts e old new → IsEmpty new → ¬ RunsUntil p machine (events ++ event_in texts e ∷ []) e.moment
     hears_none takes none =
         let n = after_event texts e machine leads.0 old new leads.1 takes in
         let m = meaning_of machine in
-        heard_none m.names m.in_range m.seen m.rules (lawful_of machine) texts p events from leads.0 n.0 leads.2 (event_in texts e) late (low_of e.moment low) n.2.states (none_of machine n.0 new n.1 none)
+        heard_none m.names m.in_range m.seen m.rules (lawful_of machine) texts p (Stands (transaction_of machine).figure p events) from leads.0 n.0 leads.2 f After Next (stands_given p machine events f) (stands_next p machine events f)
+        late (low_of e.moment low) n.2.states (none_of machine n.0 new n.1 none)
 
     -- where states are left, and not too many, the runs go on
-    pub hears_some : SetTakes texts e old new → ¬ IsEmpty new → IsStepped (key_rules p machine) events (event_in texts e) (λ es. LeadsOf texts p machine es e.moment new) (λ f. StandsOf texts p machine events f new) all.Fine
+    pub hears_some : SetTakes texts e old new → ¬ IsEmpty new → IsStepped p machine events (event_in texts e) (λ es. LeadsOf texts p machine es e.moment new) (λ g. StandsOf texts p machine events g new) all.Fine
     hears_some takes some =
         -- n.0 are the states after the event, as those of the machine; m is what the machine means, and h says how its runs go on
         let n = after_event texts e machine leads.0 old new leads.1 takes in
         let m = meaning_of machine in
-        let h = heard_some m.names m.in_range m.seen m.rules (lawful_of machine) texts p events from leads.0 n.0 leads.2 (event_in texts e) late (low_of e.moment low) n.2.states n.2.machine n.2.at
-        (some_of machine n.0 new n.1 some) n.2.few in
+        let h = heard_some m.names m.in_range m.seen m.rules (lawful_of machine) texts p (Stands (transaction_of machine).figure p events) from leads.0 n.0 leads.2 f After Next (stands_given p machine events f)
+        (stands_next p machine events f) late (low_of e.moment low) n.2.states n.2.machine n.2.at (some_of machine n.0 new n.1 some) n.2.few in
         (h.0, h.1, (n.0, n.1, h.2), (n.0, n.1, h.3))
 
     -- where too many states come out, there is a run over the event, and the last states are too many
-    pub hears_wide : IsSetTooWide texts e old → RunsUntil (key_rules p machine) (events ++ event_in texts e ∷ []) e.moment × IsWide (AfterRun (key_rules p machine) events (event_in texts e))
+    pub hears_wide : IsSetTooWide texts e old → RunsUntil p machine (events ++ event_in texts e ∷ []) e.moment × IsWide (StandsAfter (transaction_of machine).figure p events (event_in texts e))
     hears_wide wide =
         let m = meaning_of machine in
-        heard_wide m.names m.in_range m.seen m.rules (lawful_of machine) texts p events from leads.0 leads.0 leads.2 (event_in texts e) late (low_of e.moment low)
+        heard_wide m.names m.in_range m.seen m.rules (lawful_of machine) texts p (Stands (transaction_of machine).figure p events) from leads.0 leads.0 leads.2 f After Next (stands_given p machine events f)
+        (stands_next p machine events f) late (low_of e.moment low)
         (of_set (λ X M S m s. IsWide (Given m texts s e)) machine leads.0 (subst (IsSetTooWide texts e) leads.1 wide))

@@ -6,18 +6,17 @@ use Rattle.std.specs.Prelude.{filter, fold, AllPairs}
 use Rattle.std.proofs.lemmas.List.{map-append}
 use Rattle.std.proofs.lemmas.List.Elements.{All-nil, All-cons, All-head, All-map, All-filter, filter-append}
 use Rattle.sip_standard.specs.MachineEvent.{MachineEvent}
-use Rattle.sip_states.specs.inner.RuledRuns.{RuledRun}
+use Rattle.sip_standard.specs.Stands.{Stands}
 use Rattle.sip_standard.proofs.Few.{AllPairs-head, AllPairs-tail}
-use Rattle.sip_states.proofs.runs.FewerLemmas.{Run-fewer}
+use Rattle.sip_states.proofs.keyed.KeySetLaws.{coded_holds}
+use Rattle.sip_states.proofs.runs.StandsLemmas.{stands-fewer}
 use Rattle.sip_standard.specs.Key.{KeyParts}
 use Rattle.sip_standard.specs.Times.{Times}
-use Rattle.sip_standard.specs.KeyMachine.{machine_of_key}
-use Rattle.sip_states.specs.KeySets.{key_rules}
+use Rattle.sip_standard.specs.KeyMachine.{machine_of_key, transaction_of}
 use Rattle.sip_standard.specs.Observation.{Observation}
 use Rattle.sip_standard.specs.VerdictOf.{events_for, RunsOver}
 use Rattle.sip_verdict.specs.Entries.{newest_moment}
 use Rattle.sip_verdict.specs.inner.Keyed.{concerns}
-use Rattle.sip_verdict.proofs.keys.RunsStand.{run-stands, stands-run}
 
 -- the moment of the first entry is not after that of the second
 abbrev IsNotAfter : Observation KeyParts → Observation KeyParts → Type 0
@@ -82,14 +81,13 @@ module _ (key : KeyParts) where
 pub fewer-entries : (p : Times) (key : KeyParts) (front more : List (Observation KeyParts)) → AllPairs IsNotAfter (front ++ more) → RunsOver p (front ++ more) key → RunsOver p front key
 fewer-entries p key front more order run =
     let machine = machine_of_key p.rules key in
-    let r = key_rules p machine in
+    let f = (transaction_of machine).figure in
     let from : All (IsFrom 0) (front ++ more) = λ k d within. omega arith in
-    -- the run over all entries is one by steps, which is cut at the newest moment of the first ones
-    let (y, whole) = stands-run p machine (events_for key (front ++ more)) (newest_moment (front ++ more)) run in
-    run-stands p machine (events_for key front) (newest_moment front)
-    (Run-fewer r (events_for key front) (events_for key more) (newest_moment front) (newest_moment (front ++ more)) y
-    (events-all key (λ f. f.moment ≤ newest_moment front) front (newest-to 0 front more order))
-    (events-all key (λ f. newest_moment front ≤ f.moment) more (newest-before 0 front more from order))
+    -- the run over all entries is cut at the newest moment of the first ones
+    let (y, whole) = run in
+    stands-fewer f (coded_holds machine).is_figure p (events_for key front) (events_for key more) (newest_moment front) (newest_moment (front ++ more)) y
+    (events-all key (λ g. g.moment ≤ newest_moment front) front (newest-to 0 front more order))
+    (events-all key (λ g. newest_moment front ≤ g.moment) more (newest-before 0 front more from order))
     (newest-more 0 front more from order)
     -- the events of all entries are those of the first ones and then those of the others
-    (subst (λ events. RuledRun r events (newest_moment (front ++ more)) y) (events-append key front more) whole))
+    (subst (λ events. Stands f p events (newest_moment (front ++ more)) y) (events-append key front more) whole)

@@ -8,7 +8,6 @@ use Rattle.sip_machine.specs.Texts.{Texts}
 use Rattle.sip_machine.specs.NumberedEvent.{NumberedEvent, event_in}
 use Rattle.sip_standard.specs.MachineEvent.{MachineEvent}
 use Rattle.sip_standard.specs.KeyMachine.{MachineKind, machine_of_key}
-use Rattle.sip_states.specs.KeySets.{key_rules}
 use Rattle.sip_states.specs.Agenda.{is_overdue}
 use Rattle.sip_states.specs.AnySet.{moment_of, IsQuietSet, IsAgendaOf}
 use Rattle.sip_states.specs.declared.any_set.AnySet.{AnySet}
@@ -42,13 +41,13 @@ module _ (texts : Texts) (p : Times) (es : List (Observation KeyParts)) (e : Obs
 
   -- what an event leaves of the runs of the key, where `after` is its set then
   abbrev Steps : MachineEvent → AnySet → Outcome → Type 0
-  Steps f after outcome = IsStepped (key_rules p machine) events f (λ fs. LeadsOf texts p machine fs f.moment after) (λ g. StandsOf texts p machine events g after) outcome
+  Steps f after outcome = IsStepped p machine events f (λ fs. LeadsOf texts p machine fs f.moment after) (λ g. StandsOf texts p machine events g after) outcome
 
   -- where the set has heard the entry's event, what the event leaves of the set's runs is what the entry leaves of the key's
   -- `stepped` says so of the set beside any times, machine and events to which it leads
   pub heard_left : (event : NumberedEvent) → e.event ≡ event_in texts event → concerns key e ≡ true → (after : AnySet) (outcome : Outcome)
       → ((q : Times) (kind : MachineKind) (fs : List MachineEvent) (from : ℕ) → from ≤ event.moment → LeadsOf texts q kind fs from s
-      → IsStepped (key_rules q kind) fs (event_in texts event) (λ gs. LeadsOf texts q kind gs event.moment after) (λ g. StandsOf texts q kind fs g after) outcome)
+      → IsStepped q kind fs (event_in texts event) (λ gs. LeadsOf texts q kind gs event.moment after) (λ g. StandsOf texts q kind fs g after) outcome)
       → IsPassed p k es e (key, after) outcome
   heard_left event is concerned after outcome stepped =
       own_passed p k es e (key, after) concerned outcome

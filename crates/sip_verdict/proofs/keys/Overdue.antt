@@ -1,30 +1,30 @@
 -- How long the runs of a key can wait, by the last moment that is on record of its set.
-use Rattle.std.proofs.Common.{◌≡◌, ◌≤◌, ◌↔◌, ℕ, true, false, Option, Some, None, List, [], ◌∷◌, ◌++◌, Contains, map, ap, ◌∙◌, subst, arith}
+use Rattle.std.proofs.Common.{◌≡◌, ◌≤◌, ◌↔◌, inl, inr, ℕ, true, false, Option, Some, None, List, [], ◌∷◌, ◌++◌, Contains, map, ap, ◌∙◌, subst, arith}
 use Rattle.std.proofs.lemmas.Bool.{ltb-true, ltb-false, false≢true}
 use Rattle.sip_standard.specs.Times.{Times}
 use Rattle.sip_machine.specs.Texts.{Texts}
 use Rattle.sip_standard.specs.MachineEvent.{MachineEvent}
 use Rattle.sip_machine.specs.Limits.{IsWithin}
-use Rattle.sip_machine.specs.Rules.{MachineRules}
-use Rattle.sip_states.specs.Runs.{IsAgenda}
+use Rattle.sip_states.specs.Waits.{IsAgenda}
 use Rattle.sip_standard.specs.KeyMachine.{MachineKind}
-use Rattle.sip_states.specs.KeySets.{key_rules}
 use Rattle.sip_states.specs.Meaning.{HasAgenda}
-use Rattle.sip_states.specs.AnySet.{moment_of, IsAgendaOf, meaning_of}
+use Rattle.sip_states.specs.AnySet.{moment_of, IsAgendaOf}
+use Rattle.sip_states.specs.inner.KeySets.{meaning_of}
 use Rattle.sip_states.specs.Agenda.{is_overdue}
 use Rattle.sip_states.specs.declared.any_set.AnySet.{AnySet}
-use Rattle.sip_states.proofs.runs.RunLemmas.{Run-wait, After-run}
+use Rattle.sip_verdict.proofs.keys.RunsStand.{stands_next}
 use Rattle.sip_verdict.specs.inner.Stepping.{RunsUntil}
 use Rattle.sip_verdict.specs.inner.TablesTracking.{LeadsOf}
 use Rattle.sip_states.proofs.keyed.ByMachine.{moment_is, of_set}
 
 -- where a run over the events and e stands somewhere, a run over the events stands at the moment of e
-pub run_before : {X : Type 0} (r : MachineRules X) (events : List MachineEvent) (e : MachineEvent) (n : ℕ) → RunsUntil r (events ++ e ∷ []) n → RunsUntil r events e.moment
-run_before r events e n (y, run) =
+pub run_before : (p : Times) (machine : MachineKind) (events : List MachineEvent) (e : MachineEvent) (n : ℕ) → RunsUntil p machine (events ++ e ∷ []) n → RunsUntil p machine events e.moment
+run_before p machine events e n (y, run) =
     -- a run over the events and e waits from where it stood after e, and it came there from where it stood before e, at the moment of e
-    let wait = (Run-wait r events e n y).0 run in
-    let given = (After-run r events e wait.start).0 wait.begins in
-    (given.before, given.among)
+    elim ((stands_next p machine events e n y).0 run) [
+      | inl s ↦ let (x, before, led) = s.among in (x, before)
+      | inr d ↦ let (x, before, led) = d.among in (x, before)
+    ]
 
 -- What follows is of the set of one transaction, of `limit`, the last moment on record to which it can wait, and of a moment that comes.
 module _ (texts : Texts) (p : Times) (machine : MachineKind) (events : List MachineEvent) (from : ℕ) (set : AnySet) (leads : LeadsOf texts p machine events from set) (limit : Option ℕ) (agenda : IsAgendaOf limit set)
@@ -40,14 +40,14 @@ module _ (texts : Texts) (p : Times) (machine : MachineKind) (events : List Mach
   not_later = subst (λ m. m ≤ moment) (ap moment_of leads.1 ∙ moment_is machine leads.0) low
 
   -- a run over the events stands at the moment exactly if the moment is within the limit
-  runs_within : RunsUntil (key_rules p machine) events moment ↔ IsWithin moment limit
+  runs_within : RunsUntil p machine events moment ↔ IsWithin moment limit
   runs_within = (
     λ run. (waits moment not_later).0 (run.0, (leads.2.leads.runs moment run.0 late not_later).1 run.1),
     λ within. let wait = (waits moment not_later).1 within in (wait.0, (leads.2.leads.runs moment wait.0 late not_later).0 wait.1),
   )
 
   -- where the limit is past at the moment, no run over the events stands then
-  pub overdue_none : is_overdue moment (Some limit) ≡ true → ¬ RunsUntil (key_rules p machine) events moment
+  pub overdue_none : is_overdue moment (Some limit) ≡ true → ¬ RunsUntil p machine events moment
   overdue_none past run = go limit past (runs_within.0 run)
     where
       -- a moment is not past a last moment and within it at once
@@ -56,7 +56,7 @@ module _ (texts : Texts) (p : Times) (machine : MachineKind) (events : List Mach
       go (Some last) past within = omega (arith, ltb-true last moment past, within)
 
   -- where the limit is not past at the moment, some run over the events stands then
-  pub in_time_some : is_overdue moment (Some limit) ≡ false → RunsUntil (key_rules p machine) events moment
+  pub in_time_some : is_overdue moment (Some limit) ≡ false → RunsUntil p machine events moment
   in_time_some in_time = runs_within.1 (go limit in_time)
     where
       -- a moment that is not past the last moment is within it

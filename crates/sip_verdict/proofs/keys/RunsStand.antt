@@ -1,55 +1,28 @@
--- A machine has a run by its rules exactly where it has one in the words of the standard.
-use Rattle.std.proofs.Common.{◌≢◌, ◌<◌, ℕ, List, length, All, AllPairs}
-use Rattle.std.proofs.lemmas.List.Elements.{All-weaker}
+-- The runs of a machine stand where waiting and stepping lead, from the first state on.
+use Rattle.std.proofs.Common.{◌≡◌, ◌↔◌, ℕ, List, [], ◌∷◌, ◌++◌}
 use Rattle.sip_standard.specs.Times.{Times}
 use Rattle.sip_standard.specs.MachineEvent.{MachineEvent}
 use Rattle.sip_standard.specs.KeyMachine.{MachineKind, transaction_of}
 use Rattle.sip_standard.specs.Stands.{Stands, StandsAfter}
-use Rattle.sip_states.specs.KeySets.{PhaseOf, key_rules}
+use Rattle.sip_states.specs.Waits.{Wait, RunGives}
+use Rattle.sip_states.specs.KeyRules.{PhaseOf, key_rules}
 use Rattle.sip_states.proofs.keyed.KeySetLaws.{coded_holds}
-use Rattle.sip_states.specs.Runs.{IsWide}
-use Rattle.sip_states.specs.inner.RuledRuns.{AfterRun}
-use Rattle.sip_states.proofs.runs.StandsLemmas.{stands-runs, stands-after}
-use Rattle.sip_verdict.specs.inner.Stepping.{RunsUntil}
+use Rattle.sip_states.proofs.runs.StandsLemmas.{stands-wait_first, stands-wait, stands-gives}
 
--- a run of the machine over the events stands at the moment
-abbrev pub StandsUntil : Times → MachineKind → List MachineEvent → ℕ → Type 0
-StandsUntil p machine events moment = (y : PhaseOf machine) × Stands (transaction_of machine).figure p events moment y
+-- What follows is of the runs of one machine by the times p.
+module _ (p : Times) (machine : MachineKind) where
+  -- a run over no event stands where one can wait from the first state
+  pub stands_first : (n : ℕ) (x : PhaseOf machine) → Stands (transaction_of machine).figure p [] n x ↔ Wait (key_rules p machine) (λ y. y ≡ (key_rules p machine).first) 0 n x
+  stands_first n x = stands-wait_first (transaction_of machine).figure (coded_holds machine).is_figure p n x
 
--- P holds of more than 1,024 states of the machine
-abbrev pub AreTooMany : (machine : MachineKind) → (PhaseOf machine → Type 0) → Type 0
-AreTooMany machine P = (many : List (PhaseOf machine)) × AllPairs (λ x y. x ≢ y) many × (1024 < length many) × All P many
+  -- What follows is of the events before e, and of e.
+  module _ (events : List MachineEvent) (e : MachineEvent) where
+    -- a run over them and e stands where one can wait from the states to which e leads
+    pub stands_next : (n : ℕ) (x : PhaseOf machine)
+        → Stands (transaction_of machine).figure p (events ++ e ∷ []) n x ↔ Wait (key_rules p machine) (StandsAfter (transaction_of machine).figure p events e) e.moment n x
+    stands_next n x = stands-wait (transaction_of machine).figure (coded_holds machine).is_figure p events e n x
 
--- What follows is of the runs of one machine over the events, by the times p.
-module _ (p : Times) (machine : MachineKind) (events : List MachineEvent) where
-  -- where the machine has a run by its rules, it stands somewhere in the words of the standard
-  pub run-stands : (moment : ℕ) → RunsUntil (key_rules p machine) events moment → StandsUntil p machine events moment
-  run-stands moment (y, run) = (y, (stands-runs (transaction_of machine).figure (coded_holds machine).is_figure p events moment y).1 run)
-
-  -- where a run in the words of the standard stands, the machine has one by its rules
-  pub stands-run : (moment : ℕ) → StandsUntil p machine events moment → RunsUntil (key_rules p machine) events moment
-  stands-run moment (y, stands) = (y, (stands-runs (transaction_of machine).figure (coded_holds machine).is_figure p events moment y).0 stands)
-
-  -- What follows is of the last states of the runs that end with the event e.
-  module _ (e : MachineEvent) where
-    -- a last state by the rules
-    abbrev Last : PhaseOf machine → Type 0
-    Last y = AfterRun (key_rules p machine) events e y
-
-    -- a last state in the words of the standard
-    abbrev After : PhaseOf machine → Type 0
-    After y = StandsAfter (transaction_of machine).figure p events e y
-
-    -- too many last states by the rules are too many in the words of the standard
-    pub wide-stands : IsWide Last → AreTooMany machine After
-    wide-stands wide =
-        (wide.many, wide.distinct, wide.wide, All-weaker Last After (λ y last. (stands-after (transaction_of machine).figure (coded_holds machine).is_figure p events e y).1 last) wide.many wide.each)
-
-    -- too many last states in the words of the standard are too many by the rules
-    pub stands-wide : AreTooMany machine After → IsWide Last
-    stands-wide (many, distinct, wide, each) = record {
-      many = many;
-      distinct = distinct;
-      wide = wide;
-      each = All-weaker After Last (λ y after. (stands-after (transaction_of machine).figure (coded_holds machine).is_figure p events e y).0 after) many each;
-    }
+    -- e leads to what it gives from where the runs over the events before it stand
+    pub stands_given : (x : PhaseOf machine)
+        → StandsAfter (transaction_of machine).figure p events e x ↔ RunGives (key_rules p machine) (Stands (transaction_of machine).figure p events e.moment) e x
+    stands_given x = stands-gives (transaction_of machine).figure (coded_holds machine).is_figure p events e x

@@ -1,18 +1,16 @@
 -- The lines that the code writes of a set's states are the lines of a listing.
-use Rattle.std.proofs.Common.{◌≡◌, ◌↔◌, ℕ, List, [], ◌∷◌, All, map, refl, sym, ap, subst}
+use Rattle.std.proofs.Common.{◌≡◌, ℕ, List, [], ◌∷◌, All, map, refl, sym, ap, subst}
 use Rattle.std.proofs.lemmas.List.Elements.{All-weaker}
 use Rattle.sip_standard.specs.Times.{Times}
 use Rattle.sip_machine.specs.Texts.{Texts, Keeps, text_of}
 use Rattle.sip_standard.specs.MachineEvent.{MachineEvent}
 use Rattle.sip_machine.specs.Rules.{Knows, StandFor}
-use Rattle.sip_states.specs.inner.RuledRuns.{AfterRun}
 use Rattle.sip_standard.specs.KeyMachine.{MachineKind, transaction_of}
 use Rattle.sip_standard.specs.Stands.{StandsAfter}
-use Rattle.sip_states.proofs.runs.StandsLemmas.{stands-after}
-use Rattle.sip_states.specs.KeySets.{key_rules}
-use Rattle.sip_states.proofs.keyed.KeySetLaws.{coded_holds, of_machine}
+use Rattle.sip_states.proofs.keyed.KeySetLaws.{of_machine}
 use Rattle.sip_states.specs.Meaning.{IsKnown}
-use Rattle.sip_states.specs.AnySet.{meaning_of, IsKnownSet}
+use Rattle.sip_states.specs.AnySet.{IsKnownSet}
+use Rattle.sip_states.specs.inner.KeySets.{meaning_of}
 use Rattle.sip_states.specs.declared.any_set.AnySet.{AnySet}
 use Rattle.sip_listing.specs.Lists.{Tells, TellsSet, AreLinesOfHeld, AreLinesOfSet, Lists}
 use Rattle.sip_standard.specs.StateLines.{AreInOrder, AreLinesOf}
@@ -55,22 +53,10 @@ stood_lines names InRange seen texts text P xs lines stand in_order = record {
   in_order = subst (λ ts. AreInOrder ts lines) (sym (map-after text (seen texts) xs)) in_order;
 }
 
--- where P and Q hold of the same states, the lines of one are the lines of the other
-lines_alike : {X : Type 0} (text : X → List ℕ) (P Q : X → Type 0) (lines : List (List ℕ)) → ((x : X) → P x ↔ Q x) → AreLinesOf text P lines → AreLinesOf text Q lines
-lines_alike text P Q lines same are = record {
-  states = are.states;
-  members = λ x. (λ among. (same x).0 ((are.members x).0 among), λ holds. (are.members x).1 ((same x).1 holds));
-  distinct = are.distinct;
-  in_order = are.in_order;
-}
-
 -- the lines that list a set are the lines of exactly the states in which its transaction can stand
 pub standing_lines : (number : List ℕ → ℕ) (texts : Texts) (p : Times) (machine : MachineKind) (events : List MachineEvent) (e : MachineEvent) (set : AnySet) (lines : List (List ℕ))
     → StandsOf texts p machine events e set → TellsSet number texts set → Lists set lines → AreLinesOf (state_text machine number) (StandsAfter (transaction_of machine).figure p events e) lines
 standing_lines number texts p machine events e set lines (s, is, stand) told lists =
     -- the lines are those of the set's states, and these are just the ones in which a run may stand after the event
     let listed = of_machine (λ kind held. AreLinesOfHeld number texts kind held lines) machine s (subst (λ x. AreLinesOfSet number texts x lines) is (lists number texts told)) in
-    let same = stands-after (transaction_of machine).figure (coded_holds machine).is_figure p events e in
-    -- what holds by the rules of the machine holds in the words of the standard
-    lines_alike (state_text machine number) (AfterRun (key_rules p machine) events e) (StandsAfter (transaction_of machine).figure p events e) lines (λ y. ((same y).1, (same y).0))
-    (stood_lines _ _ _ texts (state_text machine number) _ s.states lines stand listed)
+    stood_lines _ _ _ texts (state_text machine number) _ s.states lines stand listed

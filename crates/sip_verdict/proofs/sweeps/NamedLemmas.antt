@@ -1,22 +1,18 @@
 -- The states of the sets name just the messages that the runs name.
-use Rattle.std.proofs.Common.{◌≡◌, ◌≤◌, ◌↔◌, ◌⊎◌, inl, inr, ℕ, List, [], ◌∷◌, ◌++◌, Contains, map, refl, sym, ap, ap₂, ◌∙◌, subst}
+use Rattle.std.proofs.Common.{◌≡◌, ◌≤◌, ◌↔◌, inl, inr, ℕ, List, [], ◌∷◌, ◌++◌, Contains, map, refl, sym, ap, ap₂, ◌∙◌, subst}
 use Rattle.std.specs.List.{flat_map}
 use Rattle.std.proofs.lemmas.List.{map-append}
 use Rattle.sip_standard.specs.Times.{Times}
 use Rattle.sip_ledger.specs.declared.debt.Debt.{Debt}
 use Rattle.sip_machine.specs.Texts.{Texts, text_of}
 use Rattle.sip_machine.specs.Owes.{owes_seen, owes_names}
-use Rattle.sip_standard.specs.MachineEvent.{MachineEvent}
-use Rattle.sip_machine.specs.Rules.{MachineRules, IsLawful, StandFor}
-use Rattle.sip_states.specs.Runs.{Wait}
-use Rattle.sip_states.specs.inner.RuledRuns.{RuledRun}
+use Rattle.sip_machine.specs.Rules.{MachineRules, StandFor}
+use Rattle.sip_states.specs.Waits.{Wait}
 use Rattle.sip_standard.specs.KeyMachine.{MachineKind}
-use Rattle.sip_states.specs.KeySets.{coded_of, StateOf}
+use Rattle.sip_states.specs.inner.KeySets.{coded_of, StateOf, meaning_of}
 use Rattle.sip_states.proofs.keyed.KeySetLaws.{coded_holds}
-use Rattle.sip_states.specs.AnySet.{meaning_of}
 use Rattle.sip_states.proofs.lists.Listed.{Contains-map, Contains-from_map, Contains-none}
 use Rattle.sip_states.proofs.keyed.NamesLemmas.{Contains-flat_map, Contains-from_flat_map}
-use Rattle.sip_states.proofs.sets.Waiting.{StaysFrom, EndsFrom, Wait-cases}
 use Rattle.sip_verdict.specs.inner.Leads.{Leads}
 use Rattle.sip_verdict.specs.Named.{messages_of}
 
@@ -24,18 +20,18 @@ use Rattle.sip_verdict.specs.Named.{messages_of}
 abbrev pub IsNumberOf : Texts → List ℕ → List ℕ → Type 0
 IsNumberOf texts numbers text = (n : ℕ) × Contains numbers n × (text_of texts n ≡ text)
 
--- a run over the events stands at the moment in a state that names the text
-abbrev pub RunNames : {X : Type 0} → MachineRules X → (X → List (List ℕ)) → List MachineEvent → ℕ → List ℕ → Type 0
-RunNames {X} r messages events moment text = (y : X) × RuledRun r events moment y × Contains (messages y) text
+-- a run stands at the moment in a state that names the text: `Runs n x` says that one stands in x at n
+abbrev pub RunNames : {X : Type 0} → (ℕ → X → Type 0) → (X → List (List ℕ)) → ℕ → List ℕ → Type 0
+RunNames {X} Runs messages moment text = (y : X) × Runs moment y × Contains (messages y) text
 
 -- What follows is of one machine: `names` is what its states name by number, and `messages` what the phases for which they stand name by text.
 -- `seen` gives what a state stands for beside the book `texts`, and InRange says that its moments are within the limits.
 module _ {X S : Type 0} (names : S → List ℕ) (InRange : S → Type 0) (seen : Texts → S → X) (messages : X → List (List ℕ))
-    (named : (texts : Texts) (x : S) → messages (seen texts x) ≡ map (text_of texts) (names x)) (texts : Texts) (r : MachineRules X) (events : List MachineEvent) where
+    (named : (texts : Texts) (x : S) → messages (seen texts x) ≡ map (text_of texts) (names x)) (texts : Texts) (r : MachineRules X) (Runs : ℕ → X → Type 0) where
   -- once a set that leads to the runs has waited until a moment, its states name just what the states of the runs name there
-  pub waited_names : (from at moment : ℕ) (old new : List S) → from ≤ moment → at ≤ moment → Leads names seen texts r events from at old
+  pub waited_names : (from at moment : ℕ) (old new : List S) → from ≤ moment → at ≤ moment → Leads names seen texts r Runs from at old
       → StandFor names InRange seen texts (Wait r (Contains (map (seen texts) old)) at moment) new → (text : List ℕ)
-      → RunNames r messages events moment text ↔ IsNumberOf texts (flat_map names new) text
+      → RunNames Runs messages moment text ↔ IsNumberOf texts (flat_map names new) text
   waited_names from at moment old new late low leads stand text = (
     -- y is a state of a run that names the text: x, one of the new states, stands for it, and n is the number of the text among the names of x
     λ h. let (y, run, has) = h in
@@ -55,12 +51,12 @@ module _ {X S : Type 0} (names : S → List ℕ) (InRange : S → Type 0) (seen 
   )
 
   -- a set that names nothing leads to runs whose states name nothing, however long they wait
-  pub silent_names : (from at moment : ℕ) (old : List S) → IsLawful r → from ≤ moment → at ≤ moment → Leads names seen texts r events from at old → messages r.ended ≡ [] → flat_map names old ≡ [] → (text : List ℕ)
-      → RunNames r messages events moment text → ⊥
-  silent_names from at moment old lawful late low leads rests silent text (y, run, has) = go ((Wait-cases r lawful (Contains (map (seen texts) old)) at moment y).0 ((leads.runs moment y late low).1 run))
+  pub silent_names : (from at moment : ℕ) (old : List S) → from ≤ moment → at ≤ moment → Leads names seen texts r Runs from at old → messages r.ended ≡ [] → flat_map names old ≡ [] → (text : List ℕ)
+      → RunNames Runs messages moment text → ⊥
+  silent_names from at moment old late low leads rests silent text (y, run, has) = go ((leads.runs moment y late low).1 run)
     where
       -- the wait cannot lead to a state that names the message, whether it stays or ends
-      go : StaysFrom r (Contains (map (seen texts) old)) at moment y ⊎ EndsFrom r (Contains (map (seen texts) old)) at moment y → ⊥
+      go : Wait r (Contains (map (seen texts) old)) at moment y → ⊥
       -- the state is one of the set, which names nothing; or it is the ended one, which names nothing either
       go (inl stays) =
           -- x would be a state of the set that names the text by the number n, while the set names nothing

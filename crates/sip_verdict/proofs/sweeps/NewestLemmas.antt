@@ -8,17 +8,17 @@ use Rattle.std.proofs.lemmas.List.Elements.{All-contains, All-head, All-tail, Al
 use Rattle.sip_standard.specs.Key.{KeyParts}
 use Rattle.sip_standard.specs.Times.{Times}
 use Rattle.sip_standard.specs.MachineEvent.{MachineEvent}
-use Rattle.sip_standard.specs.KeyMachine.{MachineKind, machine_of_key}
+use Rattle.sip_standard.specs.KeyMachine.{MachineKind, machine_of_key, transaction_of}
 use Rattle.sip_standard.specs.Observation.{Observation}
 use Rattle.sip_machine.specs.Texts.{Texts, Keeps, text_of}
 use Rattle.sip_machine.specs.Rules.{Knows}
 use Rattle.sip_machine.proofs.rules.RuleLaws.{AgreeOn, StandFor-book}
 use Rattle.sip_machine.proofs.texts.TextLaws.{Keeps-grow, Keeps-grow_cases, text_of-grow}
-use Rattle.sip_states.specs.KeySets.{key_rules, StateOf, set_of}
-use Rattle.sip_states.specs.inner.RuledRuns.{AfterRun}
+use Rattle.sip_states.specs.inner.KeySets.{StateOf, set_of, meaning_of}
+use Rattle.sip_standard.specs.Stands.{Stands, StandsAfter}
 use Rattle.sip_states.specs.Held.{Held}
 use Rattle.sip_states.specs.Meaning.{IsKnown}
-use Rattle.sip_states.specs.AnySet.{meaning_of, IsKnownSet}
+use Rattle.sip_states.specs.AnySet.{IsKnownSet}
 use Rattle.sip_states.specs.Sweep.{numbers_of}
 use Rattle.sip_states.specs.Tables.{Tabled}
 use Rattle.sip_states.specs.declared.any_set.AnySet.{AnySet}
@@ -99,7 +99,7 @@ module _ (number : ℕ) (bytes : List ℕ) (new : Texts) where
         record {
           -- the set has the same machine, and its states stand for the same without the message
           machine_is = leads.machine_is;
-          leads = Leads-book m.names m.seen (seen_by_names_of machine) old new (m.rules p) events from s.moment s.states (agree machine s (unnamed_of machine s set is unnamed) leads.leads.known) leads.leads;
+          leads = Leads-book m.names m.seen (seen_by_names_of machine) old new (m.rules p) (Stands (transaction_of machine).figure p events) from s.moment s.states (agree machine s (unnamed_of machine s set is unnamed) leads.leads.known) leads.leads;
         },
       )
 
@@ -109,7 +109,7 @@ module _ (number : ℕ) (bytes : List ℕ) (new : Texts) where
       let m = meaning_of machine in (
         s,
         is,
-        StandFor-book m.names m.in_range m.seen (seen_by_names_of machine) old new (AfterRun (key_rules p machine) events e) s.states (agree machine s (unnamed_of machine s set is unnamed) stand.known) stand,
+        StandFor-book m.names m.in_range m.seen (seen_by_names_of machine) old new (StandsAfter (transaction_of machine).figure p events e) s.states (agree machine s (unnamed_of machine s set is unnamed) stand.known) stand,
       )
 
   -- What follows is of the tables t, none of whose sets names the dropped message, each set beside its key.

@@ -1,7 +1,7 @@
 -- In a sweep the sets wait, and the book keeps what they name: the sets lead to the same runs, and their last moments stay.
 -- In the lemmas r are the rules of a machine, `at`, h and moment are moments, x is a state, and a and b are two books.
 -- Of one transaction s is the set before the wait, t the set after it, m what the states of its machine mean, and n the number of a message.
-use Rattle.std.proofs.Common.{◌≡◌, ◌≤◌, ◌<◌, ◌↔◌, ◌⊎◌, inl, inr, ℕ, Option, List, All, AllPairs, Contains, map, get_or, refl, sym, ap, ◌∙◌, subst, arith}
+use Rattle.std.proofs.Common.{◌≡◌, ◌≤◌, ◌<◌, ◌↔◌, inl, inr, ℕ, Option, List, All, AllPairs, Contains, map, get_or, refl, sym, ap, ◌∙◌, subst, arith}
 use Rattle.std.specs.List.{flat_map}
 use Rattle.std.proofs.lemmas.List.Elements.{Contains-get_or}
 use Rattle.sip_standard.specs.Times.{Times}
@@ -12,16 +12,17 @@ use Rattle.sip_machine.specs.Limits.{IsWithin, IsOpenAt}
 use Rattle.sip_machine.specs.Rules.{MachineRules, IsLawful, StandFor}
 use Rattle.sip_machine.specs.inner.OwingLaws.{window_same, until_same}
 use Rattle.sip_machine.proofs.texts.RetainLemmas.{only-Keeps, text_of-only}
-use Rattle.sip_states.specs.Runs.{Wait, IsAgenda}
+use Rattle.sip_states.specs.Waits.{Wait, IsAgenda}
 use Rattle.sip_standard.specs.KeyMachine.{MachineKind, transaction_of}
-use Rattle.sip_states.specs.KeySets.{coded_of, StateOf}
+use Rattle.sip_standard.specs.Stands.{Stands}
+use Rattle.sip_states.specs.inner.KeySets.{coded_of, StateOf, meaning_of}
 use Rattle.sip_states.proofs.keyed.KeySetLaws.{coded_holds}
 use Rattle.sip_states.specs.Meaning.{IsKnown, HasWaited, HasAgenda}
-use Rattle.sip_states.specs.AnySet.{meaning_of, moment_of, SetWaits, IsKnownSet, IsAgendaOf}
+use Rattle.sip_states.specs.AnySet.{moment_of, SetWaits, IsKnownSet, IsAgendaOf}
 use Rattle.sip_states.specs.Sweep.{numbers_of, IsAdvanced}
 use Rattle.sip_states.specs.declared.any_set.AnySet.{AnySet}
 use Rattle.sip_states.proofs.lists.Listed.{Contains-map, Contains-from_map}
-use Rattle.sip_states.proofs.sets.Waiting.{StaysFrom, EndsFrom, Wait-cases, Wait-stay, Wait-end, Wait-iff}
+use Rattle.sip_states.proofs.sets.Waiting.{Wait-iff}
 use Rattle.sip_states.proofs.lists.Twice.{Wait-twice}
 use Rattle.sip_verdict.specs.inner.Leads.{Leads}
 use Rattle.sip_verdict.specs.inner.TablesTracking.{LeadsOf}
@@ -30,9 +31,9 @@ use Rattle.sip_states.proofs.keyed.ByMachine.{some_machine, lawful_of, moment_is
 use Rattle.sip_states.proofs.keyed.NamesLemmas.{Contains-flat_map}
 
 -- a set that leads to the runs leads to them after it has waited until a later moment
-pub waited_leads : {X S : Type 0} (names : S → List ℕ) (InRange : S → Type 0) (seen : Texts → S → X) (texts : Texts) (r : MachineRules X) → IsLawful r → (events : List MachineEvent) (from at moment : ℕ) (old new : List S) → at ≤ moment
-    → Leads names seen texts r events from at old → StandFor names InRange seen texts (Wait r (Contains (map (seen texts) old)) at moment) new → Leads names seen texts r events from moment new
-waited_leads names InRange seen texts r lawful events from at moment old new low leads stand = record {
+pub waited_leads : {X S : Type 0} (names : S → List ℕ) (InRange : S → Type 0) (seen : Texts → S → X) (texts : Texts) (r : MachineRules X) → IsLawful r → (Runs : ℕ → X → Type 0) (from at moment : ℕ) (old new : List S) → at ≤ moment
+    → Leads names seen texts r Runs from at old → StandFor names InRange seen texts (Wait r (Contains (map (seen texts) old)) at moment) new → Leads names seen texts r Runs from moment new
+waited_leads names InRange seen texts r lawful Runs from at moment old new low leads stand = record {
   -- to wait on from the new states is to wait from the old ones, and that is where the runs stand
   known = stand.known;
   runs = λ n x late later.
@@ -43,10 +44,10 @@ waited_leads names InRange seen texts r lawful events from at moment old new low
 -- a set leads to the same runs beside the book with some of its messages alone, where these are all that the set names
 -- a and b are any two books that agree on what the state x names
 pub kept_leads : {X S : Type 0} (names : S → List ℕ) (seen : Texts → S → X) → ((a b : Texts) (x : S) → ((n : ℕ) → Contains (names x) n → text_of a n ≡ text_of b n) → seen a x ≡ seen b x)
-    → (texts : Texts) (numbers : List ℕ) → IsBook texts → AllPairs (λ a b. a < b) numbers → All (Keeps texts) numbers → (r : MachineRules X) (events : List MachineEvent) (from moment : ℕ) (states : List S)
-    → ((n : ℕ) → Contains (flat_map names states) n → Contains numbers n) → Leads names seen texts r events from moment states → Leads names seen (only numbers texts) r events from moment states
-kept_leads names seen by_names texts numbers book up kept r events from moment states within leads =
-    Leads-book names seen by_names texts (only numbers texts) r events from moment states
+    → (texts : Texts) (numbers : List ℕ) → IsBook texts → AllPairs (λ a b. a < b) numbers → All (Keeps texts) numbers → (r : MachineRules X) (Runs : ℕ → X → Type 0) (from moment : ℕ) (states : List S)
+    → ((n : ℕ) → Contains (flat_map names states) n → Contains numbers n) → Leads names seen texts r Runs from moment states → Leads names seen (only numbers texts) r Runs from moment states
+kept_leads names seen by_names texts numbers book up kept r Runs from moment states within leads =
+    Leads-book names seen by_names texts (only numbers texts) r Runs from moment states
     (λ k d low n has.
     -- what a state names is among the numbers, so that the smaller book has it, with the same bytes
     (let among : Contains numbers n = within n (Contains-flat_map names states (get_or states k d) n (Contains-get_or states k d low) has) in
@@ -64,14 +65,14 @@ module _ (texts : Texts) (numbers : List ℕ) (book : IsBook texts) (up : AllPai
       let not_later : s.moment ≤ moment = subst (λ n. n ≤ moment) (ap moment_of is ∙ moment_is machine s) low in
       -- the set that has waited leads to the same runs
       let stand = subst (λ q. StandFor m.names m.in_range m.seen texts (Wait (m.rules q) (Contains (map (m.seen texts) s.states)) s.moment moment) t.states) leads.machine_is (waited.states texts book leads.leads.known) in
-      let leads_on = waited_leads m.names m.in_range m.seen texts (m.rules p) (lawful_of machine p) events from s.moment moment s.states t.states not_later leads.leads stand in
-      let here = subst (λ n. Leads m.names m.seen texts (m.rules p) events from n t.states) (sym waited.at) leads_on in (
+      let leads_on = waited_leads m.names m.in_range m.seen texts (m.rules p) (lawful_of machine p) (Stands (transaction_of machine).figure p events) from s.moment moment s.states t.states not_later leads.leads stand in
+      let here = subst (λ n. Leads m.names m.seen texts (m.rules p) (Stands (transaction_of machine).figure p events) from n t.states) (sym waited.at) leads_on in (
         t,
         new_is,
         -- the states of the set mean the same beside the messages that are kept
         record {
           machine_is = waited.machine ∙ leads.machine_is;
-          leads = kept_leads m.names m.seen (seen_by_names_of machine) texts numbers book up kept (m.rules p) events from t.moment t.states
+          leads = kept_leads m.names m.seen (seen_by_names_of machine) texts numbers book up kept (m.rules p) (Stands (transaction_of machine).figure p events) from t.moment t.states
               (λ n has. within n (subst (λ ns. Contains ns n) (sym (ap numbers_of new_is ∙ numbers_are machine t)) has)) here;
         },
       )
@@ -82,7 +83,7 @@ module _ (texts : Texts) (numbers : List ℕ) (book : IsBook texts) (up : AllPai
         same ∙ is,
         record {
           machine_is = leads.machine_is;
-          leads = kept_leads m.names m.seen (seen_by_names_of machine) texts numbers book up kept (m.rules p) events from s.moment s.states
+          leads = kept_leads m.names m.seen (seen_by_names_of machine) texts numbers book up kept (m.rules p) (Stands (transaction_of machine).figure p events) from s.moment s.states
               (λ n has. within n (subst (λ ns. Contains ns n) (sym (ap numbers_of (same ∙ is) ∙ numbers_are machine s)) has)) leads.leads;
         },
       )
@@ -90,20 +91,20 @@ module _ (texts : Texts) (numbers : List ℕ) (book : IsBook texts) (up : AllPai
 -- What follows shows that the end of a wait does not depend on the book: by the rules r what a state stands for, as `seen` gives it, may end in the same
 -- window and wait until the same moment beside each book.
 
-module _ {X S : Type 0} (seen : Texts → S → X) (r : MachineRules X) (lawful : IsLawful r) (window_same : (a b : Texts) (x : S) → r.window (seen a x) ≡ r.window (seen b x))
+module _ {X S : Type 0} (seen : Texts → S → X) (r : MachineRules X) (window_same : (a b : Texts) (x : S) → r.window (seen a x) ≡ r.window (seen b x))
     (until_same : (a b : Texts) (x : S) → r.until (seen a x) ≡ r.until (seen b x)) where
   -- where some state comes of a wait beside one book, some state comes of it beside the other
   -- a and b are the books, h is the moment of the states, and y a state of the rules at the moment m
   some_wait : (a b : Texts) (states : List S) (h m : ℕ) → ((y : X) × Wait r (Contains (map (seen a) states)) h m y) → (y : X) × Wait r (Contains (map (seen b) states)) h m y
-  some_wait a b states h m (y, wait) = go ((Wait-cases r lawful (Contains (map (seen a) states)) h m y).0 wait)
+  some_wait a b states h m (y, wait) = go wait
     where
       -- the run waits on by the other book, whether it stays or ends
-      go : StaysFrom r (Contains (map (seen a) states)) h m y ⊎ EndsFrom r (Contains (map (seen a) states)) h m y → (y : X) × Wait r (Contains (map (seen b) states)) h m y
+      go : Wait r (Contains (map (seen a) states)) h m y → (y : X) × Wait r (Contains (map (seen b) states)) h m y
       go (inl stays) =
           -- the state stays: it can be waited in until the same moment beside both books
           let (x, among, is) = Contains-from_map (seen a) states y stays.among in (
             seen b x,
-            Wait-stay r (Contains (map (seen b) states)) h m (seen b x) (record {
+            inl (record {
               among = Contains-map (seen b) states x among;
               reached = stays.reached;
               waits = subst (IsWithin m) (ap r.until (sym is) ∙ until_same a b x) stays.waits;
@@ -113,7 +114,7 @@ module _ {X S : Type 0} (seen : Texts → S → X) (r : MachineRules X) (lawful 
       go (inr ends) =
           let (x, among, is) = Contains-from_map (seen a) states ends.start ends.among in (
             r.ended,
-            Wait-end r lawful (Contains (map (seen b) states)) h m r.ended (record {
+            inr (record {
               start = seen b x;
               among = Contains-map (seen b) states x among;
               -- it ends at the same moment, in the same window
@@ -171,4 +172,4 @@ swept_agenda texts book moment old new low (inl waits) known limit agenda =
     subst (IsAgendaOf limit) (sym new_is) (to_set (λ X M S m s. HasAgenda m limit s) machine t (λ other.
     subst (λ q. IsAgenda (m.rules q) (Contains (map (m.seen other) t.states)) t.moment limit) (sym waited.machine)
     (subst (λ n. IsAgenda r (Contains (map (m.seen other) t.states)) n limit) (sym waited.at)
-    (agenda_any m.seen r (lawful_of machine s.machine) (window_of machine s.machine) (until_of machine s.machine) texts other t.states moment limit now))))
+    (agenda_any m.seen r (window_of machine s.machine) (until_of machine s.machine) texts other t.states moment limit now))))

@@ -10,7 +10,8 @@ use Rattle.sip_machine.specs.Rules.{Knows}
 use Rattle.sip_machine.proofs.texts.RetainLemmas.{only-Keeps}
 use Rattle.sip_standard.specs.KeyMachine.{machine_of_key}
 use Rattle.sip_states.specs.Meaning.{HasWaited, IsKnown}
-use Rattle.sip_states.specs.AnySet.{meaning_of, moment_of, SetWaits, IsKnownSet}
+use Rattle.sip_states.specs.AnySet.{moment_of, SetWaits, IsKnownSet}
+use Rattle.sip_states.specs.inner.KeySets.{meaning_of}
 use Rattle.sip_states.specs.Sweep.{numbers_of, IsAdvanced, AdvancesAll, AppendsNamed}
 use Rattle.sip_states.specs.Tables.{Tabled}
 use Rattle.sip_states.specs.declared.any_set.AnySet.{AnySet}

@@ -14,7 +14,6 @@ use Rattle.sip_standard.specs.Times.{Times}
 use Rattle.sip_machine.specs.Texts.{Texts}
 use Rattle.sip_machine.specs.NumberedEvent.{NumberedEvent, event_in}
 use Rattle.sip_standard.specs.KeyMachine.{machine_of_key}
-use Rattle.sip_states.specs.KeySets.{key_rules}
 use Rattle.sip_states.specs.AnySet.{moment_of}
 use Rattle.sip_states.specs.Agenda.{is_overdue}
 use Rattle.sip_states.specs.Tables.{Tabled, IsGiven, due_of}
@@ -127,7 +126,7 @@ module _ (texts : Texts) (p : Times) (es : List (Observation KeyParts)) (e : Obs
     left : IsPassed p k es e (mine.0, own.after) one
     left =
         own_passed p k es e (mine.0, own.after) before.0 one
-        (subst (λ f. IsStepped (key_rules p (machine_of_key p.rules mine.0)) (events_for mine.0 es) f (λ fs. LeadsOf texts p (machine_of_key p.rules mine.0) fs f.moment own.after)
+        (subst (λ f. IsStepped p (machine_of_key p.rules mine.0) (events_for mine.0 es) f (λ fs. LeadsOf texts p (machine_of_key p.rules mine.0) fs f.moment own.after)
         (λ f. StandsOf texts p (machine_of_key p.rules mine.0) (events_for mine.0 es) f own.after) one) (sym (is_event place mine.0 mine.1))
         (own.stepped p (machine_of_key p.rules mine.0) (events_for mine.0 es) (newest_moment es) late before.1))
 
@@ -224,7 +223,7 @@ module _ (texts : Texts) (p : Times) (es : List (Observation KeyParts)) (e : Obs
     late None on is = absurd (false≢true is)
     late (Some limit) on is = λ run.
         overdue_none texts p (machine_of_key p.rules key) (events_for key es) (newest_moment es) s leads limit (recorded.each n s (Some limit) here on) moment newest low is
-        (subst (RunsUntil (key_rules p (machine_of_key p.rules key)) (events_for key es)) at_moment (run_still p (key_keeping texts p) es e (key, s) run))
+        (subst (RunsUntil p (machine_of_key p.rules key) (events_for key es)) at_moment (run_still p (key_keeping texts p) es e (key, s) run))
 
     -- a key whose last moment is not past, and that is not to hear the event, goes on over e
     -- only a key that is to hear the event lacks a record
@@ -236,7 +235,7 @@ module _ (texts : Texts) (p : Times) (es : List (Observation KeyParts)) (e : Obs
         waits_on : concerns_number hearing (n + 1) ≡ false → GoesOn p (key_keeping texts p) es e (key, s)
         waits_on apart =
             other_passed p (key_keeping texts p) es e (key, s) ((told n key at).concerned ∙ apart)
-            (subst (RunsUntil (key_rules p (machine_of_key p.rules key)) (events_for key es)) (sym at_moment)
+            (subst (RunsUntil p (machine_of_key p.rules key) (events_for key es)) (sym at_moment)
             (in_time_some texts p (machine_of_key p.rules key) (events_for key es) (newest_moment es) s leads limit (recorded.each n s (Some limit) here on) moment newest low is))
             (leads_later texts p (machine_of_key p.rules key) (events_for key es) (newest_moment es) e.event.moment s (omega (arith, newest, at_moment)) leads)
 
@@ -345,7 +344,7 @@ quiet_others texts p es e moment h t may told ready newest hear numbers hearers 
         -- the set is quiet, since it need not hear the restart, and so it passes it as it is
         let stepped = quiet_stepped texts p machine events (newest_moment es) s leads (hearers.others every n s here none) h.event (hear.restart every) (omega (arith, newest, hear.at)) (omega (arith, low, hear.at)) in
         own_passed p k es e (key, s) ((told n key at).concerned ∙ ap (λ b. b || is_among (each h.concerned) (n + 1)) every) all.Fine
-        (subst (λ f. IsStepped (key_rules p machine) events f (λ fs. LeadsOf texts p machine fs f.moment s) (λ g. StandsOf texts p machine events g s) all.Fine) (sym (told n key at).event) stepped)
+        (subst (λ f. IsStepped p machine events f (λ fs. LeadsOf texts p machine fs f.moment s) (λ g. StandsOf texts p machine events g s) all.Fine) (sym (told n key at).event) stepped)
 
     -- the event does not concern the transaction, or the transaction goes on, whether or not the event is a restart, which concerns all
     by_all : (b : Bool) → is_all h.concerned ≡ b → (concerns_number (Some h) (n + 1) ≡ false) ⊎ GoesOn p k es e (key, s)

@@ -1,5 +1,5 @@
 -- What the sets of the tables name, once they have waited, is what is named in the log.
-use Rattle.std.proofs.Common.{◌≡◌, ◌≤◌, ◌<◌, ◌↔◌, ◌⊎◌, inl, inr, ℕ, Bool, true, false, Some, List, [], All, AllPairs, Contains, map, length, slice_get, get_or, refl, sym, ap, ◌∙◌, subst, arith}
+use Rattle.std.proofs.Common.{◌≡◌, ◌≤◌, ◌<◌, ◌↔◌, inl, inr, ℕ, Bool, true, false, Some, List, [], All, AllPairs, Contains, map, length, slice_get, get_or, refl, sym, ap, ◌∙◌, subst, arith}
 use Rattle.std.specs.List.{flat_map, list_any}
 use Rattle.std.proofs.lemmas.List.{length-map, get_or-map}
 use Rattle.std.proofs.lemmas.Option.{slice_get_within, get_or_from_slice_get, slice_get-get_or}
@@ -8,28 +8,25 @@ use Rattle.sip_standard.specs.Times.{Times}
 use Rattle.sip_machine.specs.Texts.{Texts, IsBook, Keeps, text_of}
 use Rattle.sip_machine.specs.Retained.{only}
 use Rattle.sip_standard.specs.MachineEvent.{MachineEvent}
-use Rattle.sip_machine.specs.Rules.{MachineRules, IsLawful, StandFor}
+use Rattle.sip_machine.specs.Rules.{MachineRules, StandFor}
 use Rattle.sip_machine.proofs.texts.RetainLemmas.{length-only}
-use Rattle.sip_states.specs.Runs.{Wait}
-use Rattle.sip_states.specs.inner.RuledRuns.{RuledRun}
+use Rattle.sip_states.specs.Waits.{Wait}
 use Rattle.sip_states.specs.Held.{Held}
 use Rattle.sip_standard.specs.KeyMachine.{MachineKind, machine_of_key, transaction_of}
-use Rattle.sip_states.specs.KeySets.{PhaseOf, StateOf, key_rules}
-use Rattle.sip_states.proofs.keyed.KeySetLaws.{coded_holds}
+use Rattle.sip_states.specs.inner.KeySets.{StateOf, meaning_of}
+use Rattle.sip_states.specs.KeyRules.{PhaseOf, key_rules}
 use Rattle.sip_states.specs.Meaning.{HasWaited}
-use Rattle.sip_states.specs.AnySet.{meaning_of, moment_of, SetWaits}
+use Rattle.sip_states.specs.AnySet.{moment_of, SetWaits}
 use Rattle.sip_states.specs.Sweep.{numbers_of, IsAdvanced}
 use Rattle.sip_states.specs.Tables.{Tabled}
 use Rattle.sip_states.specs.declared.any_set.AnySet.{AnySet}
 use Rattle.sip_states.proofs.lists.Listed.{Contains-none, Contains-map, Contains-from_map}
-use Rattle.sip_states.proofs.runs.RunLemmas.{Run-wait_first}
-use Rattle.sip_states.proofs.sets.Waiting.{StaysFrom, EndsFrom, Wait-cases, IsOpenAt-none}
+use Rattle.sip_states.proofs.sets.Waiting.{IsOpenAt-none}
 use Rattle.sip_standard.specs.Observation.{Observation}
 use Rattle.sip_standard.specs.VerdictOf.{keys_in, events_for}
 use Rattle.sip_verdict.specs.Entries.{newest_moment}
 use Rattle.sip_standard.specs.Stands.{Stands}
-use Rattle.sip_states.proofs.runs.StandsLemmas.{stands-runs}
-use Rattle.sip_verdict.proofs.keys.Leading.{iff_trans}
+use Rattle.sip_verdict.proofs.keys.RunsStand.{stands_first}
 use Rattle.sip_verdict.specs.Named.{IsNamed, AreMany, messages_of}
 use Rattle.sip_verdict.specs.inner.TablesTracking.{LeadsOf, key_keeping, transactions_of, TablesTrack}
 use Rattle.sip_verdict.specs.inner.Tracking.{IsReady}
@@ -41,30 +38,24 @@ use Rattle.sip_verdict.proofs.sweeps.NamedLemmas.{RunNames, IsNumberOf, waited_n
 
 -- a run over no event stands in the first state
 -- y is the state in which the run stands at the moment m
-stays_first : {X : Type 0} (r : MachineRules X) → IsLawful r → (m : ℕ) (y : X) → RuledRun r [] m y → y ≡ r.first
-stays_first {X} r lawful m y run = go ((Wait-cases r lawful (λ x. x ≡ r.first) 0 m y).0 ((Run-wait_first r m y).0 run))
+stays_first : (p : Times) (machine : MachineKind) (m : ℕ) (y : PhaseOf machine) → Stands (transaction_of machine).figure p [] m y → y ≡ (key_rules p machine).first
+stays_first p machine m y run = go ((stands_first p machine m y).0 run)
   where
     -- a run over no event stays in the first state, which has no end
-    go : StaysFrom r (λ x. x ≡ r.first) 0 m y ⊎ EndsFrom r (λ x. x ≡ r.first) 0 m y → y ≡ r.first
+    go : Wait (key_rules p machine) (λ x. x ≡ (key_rules p machine).first) 0 m y → y ≡ (key_rules p machine).first
     go (inl stays) = stays.among
-    go (inr ends) = absurd (IsOpenAt-none ends.at (r.window ends.start) (ap r.window ends.among ∙ lawful.first_has_no_end) ends.hides.opened)
+    go (inr ends) =
+        absurd (IsOpenAt-none ends.at ((key_rules p machine).window ends.start) (ap (key_rules p machine).window ends.among ∙ (lawful_of machine p).first_has_no_end) ends.hides.opened)
 
 -- a run of the machine over the events stands at the moment in a state that names the text
 abbrev pub StandsNaming : Times → MachineKind → List MachineEvent → ℕ → List ℕ → Type 0
-StandsNaming p machine events moment text = (y : PhaseOf machine) × Stands (transaction_of machine).figure p events moment y × Contains (messages_of machine y) text
-
--- a state of a run in the words of the standard names the text exactly if one of a run by the machine's rules does
-names_stand : (p : Times) (machine : MachineKind) (events : List MachineEvent) (moment : ℕ) (text : List ℕ) → StandsNaming p machine events moment text ↔ RunNames (key_rules p machine) (messages_of machine) events moment text
-names_stand p machine events moment text =
-    let same = stands-runs (transaction_of machine).figure (coded_holds machine).is_figure p events moment in
-    (λ h. (h.0, (same h.0).0 h.1, h.2), λ h. (h.0, (same h.0).1 h.1, h.2))
+StandsNaming p machine events moment text = RunNames (Stands (transaction_of machine).figure p events) (messages_of machine) moment text
 
 -- a transaction without events names no message
 pub no_events_silent : (p : Times) (moment : ℕ) (machine : MachineKind) (events : List MachineEvent) (text : List ℕ) → events ≡ [] → StandsNaming p machine events moment text → ⊥
 no_events_silent p moment machine events text none named =
-    let q = (meaning_of machine).rules p in
-    let (y, run, has) = (names_stand p machine [] moment text).0 (subst (λ es. StandsNaming p machine es moment text) none named) in
-    Contains-none text (subst (λ ts. Contains ts text) (ap (messages_of machine) (stays_first q (lawful_of machine p) moment y run) ∙ first_silent machine p) has)
+    let (y, run, has) = subst (λ es. StandsNaming p machine es moment text) none named in
+    Contains-none text (subst (λ ts. Contains ts text) (ap (messages_of machine) (stays_first p machine moment y run) ∙ first_silent machine p) has)
 
 -- where P holds of just the texts with these numbers, as many texts satisfy P as the book keeps messages under them
 pub many_texts : (texts : Texts) → IsBook texts → (P : List ℕ → Type 0) (all : List ℕ) → ((text : List ℕ) → P text ↔ IsNumberOf texts all text) → (numbers : List ℕ) → AllPairs (λ a b. a < b) numbers
@@ -108,26 +99,26 @@ module _ (texts : Texts) (book : IsBook texts) (p : Times) (moment : ℕ) where
     not_later = subst (λ n. n ≤ moment) (ap moment_of leads.1 ∙ moment_is machine held) low
 
     -- for a set that has waited until the moment, the runs name the text exactly if the set names its number
-    by_set : IsAdvanced moment old new → RunNames r (messages_of machine) events moment text ↔ IsNumberOf texts (numbers_of new) text
+    by_set : IsAdvanced moment old new → StandsNaming p machine events moment text ↔ IsNumberOf texts (numbers_of new) text
     by_set (inl waits) =
         -- the set has waited: t is what it has become, and its states stand for those in which a wait from the old ones ends
         let m = meaning_of machine in
         let (t, new_is, waited) = of_sets (λ X M S m s u. HasWaited m moment s u) machine held new (subst (λ o. SetWaits moment o new) leads.1 waits) in
         let stand = subst (λ q. StandFor m.names m.in_range m.seen texts (Wait (m.rules q) (Contains (map (m.seen texts) held.states)) held.moment moment) t.states) leads.2.machine_is
         (waited.states texts book leads.2.leads.known) in
-        subst (λ ns. RunNames r (messages_of machine) events moment text ↔ IsNumberOf texts ns text) (sym (ap numbers_of new_is ∙ numbers_are machine t))
-        (waited_names m.names m.in_range m.seen (messages_of machine) (named_of machine) texts r events from held.moment moment held.states t.states late not_later leads.2.leads stand text)
+        subst (λ ns. StandsNaming p machine events moment text ↔ IsNumberOf texts ns text) (sym (ap numbers_of new_is ∙ numbers_are machine t))
+        (waited_names m.names m.in_range m.seen (messages_of machine) (named_of machine) texts r (Stands (transaction_of machine).figure p events) from held.moment moment held.states t.states late not_later leads.2.leads stand text)
     -- a set that did not wait names nothing, and so do its runs
     by_set (inr (same, silent)) = (
       λ run. absurd (let m = meaning_of machine in
-          silent_names m.names m.in_range m.seen (messages_of machine) (named_of machine) texts r events from held.moment moment held.states (lawful_of machine p) late not_later leads.2.leads
+          silent_names m.names m.in_range m.seen (messages_of machine) (named_of machine) texts r (Stands (transaction_of machine).figure p events) from held.moment moment held.states late not_later leads.2.leads
           (ended_silent machine p) (sym (numbers_are machine held) ∙ ap numbers_of (sym leads.1) ∙ silent) text run),
       λ h. absurd (Contains-none h.0 (subst (λ ns. Contains ns h.0) (ap numbers_of same ∙ silent) h.1)),
     )
 
     -- what runs of the key name is what its set names once it has waited
     pub key_named : IsAdvanced moment old new → StandsNaming p machine events moment text ↔ IsNumberOf texts (numbers_of new) text
-    key_named advanced = iff_trans (names_stand p machine events moment text) (by_set advanced)
+    key_named advanced = by_set advanced
 
   -- What follows is of all keys of the entries es: t are the tables before the wait, and u after it.
   -- `advanced` says that each set has waited until the moment, or stayed as it was and names nothing.

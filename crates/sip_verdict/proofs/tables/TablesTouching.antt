@@ -12,10 +12,11 @@ use Rattle.sip_key.specs.inner.KeyLaws.{same_key-decides}
 use Rattle.sip_standard.specs.Times.{Times}
 use Rattle.sip_machine.specs.Texts.{Texts, Keeps}
 use Rattle.sip_machine.specs.NumberedEvent.{event_in}
-use Rattle.sip_standard.specs.KeyMachine.{MachineKind, machine_of_key}
-use Rattle.sip_states.specs.KeySets.{held_at_start}
+use Rattle.sip_standard.specs.KeyMachine.{MachineKind, machine_of_key, transaction_of}
+use Rattle.sip_standard.specs.Stands.{Stands}
+use Rattle.sip_states.specs.inner.KeySets.{held_at_start, meaning_of}
 use Rattle.sip_states.specs.Meaning.{IsKnown}
-use Rattle.sip_states.specs.AnySet.{moment_of, IsKnownSet, start_of, meaning_of}
+use Rattle.sip_states.specs.AnySet.{moment_of, IsKnownSet, start_of}
 use Rattle.sip_states.specs.Tables.{Tabled, Touches, with_key}
 use Rattle.sip_states.specs.declared.any_set.AnySet.{AnySet}
 use Rattle.sip_verdict.specs.declared.passing.Hearing.{Hearing}
@@ -27,6 +28,7 @@ use Rattle.sip_verdict.specs.inner.TablesTracking.{LeadsOf, key_keeping, transac
 use Rattle.sip_verdict.specs.inner.Concerned.{each, is_all}
 use Rattle.sip_verdict.proofs.keys.Keys.{contains-among}
 use Rattle.sip_verdict.proofs.keys.Leading.{Leads-start}
+use Rattle.sip_verdict.proofs.keys.RunsStand.{stands_first}
 use Rattle.sip_states.proofs.keyed.ByMachine.{first_of, first_is_of, first_knows, moment_is, to_set}
 use Rattle.sip_states.proofs.lists.Places.{push_place}
 use Rattle.sip_verdict.proofs.tables.TablesPassing.{keys_are, among_first, among_rest}
@@ -148,7 +150,7 @@ module _ (texts : Texts) (p : Times) where
       let m = meaning_of machine in (
         held_at_start p machine,
         refl,
-        record { machine_is = refl; leads = Leads-start m.names m.seen texts (m.rules p) (first_of machine) (first_is_of machine texts p) (first_knows machine texts) from },
+        record { machine_is = refl; leads = Leads-start m.names m.seen texts (m.rules p) (Stands (transaction_of machine).figure p []) (stands_first p machine) (first_of machine) (first_is_of machine texts p) (first_knows machine texts) from },
       )
 
   -- what is kept of keys is kept when one key is looked up, and of that key too

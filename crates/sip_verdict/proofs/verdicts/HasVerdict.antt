@@ -21,8 +21,7 @@ use Rattle.sip_standard.specs.declared.verdict.Verdict.{Verdict}
 use Rattle.sip_standard.specs.declared.verdict.Verdict.TheVariants.{Legal, Malformed, Breach, Undecided, LogFault}
 use Rattle.sip_standard.specs.declared.log_reason.LogReason.TheVariants.{Header}
 use Rattle.sip_standard.specs.Observation.{Observation, direction_of, silent_observation, ObservesMessage, has_fault, has_no_cookie, is_heard}
-use Rattle.sip_standard.specs.VerdictOf.{keys_in, Sees, RunsOver, IsWideAt, IsFirstKey, HasTrouble, IsVerdictAfter, IsVerdictOf}
-use Rattle.sip_verdict.specs.LegalLog.{IsFine}
+use Rattle.sip_standard.specs.VerdictOf.{keys_in, Sees, RunsOver, IsWideAt, IsFirstKey, HasTrouble, IsFine, IsVerdictAfter, IsVerdictOf}
 use Rattle.sip_verdict.specs.inner.Observing.{mark_observation, restart_observation}
 use Rattle.sip_message.specs.Reading as message
 use Rattle.sip_standard.specs.declared.role.Direction.TheVariants as way
@@ -131,7 +130,7 @@ judges_some p es (item ∷ items) end never =
     -- something is observed of the item; either it is in trouble, which is the verdict, or in none, and then the items after it have one
     sees_entry es item (λ seen.
     fine_or_trouble p es seen.0 (λ v trouble. never (v, (seen.0, seen.1, inl trouble))) (λ fine.
-    judges_some p (es ++ seen.0 ∷ []) items end (λ left. never (left.0, (seen.0, seen.1, inr (fine.formed, fine.runs, fine.narrow, left.1))))))
+    judges_some p (es ++ seen.0 ∷ []) items end (λ left. never (left.0, (seen.0, seen.1, inr (fine, left.1))))))
 
 -- an input that lacks a header, or says a log, has a verdict
 verdict_of_log : (input : List ℕ) → LacksHeader input ⊎ ((p : Times) × (items : List Item) × (end : LogEnd) × LogSays input p items end) → Weakly ((v : Verdict) × IsVerdictOf input v)

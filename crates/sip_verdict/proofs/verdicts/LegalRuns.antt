@@ -71,9 +71,9 @@ module _ (input : List ℕ) (entries transactions : ℕ) (p : Times) where
   legal_end done es [] (Stops fault) log seen good is = cc
   legal_end done es (item ∷ rest) end log seen good (e, sees, inl trouble) = absurd trouble
   -- the next item is in no trouble, so the log goes on with it
-  legal_end done es (item ∷ rest) end log seen good (e, sees, inr (formed, runs, narrow, left)) =
+  legal_end done es (item ∷ rest) end log seen good (e, sees, inr (fine, left)) =
       legal_end (done ++ item ∷ []) (es ++ e ∷ []) rest end (subst (λ all. LogSays input p all end) (sym (append_assoc done (item ∷ []) rest)) log)
-      (seen-push [] done es item e seen sees) (good-push p es e good (record { formed = formed; runs = runs; narrow = narrow })) left
+      (seen-push [] done es item e seen sees) (good-push p es e good fine) left
 
 -- a log with a legal verdict has messages of the grammar, and a run of each transaction
 -- an input without a header has another verdict

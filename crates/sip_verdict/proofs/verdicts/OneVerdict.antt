@@ -1,6 +1,6 @@
 -- An input has one verdict.
 -- In the lemmas v and w are two verdicts, and es what was observed of the entries so far.
-use Rattle.std.proofs.Common.{◌≡◌, ◌⊎◌, inl, inr, ℕ, None, List, [], ◌∷◌, ◌++◌, All, sym, ◌∙◌, subst}
+use Rattle.std.proofs.Common.{◌≡◌, ◌⊎◌, inl, inr, ℕ, List, [], ◌∷◌, ◌++◌, sym, ◌∙◌, subst}
 use Rattle.sip_standard.specs.Times.{Times}
 use Rattle.sip_standard.specs.declared.verdict.Verdict.{Verdict}
 use Rattle.sip_standard.specs.LogEntry.{Item}
@@ -8,7 +8,7 @@ use Rattle.sip_standard.specs.LogSays.{LogEnd, Clean, Stops, LogSays}
 use Rattle.sip_standard.specs.Key.{KeyParts}
 use Rattle.sip_standard.specs.Observation.{Observation}
 use Rattle.sip_log.proofs.logs.Logs.{log_is_one, log_has_header}
-use Rattle.sip_standard.specs.VerdictOf.{keys_in, RunsOver, IsWideAt, HasTrouble, IsVerdictAfter, IsVerdictOf}
+use Rattle.sip_standard.specs.VerdictOf.{HasTrouble, IsFine, IsVerdictAfter, IsVerdictOf}
 use Rattle.sip_verdict.proofs.verdicts.MessageUnique.{observes_one}
 use Rattle.sip_verdict.proofs.verdicts.Unique.{fine_no_trouble, trouble_is_one}
 
@@ -21,17 +21,15 @@ judges_one p es (item ∷ items) end v w (e, seen, a) (f, seen2, b) = go a (subs
   where
     -- the verdict on the items, where e is what is seen of the first of them
     After : Observation KeyParts → Verdict → Type 0
-    After g x =
-        HasTrouble p es g x
-        ⊎ ((g.fault ≡ None) × All (RunsOver p (es ++ g ∷ [])) (keys_in (es ++ g ∷ [])) × All (λ key. ¬ (IsWideAt p es g key)) (keys_in (es ++ g ∷ [])) × IsVerdictAfter p (es ++ g ∷ []) items end x)
+    After g x = HasTrouble p es g x ⊎ (IsFine p es g × IsVerdictAfter p (es ++ g ∷ []) items end x)
 
     -- the two verdicts are the same: both are of the next entry, or both are of later ones
     go : After e v → After e w → (IsVerdictAfter p (es ++ e ∷ []) items end v → IsVerdictAfter p (es ++ e ∷ []) items end w → v ≡ w) → v ≡ w
     go (inl a) (inl b) later = trouble_is_one p es e v w a b
     -- the next entry cannot be in trouble by one verdict and in none by the other
-    go (inl a) (inr b) later = absurd (fine_no_trouble p es e v (record { formed = b.0; runs = b.1; narrow = b.2 }) a)
-    go (inr a) (inl b) later = absurd (fine_no_trouble p es e w (record { formed = a.0; runs = a.1; narrow = a.2 }) b)
-    go (inr a) (inr b) later = later a.3 b.3
+    go (inl a) (inr b) later = absurd (fine_no_trouble p es e v b.0 a)
+    go (inr a) (inl b) later = absurd (fine_no_trouble p es e w a.0 b)
+    go (inr a) (inr b) later = later a.1 b.1
 
 -- two verdicts on logs that one input says are the same
 -- the input says the items xs with the times p and the end `end`, whose verdict is v, and the items ys with the times q and the end `fin`, whose verdict is w

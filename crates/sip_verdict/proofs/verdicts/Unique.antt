@@ -7,8 +7,8 @@ use Rattle.sip_standard.specs.declared.verdict.Verdict.TheVariants.{Legal, Malfo
 use Rattle.sip_standard.specs.Key.{KeyParts}
 use Rattle.sip_standard.specs.Times.{Times}
 use Rattle.sip_standard.specs.Observation.{Observation}
-use Rattle.sip_standard.specs.VerdictOf.{keys_in, RunsOver, IsWideAt, IsFirstKey, HasTrouble}
-use Rattle.sip_verdict.specs.LegalLog.{IsFine, IsGood}
+use Rattle.sip_standard.specs.VerdictOf.{keys_in, RunsOver, IsWideAt, IsFirstKey, HasTrouble, IsFine}
+use Rattle.sip_verdict.specs.LegalLog.{IsGood}
 use Rattle.sip_verdict.proofs.keys.Splitting.{split_compare}
 
 -- a list contains the element in its middle

@@ -7,12 +7,12 @@ use Rattle.sip_machine.specs.Texts.{Texts, Keeps}
 use Rattle.sip_machine.specs.NumberedEvent.{NumberedEvent, event_in, FitsBook}
 use Rattle.sip_standard.specs.MachineEvent.{MachineEvent}
 use Rattle.sip_machine.specs.Rules.{StandFor}
-use Rattle.sip_states.specs.inner.RuledRuns.{AfterRun}
 use Rattle.sip_states.specs.Held.{Held}
-use Rattle.sip_standard.specs.KeyMachine.{MachineKind, machine_of_key}
-use Rattle.sip_states.specs.KeySets.{key_rules, StateOf, set_of}
+use Rattle.sip_standard.specs.KeyMachine.{MachineKind, machine_of_key, transaction_of}
+use Rattle.sip_standard.specs.Stands.{Stands, StandsAfter}
+use Rattle.sip_states.specs.inner.KeySets.{StateOf, set_of, meaning_of}
 use Rattle.sip_states.specs.Meaning.{Meaning}
-use Rattle.sip_states.specs.AnySet.{meaning_of, moment_of, IsKnownSet, IsQuietSet, IsAgendaOf}
+use Rattle.sip_states.specs.AnySet.{moment_of, IsKnownSet, IsQuietSet, IsAgendaOf}
 use Rattle.sip_states.specs.Sweep.{SetMayName, numbers_of}
 use Rattle.sip_states.specs.Tables.{Tabled, IsGiven, Touches, with_set, with_record}
 use Rattle.sip_states.specs.declared.any_set.AnySet.{AnySet}
@@ -27,18 +27,19 @@ use Rattle.sip_verdict.specs.inner.Stepping.{LeadsTo, IsStepped}
 use Rattle.sip_verdict.specs.inner.Tracking.{Keeping, Tracks, TracksBefore, IsOwnOutcome, first_of}
 use Rattle.sip_verdict.specs.inner.Concerned.{each, is_all}
 
--- a set says, with these times and from a moment on, exactly where the runs over the events stand
-abbrev pub LeadsBy : {X S : Type 0} → Meaning X Times S → Texts → Times → List MachineEvent → ℕ → Held Times S → Type 0
-LeadsBy m texts p events from s = LeadsTo m.names m.seen m.rules texts p s events from
+-- a set says, with these times and from a moment on, exactly where the runs stand
+abbrev pub LeadsBy : {X S : Type 0} → Meaning X Times S → Texts → Times → (ℕ → X → Type 0) → ℕ → Held Times S → Type 0
+LeadsBy m texts p Runs from s = LeadsTo m.names m.seen m.rules texts p s Runs from
 
 -- the set is one of this machine, and leads to the runs over the events from the moment on
 abbrev pub LeadsOf : Texts → Times → MachineKind → List MachineEvent → ℕ → AnySet → Type 0
-LeadsOf texts p machine events from set = (s : Held Times (StateOf machine)) × (set ≡ set_of machine s) × LeadsBy (meaning_of machine) texts p events from s
+LeadsOf texts p machine events from set = (s : Held Times (StateOf machine)) × (set ≡ set_of machine s)
+    × LeadsBy (meaning_of machine) texts p (Stands (transaction_of machine).figure p events) from s
 
 -- the set is one of this machine, and its states are just the last states of the runs over the events that end with one more event
 abbrev pub StandsOf : Texts → Times → MachineKind → List MachineEvent → MachineEvent → AnySet → Type 0
 StandsOf texts p machine events e set = (s : Held Times (StateOf machine)) × (set ≡ set_of machine s)
-    × StandFor (meaning_of machine).names (meaning_of machine).in_range (meaning_of machine).seen texts (AfterRun (key_rules p machine) events e) s.states
+    × StandFor (meaning_of machine).names (meaning_of machine).in_range (meaning_of machine).seen texts (StandsAfter (transaction_of machine).figure p events e) s.states
 
 -- what is kept of a key is a set of its machine
 abbrev pub key_keeping : Texts → Times → Keeping (KeyParts × AnySet)
@@ -174,7 +175,7 @@ pub record Hears (texts : Texts) (e : NumberedEvent) (number : ℕ) (old new : T
   pub numbered : IsOwnOutcome number outcome
   pub leaves : Leaves number after outcome old new
   pub stepped : (p : Times) (machine : MachineKind) (events : List MachineEvent) (from : ℕ) → from ≤ e.moment → LeadsOf texts p machine events from before
-      → IsStepped (key_rules p machine) events (event_in texts e) (λ es. LeadsOf texts p machine es e.moment after) (λ f. StandsOf texts p machine events f after) outcome
+      → IsStepped p machine events (event_in texts e) (λ es. LeadsOf texts p machine es e.moment after) (λ f. StandsOf texts p machine events f after) outcome
 
 -- the sets with these numbers have heard the event one after another, and the second outcome is the first one with what they add
 abbrev pub HearsEach : Texts → NumberedEvent → List ℕ → Tabled → Outcome → Tabled → Outcome → Type 0

@@ -4,10 +4,10 @@ use Rattle.std.proofs.lemmas.List.Elements.{All-weaker}
 use Rattle.sip_standard.specs.declared.role.Role.TheVariants.{Client}
 use Rattle.sip_standard.specs.declared.rules.Rules.{Rules}
 use Rattle.sip_standard.specs.declared.rules.Rules.TheVariants.{R3261, R6026}
-use Rattle.sip_standard.specs.declared.kind.Method.TheVariants.{Invite, Cancel}
+use Rattle.sip_standard.specs.declared.kind.Method.TheVariants.{Invite}
 use Rattle.sip_standard.specs.Window.{open_at, close_at}
 use Rattle.sip_standard.specs.MachineEvent.{MachineEvent}
-use Rattle.sip_standard.specs.Kind.{IsProvisional, IsFinal, IsSuccess, IsUnsuccessful}
+use Rattle.sip_standard.specs.Kind.{IsFinal, IsSuccess, IsUnsuccessful}
 use Rattle.sip_standard.specs.Times.{Times}
 use Rattle.sip_standard.specs.InviteClient as corrected
 use Rattle.sip_standard.specs.InviteClient3261 as without
@@ -16,7 +16,7 @@ use Rattle.sip_standard.specs.Stands.{Stands}
 use Rattle.consequences.specs.Acknowledged.{Acknowledges, GivesUp, Completes, IsAwaited, IsBeforeTimerD}
 use Rattle.consequences.specs.Events.{SendsRequest, GetsResponse, IsRefused, IsRestart}
 use Rattle.consequences.specs.Machines.{figure_of, StateOf}
-use Rattle.consequences.proofs.lemmas.client.Acknowledging.{acknowledged}
+use Rattle.consequences.proofs.lemmas.client.Acknowledging.{IsBroken, IsGivenUp, IsCompleteBy, IsEarly, Over, acknowledged}
 use Rattle.consequences.proofs.lemmas.client.InviteClients.{receives_6026, receives_3261}
 use Rattle.sip_states.proofs.runs.StandsLemmas.{what_stands_lasts}
 use Rattle.consequences.proofs.lemmas.run.Lists.{any-none}
@@ -26,39 +26,23 @@ use Rattle.consequences.proofs.invite_client.an_unsuccessful_response_is_acknowl
 -- The events of `after` come last, and the moment m is after the ACK of the response was due.
 module _ (p : Times) (before between after : List MachineEvent) (invite response : MachineEvent) (m : ℕ) (none : All (λ f. ¬ (SendsRequest Invite f)) before) (sent : SendsRequest Invite invite)
     (gets : GetsResponse IsUnsuccessful response) (awaited : IsAwaited p invite between response.moment) (late : close_at p response.moment 0 < m) where
-  -- the event ends the transaction, or takes it where no ACK is owed: a 2xx, a refusal or a restart
-  abbrev IsBroken : MachineEvent → Type 0
-  IsBroken g = GetsResponse IsSuccess g ⊎ IsRefused g ⊎ IsRestart g
-
-  -- the event is a 300 to 699 after which timer D may have fired by the response
-  abbrev IsCompleteBy : MachineEvent → Type 0
-  IsCompleteBy g = GetsResponse IsUnsuccessful g × (invite.moment ≤ g.moment) × ((invite.reliable ≡ true) ⊎ (open_at p g.moment 32000 ≤ response.moment))
-
-  -- the event is a CANCEL that may have given up by the response
-  abbrev IsGivenUp : MachineEvent → Type 0
-  IsGivenUp g = SendsRequest Cancel g × (invite.moment ≤ g.moment) × (open_at p g.moment (64 * p.t1) ≤ response.moment)
-
-  -- the event is a provisional response that comes before timer B may fire
-  abbrev IsEarly : MachineEvent → Type 0
-  IsEarly g = GetsResponse IsProvisional g × (g.moment < open_at p invite.moment (64 * p.t1))
-
   -- no CANCEL gave up before the response: timer B may not fire yet, or it is said so
-  not-given-up : IsAwaited p invite between response.moment → ¬ (Any IsGivenUp between)
+  not-given-up : IsAwaited p invite between response.moment → ¬ (Any (IsGivenUp p invite response.moment) between)
   not-given-up (inl early) given = let (k, g, inside, at, (cancel, from, over)) = given in absurd (omega (arith, from, over, early))
   not-given-up (inr held) given = let (k, g, inside, at, (cancel, from, over)) = given in any-none (GivesUp p response.moment) between held.1 (k, g, inside, at, (cancel, over))
 
   -- timer B has not fired before the response: it may not yet, or a provisional response came before it might
-  not-timed-out : IsAwaited p invite between response.moment → ¬ ((open_at p invite.moment (64 * p.t1) ≤ response.moment) × All (λ g. ¬ (IsEarly g)) between)
+  not-timed-out : IsAwaited p invite between response.moment → ¬ ((open_at p invite.moment (64 * p.t1) ≤ response.moment) × All (λ g. ¬ (IsEarly p invite g)) between)
   not-timed-out (inl early) over = let late = over.0 in absurd (omega (arith, late, early))
-  not-timed-out (inr held) over = any-none IsEarly between over.1 held.0
+  not-timed-out (inr held) over = any-none (IsEarly p invite) between over.1 held.0
 
   -- by each of the rules, a response between which and the INVITE nothing broke the transaction is acknowledged
-  by : (rules : Rules) (y : StateOf rules Client true) → All (λ g. ¬ (IsBroken g)) between → ¬ (Any IsCompleteBy between)
+  by : (rules : Rules) (y : StateOf rules Client true) → All (λ g. ¬ (IsBroken g)) between → ¬ (Any (IsCompleteBy p invite response.moment) between)
       → Stands (figure_of rules Client true) p (before ++ invite ∷ (between ++ response ∷ after)) m y → Any (Acknowledges p invite response) after ⊎ Any (λ f. IsRefused f ⊎ IsRestart f) after
   by rules y unbroken not_complete stands = by_rules rules y stands
     where
       -- nothing ended the transaction before the response: no event broke it, no CANCEL gave up, and neither timer B nor timer D fired
-      waiting : ¬ (Any (λ g. IsBroken g ⊎ IsGivenUp g ⊎ IsCompleteBy g) between ⊎ ((open_at p invite.moment (64 * p.t1) ≤ response.moment) × All (λ g. ¬ (IsEarly g)) between))
+      waiting : ¬ (Over p invite between response.moment)
       waiting (inl (k, g, inside, at, inl broken)) = any-none IsBroken between unbroken (k, g, inside, at, broken)
       waiting (inl (k, g, inside, at, inr (inl given))) = not-given-up awaited (k, g, inside, at, given)
       waiting (inl (k, g, inside, at, inr (inr complete))) = not_complete (k, g, inside, at, complete)
@@ -83,7 +67,7 @@ module _ (p : Times) (before between after : List MachineEvent) (invite response
       unbroken g calm (inr (inr restarted)) = calm.2 restarted
 
       -- no earlier 300 to 699 came
-      not_complete : ¬ (Any IsCompleteBy between)
+      not_complete : ¬ (Any (IsCompleteBy p invite response.moment) between)
       not_complete (k, g, inside, at, (bad, from, ending)) =
           any-none (GetsResponse IsFinal) between (All-weaker (λ f. ¬ (GetsResponse IsFinal f) × ¬ (IsRefused f) × ¬ (IsRestart f)) (λ f. ¬ (GetsResponse IsFinal f)) (λ f calm. calm.0) between quiet)
           (k, g, inside, at, (bad.0, (bad.1.0, bad.1.1, (omega (arith, bad.1.2.0), bad.1.2.1))))
@@ -105,7 +89,7 @@ module _ (p : Times) (before between after : List MachineEvent) (invite response
       false-true same = cc
 
       -- timer D has not ended the transaction after an earlier 300 to 699
-      not_complete : IsBeforeTimerD p invite between response.moment → ¬ (Any IsCompleteBy between)
+      not_complete : IsBeforeTimerD p invite between response.moment → ¬ (Any (IsCompleteBy p invite response.moment) between)
       not_complete before_d (k, g, inside, at, (bad, from, inl reliable)) = false-true (sym unreliable ∙ reliable)
       not_complete (inl low) (k, g, inside, at, (bad, from, inr over)) = absurd (omega (arith, from, over, low))
       not_complete (inr alive) (k, g, inside, at, (bad, from, inr over)) = any-none (Completes p response.moment) between alive (k, g, inside, at, (bad, over))

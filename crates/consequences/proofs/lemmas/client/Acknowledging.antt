@@ -32,6 +32,32 @@ use Rattle.consequences.proofs.lemmas.client.InviteClients.{Row, Receiving, clie
 use Rattle.consequences.proofs.lemmas.client.Unanswered.{CallsFrom, begins-calling}
 use Rattle.consequences.proofs.lemmas.server.Said.{codes-are-one}
 
+-- the event is a 2xx, a message that the transport refused, or a restart
+abbrev pub IsBroken : MachineEvent → Type 0
+IsBroken g = GetsResponse IsSuccess g ⊎ IsRefused g ⊎ IsRestart g
+
+-- What follows is of the transaction of `invite`, by the times p.
+module _ (p : Times) (invite : MachineEvent) where
+  -- by the moment a client may have given up, since the event sent a CANCEL of this INVITE 64*T1 before
+  abbrev pub IsGivenUp : ℕ → MachineEvent → Type 0
+  IsGivenUp m g = SendsRequest Cancel g × (invite.moment ≤ g.moment) × (open_at p g.moment (64 * p.t1) ≤ m)
+
+  -- by the moment timer D may have fired, since the event got a 300 to 699 at least 32 s before, or over a reliable transport
+  abbrev pub IsCompleteBy : ℕ → MachineEvent → Type 0
+  IsCompleteBy m g = GetsResponse IsUnsuccessful g × (invite.moment ≤ g.moment) × ((invite.reliable ≡ true) ⊎ (open_at p g.moment 32000 ≤ m))
+
+  -- the event ends the wait for a response by the moment
+  abbrev pub Ends : ℕ → MachineEvent → Type 0
+  Ends m g = IsBroken g ⊎ IsGivenUp m g ⊎ IsCompleteBy m g
+
+  -- the event is a provisional response that comes before timer B may fire
+  abbrev pub IsEarly : MachineEvent → Type 0
+  IsEarly g = GetsResponse IsProvisional g × (g.moment < open_at p invite.moment (64 * p.t1))
+
+  -- the client need not acknowledge any more: an event ended its wait, or timer B may have fired, before which no provisional response came
+  abbrev pub Over : List MachineEvent → ℕ → Type 0
+  Over es m = Any (Ends m) es ⊎ ((open_at p invite.moment (64 * p.t1) ≤ m) × All (λ g. ¬ (IsEarly g)) es)
+
 -- What follows is of the transaction of `invite`: an INVITE client whose rows for responses are R, with the times p.
 module _ (R : Receiving) (is : IsReceiving R) (p : Times) (invite : MachineEvent) where
   -- the figure of this client
@@ -40,46 +66,22 @@ module _ (R : Receiving) (is : IsReceiving R) (p : Times) (invite : MachineEvent
 
   -- What follows leads from the INVITE to the response.
 
-  -- the event is a 2xx, a message that the transport refused, or a restart
-  abbrev IsBroken : MachineEvent → Type 0
-  IsBroken g = GetsResponse IsSuccess g ⊎ IsRefused g ⊎ IsRestart g
-
-  -- by the moment a client may have given up, since the event sent a CANCEL of this INVITE 64*T1 before
-  abbrev IsGivenUp : ℕ → MachineEvent → Type 0
-  IsGivenUp m g = SendsRequest Cancel g × (invite.moment ≤ g.moment) × (open_at p g.moment (64 * p.t1) ≤ m)
-
-  -- by the moment timer D may have fired, since the event got a 300 to 699 at least 32 s before, or over a reliable transport
-  abbrev IsCompleteBy : ℕ → MachineEvent → Type 0
-  IsCompleteBy m g = GetsResponse IsUnsuccessful g × (invite.moment ≤ g.moment) × ((invite.reliable ≡ true) ⊎ (open_at p g.moment 32000 ≤ m))
-
-  -- the event ends the wait for a response by the moment
-  abbrev Ends : ℕ → MachineEvent → Type 0
-  Ends m g = IsBroken g ⊎ IsGivenUp m g ⊎ IsCompleteBy m g
-
-  -- the event is a provisional response that comes before timer B may fire
-  abbrev IsEarly : MachineEvent → Type 0
-  IsEarly g = GetsResponse IsProvisional g × (g.moment < open_at p invite.moment (64 * p.t1))
-
-  -- the client need not acknowledge any more: an event ended its wait, or timer B may have fired, before which no provisional response came
-  abbrev Over : List MachineEvent → ℕ → Type 0
-  Over es m = Any (Ends m) es ⊎ ((open_at p invite.moment (64 * p.t1) ≤ m) × All (λ g. ¬ (IsEarly g)) es)
-
   -- what ended the wait by a moment has ended it by a later one
-  ends-later : (g : MachineEvent) (h m : ℕ) → h ≤ m → Ends h g → Ends m g
+  ends-later : (g : MachineEvent) (h m : ℕ) → h ≤ m → Ends p invite h g → Ends p invite m g
   ends-later g h m low (inl broken) = inl broken
   ends-later g h m low (inr (inl (cancel, from, opening))) = inr (inl (cancel, from, omega (arith, low, opening)))
   ends-later g h m low (inr (inr (got, from, inl reliable))) = inr (inr (got, from, inl reliable))
   ends-later g h m low (inr (inr (got, from, inr opening))) = inr (inr (got, from, inr (omega (arith, low, opening))))
 
   -- Over stays true later
-  over-later : (es : List MachineEvent) (h m : ℕ) → h ≤ m → Over es h → Over es m
+  over-later : (es : List MachineEvent) (h m : ℕ) → h ≤ m → Over p invite es h → Over p invite es m
   over-later es h m low (inl ended) = let (k, g, inside, at, ends) = ended in inl (k, g, inside, at, ends-later g h m low ends)
   over-later es h m low (inr (late, none)) = inr (omega (arith, low, late), none)
 
   -- Over stays true after one event more
-  over-after : (es : List MachineEvent) (e : MachineEvent) → Over es e.moment → Over (es ++ e ∷ []) e.moment
-  over-after es e (inl ended) = inl (any-earlier (Ends e.moment) es (e ∷ []) ended)
-  over-after es e (inr (late, none)) = inr (late, All-push (λ g. ¬ (IsEarly g)) es e none (λ early. absurd (omega (arith, late, early.1))))
+  over-after : (es : List MachineEvent) (e : MachineEvent) → Over p invite es e.moment → Over p invite (es ++ e ∷ []) e.moment
+  over-after es e (inl ended) = inl (any-earlier (Ends p invite e.moment) es (e ∷ []) ended)
+  over-after es e (inr (late, none)) = inr (late, All-push (λ g. ¬ (IsEarly p invite g)) es e none (λ early. absurd (omega (arith, late, early.1))))
 
   -- the events have a CANCEL of this moment, and it comes after the INVITE
   abbrev HasCancel : ℕ → List MachineEvent → Type 0
@@ -91,7 +93,7 @@ module _ (R : Receiving) (is : IsReceiving R) (p : Times) (invite : MachineEvent
 
   -- the client has sent this INVITE and waits for its final response, or it has got a 300 to 699 and is completed
   abbrev Waits : List MachineEvent → InviteClientPhase → Type 0
-  Waits es (Calling w) = CallsFrom invite (Calling w) × All (λ g. ¬ (IsEarly g)) es
+  Waits es (Calling w) = CallsFrom invite (Calling w) × All (λ g. ¬ (IsEarly p invite g)) es
   Waits es (Proceeding reliable request None) = (request ≡ invite.text) × (reliable ≡ invite.reliable)
   Waits es (Proceeding reliable request (Some first)) = (request ≡ invite.text) × (reliable ≡ invite.reliable) × HasCancel first es
   Waits es (Completed reliable request set) = (request ≡ invite.text) × (reliable ≡ invite.reliable) × HasUnsuccessful set es
@@ -109,8 +111,8 @@ module _ (R : Receiving) (is : IsReceiving R) (p : Times) (invite : MachineEvent
       (waits.0, waits.1, any-earlier (λ g. SendsRequest Cancel g × (invite.moment ≤ g.moment) × (g.moment ≡ first)) es (e ∷ []) waits.2)
 
   -- Waits stays true after one event more that leaves the phase as it is: in calling that is no provisional response before timer B may fire
-  waits-later : (es : List MachineEvent) (e : MachineEvent) (x : InviteClientPhase) → ((w : Waiting) → x ≡ Calling w → ¬ (IsEarly e)) → Waits es x → Waits (es ++ e ∷ []) x
-  waits-later es e (Calling w) late waits = (waits.0, All-push (λ g. ¬ (IsEarly g)) es e waits.1 (late w refl))
+  waits-later : (es : List MachineEvent) (e : MachineEvent) (x : InviteClientPhase) → ((w : Waiting) → x ≡ Calling w → ¬ (IsEarly p invite e)) → Waits es x → Waits (es ++ e ∷ []) x
+  waits-later es e (Calling w) late waits = (waits.0, All-push (λ g. ¬ (IsEarly p invite g)) es e waits.1 (late w refl))
   waits-later es e (Proceeding reliable request None) late waits = waits
   waits-later es e (Proceeding reliable request (Some first)) late waits = cancelled-later es e reliable request first waits
   waits-later es e (Completed reliable request set) late waits = completed-later es e reliable request set waits
@@ -118,7 +120,7 @@ module _ (R : Receiving) (is : IsReceiving R) (p : Times) (invite : MachineEvent
 
   -- from the INVITE on, the client waits for the response that it must acknowledge, or it need not acknowledge any more
   abbrev Awaits : List MachineEvent → ℕ → Owing InviteClientPhase → Type 0
-  Awaits es m y = (invite.moment ≤ m) × (Waits es y.phase ⊎ Over es m)
+  Awaits es m y = (invite.moment ≤ m) × (Waits es y.phase ⊎ Over p invite es m)
 
   -- What follows is of one event e that comes after the events es.
   module _ (es : List MachineEvent) (e : MachineEvent) where
@@ -127,7 +129,7 @@ module _ (R : Receiving) (is : IsReceiving R) (p : Times) (invite : MachineEvent
     Now = es ++ e ∷ []
 
     -- a message that is sent is no response that is received
-    not-early : e.action ≡ Sent → ¬ (IsEarly e)
+    not-early : e.action ≡ Sent → ¬ (IsEarly p invite e)
     not-early was early = let got = early.0.0 in cc
 
     -- the event is a CANCEL of its moment
@@ -137,14 +139,14 @@ module _ (R : Receiving) (is : IsReceiving R) (p : Times) (invite : MachineEvent
     -- a response to the INVITE leads to a phase of which Waits holds, or Over holds
     -- a provisional response leads to proceeding, after a 2xx Over holds, and a 300 to 699 leads to completed
     answered : (reliable : Bool) (request : List ℕ) (row : Row) → e.action ≡ Received → invite.moment ≤ e.moment → request ≡ invite.text → reliable ≡ invite.reliable → Answers reliable request e.kind e row
-        → Waits Now row.0 ⊎ Over Now e.moment
+        → Waits Now row.0 ⊎ Over p invite Now e.moment
     answered reliable request row was low text transport (code, kind, inl h) = inl (rw h.1 (text, transport))
-    answered reliable request row was low text transport (code, kind, inr (inl h)) = inr (inl (any-last (Ends e.moment) es e (inl (inl (was, (code, kind, h.0))))))
+    answered reliable request row was low text transport (code, kind, inr (inl h)) = inr (inl (any-last (Ends p invite e.moment) es e (inl (inl (was, (code, kind, h.0))))))
     answered reliable request row was low text transport (code, kind, inr (inr h)) =
         inl (rw h.1 (text, transport, any-last (λ g. GetsResponse IsUnsuccessful g × (invite.moment ≤ g.moment) × (g.moment ≡ e.moment)) es e ((was, (code, kind, h.0)), low, refl)))
 
     -- the row of a received message leads from a client that waits to a phase of which Waits holds, or Over holds
-    waits-received : (x : InviteClientPhase) (row : Row) → e.action ≡ Received → invite.moment ≤ e.moment → Waits es x → R p x e.kind e row → Waits Now row.0 ⊎ Over Now e.moment
+    waits-received : (x : InviteClientPhase) (row : Row) → e.action ≡ Received → invite.moment ≤ e.moment → Waits es x → R p x e.kind e row → Waits Now row.0 ⊎ Over p invite Now e.moment
     waits-received (Calling w) row was low waits h = answered w.reliable w.request row was low waits.0.1 waits.0.2 (is.calling p w e.kind e row h)
     waits-received (Proceeding reliable request None) row was low waits h = answered reliable request row was low waits.0 waits.1 (is.proceeding p reliable request None e.kind e row h)
     waits-received (Proceeding reliable request (Some first)) row was low waits h = answered reliable request row was low waits.0 waits.1 (is.proceeding p reliable request (Some first) e.kind e row h)
@@ -153,7 +155,7 @@ module _ (R : Receiving) (is : IsReceiving R) (p : Times) (invite : MachineEvent
 
     -- the row of a sent message leads from a client that waits to a phase of which Waits holds
     waits-sent : (x : InviteClientPhase) (row : Row) → e.action ≡ Sent → invite.moment ≤ e.moment → Waits es x → Sends p x e.kind e row → Waits Now row.0
-    waits-sent (Calling w) row was low waits h = rw (sends-calling p w e.kind e row h).2 (waits.0, All-push (λ g. ¬ (IsEarly g)) es e waits.1 (not-early was))
+    waits-sent (Calling w) row was low waits h = rw (sends-calling p w e.kind e row h).2 (waits.0, All-push (λ g. ¬ (IsEarly p invite g)) es e waits.1 (not-early was))
     waits-sent (Proceeding reliable request None) row was low waits h = by (sends-proceeding p reliable request None e.kind e row h)
       where
         -- the client waits after either row, which is that of a CANCEL
@@ -176,7 +178,7 @@ module _ (R : Receiving) (is : IsReceiving R) (p : Times) (invite : MachineEvent
     waits-emits x owes y was low waits (inr (inr (stays, same))) = absurd stays
 
     -- in calling a provisional response has a row, so a message without one is none
-    unmoved : (x : InviteClientPhase) (w : Waiting) → x ≡ Calling w → ((row : Row) → ¬ (R p x e.kind e row)) → ¬ (IsEarly e)
+    unmoved : (x : InviteClientPhase) (w : Waiting) → x ≡ Calling w → ((row : Row) → ¬ (R p x e.kind e row)) → ¬ (IsEarly p invite e)
     unmoved x w calls none early =
         let (code, kind, provisional) = early.0.1 in
         let row : Row = (Proceeding w.reliable w.request None, keeps) in
@@ -184,19 +186,19 @@ module _ (R : Receiving) (is : IsReceiving R) (p : Times) (invite : MachineEvent
 
     -- a step leads from a client that waits to a phase of which Waits holds, or Over holds
     waits-steps : (a : Action) (x : InviteClientPhase) (owes : List Owed) (y : Owing InviteClientPhase) → e.action ≡ a → invite.moment ≤ e.moment → Waits es x → Steps f p a e (record { phase = x; owes = owes }) y
-        → Waits Now y.phase ⊎ Over Now e.moment
+        → Waits Now y.phase ⊎ Over p invite Now e.moment
     -- a received message has a row, or leaves the phase as it is; after a failed send or a restart the client is over
     waits-steps Received x owes y was low waits (inl (row, is_row, to)) = rw to (waits-received x row was low waits is_row)
     waits-steps Received x owes y was low waits (inr (none, same)) =
         inl (rw same (waits-later es e x (λ w calls. unmoved x w calls (λ row is_row. none (record { phase = row.0; owes = changed p e.moment row.1 owes }) (row, is_row, refl))) waits))
     waits-steps Sent x owes y was low waits emits = inl (waits-emits x owes y was low waits emits)
-    waits-steps Failed x owes y was low waits fails = inr (inl (any-last (Ends e.moment) es e (inl (inr (inl was)))))
+    waits-steps Failed x owes y was low waits fails = inr (inl (any-last (Ends p invite e.moment) es e (inl (inr (inl was)))))
     waits-steps Mark x owes y was low waits h = absurd h
-    waits-steps Restart x owes y was low waits h = inr (inl (any-last (Ends e.moment) es e (inl (inr (inr was)))))
+    waits-steps Restart x owes y was low waits h = inr (inl (any-last (Ends p invite e.moment) es e (inl (inr (inr was)))))
 
   -- a client that waits and may end need not acknowledge any more
   -- calling ends by timer B; proceeding without a CANCEL never, and with one 64*T1 after it; completed by timer D, at once over a reliable transport
-  waits-ends : (es : List MachineEvent) (h : ℕ) (x : InviteClientPhase) (owes : List Owed) → Waits es x → MayEnd f p (record { phase = x; owes = owes }) h → Over es h
+  waits-ends : (es : List MachineEvent) (h : ℕ) (x : InviteClientPhase) (owes : List Owed) → Waits es x → MayEnd f p (record { phase = x; owes = owes }) h → Over p invite es h
   waits-ends es h (Calling w) owes waits may = inr (subst (λ m. open_at p m (64 * p.t1) ≤ h) waits.0.0 may.0, waits.1)
   waits-ends es h (Proceeding reliable request None) owes waits may = absurd may.0
   waits-ends es h (Proceeding reliable request (Some first)) owes waits may =
@@ -351,7 +353,7 @@ module _ (R : Receiving) (is : IsReceiving R) (p : Times) (invite : MachineEvent
     -- once the time to acknowledge a 300 to 699 is over, its ACK has been sent, or a message was refused, or the element began anew
     -- `lasts` says that each state in which a run can stand can wait; y is the state in which the run stands at the moment m, and g an event
     pub acknowledged : (lasts : (events : List MachineEvent) (m : ℕ) (x : Owing InviteClientPhase) → Stands f p events m x → Lasts f p x m) (before between after : List MachineEvent) (m : ℕ) (y : Owing InviteClientPhase) →
-        All (λ g. ¬ (SendsRequest Invite g)) before → SendsRequest Invite invite → ¬ (Over between response.moment) → GetsResponse IsUnsuccessful response →
+        All (λ g. ¬ (SendsRequest Invite g)) before → SendsRequest Invite invite → ¬ (Over p invite between response.moment) → GetsResponse IsUnsuccessful response →
         Stands f p (before ++ invite ∷ (between ++ response ∷ after)) m y → close_at p response.moment 0 < m → Any (Acknowledges p invite response) after ⊎ Any (λ g. IsRefused g ⊎ IsRestart g) after
     acknowledged lasts before between after m y none sent waiting gets stands late =
         by-invite (cut f p (quiet Idle) 0 before invite (between ++ response ∷ after) m y (stands-run f p (before ++ invite ∷ (between ++ response ∷ after)) m y stands))
@@ -363,7 +365,7 @@ module _ (R : Receiving) (is : IsReceiving R) (p : Times) (invite : MachineEvent
 
         -- a client that calls waits
         calling-waits : (x : InviteClientPhase) → CallsFrom invite x → Waits [] x
-        calling-waits (Calling w) calls = (calls, All-nil (λ g. ¬ (IsEarly g)))
+        calling-waits (Calling w) calls = (calls, All-nil (λ g. ¬ (IsEarly p invite g)))
         calling-waits x calls = absurd calls
 
         -- from the INVITE on, the run is cut at the response
@@ -371,7 +373,7 @@ module _ (R : Receiving) (is : IsReceiving R) (p : Times) (invite : MachineEvent
         by-response x calls found = by (run-keeps f p Awaits awaits-kept between x invite.moment response.moment found.from (omega arith, inl (calling-waits x.phase calls)) found.leads).1
           where
             -- the ACK is sent, or a refusal or a restart comes: the client waited for the response, or the time for its ACK was over before it
-            by : Waits between found.from.phase ⊎ Over between response.moment → Any (Acknowledges p invite response) after ⊎ Any (λ g. IsRefused g ⊎ IsRestart g) after
+            by : Waits between found.from.phase ⊎ Over p invite between response.moment → Any (Acknowledges p invite response) after ⊎ Any (λ g. IsRefused g ⊎ IsRestart g) after
             by (inl waits) =
                 let owes = response-owes between found.from.phase (left_at response found.from) found.to gets.1.0 gets.1.1 gets.1.2 waits (step-of f p Received response found.from found.to gets.0 found.step) in
                 by-end (run-keeps f p Owing-on owes-kept after found.to response.moment m y (inl owes) found.goes)

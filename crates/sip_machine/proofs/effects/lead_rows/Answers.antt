@@ -3,7 +3,7 @@ use Rattle.std.proofs.Common.{arith, ◌∙◌, ap}
 use Rattle.sip_ledger.specs.declared.debt.Debt.{Debt}
 use Rattle.sip_ledger.specs.Debts.{counts_at}
 use Rattle.sip_ledger.proofs.lists.EachLemmas.{changing-more}
-use Rattle.sip_machine.specs.Owing.{changed_debts}
+use Rattle.sip_machine.specs.inner.Turns.{changed_debts}
 use Rattle.sip_machine.proofs.effects.lead_rows.Goals as goal
 
 -- one row more is led

@@ -1,6 +1,6 @@
 use Rattle.std.specs.Prelude.{◌≡◌, ◌≤◌, filter}
 use Rattle.sip_ledger.specs.Debts.{counts_at}
-use Rattle.sip_machine.specs.Owing.{changed_debts}
+use Rattle.sip_machine.specs.inner.Turns.{changed_debts}
 use Rattle.sip_ledger.proofs.lists.EachLemmas.{changing}
 use Rattle.sip_machine.proofs.effects.lead_rows.Given as goal
 

@@ -3,7 +3,7 @@ use Rattle.std.specs.Prelude.{◌≡◌, [], ◌∷◌}
 use Rattle.std.proofs.Common.{sym, ◌∙◌, true≢false}
 use Rattle.std.proofs.lemmas.List.Elements.{All-nil}
 use Rattle.sip_machine.specs.Texts.{Keeps}
-use Rattle.sip_machine.specs.Owing.{state_in}
+use Rattle.sip_machine.specs.inner.Turns.{state_in}
 use Rattle.sip_machine.proofs.steps.OwingSteps.{restarted-ended}
 use Rattle.sip_machine.proofs.owing.restarts.Goals as goal
 

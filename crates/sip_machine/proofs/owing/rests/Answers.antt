@@ -5,7 +5,7 @@ use Rattle.sip_machine.specs.NumberedEvent.{event_in}
 use Rattle.sip_machine.specs.Owes.{owed_in, owes_names}
 use Rattle.sip_machine.specs.inner.DebtLaws.{All-front, All-back}
 use Rattle.sip_machine.proofs.steps.OwingSteps.{rested-stays, rested-pays}
-use Rattle.sip_machine.specs.Owing.{state_in}
+use Rattle.sip_machine.specs.inner.Turns.{state_in}
 use Rattle.sip_machine.proofs.owing.rests.Goals as goal
 
 -- the book keeps what the phase names, since it keeps what the state names

@@ -2,9 +2,9 @@ use Rattle.std.proofs.Common.{◌≡◌, ◌<◌, arith, get_or, length}
 use Rattle.std.proofs.lemmas.List.{length-map}
 use Rattle.sip_machine.specs.NumberedEvent.{event_in}
 use Rattle.sip_machine.specs.Owing.{CodeOwing}
-use Rattle.sip_machine.specs.Pools.{picked}
+use Rattle.sip_machine.specs.inner.Pools.{picked}
 use Rattle.sip_machine.specs.Rules.{StandFor}
-use Rattle.sip_states.specs.Runs.{widest}
+use Rattle.sip_standard.specs.VerdictOf.{widest}
 use Rattle.sip_states.specs.inner.Ways.{GivesAfter}
 use Rattle.sip_states.proofs.lists.EachOnce.{picked-members, picked-distinct}
 use Rattle.sip_states.proofs.sets.Following.{Follows}

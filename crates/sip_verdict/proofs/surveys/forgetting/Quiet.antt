@@ -7,14 +7,13 @@ use Rattle.sip_standard.specs.Stands.{Stands}
 use Rattle.sip_standard.specs.KeyMachine.{MachineKind, transaction_of}
 use Rattle.sip_machine.specs.Texts.{Texts}
 use Rattle.sip_states.specs.Held.{Held}
-use Rattle.sip_states.specs.Runs.{Wait}
-use Rattle.sip_states.specs.KeySets.{PhaseOf, StateOf}
-use Rattle.sip_states.proofs.keyed.KeySetLaws.{coded_holds}
-use Rattle.sip_states.specs.AnySet.{meaning_of, moment_of, IsQuietSet}
+use Rattle.sip_states.specs.Waits.{Wait}
+use Rattle.sip_states.specs.inner.KeySets.{StateOf, meaning_of}
+use Rattle.sip_states.specs.KeyRules.{PhaseOf}
+use Rattle.sip_states.specs.AnySet.{moment_of, IsQuietSet}
 use Rattle.sip_states.specs.declared.any_set.AnySet.{AnySet}
-use Rattle.sip_states.proofs.keyed.ByMachine.{first_of, last_of, first_is_of, last_is_of, moment_is, quiet_in}
+use Rattle.sip_states.proofs.keyed.ByMachine.{first_is_of, last_is_of, moment_is, quiet_in}
 use Rattle.sip_states.proofs.keyed.QuietLemmas.{IsStill, quiet_still, waits_still}
-use Rattle.sip_states.proofs.runs.StandsLemmas.{stands-runs}
 use Rattle.sip_verdict.specs.Forgetting.{HasEnded}
 use Rattle.sip_verdict.specs.SurveyLaws.{IsIdleAgain}
 use Rattle.sip_verdict.specs.inner.TablesTracking.{LeadsOf}
@@ -41,8 +40,7 @@ module _ (texts : Texts) (p : Times) (machine : MachineKind) (events : List Mach
     stands : (y : Owing (transaction_of machine).Phase) → Stands (transaction_of machine).figure p events n y ↔ (y ≡ q)
     stands y =
         let runs = leads.2.leads.runs n y (omega arith) not_later in
-        let by = stands-runs (transaction_of machine).figure (coded_holds machine).is_figure p events n y in
-        (λ h. (waits y).0 (runs.1 (by.0 h)), λ same. by.1 (runs.0 ((waits y).1 same)))
+        (λ h. (waits y).0 (runs.1 h), λ same. runs.0 ((waits y).1 same))
 
   -- a transaction whose set is quiet is idle again, or has ended
   pub quiet_over : IsQuietSet set → IsIdleAgain machine p events n ⊎ HasEnded machine p events n

@@ -1,6 +1,6 @@
 -- Tables of a survey whose sets have all waited until the newest moment: they follow the same entries, and a transaction that is over has a quiet set.
 -- In the lemmas n is the place of a key, r its record, and d whether it is deaf.
-use Rattle.std.proofs.Common.{◌≡◌, ◌≤◌, ◌+◌, ◌↔◌, inl, inr, ℕ, Bool, true, false, Option, Some, None, List, [], ◌∷◌, All, Contains, length, map, slice_get, refl, sym, ap, ◌∙◌, subst, arith}
+use Rattle.std.proofs.Common.{◌≡◌, ◌≤◌, ◌+◌, ◌↔◌, inl, inr, ℕ, Bool, true, false, Option, Some, None, List, [], ◌∷◌, Contains, length, map, slice_get, refl, sym, ap, ◌∙◌, subst, arith}
 use Rattle.std.proofs.lemmas.List.Elements.{All-head}
 use Rattle.std.proofs.lemmas.Option.{slice_get_within}
 use Rattle.sip_standard.specs.Key.{KeyParts}
@@ -15,22 +15,20 @@ use Rattle.sip_machine.specs.Texts.{Texts, IsBook}
 use Rattle.sip_machine.specs.Rules.{StandFor, Knows}
 use Rattle.sip_machine.specs.inner.OwingLaws.{owing_apart}
 use Rattle.sip_states.specs.Held.{Held}
-use Rattle.sip_states.specs.Runs.{Wait}
-use Rattle.sip_states.specs.inner.RuledRuns.{RuledRun}
+use Rattle.sip_states.specs.Waits.{Wait}
 use Rattle.sip_states.specs.Meaning.{IsKnown, HasWaited}
-use Rattle.sip_states.specs.KeySets.{coded_of, PhaseOf, StateOf, key_rules, set_of}
+use Rattle.sip_states.specs.inner.KeySets.{coded_of, StateOf, set_of, meaning_of}
+use Rattle.sip_states.specs.KeyRules.{PhaseOf}
 use Rattle.sip_states.proofs.keyed.KeySetLaws.{coded_holds, to_machine}
-use Rattle.sip_states.specs.AnySet.{meaning_of, moment_of, IsKnownSet, IsQuietIn, IsQuietSet, SetWaits}
+use Rattle.sip_states.specs.AnySet.{moment_of, IsKnownSet, IsQuietIn, IsQuietSet, SetWaits}
 use Rattle.sip_states.specs.Sweep.{ChangesSets}
 use Rattle.sip_states.specs.Tables.{Tabled}
 use Rattle.sip_states.specs.declared.any_set.AnySet.{AnySet}
 use Rattle.sip_states.proofs.keyed.ByMachine.{first_of, last_of, first_is_of, last_is_of, first_knows, last_knows, lawful_of, moment_is, some_machine, of_set, to_set, of_sets}
 use Rattle.sip_states.proofs.lists.Listed.{Contains-here, Contains-there, Contains-none}
-use Rattle.sip_states.proofs.runs.StandsLemmas.{stands-runs}
 use Rattle.sip_verdict.specs.Forgetting.{HasEnded, IsOver}
 use Rattle.sip_verdict.specs.Entries.{newest_moment}
 use Rattle.sip_verdict.specs.SurveyLaws.{IsIdleAgain}
-use Rattle.sip_verdict.specs.SurveyOf.{IsSound}
 use Rattle.sip_verdict.specs.inner.Forgetting.{AreQuietIfOver}
 use Rattle.sip_verdict.specs.inner.Leads.{Leads}
 use Rattle.sip_verdict.specs.inner.Surveying.{IsFollowed, TablesSurvey}
@@ -77,8 +75,8 @@ module _ (texts : Texts) (book : IsBook texts) (p : Times) (machine : MachineKin
   pub record Stood : Type 0 where
     pub held : Held Times (StateOf machine)
     pub is : new ≡ set_of machine held
-    pub leads : LeadsBy (meaning_of machine) texts p events from held
-    pub stand : StandFor (meaning_of machine).names (meaning_of machine).in_range (meaning_of machine).seen texts (RuledRun (key_rules p machine) events moment) held.states
+    pub leads : LeadsBy (meaning_of machine) texts p (Stands (transaction_of machine).figure p events) from held
+    pub stand : StandFor (meaning_of machine).names (meaning_of machine).in_range (meaning_of machine).seen texts (Stands (transaction_of machine).figure p events moment) held.states
 
   -- a set that leads to the runs and then waits stands for just where the runs stand at the moment
   stood : LeadsOf texts p machine events from old → Stood
@@ -89,11 +87,11 @@ module _ (texts : Texts) (book : IsBook texts) (p : Times) (machine : MachineKin
       -- the waited states stand for where the runs that wait until the moment stand
       let stand = subst (λ q. StandFor m.names m.in_range m.seen texts (Wait (m.rules q) (Contains (map (m.seen texts) s.states)) s.moment moment) t.states) leads.machine_is (waited.states texts book leads.leads.known) in
       -- the states after the wait lead to the runs until the moment too
-      let on = waited_leads m.names m.in_range m.seen texts (m.rules p) (lawful_of machine p) events from s.moment moment s.states t.states not_later leads.leads stand in
+      let on = waited_leads m.names m.in_range m.seen texts (m.rules p) (lawful_of machine p) (Stands (transaction_of machine).figure p events) from s.moment moment s.states t.states not_later leads.leads stand in
       record {
         held = t;
         is = new_is;
-        leads = record { machine_is = waited.machine ∙ leads.machine_is; leads = subst (λ n. Leads m.names m.seen texts (m.rules p) events from n t.states) (sym waited.at) on };
+        leads = record { machine_is = waited.machine ∙ leads.machine_is; leads = subst (λ n. Leads m.names m.seen texts (m.rules p) (Stands (transaction_of machine).figure p events) from n t.states) (sym waited.at) on };
         -- the states of the set stand for those of the runs
         stand = record {
           members = λ x. iff_trans (stand.members x) (leads.leads.runs moment x late not_later);
@@ -113,13 +111,12 @@ module _ (texts : Texts) (book : IsBook texts) (p : Times) (machine : MachineKin
       → (s : Stood) → s.held.states ≡ y ∷ []
   one_state y q is known (some, only) s =
       let f = (transaction_of machine).figure in
-      -- a run stands at the moment where it stands by the steps, and so in q alone
-      let by : (x : PhaseOf machine) → Stands f p events moment x ↔ RuledRun (key_rules p machine) events moment x = λ x. stands-runs f (coded_holds machine).is_figure p events moment x in
-      let both : (x : PhaseOf machine) → RuledRun (key_rules p machine) events moment x ↔ (x ≡ (meaning_of machine).seen texts y) =
-      λ x. (λ run. only x ((by x).1 run) ∙ sym is, λ same. (by x).0 (subst (λ z. Stands f p events moment z) (sym (same ∙ is)) some)) in
+      -- a run stands at the moment in q alone
+      let both : (x : PhaseOf machine) → Stands f p events moment x ↔ (x ≡ (meaning_of machine).seen texts y) =
+      λ x. (λ stands. only x stands ∙ sym is, λ same. subst (λ z. Stands f p events moment z) (sym (same ∙ is)) some) in
       alone (meaning_of machine).names (meaning_of machine).in_range (meaning_of machine).seen texts
       (λ a b a_known b_known same. owing_apart (coded_of machine).names (coded_of machine).seen texts ((coded_holds machine).apart texts) a b book a_known b_known same)
-      (RuledRun (key_rules p machine) events moment) y both known s.held.states s.stand
+      (Stands f p events moment) y both known s.held.states s.stand
 
   -- a set that has waited is quiet where the transaction is idle again
   idle_quiet : LeadsOf texts p machine events from old → IsIdleAgain machine p events moment → IsQuietSet new

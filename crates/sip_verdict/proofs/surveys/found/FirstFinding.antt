@@ -134,10 +134,10 @@ verdict_after p es (item ∷ items) close v found end sound (e, sees, inl troubl
     let same : f ≡ e = observes_one es item f e saw sees in
     trouble_first p es e here (subst (λ g. AreFoundAt p es g here) same at) sound v trouble later end ∙ ap (λ fs. verdict_in fs end) (sym is)
 -- the next item is in no trouble, so nothing is found at it
-verdict_after p es (item ∷ items) close v found end sound (e, sees, inr (formed, runs, narrow, left)) (f, here, later, saw, is, at, more) =
+verdict_after p es (item ∷ items) close v found end sound (e, sees, inr (fine, left)) (f, here, later, saw, is, at, more) =
     let same : f ≡ e = observes_one es item f e saw sees in
-    let none : here ≡ [] = fine_none p es e here (subst (λ g. AreFoundAt p es g here) same at) formed runs narrow in
-    verdict_after p (es ++ e ∷ []) items close v later end (all_sound_push p es e sound runs narrow) left (subst (λ g. IsSurveyAfter p (es ++ g ∷ []) items close later end) same more)
+    let none : here ≡ [] = fine_none p es e here (subst (λ g. AreFoundAt p es g here) same at) fine.formed fine.runs fine.narrow in
+    verdict_after p (es ++ e ∷ []) items close v later end (all_sound_push p es e sound fine.runs fine.narrow) left (subst (λ g. IsSurveyAfter p (es ++ g ∷ []) items close later end) same more)
     ∙ ap (λ fs. verdict_in fs end) (sym (is ∙ ap (λ hs. hs ++ later) none))
 
 -- a verdict of an input is the one in its survey

@@ -13,7 +13,7 @@ use Rattle.sip_standard.specs.Observation.{Observation, direction_of, silent_obs
 use Rattle.sip_standard.specs.Seen.{AreSeen}
 use Rattle.sip_standard.specs.VerdictOf.{keys_in, Sees}
 use Rattle.sip_verdict.specs.SurveyLaws.{IsCutOf, StaysOrIsMark, IsCutLog, Keeps}
-use Rattle.sip_verdict.proofs.surveys.parts.Cutting.{keys_cut, zip_push, same_trouble}
+use Rattle.sip_verdict.proofs.surveys.parts.Cutting.{keys_cut, zip_push, same_runs, same_trouble}
 use Rattle.sip_verdict.proofs.sweeps.FollowedLemmas.{heard_moment}
 
 -- what is seen, after these entries, of an item whose action is a
@@ -93,8 +93,14 @@ module _ (chosen : KeyParts → Bool) where
       let more = log_cut (done ++ e ∷ []) (back ++ one.0 ∷ []) (zip_push chosen done back e one.0 zip one.2) items es cuts seen cut in
       (one.0 ∷ more.0, (one.1, more.1), (one.2, more.2))
 
-  -- a log that is cut keeps each of the chosen transactions, with its trouble
+  -- a log that is cut keeps each of the chosen transactions, with its runs and its trouble
   pub cut_keeps : (p : Times) (items : List Item) (es : List (Observation KeyParts)) (cuts : List Item) → AreSeen [] items es → IsCutLog chosen items es cuts → Keeps p chosen es cuts
   cut_keeps p items es cuts seen cut =
       let all = log_cut [] [] tt items es cuts seen cut in
-      record { seen = all.0; are = all.1; keys = keys_cut chosen es all.0 all.2; troubles = λ key is. same_trouble chosen key is p es all.0 all.2 }
+      record {
+        seen = all.0;
+        are = all.1;
+        keys = keys_cut chosen es all.0 all.2;
+        runs = λ key is. same_runs chosen key is p es all.0 all.2;
+        troubles = λ key is. same_trouble chosen key is p es all.0 all.2;
+      }

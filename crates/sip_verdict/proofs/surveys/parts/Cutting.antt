@@ -9,6 +9,7 @@ use Rattle.sip_standard.specs.Key.{KeyParts, same_key}
 use Rattle.sip_key.specs.inner.KeyLaws.{same_key-decides}
 use Rattle.sip_standard.specs.Times.{Times}
 use Rattle.sip_standard.specs.MachineEvent.{MachineEvent}
+use Rattle.sip_standard.specs.Figure.{Owing}
 use Rattle.sip_standard.specs.Stands.{Stands, StandsAfter}
 use Rattle.sip_standard.specs.KeyMachine.{machine_of_key, transaction_of}
 use Rattle.sip_standard.specs.Observation.{Observation}
@@ -16,7 +17,7 @@ use Rattle.sip_verdict.specs.Entries.{newest_moment}
 use Rattle.sip_verdict.specs.inner.Keyed.{with_key, concerns}
 use Rattle.sip_standard.specs.VerdictOf.{keys_in, events_for, RunsOver, IsWideAt}
 use Rattle.sip_verdict.specs.SurveyOf.{IsSound, Breaks, Widens}
-use Rattle.sip_verdict.specs.SurveyLaws.{IsCutOf, HasSameTrouble}
+use Rattle.sip_verdict.specs.SurveyLaws.{IsCutOf, HasSameRuns, HasSameTrouble}
 
 -- What follows is of the keys that are chosen: `chosen` says which are.
 module _ (chosen : KeyParts → Bool) where
@@ -146,14 +147,20 @@ module _ (chosen : KeyParts → Bool) where
 
     -- What follows is of the chosen key by the times p.
     module _ (p : Times) where
+      -- the runs of a chosen key over the entries of the whole log stand where those over the entries of the cut log stand
+      -- both logs have the same events of the key and the same newest moment
+      stands_cut : (es cs : List (Observation KeyParts)) → AllZip (IsCutOf chosen) es cs → (x : Owing (transaction_of (machine_of_key p.rules key)).Phase)
+          → Stands (transaction_of (machine_of_key p.rules key)).figure p (events_for key es) (newest_moment es) x
+          ↔ Stands (transaction_of (machine_of_key p.rules key)).figure p (events_for key cs) (newest_moment cs) x
+      stands_cut es cs zip x =
+          let f = (transaction_of (machine_of_key p.rules key)).figure in (
+            λ stands. subst (λ m. Stands f p (events_for key cs) m x) (sym (newest_cut 0 es cs zip)) (subst (λ events. Stands f p events (newest_moment es) x) (sym (events_cut es cs zip)) stands),
+            λ stands. subst (λ m. Stands f p (events_for key es) m x) (newest_cut 0 es cs zip) (subst (λ events. Stands f p events (newest_moment cs) x) (events_cut es cs zip) stands),
+          )
+
       -- a chosen key has a run over the entries of the whole log exactly if it has one over those of the cut log
       pub runs_cut : (es cs : List (Observation KeyParts)) → AllZip (IsCutOf chosen) es cs → RunsOver p es key ↔ RunsOver p cs key
-      runs_cut es cs zip =
-          let f = (transaction_of (machine_of_key p.rules key)).figure in (
-            -- both logs have the same events of the key and the same newest moment, so that a run over the one is a run over the other
-            λ runs. (runs.0, subst (λ m. Stands f p (events_for key cs) m runs.0) (sym (newest_cut 0 es cs zip)) (subst (λ events. Stands f p events (newest_moment es) runs.0) (sym (events_cut es cs zip)) runs.1)),
-            λ runs. (runs.0, subst (λ m. Stands f p (events_for key es) m runs.0) (newest_cut 0 es cs zip) (subst (λ events. Stands f p events (newest_moment cs) runs.0) (events_cut es cs zip) runs.1)),
-          )
+      runs_cut es cs zip = (λ runs. (runs.0, (stands_cut es cs zip runs.0).0 runs.1), λ runs. (runs.0, (stands_cut es cs zip runs.0).1 runs.1))
 
       -- a chosen key is too wide at an entry exactly if it is too wide at the one that stands for it in the cut log
       pub wide_cut : (es cs : List (Observation KeyParts)) (e c : Observation KeyParts) → AllZip (IsCutOf chosen) es cs → IsCutOf chosen e c → IsWideAt p es e key ↔ IsWideAt p cs c key
@@ -235,6 +242,19 @@ module _ (chosen : KeyParts → Bool) where
       split_same (f ∷ front) [] e c rest others zip long = absurd (omega (arith, long))
       split_same (f ∷ front) (d ∷ back) e c rest others zip long =
           let found = split_same front back e c rest others zip.1 (omega (arith, long)) in ((zip.0, found.0), found.1)
+
+      -- the first entries of both logs, as many of the one as of the other, stand for one another
+      split_front : (front back rest others : List (Observation KeyParts)) → AllZip (IsCutOf chosen) (front ++ rest) (back ++ others) → length front ≡ length back → AllZip (IsCutOf chosen) front back
+      split_front [] [] rest others zip long = tt
+      split_front [] (d ∷ back) rest others zip long = absurd (omega (arith, long))
+      split_front (f ∷ front) [] rest others zip long = absurd (omega (arith, long))
+      split_front (f ∷ front) (d ∷ back) rest others zip long = (zip.0, split_front front back rest others zip.1 (omega (arith, long)))
+
+      -- a chosen key has the same runs over the first entries of both logs
+      pub same_runs : (es cs : List (Observation KeyParts)) → AllZip (IsCutOf chosen) es cs → HasSameRuns p es cs key
+      same_runs es cs zip front back rest others x split other long =
+          stands_cut front back
+          (split_front front back rest others (subst (λ xs. AllZip (IsCutOf chosen) xs (back ++ others)) split (subst (AllZip (IsCutOf chosen) es) other zip)) long) x
 
       -- a key has the same trouble at an entry and at the one that stands for it in the cut log
       pub trouble_cut : (front back : List (Observation KeyParts)) (e c : Observation KeyParts) → AllZip (IsCutOf chosen) front back → IsCutOf chosen e c

@@ -8,7 +8,6 @@ use Rattle.sip_machine.specs.Texts.{Texts}
 use Rattle.sip_machine.specs.NumberedEvent.{NumberedEvent, event_in}
 use Rattle.sip_standard.specs.MachineEvent.{MachineEvent}
 use Rattle.sip_standard.specs.KeyMachine.{MachineKind, machine_of_key}
-use Rattle.sip_states.specs.KeySets.{key_rules}
 use Rattle.sip_states.specs.Agenda.{is_overdue}
 use Rattle.sip_states.specs.AnySet.{moment_of, start_of}
 use Rattle.sip_states.specs.Tables.{Tabled, IsGiven}
@@ -84,7 +83,7 @@ module _ (texts : Texts) (p : Times) (es : List (Observation KeyParts)) (e : Obs
   module _ (waits : List ℕ) (event : NumberedEvent) (late : newest_moment es ≤ event.moment) (once : is_among waits number ≡ false) (concerned : AreConcerned texts p es e event (number ∷ waits) t.keys)
       (h : ArePassing texts p es e (is_among (number ∷ waits)) t b) (hearing : slice_get b.deaf.items (number - 1) ≡ Some false) (before after : AnySet) (was : slice_get t.sets (number - 1) ≡ Some before) (outcome : Outcome)
       (stepped : (q : Times) (kind : MachineKind) (fs : List MachineEvent) (from : ℕ) → from ≤ event.moment → LeadsOf texts q kind fs from before
-      → IsStepped (key_rules q kind) fs (event_in texts event) (λ gs. LeadsOf texts q kind gs event.moment after) (λ g. StandsOf texts q kind fs g after) outcome) where
+      → IsStepped q kind fs (event_in texts event) (λ gs. LeadsOf texts q kind gs event.moment after) (λ g. StandsOf texts q kind fs g after) outcome) where
     -- the key was in no trouble over the entries, and `outcome` is what the entry leaves of its runs
     left : (key : KeyParts) → slice_get t.keys (number - 1) ≡ Some key → IsSound p es key × IsPassed p k es e (key, after) outcome
     left key at =

@@ -11,8 +11,9 @@ use Rattle.sip_standard.specs.Times.{Times}
 use Rattle.sip_machine.specs.Texts.{Texts, Keeps, text_of}
 use Rattle.sip_machine.specs.NumberedEvent.{NumberedEvent, event_in}
 use Rattle.sip_standard.specs.MachineEvent.{MachineEvent}
-use Rattle.sip_standard.specs.KeyMachine.{MachineKind, machine_of_key}
-use Rattle.sip_states.specs.AnySet.{meaning_of}
+use Rattle.sip_standard.specs.KeyMachine.{MachineKind, machine_of_key, transaction_of}
+use Rattle.sip_standard.specs.Stands.{Stands}
+use Rattle.sip_states.specs.inner.KeySets.{meaning_of}
 use Rattle.sip_states.specs.Sweep.{numbers_of}
 use Rattle.sip_states.specs.Tables.{Tabled}
 use Rattle.sip_states.specs.declared.any_set.AnySet.{AnySet}
@@ -53,7 +54,7 @@ module _ (old new : Texts) (number : ℕ) (bytes : List ℕ) (p : Times) where
       subst (λ texts. LeadsOf texts p machine events from set) (sym more) (
         s,
         is,
-        record { machine_is = leads.machine_is; leads = Leads-grow m.names m.seen (seen_by_names_of machine) old number bytes (m.rules p) events from s.moment s.states leads.leads },
+        record { machine_is = leads.machine_is; leads = Leads-grow m.names m.seen (seen_by_names_of machine) old number bytes (m.rules p) (Stands (transaction_of machine).figure p events) from s.moment s.states leads.leads },
       )
 
 -- tables survey the same entries beside a book with one message more

@@ -162,7 +162,7 @@ counted : (p : Times) (es : List (Observation KeyParts)) (items : List Item) (cl
 counted p es [] Clean v is none = none-some 0 (sym (ap trouble_of is) ∙ none)
 counted p es [] (Stops fault) v is none = let same = same_Some (length es + 1) 0 (sym (ap trouble_of is) ∙ none) in omega (arith, same)
 counted p es (item ∷ items) close v (e, sees, inl trouble) none = trouble-counted p es e v trouble none
-counted p es (item ∷ items) close v (e, sees, inr (formed, runs, narrow, more)) none = counted p (es ++ e ∷ []) items close v more none
+counted p es (item ∷ items) close v (e, sees, inr (fine, more)) none = counted p (es ++ e ∷ []) items close v more none
 
 -- where the verdict is of entry 0, the input lacks a header
 pub header_lacks : (input : List ℕ) (v : Verdict) → IsVerdictOf input v → trouble_of v ≡ Some 0 → LacksHeader input

@@ -1,4 +1,4 @@
-use Rattle.sip_ledger.proofs.Lemmas.{alike-debts, arith, at-apart, at-more, at-start, end-other, end-same, false≢true, kept-from, refl, rest-same, rules, sym, ◌∙◌, ◌≡◌, ◌≢◌}
+use Rattle.sip_ledger.proofs.Lemmas.{arith, at-apart, at-more, at-start, end-other, end-same, false≢true, kept-from, refl, rest-same, rules, sym, ◌∙◌, ◌≡◌, ◌≢◌}
 use Rattle.sip_ledger.proofs.accounts.account.same.Goals.{then-loop-at-test+else-beside-other, else-loop-at-test}
 use Rattle.sip_ledger.proofs.accounts.account.same.Goals as goal
 
@@ -13,10 +13,6 @@ debt_for-requires-clause-kept c = kept-from c.loop-at.at c.requires.gained c.req
 -- each place of the other account is kept
 pub debt_for-requires-in-loop-at-clause-kept : goal.debt_for-requires-in-loop-at-clause-kept
 debt_for-requires-in-loop-at-clause-kept c = kept-from c.loop-at.beside c.requires.gained c.requires.other c.loop-at.invariant.told_beside.low c.if-beside-other.true
-
--- accounts that are alike owe the same
-pub returns-then-is_alike : goal.returns-then-is_alike
-returns-then-is_alike c = (λ _. alike-debts c.args.gains.now c.args.strikes.now c.args.one c.args.other c.if-is_alike.ensures, λ _. refl)
 
 -- both owe one debt more that is the same
 pub loop-at-preserved : goal.loop-at-preserved

@@ -1,9 +1,11 @@
-use Rattle.std.proofs.Common.{◌∙◌, ap, get_or}
+use Rattle.std.proofs.Common.{◌∙◌, ap, get_or, subst, sym}
+use Rattle.std.specs.Prelude.{All, IfOk}
 use Rattle.std.proofs.lemmas.Result.{IfOk-weaker}
 use Rattle.sip_standard.specs.Solid.{solid}
-use Rattle.sip_machine.specs.Owes.{owed_in}
-use Rattle.sip_machine.specs.Texts.{text_of}
+use Rattle.sip_machine.specs.Owes.{owed_in, owes_names}
+use Rattle.sip_machine.specs.Texts.{Keeps, text_of}
 use Rattle.sip_machine.specs.inner.Acks.{HasTo, PaysDebt}
+use Rattle.sip_machine.specs.inner.Paying.{FindsFirst}
 use Rattle.sip_message.proofs.lemmas.says.Reading.{says-no_fault}
 use Rattle.sip_machine.proofs.acks.AckLemmas.{AckOf-by_to, AckOf-none}
 use Rattle.sip_machine.proofs.acks.HolderLemmas.{FindsFirst-same}
@@ -27,6 +29,11 @@ returns-then-not-is_ack_for-clause-finds c =
     λ k d low pays. AckOf-none _ _ _ c.in-Some.ack c.in-Some-2.invite c.is_ack_for.result
     (rw (c.in-Some.is, c.number.ensures) at c.in_ok-ack.ensures) (rw c.in-Some-2.is at c.in_ok-invite.ensures) c.is_ack_for.ensures c.if-not-is_ack_for.true pays.0
 
+-- the accounts have what each row owes, and the book keeps the messages of all that the row owes
+pub first_with_to-requires-clause-owed : goal.first_with_to-requires-clause-owed
+first_with_to-requires-clause-owed c =
+    subst (λ rows. All (Keeps c.args.book.now) (owes_names (owed_in rows c.args.row))) (sym c.in-Some-accounts.ensures.some) c.requires.owed
+
 -- an ACK pays the debts whose response has its To and belongs to the INVITE, so the first with that To is the first that it pays
 pub returns-clause-finds : goal.returns-clause-finds
 returns-clause-finds c =
@@ -35,7 +42,7 @@ returns-clause-finds c =
     let ack = text_of texts c.args.event.now.number in
     let invite = text_of texts c.args.request in
     -- `to` says that the To that is looked for is that of the ACK, without its blanks
-    let to = c.of-to.ensures ∙ c.in_ok-to.ensures ∙ ap (λ a. solid a.0) c.to.ensures in
+    let to = c.of-to.ensures ∙ c.in_ok-to.ensures ∙ ap solid c.to.ensures in
     IfOk-weaker c.first_with_to.result _ _ (λ index finds.
     FindsFirst-same (HasTo texts c.of-to.result t) (PaysDebt texts ack invite t) t (owed_in c.args.dues.now c.args.row) index (λ k d low.
     -- an ACK with the To of the response belongs to it exactly if it is one for the INVITE
@@ -43,4 +50,5 @@ returns-clause-finds c =
     let by_to = AckOf-by_to ack invite response c.in-Some.ack c.in-Some-2.invite c.is_ack_for.result
     (rw (c.in-Some.is, c.number.ensures) at c.in_ok-ack.ensures) (rw c.in-Some-2.is at c.in_ok-invite.ensures) c.is_ack_for.ensures c.if-not-is_ack_for.false c.of-to.result to in
     (λ has. (by_to.0 has.0, has.1), λ pays. (by_to.1 pays.0, pays.1))) finds)
-    (rw c.moment.ensures at c.first_with_to.ensures)
+    (subst (λ rows. IfOk c.first_with_to.result (FindsFirst (HasTo texts c.of-to.result t) t (owed_in rows c.args.row))) c.in-Some-accounts.ensures.some
+    (rw c.moment.ensures at c.first_with_to.ensures))

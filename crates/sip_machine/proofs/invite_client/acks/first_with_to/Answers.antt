@@ -11,7 +11,7 @@ use Rattle.sip_machine.proofs.invite_client.acks.first_with_to.Goals as goal
 -- the book keeps the messages of the debts that are looked at
 pub first_of-requires : goal.first_of-requires
 first_of-requires c =
-    let owes = owed_in c.args.dues.now c.args.row in
+    let owes = owed_in c.args.accounts.now c.args.row in
     let Kept : Debt → Type 0 = λ debt. Keeps c.args.book.now debt.message in
     subst (All Kept) (sym (c.deref.ensures.value ∙ c.in_ok-debts.ensures)) (All-take Kept c.loop-debts.most owes (All-names (Keeps c.args.book.now) owes c.requires.owed))
 

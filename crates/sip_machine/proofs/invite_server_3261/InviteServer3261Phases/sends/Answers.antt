@@ -1,7 +1,7 @@
 use Rattle.std.proofs.Common.{sym, subst, ◌∙◌, true≢false}
 use Rattle.sip_machine.specs.NumberedEvent.{event_in}
 use Rattle.sip_standard.specs.Kind.{IsSuccess}
-use Rattle.sip_machine.specs.Owing.{turn_seen, turn_names, TurnInRange}
+use Rattle.sip_machine.specs.inner.Turns.{turn_seen, turn_names, TurnInRange}
 use Rattle.sip_standard.specs.InviteServer3261.{Sends}
 use Rattle.sip_machine.specs.inner.InviteServer3261.{invite_server_3261_seen, invite_server_3261_names, InviteServer3261InRange}
 use Rattle.sip_machine.specs.inner.Single.{AnswersOne}

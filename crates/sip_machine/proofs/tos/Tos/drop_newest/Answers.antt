@@ -2,15 +2,10 @@
 use Rattle.std.proofs.Common.{◌≡◌, ◌<◌, ◌-◌, All, AllPairs, Contains, arith, get_or, subst, sym, take}
 use Rattle.std.specs.Vec.{vec_len}
 use Rattle.std.proofs.lemmas.List.Elements.{All-take, Contains-get_or}
-use Rattle.sip_machine.specs.declared.tos.To.{To}
 use Rattle.sip_machine.specs.inner.Order.{full_hash}
 use Rattle.sip_machine.specs.inner.Tos.{AreUnder, IsUnder}
-use Rattle.sip_machine.proofs.acks.ToLemmas.{AllPairs-take, front_below, taken-keeps}
+use Rattle.sip_machine.proofs.acks.ToLemmas.{AllPairs-take, below, front_below, taken-keeps}
 use Rattle.sip_machine.proofs.tos.Tos.drop_newest.Goals as goal
-
--- the order of Tos: by the numbers of their messages
-abbrev below : To → To → Type 0
-below a b = a.number < b.number
 
 -- without the newest To the others are in order, and each stands under its hash
 pub invariant_of-self : goal.invariant_of-self

@@ -5,12 +5,8 @@ use Rattle.std.proofs.lemmas.List.Quantifiers.{all_pairs_push}
 use Rattle.sip_machine.specs.declared.tos.To.{To}
 use Rattle.sip_machine.specs.inner.Order.{full_hash}
 use Rattle.sip_machine.specs.inner.Tos.{IsUnder}
-use Rattle.sip_machine.proofs.acks.ToLemmas.{put-here, put-keeps}
+use Rattle.sip_machine.proofs.acks.ToLemmas.{below, put-here, put-keeps}
 use Rattle.sip_machine.proofs.tos.Tos.push.Goals as goal
-
--- the order of Tos: by the numbers of their messages
-abbrev below : To → To → Type 0
-below a b = a.number < b.number
 
 -- with the new To the others are in order, and each stands under its hash
 pub invariant_of-self-2 : goal.invariant_of-self-2

@@ -1,13 +1,8 @@
 -- Of the invariant of Tos (`c.self.invariant`) part 0 says that the numbers of the messages rise, and 1 that each stands under its hash, if hashes are kept.
-use Rattle.std.proofs.Common.{◌≡◌, ◌<◌, AllPairs, Contains, false, is_some, rules, subst, sym}
+use Rattle.std.proofs.Common.{◌≡◌, AllPairs, Contains, false, is_some, rules, subst, sym}
 use Rattle.std.proofs.lemmas.Fn.{All-from_retain}
-use Rattle.sip_machine.specs.declared.tos.To.{To}
-use Rattle.sip_machine.proofs.acks.ToLemmas.{AllPairs-picked, left_over, none-under}
+use Rattle.sip_machine.proofs.acks.ToLemmas.{AllPairs-picked, below, left_over, none-under}
 use Rattle.sip_machine.proofs.tos.Tos.retain.Goals as goal
-
--- the order of Tos: by the numbers of their messages
-abbrev below : To → To → Type 0
-below a b = a.number < b.number
 
 -- the Tos that are left are still in order, and no hashes are kept
 pub invariant_of-self : goal.invariant_of-self

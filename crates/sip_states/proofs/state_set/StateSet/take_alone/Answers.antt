@@ -1,7 +1,7 @@
 use Rattle.std.proofs.Common.{◌≡◌, ◌≤◌, arith, length}
 use Rattle.std.proofs.lemmas.Bool.{OnTrue_at}
 use Rattle.sip_machine.specs.NumberedEvent.{event_in}
-use Rattle.sip_states.specs.Runs.{widest}
+use Rattle.sip_standard.specs.VerdictOf.{widest}
 use Rattle.sip_states.proofs.sets.Following.{Follows}
 use Rattle.sip_states.proofs.sets.Taking.{took_kept}
 use Rattle.sip_states.proofs.state_set.StateSet.take_alone.Goals as goal

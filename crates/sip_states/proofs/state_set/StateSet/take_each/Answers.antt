@@ -1,9 +1,10 @@
 use Rattle.std.specs.Prelude.{◌≡◌, ◌≤◌, get_or, length}
-use Rattle.std.proofs.Common.{ap, arith}
+use Rattle.std.proofs.Common.{ap, arith, Err}
 use Rattle.std.proofs.lemmas.List.{length-map}
 use Rattle.sip_machine.specs.NumberedEvent.{event_in}
-use Rattle.sip_machine.specs.Pools.{picked}
-use Rattle.sip_states.specs.Runs.{widest}
+use Rattle.sip_machine.specs.inner.Pools.{picked}
+use Rattle.sip_standard.specs.VerdictOf.{widest}
+use Rattle.sip_states.specs.declared.state_set.TakeError.TheVariants.{TooMany}
 use Rattle.sip_states.proofs.lists.EachOnce.{unseen-distinct}
 use Rattle.sip_states.proofs.sets.Following.{Follows}
 use Rattle.sip_states.proofs.sets.Taking.{took_kept}
@@ -55,3 +56,9 @@ returns-in-Ok-clause-few g c =
     let same : length c.keep.new.self ≡ length states = ap length kept in
     let fits = c.in-Ok.ensures.few in
     omega (arith, size, same, fits)
+
+-- where the event leads to more states than are followed, the rows said so
+pub returns-in-Err-clause-too_many : goal.returns-in-Err-clause-too_many
+returns-in-Err-clause-too_many g c = λ too_many.
+    let same : c.in-Err.error ≡ TooMany = cc in
+    rw (← c.self.view_is) (rw c.get.ensures at c.in-Err.ensures.too_many (ap (λ error. Err error) same))

@@ -98,11 +98,8 @@ fn push_entries(
     Ok(())
 }
 
-/// The message of an entry's further words, which are its method, its branch, and then a code or a change; or `junk`, which is no message.
+/// The message of an entry's further words, which are its method, its branch, and then a code or a change.
 fn message_in(alloc: Global, words: &str) -> Result<String, Fail> {
-    if words == "junk" {
-        return Ok(String::from_str(alloc, "x")?);
-    }
     let mut words = words.split_whitespace();
     let (Some(method), Some(branch)) = (words.next(), words.next()) else {
         return Err("no message".into());

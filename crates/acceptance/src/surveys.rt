@@ -1,132 +1,17 @@
-//! The lines of surveys, as text: `surveys/rows.rt` says what they tell, and in which words logs are spelled.
-mod rows;
-
+//! Surveys that are refused memory, and how many messages they keep. Logs are spelled in the words of `notation.rt`: `S` sent, `R` received and `M` a
+//! mark, each with its moment; then a method, a branch without the cookie, and the code where it is a response.
 use crate::notation::log_of;
 use crate::streams::answered;
 use crate::wants::{holds, reads};
 use sip_log::{Entry, FromRead, LogError, Progress, ToWrite};
-use sip_verdict::{
-    Finding, Part, StepError, Survey, SurveyEnd, SurveyError, end_line, finding_line, survey,
-    survey_bytes, survey_part,
-};
-use std::alloc::{AllocError, Global};
+use sip_verdict::{Finding, Part, StepError, Survey, SurveyEnd, survey_part};
+use std::alloc::Global;
 use std::hash::{BuildHasherDefault, FoldHasher};
 use std::process::Abort;
 use std::test::Fail;
 
 // The hasher of keys, by which no survey differs.
 pub(crate) type Hasher = BuildHasherDefault<FoldHasher>;
-
-/// The words of a log, and the lines of its survey.
-type Row = (&'static str, &'static str);
-
-/// Writes the lines of the survey of a log.
-fn written(alloc: Global, log: &[u8], text: &mut Vec<u8>) -> Result<(), SurveyError> {
-    let mut source = FromRead::new(log);
-    survey(alloc, &mut source, &mut ToWrite::new(text), Hasher::new())?;
-    Ok(())
-}
-
-/// Writes what is found in the log of these bytes as the lines of a survey, without the words of their transactions.
-fn told(alloc: Global, log: &[u8], text: &mut Vec<u8>) -> Result<(), SurveyError> {
-    let (found, end) = survey_bytes(alloc, log, Hasher::new())?;
-    for finding in &found {
-        text.extend_from_slice(finding_line(alloc, finding, None)?.as_slice())?;
-    }
-    let last = end_line(alloc, &end, found.len() as u64)?;
-    text.extend_from_slice(last.as_str().as_bytes())?;
-    Ok(())
-}
-
-/// The lines of a survey, without the words of their transactions.
-fn bare(alloc: Global, lines: &str) -> Result<String, AllocError> {
-    let mut text = String::new(alloc);
-    for line in lines.lines() {
-        let (words, _) = line
-            .split_once(" client ")
-            .or(line.split_once(" server "))
-            .unwrap_or((line, ""));
-        text.push_str(words)?;
-        text.push_str("\n")?;
-    }
-    Ok(text)
-}
-
-/// Checks the lines of the survey of a log, whose bytes come from a reader or lie in memory.
-fn surveys_log(
-    rt: &(impl Abort + AllocGlobal),
-    log: &str,
-    (row, want): (&str, &str),
-) -> Result<(), Fail> {
-    surveys_reader(rt, log, (row, want))?;
-    let bare = bare(rt.alloc(), want)?;
-    surveys_memory(rt, log, (row, bare.as_str()))
-}
-
-/// Checks the lines of the survey of a log whose bytes come from a reader.
-fn surveys_reader(
-    rt: &(impl Abort + AllocGlobal),
-    log: &str,
-    (row, want): (&str, &str),
-) -> Result<(), Fail> {
-    let mut text = Vec::new(rt.alloc());
-    written(rt.alloc(), log.as_bytes(), &mut text)?;
-    let lines = str::from_utf8(text.as_slice()).map_err(|_| "no text")?;
-    reads(rt, lines, want, row);
-    Ok(())
-}
-
-/// Checks the lines of the survey of a log that lies in memory, without the words of their transactions.
-fn surveys_memory(
-    rt: &(impl Abort + AllocGlobal),
-    log: &str,
-    (row, want): (&str, &str),
-) -> Result<(), Fail> {
-    let mut text = Vec::new(rt.alloc());
-    told(rt.alloc(), log.as_bytes(), &mut text)?;
-    let lines = str::from_utf8(text.as_slice()).map_err(|_| "no text")?;
-    reads(rt, lines, want, row);
-    Ok(())
-}
-
-/// Checks the lines of the survey of the log of these words.
-fn surveys(rt: &(impl Abort + AllocGlobal), (words, want): Row) -> Result<(), Fail> {
-    let log = log_of(rt.alloc(), words)?;
-    surveys_log(rt, log.as_str(), (words, want))
-}
-
-/// Checks the lines of the survey of each row.
-fn surveys_each(rt: &(impl Abort + AllocGlobal), rows: &[Row]) -> Result<(), Fail> {
-    for row in rows {
-        surveys(rt, *row)?;
-    }
-    Ok(())
-}
-
-/// Each row has the findings of a log, entry by entry.
-#[test]
-fn finds_what_is_wrong_at_each_entry(rt: HostRuntime) -> Result<(), Fail> {
-    surveys_each(&rt, &rows::FOUND)
-}
-
-/// A server answers in one of two ways, and each repeated request may be answered or not: after 44 answers more states are possible than a
-/// survey follows. It finds nothing in what comes for this server later, and finds another transaction that falls silent.
-#[test]
-fn gives_one_up_and_finds_another(rt: HostRuntime) -> Result<(), Fail> {
-    let alloc = rt.alloc();
-    let requests = "R 0 OPTIONS a; ".repeat(alloc, 40)?;
-    let requests = requests.as_str();
-    let answers = "S 0 OPTIONS a 180; S 0 OPTIONS a 181; ".repeat(alloc, 30)?;
-    let words = format!(in alloc;
-        "tolerance 10000; R 0 OPTIONS a; S 0 OPTIONS a 180; {requests}S 0 OPTIONS a 181; {requests}\
-        {answers}S 0 OPTIONS b; M 700; M 20000",
-        answers = answers.as_str()
-    )?;
-    let want =
-        "undecided 128 transaction 1 server OPTIONS z9hG4bKa 1 128\nbreach 146 transaction 2 client OPTIONS z9hG4bKb 144 144\nend entries 146 transactions 2 findings 2\n";
-    let log = log_of(alloc, words.as_str())?;
-    surveys_log(&rt, log.as_str(), ("a server with two answers", want))
-}
 
 /// Checks the lines of the survey of part `number` of two.
 fn surveys_part(
@@ -145,20 +30,6 @@ fn surveys_part(
     let lines = str::from_utf8(text.as_slice()).map_err(|_| "no text")?;
     reads(rt, lines, want, "a part");
     Ok(())
-}
-
-/// A restart ends the client of one branch and the server of the other, each in its own part: FNV-1a of z9hg4bka is 431978031, and that of z9hg4bkb is
-/// 448755650, so that a is of part 2, as the odd one, and b of part 1. The client is silent after the restart, and the server answers what nobody has
-/// asked for any more.
-#[test]
-fn a_restart_stands_in_each_part(rt: HostRuntime) -> Result<(), Fail> {
-    let words = "early 50 late 50; S 0 OPTIONS a; R 0 OPTIONS b; Z 100; M 600; S 700 OPTIONS b 200";
-    let log = log_of(rt.alloc(), words)?;
-    let breach =
-        "breach 5 transaction 1 server OPTIONS z9hG4bKb 2 5\nend entries 5 transactions 1 findings 1\n";
-    surveys_part(&rt, log.as_str(), 1, breach)?;
-    let none = "end entries 5 transactions 1 findings 0\n";
-    surveys_part(&rt, log.as_str(), 2, none)
 }
 
 /// `tests/growths` refuses each growth in turn while a part is surveyed: the message of the other part stands in front of the one that is
@@ -278,7 +149,7 @@ fn a_survey_keeps_few_messages_of_many(rt: HostRuntime) -> Result<(), Fail> {
 /// `tests/growths` refuses each growth in turn. A survey that failed has no end, and one that did not fail has found three things.
 #[test]
 fn refused_while_a_survey_goes_on(rt: HostRuntime) -> Result<(), Fail> {
-    let words = "S 0 OPTIONS a; S 0 OPTIONS b; R 600 junk; M 700; S 800 OPTIONS c";
+    let words = "S 0 OPTIONS a; S 0 OPTIONS b; S 600 OPTIONS d s/z9hG4bK//; M 700; S 800 OPTIONS c";
     let log = log_of(rt.alloc(), words)?;
     let mut surveyed = Surveyed::open(rt.alloc(), log.as_str().as_bytes())?;
     let mut found = Vec::new(rt.alloc());

@@ -509,6 +509,16 @@ fn rows_gain_and_pay_and_lose_what_is_past(rt: HostRuntime) -> Done {
     Ok(())
 }
 
+/// A row that comes once more as it pays loses what it may send and whose deadline is past.
+#[test]
+fn rows_that_pay_lose_what_is_past(rt: HostRuntime) -> Done {
+    let mut played = Played::new(&rt)?;
+    played.gain_each(0, owed(1, 10, false))?;
+    played.gain_each(0, owed(2, 20, true))?;
+    played.pay(&rt, 0, 1, 2, 15)?;
+    played.agree(&rt)
+}
+
 /// The first row gains this many equal debts, and pays them and one more.
 fn gains_and_pays(rt: &impl Abort, played: &mut Played, count: usize) -> Done {
     for _ in 0..count {

@@ -1,4 +1,4 @@
--- A run of each machine has one with a wider tolerance: what each machine shows, and the one law of all of them.
+-- A run of each machine has one with a wider tolerance: where each machine shows it, and the one lemma of all of them.
 use Rattle.std.proofs.Common.{◌≡◌, ◌≤◌, ℕ, List}
 use Rattle.sip_standard.specs.Figure.{Owing}
 use Rattle.sip_standard.specs.MachineEvent.{MachineEvent}
@@ -7,21 +7,21 @@ use Rattle.sip_standard.specs.KeyMachine.{MachineKind, OfInviteClient, OfPlainCl
 use Rattle.sip_standard.specs.Stands.{Stands}
 use Rattle.consequences.specs.Tolerance.{tolerant, AreOneKind}
 use Rattle.sip_states.proofs.runs.StandsLemmas.{what_stands_lasts}
-use Rattle.consequences.proofs.lemmas.tolerance.Moments.{is-wider}
-use Rattle.consequences.proofs.lemmas.tolerance.Wider.{Widens, wider-keeps}
-use Rattle.consequences.proofs.lemmas.tolerance.InviteClients.{invite_client_widens, invite_client_3261_widens}
-use Rattle.consequences.proofs.lemmas.tolerance.PlainClient.{plain_client_widens}
-use Rattle.consequences.proofs.lemmas.tolerance.InviteServers.{invite_server_widens, invite_server_3261_widens}
-use Rattle.consequences.proofs.lemmas.tolerance.PlainServer.{plain_server_widens}
+use Rattle.consequences.proofs.lemmas.tolerance.Moments.{is-more-tolerant}
+use Rattle.consequences.proofs.lemmas.tolerance.Wider.{KeepsRuns, wider-keeps}
+use Rattle.consequences.proofs.lemmas.tolerance.InviteClients.{invite_client_keeps_runs, invite_client_3261_keeps_runs}
+use Rattle.consequences.proofs.lemmas.tolerance.PlainClient.{plain_client_keeps_runs}
+use Rattle.consequences.proofs.lemmas.tolerance.InviteServers.{invite_server_keeps_runs, invite_server_3261_keeps_runs}
+use Rattle.consequences.proofs.lemmas.tolerance.PlainServer.{plain_server_keeps_runs}
 
--- what each machine shows of wider tolerances
-widens : (machine : MachineKind) → Widens (transaction_of machine).figure
-widens OfInviteClient = invite_client_widens
-widens OfPlainClient = plain_client_widens
-widens OfInviteServer = invite_server_widens
-widens OfPlainServer = plain_server_widens
-widens OfInviteClient3261 = invite_client_3261_widens
-widens OfInviteServer3261 = invite_server_3261_widens
+-- each machine shows that a wider tolerance keeps its runs
+keeps_runs : (machine : MachineKind) → KeepsRuns (transaction_of machine).figure
+keeps_runs OfInviteClient = invite_client_keeps_runs
+keeps_runs OfPlainClient = plain_client_keeps_runs
+keeps_runs OfInviteServer = invite_server_keeps_runs
+keeps_runs OfPlainServer = plain_server_keeps_runs
+keeps_runs OfInviteClient3261 = invite_client_3261_keeps_runs
+keeps_runs OfInviteServer3261 = invite_server_3261_keeps_runs
 
 -- What follows is of the times p, and of a wider tolerance: how early and how late an element may act.
 module _ (p : Times) (early late : ℕ) where
@@ -33,6 +33,6 @@ module _ (p : Times) (early late : ℕ) where
   pub all-wider : (machine : MachineKind) (events : List MachineEvent) (m : ℕ) (x : Owing (transaction_of machine).Phase) → p.early ≤ early → p.late ≤ late → AreOneKind events →
       Stands (transaction_of machine).figure p events m x → (y : Owing (transaction_of machine).Phase) × Stands (transaction_of machine).figure q events m y × (y.phase ≡ x.phase)
   all-wider machine events m x earlier later one stands =
-      let shown = widens machine in
-      let steady = shown.steady p early late (is-wider p early late earlier later) in
+      let shown = keeps_runs machine in
+      let steady = shown.steady p early late (is-more-tolerant p early late earlier later) in
       wider-keeps (transaction_of machine).figure p early late later steady (shown.May q) (shown.sorted q) (what_stands_lasts machine p) (what_stands_lasts machine q) events m x one stands

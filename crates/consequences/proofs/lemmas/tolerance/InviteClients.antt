@@ -10,12 +10,12 @@ use Rattle.sip_standard.specs.Figure.{Change}
 use Rattle.sip_standard.specs.InviteClient as client
 use Rattle.sip_standard.specs.InviteClient3261 as client_3261
 use Rattle.consequences.specs.Tolerance.{tolerant}
-use Rattle.consequences.proofs.lemmas.tolerance.Moments.{IsWider}
+use Rattle.consequences.proofs.lemmas.tolerance.Moments.{IsMoreTolerant}
 use Rattle.consequences.proofs.lemmas.tolerance.Sorted.{IsFirm, firm-sorted}
-use Rattle.consequences.proofs.lemmas.tolerance.Wider.{IsSteady, IsSorted, Widens}
+use Rattle.consequences.proofs.lemmas.tolerance.Wider.{IsSteady, IsSorted, KeepsRuns}
 
 -- What follows is of the times p, and of q, the same with a wider tolerance: `early` and `late` are how early and how late an element may act by q.
-module _ (p : Times) (early late : ℕ) (wider : IsWider p (tolerant early late p)) where
+module _ (p : Times) (early late : ℕ) (wider : IsMoreTolerant p (tolerant early late p)) where
   -- the times with the wider tolerance
   abbrev q : Times
   q = tolerant early late p
@@ -136,10 +136,10 @@ client-sorted p = firm-sorted client.invite_client p (record { received = client
 client-3261-sorted : (p : Times) → IsSorted client_3261.invite_client_3261 p (λ es x message. ⊥)
 client-3261-sorted p = firm-sorted client_3261.invite_client_3261 p (record { received = client-3261-receives-firm p; sent = client-sends-firm p })
 
--- the INVITE client by RFC 6026 shows what a wider tolerance keeps: it owes nothing that only may be sent
-pub invite_client_widens : Widens client.invite_client
-invite_client_widens = record { May = λ p es x message. ⊥; steady = client-steady; sorted = client-sorted }
+-- the INVITE client by RFC 6026 shows that a wider tolerance keeps its runs: it owes nothing that only may be sent
+pub invite_client_keeps_runs : KeepsRuns client.invite_client
+invite_client_keeps_runs = record { May = λ p es x message. ⊥; steady = client-steady; sorted = client-sorted }
 
--- the INVITE client by RFC 3261 alone shows what a wider tolerance keeps: it owes nothing that only may be sent
-pub invite_client_3261_widens : Widens client_3261.invite_client_3261
-invite_client_3261_widens = record { May = λ p es x message. ⊥; steady = client-3261-steady; sorted = client-3261-sorted }
+-- the INVITE client by RFC 3261 alone shows that a wider tolerance keeps its runs: it owes nothing that only may be sent
+pub invite_client_3261_keeps_runs : KeepsRuns client_3261.invite_client_3261
+invite_client_3261_keeps_runs = record { May = λ p es x message. ⊥; steady = client-3261-steady; sorted = client-3261-sorted }

@@ -25,12 +25,12 @@ use Rattle.sip_standard.specs.Debts.{Owed, softened, IsWithoutFirst}
 use Rattle.sip_machine.specs.inner.DebtLaws.{All-without}
 use Rattle.consequences.proofs.lemmas.server.Asleep.{nothing-to-pay}
 use Rattle.consequences.proofs.lemmas.run.Running.{IsKept, left_at, stands-run, run-keeps}
-use Rattle.consequences.proofs.lemmas.tolerance.Moments.{IsWider}
+use Rattle.consequences.proofs.lemmas.tolerance.Moments.{IsMoreTolerant}
 use Rattle.consequences.proofs.lemmas.tolerance.Sorted.{same-bytes, no-must, yes-must}
-use Rattle.consequences.proofs.lemmas.tolerance.Wider.{IsSteady, IsSorted, Widens}
+use Rattle.consequences.proofs.lemmas.tolerance.Wider.{IsSteady, IsSorted, KeepsRuns}
 
 -- What follows is of the times p, and of q, the same with a wider tolerance: `early` and `late` are how early and how late an element may act by q.
-module _ (p : Times) (early late : ℕ) (wider : IsWider p (tolerant early late p)) where
+module _ (p : Times) (early late : ℕ) (wider : IsMoreTolerant p (tolerant early late p)) where
   -- the times with the wider tolerance
   abbrev q : Times
   q = tolerant early late p
@@ -356,10 +356,10 @@ module _ (p : Times) where
     alike = λ es x k e a b one other may. subst (MayIn3261 x) (both-pay-3261 x k e a b one other) may;
   }
 
--- the INVITE server by RFC 6026 shows what a wider tolerance keeps
-pub invite_server_widens : Widens server.invite_server
-invite_server_widens = record { May = λ p es x message. MayIn x message; steady = server-steady; sorted = server-sorted }
+-- the INVITE server by RFC 6026 shows that a wider tolerance keeps its runs
+pub invite_server_keeps_runs : KeepsRuns server.invite_server
+invite_server_keeps_runs = record { May = λ p es x message. MayIn x message; steady = server-steady; sorted = server-sorted }
 
--- the INVITE server by RFC 3261 alone shows what a wider tolerance keeps
-pub invite_server_3261_widens : Widens server_3261.invite_server_3261
-invite_server_3261_widens = record { May = λ p es x message. MayIn3261 p x message; steady = server-3261-steady; sorted = server-3261-sorted }
+-- the INVITE server by RFC 3261 alone shows that a wider tolerance keeps its runs
+pub invite_server_3261_keeps_runs : KeepsRuns server_3261.invite_server_3261
+invite_server_3261_keeps_runs = record { May = λ p es x message. MayIn3261 p x message; steady = server-3261-steady; sorted = server-3261-sorted }

@@ -7,9 +7,9 @@ use Rattle.sip_standard.specs.MachineEvent.{MachineEvent}
 use Rattle.sip_standard.specs.Retransmits.{Retransmits}
 use Rattle.consequences.specs.Tolerance.{tolerant}
 
--- the times q have a wider tolerance than p, and else the same times
+-- what is in time by the times p is in time by q, whose tolerance is wider
 -- h is a moment
-pub record IsWider (p q : Times) : Type 0 where
+pub record IsMoreTolerant (p q : Times) : Type 0 where
   -- what is sent again in time by the times p is sent in time by q
   pub retransmits : (reliable : Bool) (message : List ℕ) (set interval : ℕ) (e : MachineEvent) → Retransmits p reliable message set interval e → Retransmits q reliable message set interval e
   -- a window that has opened by p has opened by q, and one that has not closed by p has not closed by q
@@ -43,5 +43,5 @@ module _ (p : Times) (early late : ℕ) (earlier : p.early ≤ early) (later : p
       All-cons (λ last. h ≤ last) (close_at q set interval) [] (closes-later set interval h (All-head (λ last. h ≤ last) (close_at p set interval) [] all)) (All-nil (λ last. h ≤ last))
 
   -- the times q have the wider tolerance
-  pub is-wider : IsWider p q
-  is-wider = record { retransmits = retransmits; opens = opens-earlier; closes = closes-later; repeats = repeats-later }
+  pub is-more-tolerant : IsMoreTolerant p q
+  is-more-tolerant = record { retransmits = retransmits; opens = opens-earlier; closes = closes-later; repeats = repeats-later }

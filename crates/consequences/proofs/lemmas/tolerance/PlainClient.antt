@@ -8,12 +8,12 @@ use Rattle.sip_standard.specs.MachineEvent.{MachineEvent}
 use Rattle.sip_standard.specs.Figure.{Change}
 use Rattle.sip_standard.specs.PlainClient as plain
 use Rattle.consequences.specs.Tolerance.{tolerant}
-use Rattle.consequences.proofs.lemmas.tolerance.Moments.{IsWider}
+use Rattle.consequences.proofs.lemmas.tolerance.Moments.{IsMoreTolerant}
 use Rattle.consequences.proofs.lemmas.tolerance.Sorted.{IsFirm, firm-sorted}
-use Rattle.consequences.proofs.lemmas.tolerance.Wider.{IsSteady, IsSorted, Widens}
+use Rattle.consequences.proofs.lemmas.tolerance.Wider.{IsSteady, IsSorted, KeepsRuns}
 
 -- What follows is of the times p, and of q, the same with a wider tolerance: `early` and `late` are how early and how late an element may act by q.
-module _ (p : Times) (early late : ℕ) (wider : IsWider p (tolerant early late p)) where
+module _ (p : Times) (early late : ℕ) (wider : IsMoreTolerant p (tolerant early late p)) where
   -- the times with the wider tolerance
   abbrev q : Times
   q = tolerant early late p
@@ -82,6 +82,6 @@ plain-sends-firm p x k e row h = absurd h
 plain-client-sorted : (p : Times) → IsSorted plain.plain_client p (λ es x message. ⊥)
 plain-client-sorted p = firm-sorted plain.plain_client p (record { received = plain-receives-firm p; sent = plain-sends-firm p })
 
--- the non-INVITE client shows what a wider tolerance keeps: it owes nothing that only may be sent
-pub plain_client_widens : Widens plain.plain_client
-plain_client_widens = record { May = λ p es x message. ⊥; steady = plain-client-steady; sorted = plain-client-sorted }
+-- the non-INVITE client shows that a wider tolerance keeps its runs: it owes nothing that only may be sent
+pub plain_client_keeps_runs : KeepsRuns plain.plain_client
+plain_client_keeps_runs = record { May = λ p es x message. ⊥; steady = plain-client-steady; sorted = plain-client-sorted }

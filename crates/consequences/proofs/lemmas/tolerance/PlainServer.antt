@@ -26,12 +26,12 @@ use Rattle.sip_standard.specs.PlainServer.{PlainServerPhase, Idle, Trying, Proce
 use Rattle.consequences.specs.Events.{IsResponse, SendsResponse}
 use Rattle.consequences.proofs.lemmas.server.Said.{IsOut, IsSaid, said-later, codes-are-one}
 use Rattle.consequences.proofs.lemmas.run.Lists.{any-last, any-earlier}
-use Rattle.consequences.proofs.lemmas.tolerance.Moments.{IsWider}
+use Rattle.consequences.proofs.lemmas.tolerance.Moments.{IsMoreTolerant}
 use Rattle.consequences.proofs.lemmas.tolerance.Sorted.{same-bytes, no-must, yes-must}
-use Rattle.consequences.proofs.lemmas.tolerance.Wider.{IsSteady, IsSorted, Widens}
+use Rattle.consequences.proofs.lemmas.tolerance.Wider.{IsSteady, IsSorted, KeepsRuns}
 
 -- What follows is of the times p, and of q, the same with a wider tolerance: `early` and `late` are how early and how late an element may act by q.
-module _ (p : Times) (early late : ℕ) (wider : IsWider p (tolerant early late p)) where
+module _ (p : Times) (early late : ℕ) (wider : IsMoreTolerant p (tolerant early late p)) where
   -- the times with the wider tolerance
   abbrev q : Times
   q = tolerant early late p
@@ -224,6 +224,6 @@ module _ (p : Times) where
     alike = λ es x k e a b pays also may. subst (May es x) (also ∙ sym pays) may;
   }
 
--- the non-INVITE server shows what a wider tolerance keeps
-pub plain_server_widens : Widens plain_server
-plain_server_widens = record { May = λ p. May; steady = plain-server-steady; sorted = plain-server-sorted }
+-- the non-INVITE server shows that a wider tolerance keeps its runs
+pub plain_server_keeps_runs : KeepsRuns plain_server
+plain_server_keeps_runs = record { May = λ p. May; steady = plain-server-steady; sorted = plain-server-sorted }

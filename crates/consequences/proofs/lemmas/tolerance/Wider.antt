@@ -22,7 +22,7 @@ use Rattle.sip_states.proofs.lists.Listed.{Contains-there}
 use Rattle.consequences.specs.Tolerance.{tolerant, AreOneKind}
 use Rattle.consequences.proofs.lemmas.run.Lists.{contains-here}
 use Rattle.consequences.proofs.lemmas.run.Running.{left_at}
-use Rattle.consequences.proofs.lemmas.tolerance.Moments.{IsWider}
+use Rattle.consequences.proofs.lemmas.tolerance.Moments.{IsMoreTolerant}
 
 -- the second list has the debts of the first, with deadlines that are no earlier, and perhaps more that only may be sent
 data Later : List Owed → List Owed → Type 0 where
@@ -222,10 +222,10 @@ pub record IsSorted {X : Type 0} (f : Figure X) (q : Times) (May : List MachineE
   -- a and b are messages that one send of the kind k pays in the phase x: where b may be owed there, so may a
   pub alike : (es : List MachineEvent) (x : X) (k : Kind) (e : MachineEvent) (a b : List ℕ) → f.Satisfies x k e a → f.Satisfies x k e b → May es x b → May es x a
 
--- what a figure shows of each wider tolerance: it is steady, and by any times its debts are sorted, where `May` tells which of them only may be sent
-pub record Widens {X : Type 0} (f : Figure X) : Type 1 where
+-- a wider tolerance keeps the runs of the figure: it is steady by each, and by any times its debts are sorted, where `May` tells which only may be sent
+pub record KeepsRuns {X : Type 0} (f : Figure X) : Type 1 where
   pub May : Times → List MachineEvent → X → List ℕ → Type 0
-  pub steady : (p : Times) (early late : ℕ) → IsWider p (tolerant early late p) → IsSteady f p (tolerant early late p)
+  pub steady : (p : Times) (early late : ℕ) → IsMoreTolerant p (tolerant early late p) → IsSteady f p (tolerant early late p)
   pub sorted : (p : Times) → IsSorted f p (May p)
 
 -- what follows of an element from two facts holds of all elements of which both hold

@@ -1,30 +1,37 @@
 -- The keys that a message concerns.
 -- `λ i. f (e i)`: by the equation e, f of its left side is equal to f of its right side.
-use Rattle.std.specs.Prelude.{◌≡◌, ℕ, ◌&&◌, Bool, true, false, List, [], ◌∷◌, Some, IfSome, is_some, not, option_map, refl}
+use Rattle.std.specs.Prelude.{◌≡◌, ℕ, ◌&&◌, Bool, true, false, List, [], ◌∷◌, Option, None, Some, IfSome, is_some, not, option_map, refl}
 use Rattle.std.proofs.Common.{sym, ◌∙◌, ap, subst}
 use Rattle.sip_standard.specs.Profile.{Port}
 use Rattle.sip_message.specs.declared.name.Known.TheVariants as known_name
-use Rattle.sip_message.specs.Field.{Field}
-use Rattle.sip_message.specs.Elements.{Element, AreElements, values}
+use Rattle.sip_message.specs.Field.{Field, values}
+use Rattle.sip_standard.specs.Via.{SaidVia, PortSays}
 use Rattle.sip_message.specs.Reading.{Parts, HasParts}
-use Rattle.sip_standard.specs.Says.{Said}
+use Rattle.sip_standard.specs.Says.{Said, ViasTell}
 use Rattle.sip_standard.specs.declared.role.Role.{Role}
 use Rattle.sip_standard.specs.declared.role.Direction.{Direction}
 use Rattle.sip_standard.specs.Key.{KeyParts}
 use Rattle.sip_standard.specs.Branch.{cookie_branch}
 use Rattle.sip_standard.specs.Concerns.{role_of, sent_by_of, method_of, own_key, is_sent, lacks_cookie}
 
--- the port of the first Via element, where it has one, is a port
-first-port : (vals : List (List ℕ)) (e : Element) (es : List Element) → AreElements vals (e ∷ es) → IfSome e.1.port Port
-first-port [] e es are = let never : e ∷ es ≡ [] = are in cc
-first-port (value ∷ vals) e es ([], more, now_is, more_are, whole) = absurd now_is
-first-port (value ∷ vals) e es (f ∷ now, more, now_is, more_are, whole) =
-    let same : f ≡ e = cc in
-    let P : Element → Type 0 = λ x. IfSome x.1.port Port in
-    subst P same now_is.0.0.port
+-- the port of the first element of Via, where it has one, is a port
+first-port : (vals : List (List ℕ)) (v : SaidVia) (vs : List SaidVia) → ViasTell vals (v ∷ vs) → IfSome v.port Port
+first-port [] v vs are = let never : v ∷ vs ≡ [] = are in cc
+first-port (value ∷ vals) v vs ([], more, none, more_are, whole) = absurd none
+first-port (value ∷ vals) v vs (f ∷ now, more, (u, w, says, further, value_is), more_are, whole) =
+    let same : f ≡ v = cc in
+    let P : SaidVia → Type 0 = λ x. IfSome x.port Port in
+    -- what follows the host of an element says its port
+    let port = says.3.3.3.3.3.3.3.3 in
+    subst P same (said f.port port.0 port.2)
+  where
+    -- a port that is said is one
+    said : (port : Option (List ℕ)) (text : List ℕ) → PortSays port text → IfSome port Port
+    said None text none = tt
+    said (Some port) text (m, t, mark, (fits, port_is), text_is) = subst Port (sym port_is) fits
 
 -- the port of the top Via, where there is one, is a port of the grammar
-pub top-port : (fields : List Field) (p : Parts) → HasParts fields p → IfSome p.via.1.port Port
+pub top-port : (fields : List Field) (p : Parts) → HasParts fields p → IfSome p.via.port Port
 top-port fields p has = first-port (values known_name.Via fields) p.via p.others has.vias
 
 -- a conjunction with false is false

@@ -15,7 +15,7 @@ use Rattle.sip_message.specs.inner.StartLine.{StartText}
 use Rattle.sip_message.specs.inner.MessageText.{MessageText}
 use Rattle.sip_message.specs.Reading.{Reading}
 use Rattle.sip_message.specs.Reads.{Reads}
-use Rattle.sip_message.specs.SaidOf.{said_of, said_via}
+use Rattle.sip_message.specs.SaidOf.{said_of}
 use Rattle.sip_message.proofs.lemmas.text.Cuts as each
 use Rattle.sip_message.proofs.lemmas.field.OneWay.{each-token}
 use Rattle.sip_message.proofs.lemmas.says.Values.{said-value}
@@ -104,7 +104,7 @@ keys_ascii bytes r d keys reads is = subst (All (λ k. IsAscii k.method)) (sym i
     -- the method of the message's own key is ASCII
     own : All (λ k. IsAscii k.method) (option_to_list (own_key (said_of r) d))
     own = made_key (λ k. IsAscii k.method)
-        (λ branch. record { role = role_of r.message.start d; branch = branch; sent_by = sent_by_of (role_of r.message.start d) (said_via r.parts.via); method = method_of r.message.start r.parts.cseq.1 })
+        (λ branch. record { role = role_of r.message.start d; branch = branch; sent_by = sent_by_of (role_of r.message.start d) r.parts.via; method = method_of r.message.start r.parts.cseq.1 })
         (λ branch. method_ascii text.first r.parts.cseq.1 r.message.start text.is_start (said-value reads.parts.is.cseq.0 r.parts.cseq reads.parts.is.cseq.2).is_method) (cookie_branch (said_of r).via.branch)
 
     -- the method of the key that the message cancels is ASCII

@@ -16,7 +16,7 @@ use std::marker::Model;
 pub fn is_ack_of(ack: &Message<'_>, invite: &Message<'_>, response: &Message<'_>) -> bool
     ensures { IsTrue result ↔ IsAckOf (said_of ack.now) (said_of invite.now) (said_of response.now) }
 {
-    same_solid(ack.to().whole, response.to().whole) && is_ack_for(ack, invite)
+    same_solid(ack.to(), response.to()) && is_ack_for(ack, invite)
 }
 
 /// Whether the ACK is the one for each response to the INVITE whose To is the ACK's own but for blanks. It takes no memory.
@@ -25,7 +25,7 @@ pub fn is_ack_for(ack: &Message<'_>, invite: &Message<'_>) -> bool
 {
     is_ack_line(ack.start(), invite.start())
         && ack.call_id() == invite.call_id()
-        && same_solid(ack.from().whole, invite.from().whole)
+        && same_solid(ack.from(), invite.from())
         && has_one_via(ack)
         && same_solid(ack.top_via().whole, invite.top_via().whole)
         && ack.cseq().number == invite.cseq().number

@@ -2,19 +2,16 @@
 ghost use Rattle.std.specs.Prelude.{◌≡◌, ◌≢◌, IfOk, IfSome, MatchOption, None, Some, option_copied};
 ghost use Rattle.sip_standard.specs.Case.{folded};
 ghost use Rattle.sip_standard.specs.Profile.{Port};
-ghost use Rattle.sip_text.specs.Host.{host_parts, host_text};
 ghost use Rattle.sip_standard.specs.Branch.{cookie_branch};
-ghost use Rattle.sip_message.specs.ValueParts.{start_parts};
-ghost use Rattle.sip_message.specs.ViaParts.{element};
+ghost use Rattle.sip_message.specs.ValueParts.{start_parts, element};
 ghost use Rattle.sip_standard.specs.Concerns.{cancelled_key, method_of, own_key, role_of, sent_by_of};
 ghost use Rattle.sip_key.specs.OwnKey.{IsOwnKey};
-ghost use Rattle.sip_message.specs.SaidOf.{said_of, said_via};
+ghost use Rattle.sip_message.specs.SaidOf.{said_of};
 
 use crate::branch::has_cookie;
 use crate::key::Key;
 use sip_message::{Message, StartLine, Via};
 use sip_standard::{Direction, Role};
-use sip_text::Host;
 use std::alloc::{AllocError, Global};
 use thiserror::Error;
 
@@ -115,20 +112,11 @@ fn key_with(
     method: &[u8],
 ) -> Result<Key, AllocError>
     requires { IfSome (option_copied via.port) Port }
-    ensures { IfOk result (λ key. key ≡ record { role = role; branch = folded branch.now; sent_by = sent_by_of role (said_via (element via.entry)); method = method.now }) }
+    ensures { IfOk result (λ key. key ≡ record { role = role; branch = folded branch.now; sent_by = sent_by_of role (element via.entry); method = method.now }) }
 {
     match role {
         Role::Client => Key::client(alloc, branch, method),
-        Role::Server => Key::server(alloc, branch, host_text(via.host), via.port, method),
-    }
-}
-
-// The text of the host, an IPv6 address with its brackets.
-fn host_text(host: Host<'_>) -> &[u8]
-    ensures { result.now ≡ host_text (host_parts host.entry) }
-{
-    match host {
-        Host::Name(text) | Host::V4(text) | Host::V6(text) => text,
+        Role::Server => Key::server(alloc, branch, via.host, via.port, method),
     }
 }
 

@@ -176,7 +176,7 @@ impl Book {
         ensures { IfOk result (λ has. IsTrue has ↔ IsToOf (text_of self.now number) to.now) }
     {
         match self.message(alloc, number)? {
-            Some(message) => Ok(solid_of(alloc, message.to().whole)?.as_slice() == to.text()),
+            Some(message) => Ok(solid_of(alloc, message.to())?.as_slice() == to.text()),
             None => Ok(false),
         }
     }
@@ -328,7 +328,7 @@ fn put_to(
     if !tos.are_below(number) {
         return Ok(());
     }
-    let text = solid_of(alloc, message.to().whole)?;
+    let text = solid_of(alloc, message.to())?;
     tos.push(number, Hashed::of(text))
 }
 

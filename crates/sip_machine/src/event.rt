@@ -106,7 +106,7 @@ impl Event {
           action = action;
           number = number;
           kind = kind_of message.now.message.start;
-          reliable = is_reliable message.now.parts.via.1.transport;
+          reliable = is_reliable message.now.parts.via.transport;
         } }
     {
         Event {

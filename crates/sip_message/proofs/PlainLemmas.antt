@@ -1,8 +1,7 @@
 -- Plain parts of values, and the texts of the grammar that they are.
--- In the lemmas `at`, mid, to and end are places of a text in this order, h is a host, and u the text that it is of.
--- `PlainRun` is one plain byte or more; `SomeUri`, `SomeParams` and `SomeAddress` are the texts that are a URI, parameters and an address, and `Opening` is
--- what opens a URI in angles: a display name, if there is one, blanks and "<". `PlainParam` is ";" and a parameter right after it.
-use Rattle.std.proofs.Common.{◌≡◌, ℕ, suc, ◌+◌, ◌-◌, ◌<◌, ◌≤◌, true, false, ◌&&◌, ◌||◌, List, [], ◌∷◌, ◌++◌, Option, None, Some, length, take, drop, get_or, refl, sym, ap, ap₂, ◌∙◌, subst, inl, inr, arith}
+-- In the lemmas `at`, mid, to and end are places of a text in this order, and u is a text.
+-- `PlainRun` is one plain byte or more, and `PlainParam` is ";" and a parameter right after it.
+use Rattle.std.proofs.Common.{◌≡◌, ℕ, suc, ◌+◌, ◌-◌, ◌<◌, ◌≤◌, true, ◌&&◌, ◌||◌, List, [], ◌∷◌, ◌++◌, Option, None, Some, length, take, drop, get_or, refl, sym, ap, ap₂, ◌∙◌, subst, inl, inr, arith}
 use Rattle.std.specs.Prelude.{codes}
 use Rattle.std.specs.Char.{is_ascii_alphanumeric}
 use Rattle.std.specs.List.{AllByRecursion, prefix_len}
@@ -10,25 +9,23 @@ use Rattle.std.proofs.Math.Seq.{drop-cons, take-add}
 use Rattle.std.proofs.lemmas.List.Sums.{prefix_len_passes}
 use Rattle.std.proofs.lemmas.Bool.{both_ways, agree_below_at, and_parts, or_cases, cases_lt}
 use Rattle.std.proofs.lemmas.List.{get_or-drop, drop-drop, append_assoc, append-nil, length-append, length-drop, length-take-le}
-use Rattle.sip_standard.specs.Text.{One, Exactly, ◌then◌, ◌or◌}
+use Rattle.sip_standard.specs.Text.{One, Exactly, ◌then◌, ◌or◌, Optional}
 use Rattle.sip_standard.specs.Chars.{is_among}
-use Rattle.sip_standard.specs.Profile.{Token, Sws, Blanks, Hostname, Ipv4, Bracketed, User, Port}
-use Rattle.sip_text.specs.Bytes.{carriage_return, at_sign, colon, equals, semicolon, space, Byte}
-use Rattle.sip_text.specs.Host.{HostParts, HostText, name, v4, v6, host_text}
-use Rattle.sip_text.specs.Uri.{SipParts, SipFits, sip, hostport_text, sip_text}
+use Rattle.sip_standard.specs.Profile.{Token, Sws, Blanks, Host, User, Userinfo, Port, Uri}
+use Rattle.sip_text.specs.Bytes.{carriage_return, colon, equals, semicolon, space, Byte}
 use Rattle.sip_text.specs.inner.Class.{is_unreserved, is_user_unreserved}
 use Rattle.sip_text.specs.inner.Pieces.{Escaped}
-use Rattle.sip_text.proofs.texts.ManyLemmas.{many-nil, many-push, append_cancel_both}
+use Rattle.sip_text.proofs.texts.ManyLemmas.{many-nil, many-cons, many-push, append_cancel_both}
 use Rattle.sip_text.proofs.uris.UriCharLemmas.{some-map}
 use Rattle.sip_masks.specs.Marks.{is_plain}
-use Rattle.sip_message.specs.Params.{OpensSolid, ParamsText, ParamsPart, BehindBlanks}
-use Rattle.sip_message.specs.inner.Marks.{left_angle, right_angle, Mark}
-use Rattle.sip_message.specs.Address.{AddressParts, AddressFits, DisplayName, name_addr}
+use Rattle.sip_message.specs.inner.Marks.{Mark}
 use Rattle.sip_message.specs.inner.AddressFronts.{Words}
-use Rattle.sip_message.specs.inner.Plain.{segment, EndsAt, LiesWithin, PlainRun, HostPort, SomeUri, Opening, PlainParam, SomeParams, SomeAddress}
+use Rattle.sip_message.specs.inner.Plain.{segment, EndsAt, LiesWithin, PlainRun, HostPort, PlainParam}
 use Rattle.sip_message.proofs.QuickLemmas.{low-one, plain-token}
 use Rattle.sip_message.proofs.lemmas.front.Prefix.{prefix-at, all-some}
+use Rattle.sip_message.specs.inner.ParamFronts.{ParamText, ParamsText, GenericParams}
 use Rattle.sip_message.proofs.lemmas.params.Closed.{blanks-space}
+use Rattle.sip_message.proofs.lemmas.params.Reading.{text-generic}
 
 -- a segment is its part up to a place within it and its part from there on
 pub segment-cut : (text : List ℕ) (at mid to : ℕ) → at ≤ mid → mid ≤ to → segment at to text ≡ segment at mid text ++ segment mid to text
@@ -123,7 +120,7 @@ user-byte b is =
     low = (omega arith, (omega arith, (omega arith, (omega arith, (omega arith, (omega arith, (omega arith, (omega arith, tt))))))))
 
 -- a run of plain bytes is a user
-plain-user : (u : List ℕ) → PlainRun u → User u
+pub plain-user : (u : List ℕ) → PlainRun u → User u
 plain-user u run = some-map (One is_plain) (One is_user_unreserved or One is_unreserved or Escaped) u piece run
   where
     -- a plain byte is a piece of a user
@@ -138,54 +135,20 @@ plain-user u run = some-map (One is_plain) (One is_user_unreserved or One is_unr
 pub run-token : (u : List ℕ) → PlainRun u → Token u
 run-token u run = some-map (One is_plain) _ u (λ v one. (one.0, plain-token one.0 one.1, one.2)) run
 
--- a host is the text that its parts say
-pub host-own : (u : List ℕ) (h : HostParts) → HostText u h → HostText (host_text h) h × (u ≡ host_text h)
-host-own u (name t) is = ((subst Hostname (sym is.1) is.0, refl), sym is.1)
-host-own u (v4 t) is = ((subst Ipv4 (sym is.1) is.0, refl), sym is.1)
-host-own u (v6 t) is = ((subst Bracketed (sym is.1) is.0, refl), sym is.1)
-
 -- a host alone is a host with an optional port
-pub hostport-none : (h : HostParts) (u : List ℕ) → HostText u h → HostPort u
-hostport-none h u is =
-    -- `own` says that the text is that of the host's parts
-    let own = host-own u h is in
-    (h, None, own.0, tt, own.1 ∙ sym (append-nil (host_text h)))
+pub hostport-none : (u : List ℕ) → Host u → HostPort u
+hostport-none u is = (u, [], is, inl refl, sym (append-nil u))
 
 -- a host, a colon and a port are a host with an optional port
-pub hostport-some : (h : HostParts) (u : List ℕ) → ((λ t. HostText t h) then Byte colon then Port) u → HostPort u
-hostport-some h u w =
-    -- `led` says that the colon and the port stand after the host
-    let own = host-own w.0 h w.2 in
-    let led = w.3.4 ∙ ap (λ t. t ++ w.3.1) w.3.2 in
-    (h, Some w.3.1, own.0, w.3.3, w.4 ∙ ap₂ (λ x y. x ++ y) own.1 led)
+pub hostport-some : (u : List ℕ) → (Host then Byte colon then Port) u → HostPort u
+hostport-some u w = (w.0, w.1, w.2, inr w.3, w.4)
 
--- "sip:" and a host with an optional port are a URI
-pub uri-bare : (u : List ℕ) → (Exactly (codes "sip:") then HostPort) u → SomeUri u
-uri-bare u w =
-    -- hp is the host with its port, `at` its text, and p the parts of the URI: it has neither user nor parameters nor headers
-    let hp = w.3 in
-    let at = hostport_text hp.0 hp.1 in
-    let p : SipParts = record { secure = false; user = None; password = None; host = hp.0; port = hp.1; params = []; headers = None } in
-    let fits : SipFits p = record { user = tt; password = tt; owner = λ none. refl; host = hp.2; port = hp.3; params = many-nil _; headers = tt } in
-    -- without parameters and headers the text after "sip:" is that of the host and its port
-    let text : sip_text p ≡ at = append-nil (at ++ []) ∙ append-nil at in
-    (sip p, (codes "sip", refl, fits, w.4 ∙ ap₂ (λ x y. x ++ y) w.2 (hp.4 ∙ sym text)))
-
--- "sip:", a run of plain bytes, "@" and a host with an optional port are a URI
-pub uri-owned : (u : List ℕ) → (Exactly (codes "sip:") then PlainRun then Byte at_sign then HostPort) u → SomeUri u
-uri-owned u w =
-    -- hp is the host with its port, `at` its text, and p the parts of the URI
-    let user = w.3.0 in
-    let hp = w.3.3.3 in
-    let at = hostport_text hp.0 hp.1 in
-    let p : SipParts = record { secure = false; user = Some user; password = None; host = hp.0; port = hp.1; params = []; headers = None } in
-    -- the user is plain, there is no password, and the URI has neither parameters nor headers
-    let fits : SipFits p = record { user = plain-user user w.3.2; password = tt; owner = λ none. refl; host = hp.2; port = hp.3; params = many-nil _; headers = tt } in
-    -- the text after "sip:" is the user, "@", the host and its port
-    let text : sip_text p ≡ user ++ at_sign ∷ at =
-    ap₂ (λ x y. (x ++ at_sign ∷ []) ++ y) (append-nil user) (append-nil (at ++ []) ∙ append-nil at) ∙ append_assoc user (at_sign ∷ []) at in
-    let behind : w.3.1 ≡ at_sign ∷ at = w.3.3.4 ∙ ap₂ (λ x y. x ++ y) w.3.3.2 hp.4 in
-    (sip p, (codes "sip", refl, fits, w.4 ∙ ap₂ (λ x y. x ++ y) w.2 (w.3.4 ∙ ap (λ t. user ++ t) behind ∙ sym text)))
+-- "sip:", and what may follow the scheme of a SIP URI up to a host with an optional port, are a URI
+pub uri-of : (u : List ℕ) → (Exactly (codes "sip:") then Optional Userinfo then HostPort) u → Uri u
+-- s is "sip:" and r what follows it: x is the userinfo, and y the host h with its port o
+uri-of u (s, r, s_is, (x, y, userinfo, (h, o, host, port, y_is), r_is), whole) =
+    -- the URI has neither parameters nor headers
+    inl (codes "sip", colon ∷ r, inl refl, (colon ∷ [], r, refl, (x, y, userinfo, (h, o, host, (o, [], port, ([], [], many-nil _, inl refl, refl), sym (append-nil o)), y_is), r_is), refl), whole ∙ ap (λ t. t ++ r) s_is)
 
 -- one SP is an optional blank run
 pub sws-space : (u : List ℕ) → Byte space u → Sws u
@@ -223,10 +186,6 @@ front-stands P text u rest at end before within p is =
     let cut = front-cut text u rest at end before within is in
     (omega arith, cut.0, subst P (sym cut.1) p)
 
--- a display name, blanks and "<" open a URI in angles
-pub opening-some : (u : List ℕ) → (DisplayName then Sws then Byte left_angle) u → Opening u
-opening-some u w = (Some w.0, w.2, (w.0, w.1, refl, w.3, w.4))
-
 -- a byte without blanks is a mark
 pub mark-alone : (b : ℕ) → Mark b (b ∷ [])
 mark-alone b = ([], b ∷ [], inl refl, (b ∷ [], [], refl, inl refl, refl), refl)
@@ -251,35 +210,17 @@ param-some text at end start behind first to mark run equal value =
     (name, segment behind to text, refl, led, segment-cut text start behind to run.0 later) in
     (omega (arith, mark.0, run.0, later), value.1, (segment at start text, segment start to text, mark.2, (run-token name run.2, inl (run-token v value.2), whole), segment-cut text at start to mark.0 (omega (arith, run.0, later))))
 
+-- a parameter that lies between two places with its ";" is one after a mark
+param-marked : (p : List ℕ × Option (List ℕ)) (text : List ℕ) (at end to : ℕ) → LiesWithin (PlainParam p) text at end to → (Mark semicolon then ParamText p) (segment at to text)
+param-marked p text at end to (before, within, (a, x, a_is, param, whole)) = (a, x, subst (Mark semicolon) (sym a_is) (mark-alone semicolon), param, whole)
+
 -- where a parameter lies before a segment of parameters, the segment from it on is these parameters with it at the front
-pub params-part : (p : List ℕ × Option (List ℕ)) (ps : List (List ℕ × Option (List ℕ))) (text : List ℕ) (at end to : ℕ) → LiesWithin (PlainParam p) text at end to → ParamsPart (segment to end text) ps → ParamsPart (segment at end text) (p ∷ ps)
+pub params-part : (p : List ℕ × Option (List ℕ)) (ps : List (List ℕ × Option (List ℕ))) (text : List ℕ) (at end to : ℕ) → LiesWithin (PlainParam p) text at end to → ParamsText ps (segment to end text) → ParamsText (p ∷ ps) (segment at end text)
 params-part p ps text at end to param later =
-    let rest = segment to end text in
-    -- w.1 is the parameter without its ";", and `rest` the segment behind it
-    let w = param.2 in
-    let front : segment at to text ≡ semicolon ∷ w.1 = w.4 ∙ ap (λ t. t ++ w.1) w.2 in
-    let whole : segment at end text ≡ semicolon ∷ (w.1 ++ rest) = segment-cut text at to end param.0 param.1 ∙ ap (λ t. t ++ rest) front in
-    -- the ";", the parameter and the later parameters stand in a row, and the first byte is no blank
-    let params : ParamsText (segment at end text) (p ∷ ps) = (semicolon ∷ [], w.1 ++ rest, mark-alone semicolon, (w.1, rest, w.3, later.1, refl), whole) in
-    (subst OpensSolid (sym whole) refl, params)
+    (segment at to text, segment to end text, param-marked p text at end to param, later, segment-cut text at to end param.0 param.1)
 
 -- a plain parameter before parameters is parameters
-pub params-behind : (p : List ℕ × Option (List ℕ)) (text : List ℕ) (at end to : ℕ) → LiesWithin (PlainParam p) text at end to → SomeParams (segment to end text) → SomeParams (segment at end text)
-params-behind p text at end to param later = (p ∷ later.0, params-part p later.0 text at end to param later.1)
-
--- a part without blanks before it is a part that may have blanks before it
-pub behind-self : (u : List ℕ) → BehindBlanks u u
-behind-self [] = refl
--- no blanks stand before it
-behind-self (b ∷ u) = ([], b ∷ u, inl refl, refl, refl)
-
--- what opens a URI in angles, a URI, ">" and parameters are an address
-pub address-plain : (u : List ℕ) → (Opening then SomeUri then Byte right_angle then SomeParams) u → SomeAddress u
-address-plain u w =
-    -- the text is w.0, the opening with "<", then the URI, ">" and the parameters; a is the address of these parts
-    let opening = w.2 in
-    let uri = w.3.0 in
-    let params = w.3.3.1 in
-    let a : AddressParts = record { display = opening.0; uri_text = uri; uri = w.3.2.0; params = params } in
-    let fits : AddressFits a = record { display = opening.1; uri = w.3.2.1; params = w.3.3.3 } in
-    (a, name_addr fits (w.0, w.1, opening.2, (uri, w.3.1, refl, (w.3.3.0, params, w.3.3.2, behind-self params, w.3.3.4), w.3.4), w.4))
+pub params-behind : (p : List ℕ × Option (List ℕ)) (text : List ℕ) (at end to : ℕ) → LiesWithin (PlainParam p) text at end to → GenericParams (segment to end text) → GenericParams (segment at end text)
+params-behind p text at end to param later =
+    subst GenericParams (sym (segment-cut text at to end param.0 param.1))
+    (many-cons _ (segment at to text) (segment to end text) (text-generic p (segment at to text) (param-marked p text at end to param)) later)

@@ -6,10 +6,11 @@ use Rattle.std.specs.Int.{is_in_range}
 use Rattle.std.proofs.lemmas.Bool.{agree_below_at, and_parts, and_from, cases_lt, le-leb}
 use Rattle.std.proofs.lemmas.List.{take-append-drop}
 use Rattle.sip_standard.specs.Text.{Exactly, ◌then◌}
+use Rattle.sip_standard.specs.Profile.{Uri}
 use Rattle.sip_text.specs.Bytes.{space, tab, Byte}
 use Rattle.sip_standard.specs.StartLine.{request}
 use Rattle.sip_message.specs.inner.StartLine.{Version, is_reason_byte, StartText, CodeFront}
-use Rattle.sip_message.specs.inner.Plain.{segment, LiesWithin, PlainRun, SomeUri}
+use Rattle.sip_message.specs.inner.Plain.{segment, LiesWithin, PlainRun}
 use Rattle.sip_message.specs.inner.Quick.{is_open, IsOpen}
 use Rattle.sip_message.proofs.PlainLemmas.{then-stands, whole-stands, run-token}
 use Rattle.sip_message.proofs.lemmas.text.Cuts.{All, all_right}
@@ -51,7 +52,7 @@ reason-open line reason code clear front =
     reason-bytes reason (subst (All is_open) front.3.3 last)
 
 -- where a run of plain bytes, a SP, a URI and " SIP/2.0" lie one after the other up to the end, the front of the text is a request line
-pub request-plain : (text : List ℕ) (end method uri to : ℕ) → LiesWithin PlainRun text 0 end method → LiesWithin (Byte space) text method end uri → LiesWithin SomeUri text uri end to
+pub request-plain : (text : List ℕ) (end method uri to : ℕ) → LiesWithin PlainRun text 0 end method → LiesWithin (Byte space) text method end uri → LiesWithin Uri text uri end to
     → segment to end text ≡ codes " SIP/2.0" → StartText (segment 0 end text) (request (segment 0 method text) (segment uri to text))
 request-plain text end method uri to run mark is version =
     -- m is the method, u the URI, and `last` says that the SP and the version stand at the end

@@ -6,7 +6,7 @@ use Rattle.std.proofs.Math.Seq.{take-append_seam, drop-append_seam}
 use Rattle.sip_standard.specs.Text.{One, ◌then◌, ◌or◌, Many}
 use Rattle.sip_standard.specs.Profile.{Token, Sws, Blanks}
 use Rattle.sip_text.specs.Bytes.{space, crlf, is_token_byte}
-use Rattle.sip_text.specs.Parts.{HasFront, IsLongestFront}
+use Rattle.sip_text.specs.Front.{HasFront, IsLongestFront}
 use Rattle.sip_text.specs.inner.Blanks.{Blank, blank_len}
 use Rattle.sip_text.proofs.texts.ManyLemmas.{many-nil, many-cons, many-append, many-push, many-map, many-flat, many-some, IsStep, same_many}
 use Rattle.sip_text.proofs.strings.BlanksLemmas.{units-blanks, blanks-units, blank-step}

@@ -1,13 +1,8 @@
-pub mod Params
-pub mod Via
-pub mod Address
 pub mod Name
 pub mod Field
 pub mod Message
 pub mod Only
-pub mod Elements
 pub mod inner
-pub mod ViaParts
 pub mod Reading
 pub mod ValueParts
 pub mod Reads

@@ -1,31 +1,26 @@
 -- A message that was read: as it is spelled, with the parts of its named fields.
-use Rattle.std.specs.Prelude.{◌≡◌, ℕ, List, ◌∷◌}
-use Rattle.sip_message.specs.declared.name.Known.TheVariants as known_name
-use Rattle.sip_message.specs.Address.{AddressParts, AddressText}
+use Rattle.std.specs.Prelude.{ℕ, List, ◌∷◌}
+use Rattle.sip_standard.specs.Via.{SaidVia}
 use Rattle.sip_standard.specs.Values.{CSeqSays}
-use Rattle.sip_message.specs.Field.{Field}
+use Rattle.sip_standard.specs.Says.{ViasTell, IsFirstOf}
+use Rattle.sip_message.specs.declared.name.Known.TheVariants as known_name
+use Rattle.sip_message.specs.Field.{Field, values}
 use Rattle.sip_message.specs.Message.{Message}
-use Rattle.sip_message.specs.Elements.{Element, AreElements, values}
-use Rattle.sip_standard.specs.Says.{IsFirstOf}
 
--- the text is an address of these parts, and is kept with them
-abbrev pub AddressValue : List ℕ → List ℕ × AddressParts → Type 0
-AddressValue text (whole, a) = AddressText text a × (whole ≡ text)
-
--- the parts of the named fields: the elements of Via, From, To, Call-ID and CSeq
+-- the parts of the named fields: the elements of Via, the values of From, To and Call-ID, and the number and the method of CSeq
 pub record Parts : Type 0 where
-  pub via : Element
-  pub others : List Element
-  pub from : List ℕ × AddressParts
-  pub to : List ℕ × AddressParts
+  pub via : SaidVia
+  pub others : List SaidVia
+  pub from : List ℕ
+  pub to : List ℕ
   pub call_id : List ℕ
   pub cseq : ℕ × List ℕ
 
 -- the fields have these parts, by the first field of each name and by all Via fields
 pub record HasParts (fields : List Field) (p : Parts) : Type 0 where
-  pub vias : AreElements (values known_name.Via fields) (p.via ∷ p.others)
-  pub from : (text : List ℕ) × IsFirstOf (values known_name.From fields) text × AddressValue text p.from
-  pub to : (text : List ℕ) × IsFirstOf (values known_name.To fields) text × AddressValue text p.to
+  pub vias : ViasTell (values known_name.Via fields) (p.via ∷ p.others)
+  pub from : IsFirstOf (values known_name.From fields) p.from
+  pub to : IsFirstOf (values known_name.To fields) p.to
   pub call_id : IsFirstOf (values known_name.CallId fields) p.call_id
   pub cseq : (text : List ℕ) × IsFirstOf (values known_name.CSeq fields) text × CSeqSays p.cseq text
 

@@ -1,75 +1,38 @@
 //! Addresses: the values of From and To.
 ghost use Rattle.std.specs.Prelude.{◌≡◌, ◌≤◌, ◌↔◌, IsTrue, length};
 ghost use Rattle.std.specs.List.{prefix_len};
-ghost use Rattle.sip_text.specs.Parts.{IsOnlyValue};
-ghost use Rattle.sip_message.specs.Reading.{AddressValue};
-ghost use Rattle.sip_message.specs.ValueParts.{address_parts};
+ghost use Rattle.sip_standard.specs.Values.{Address};
+ghost use Rattle.sip_message.specs.inner.Only.{IsOnlyValue};
 ghost use Rattle.sip_message.specs.inner.Fronts.{pair_parts, text_parts};
-ghost use Rattle.sip_message.specs.inner.AddressFronts.{WordsFront, NameFront, DisplayFront, HasScheme, is_unmarked_byte, AddressCut, TailText, display_parts, cut_parts};
+ghost use Rattle.sip_message.specs.inner.AddressFronts.{WordsFront, NameFront, DisplayFront, HasScheme, is_unmarked_byte, AddressCut};
 
 use crate::cursor::{cut, past, skip_blanks};
 use crate::params::{are_params, cut_quoted};
-use sip_text::{Uri, read_uri, skip_lws, token_len};
+use sip_text::{is_uri, skip_lws, token_len};
 
-/// The value of From or To (RFC 3261, sections 20.20 and 20.39), in slices of the message.
-#[derive(Clone, Copy, Debug, PartialEq, Eq)]
-pub struct Address<'a> {
-    /// The whole value.
-    pub whole: &'a [u8],
-    /// The display name as it is spelled.
-    pub display: Option<&'a [u8]>,
-    /// The text of the URI.
-    pub uri_text: &'a [u8],
-    /// The URI.
-    pub uri: Uri<'a>,
-    /// The parameters, from their first `;` on.
-    pub params: &'a [u8],
-}
-
-// The texts in which an address is cut before they are judged.
-#[derive(Clone, Copy)]
-struct Cuts<'a> {
-    // The text of the display name, if there is one.
-    display: Option<&'a [u8]>,
-    // The text of the URI.
-    uri: &'a [u8],
-    // What follows the URI, or the ">" after it.
-    rest: &'a [u8],
-}
-
-/// The address that the whole text is.
-pub(crate) fn read_address(text: &[u8]) -> Option<Address<'_>>
-    ensures { IsOnlyValue AddressValue address_parts text.now result }
+/// Whether the whole text is an address, the value of From or To (RFC 3261, sections 20.20 and 20.39).
+pub(crate) fn is_address(text: &[u8]) -> bool
+    ensures { IsTrue result ↔ Address text.now }
 {
-    let cuts = cut_address(text)?;
-    let uri = read_uri(cuts.uri)?;
-    let params = read_tail(cuts.rest)?;
-    Some(Address {
-        whole: text,
-        display: cuts.display,
-        uri_text: cuts.uri,
-        uri,
-        params,
-    })
+    match cut_address(text) {
+        Some((uri, params)) => is_uri(uri) && are_params(params),
+        None => false,
+    }
 }
 
-// Cuts an address into the display name, the text of the URI, and what follows them. Where the text begins with a scheme,
-// its URI stands without `<`.
-fn cut_address(text: &[u8]) -> Option<Cuts<'_>>
-    ensures { IsOnlyValue AddressCut cut_parts text.now result }
+// Cuts an address into the text of its URI and what follows that, or the `>` after it. Where the text begins with a scheme, its URI
+// stands without `<`.
+fn cut_address(text: &[u8]) -> Option<(&[u8], &[u8])>
+    ensures { IsOnlyValue AddressCut pair_parts text.now result }
 {
     if has_scheme(text) {
         let len = plain_len(text);
-        return Some(Cuts {
-            display: None,
-            uri: &text[..len],
-            rest: &text[len..],
-        });
+        return Some((&text[..len], &text[len..]));
     }
-    let (display, inner) = cut_display(text)?;
+    let inner = past_display(text)?;
     let (uri, behind) = cut(inner, b'>');
     let rest = behind?;
-    Some(Cuts { display, uri, rest })
+    Some((uri, rest))
 }
 
 // Whether the text begins with a token and a colon.
@@ -101,16 +64,15 @@ fn is_plain(byte: u8) -> bool
     !matches!(byte, b' ' | b'\t' | b'\r' | b'\n' | b',' | b'?' | b';')
 }
 
-// The display name at the front if there is one, and what follows the `<` after it.
-fn cut_display(text: &[u8]) -> Option<(Option<&[u8]>, &[u8])>
-    ensures { IsOnlyValue DisplayFront display_parts text.now result }
+// What follows the `<` at the front, or the `<` after a display name there.
+fn past_display(text: &[u8]) -> Option<&[u8]>
+    ensures { IsOnlyValue DisplayFront text_parts text.now result }
 {
     if let Some(inner) = past(text, b'<') {
-        return Some((None, inner));
+        return Some(inner);
     }
-    let (name, rest) = cut_name(text)?;
-    let inner = past(skip_blanks(rest), b'<')?;
-    Some((Some(name), inner))
+    let (_, rest) = cut_name(text)?;
+    past(skip_blanks(rest), b'<')
 }
 
 // The display name at the front, and what is left after it.
@@ -140,18 +102,4 @@ fn cut_words(text: &[u8]) -> Option<(&[u8], &[u8])>
         }
         at += blanks + word;
     }
-}
-
-// The parameters that the whole text is, without the blanks before them.
-fn read_tail(text: &[u8]) -> Option<&[u8]>
-    ensures { IsOnlyValue TailText text_parts text.now result }
-{
-    if text.is_empty() {
-        return Some(text);
-    }
-    let params = skip_blanks(text);
-    if params.is_empty() || !are_params(params) {
-        return None;
-    }
-    Some(params)
 }

@@ -1,9 +1,9 @@
 //! What stands at the front of a text, and what is left after it.
 ghost use Rattle.std.specs.Prelude.{◌≡◌, false, option_copied};
-ghost use Rattle.sip_text.specs.Parts.{IsOnlyValue};
+ghost use Rattle.sip_message.specs.inner.Only.{IsOnlyValue};
 ghost use Rattle.sip_text.specs.inner.Cut.{before, behind, past};
 ghost use Rattle.sip_standard.specs.Field.{is_lws_byte};
-ghost use Rattle.sip_message.specs.inner.Fronts.{IsOnlyBehind, StopsBlank, LineFront, is_line, TokenFront, MarkFront, ProtocolFront, pair_parts, text_parts, protocol_parts};
+ghost use Rattle.sip_message.specs.inner.Fronts.{IsOnlyBehind, StopsBlank, LineFront, is_line, TokenFront, MarkFront, ProtocolFront, pair_parts, text_parts};
 
 use memchr::memchr;
 use sip_text::{skip_lws, token_len};
@@ -29,18 +29,18 @@ pub fn past_mark(text: &[u8], mark: u8) -> Option<&[u8]>
     Some(skip_blanks(inner))
 }
 
-/// The protocol name, the version and the transport of a `sent-protocol LWS` at the front, and what is left after it.
-pub fn read_protocol(text: &[u8]) -> Option<(&[u8], &[u8], &[u8], &[u8])>
-    ensures { IsOnlyValue ProtocolFront protocol_parts text.now result }
+/// The transport of a `sent-protocol LWS` at the front, and what is left after it.
+pub fn read_protocol(text: &[u8]) -> Option<(&[u8], &[u8])>
+    ensures { IsOnlyValue ProtocolFront pair_parts text.now result }
 {
-    let (protocol, rest) = cut_token(text)?;
-    let (version, rest) = cut_token(past_mark(rest, b'/')?)?;
+    let (_, rest) = cut_token(text)?;
+    let (_, rest) = cut_token(past_mark(rest, b'/')?)?;
     let (transport, rest) = cut_token(past_mark(rest, b'/')?)?;
     let blanks = skip_lws(rest);
     if blanks == 0 {
         return None;
     }
-    Some((protocol, version, transport, &rest[blanks..]))
+    Some((transport, &rest[blanks..]))
 }
 
 /// What is left after the blanks at the front. Before most texts stands none, or one SP.

@@ -1,8 +1,8 @@
 //! Field lines.
-ghost use Rattle.sip_text.specs.Parts.{IsOnlyValue};
+ghost use Rattle.sip_message.specs.inner.Only.{IsOnlyValue};
 ghost use Rattle.std.specs.Prelude.{◌≡◌, ℕ, List, [], ◌∷◌, ◌++◌, drop, MatchOption, IfOk, IfSome};
 ghost use Rattle.std.specs.Option.{option_map};
-ghost use Rattle.sip_message.specs.Elements.{values};
+ghost use Rattle.sip_message.specs.Field.{values};
 ghost use Rattle.sip_message.specs.inner.Finds.{IsFound, found_parts};
 ghost use Rattle.sip_message.specs.inner.Lines.{AreLines};
 ghost use Rattle.sip_message.specs.inner.Faults.{HasName, IsValue, FieldOf, FieldsOf};

@@ -27,7 +27,6 @@ mod values;
 mod via;
 mod vias;
 
-pub use crate::address::Address;
 pub use crate::canon::write;
 pub use crate::fault::ReadError;
 pub use crate::message::Message;

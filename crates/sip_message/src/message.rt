@@ -1,5 +1,5 @@
 //! Messages.
-ghost use Rattle.std.specs.Prelude.{◌≡◌, ◌∷◌, ℕ, List, false, IsTrue};
+ghost use Rattle.std.specs.Prelude.{◌≡◌, ◌∷◌, ℕ, List, false};
 ghost use Rattle.sip_message.specs.Only.{IsOnly};
 ghost use Rattle.sip_message.specs.inner.Only.{ExactlyOne, the, One-prop};
 ghost use Rattle.sip_message.specs.Reading.{Reading, Parts, HasParts};
@@ -7,10 +7,8 @@ ghost use Rattle.sip_message.specs.inner.Codes.{parts_code};
 ghost use Rattle.sip_message.specs.inner.Kept.{KeepsRead};
 ghost use Rattle.sip_message.specs.inner.MessageText.{AreUnfolded};
 ghost use Rattle.sip_message.specs.inner.Views.{fields_parts, slice_fields};
-ghost use Rattle.sip_message.specs.ValueParts.{start_parts, address_parts, cseq_parts};
-ghost use Rattle.sip_message.specs.ViaParts.{element};
+ghost use Rattle.sip_message.specs.ValueParts.{start_parts, element, cseq_parts};
 
-use crate::address::{Address, read_address};
 use crate::asked::Asked;
 use crate::ends::is_clean;
 use crate::fault::ReadError;
@@ -197,18 +195,18 @@ impl<'a> Message<'a> {
         self.call_id
     }
 
-    /// The address of From.
-    pub fn from(&self) -> Address<'a>
-        ensures { address_parts result ≡ self.now.parts.from }
+    /// The value of From, which is an address.
+    pub fn from(&self) -> &'a [u8]
+        ensures { result.now ≡ self.now.parts.from }
     {
-        read_address(self.from).unwrap()
+        self.from
     }
 
-    /// The address of To.
-    pub fn to(&self) -> Address<'a>
-        ensures { address_parts result ≡ self.now.parts.to }
+    /// The value of To, which is an address.
+    pub fn to(&self) -> &'a [u8]
+        ensures { result.now ≡ self.now.parts.to }
     {
-        read_address(self.to).unwrap()
+        self.to
     }
 
     /// The number and method of CSeq.
@@ -234,9 +232,8 @@ impl<'a> Message<'a> {
 }
 
 impl<'a> Message<'a> {
-    ghost use Rattle.std.specs.Prelude.{◌↔◌};
     ghost use Rattle.sip_message.specs.declared.name.Known.TheVariants as known_name;
-    ghost use Rattle.sip_message.specs.Elements.{values};
+    ghost use Rattle.sip_message.specs.Field.{values};
     ghost use Rattle.sip_message.specs.Reads.{Reads};
     ghost use Rattle.sip_standard.specs.Transport.{is_reliable};
 
@@ -249,7 +246,7 @@ impl<'a> Message<'a> {
 
     /// Whether the transport of the top Via is reliable: every transport but UDP (RFC 3261, section 17).
     pub fn is_reliable(&self) -> bool
-        ensures { result ≡ is_reliable self.now.parts.via.1.transport }
+        ensures { result ≡ is_reliable self.now.parts.via.transport }
     {
         !same_text(self.top_via().transport, b"UDP")
     }

@@ -1,24 +1,20 @@
 //! Parameters of values: `*( SEMI generic-param )` (RFC 3261, section 25.1).
-ghost use Rattle.std.specs.Prelude.{◌↔◌, ℕ, List, Option, IsTrue};
+ghost use Rattle.std.specs.Prelude.{◌↔◌, List, IsTrue};
 ghost use Rattle.sip_standard.specs.Text.{◌or◌};
 ghost use Rattle.sip_standard.specs.Profile.{Ipv6, Token};
 ghost use Rattle.sip_text.specs.Bytes.{equals, is_token_byte};
-ghost use Rattle.sip_text.specs.Parts.{IsOnlyValue};
-ghost use Rattle.sip_message.specs.Params.{ParamsPart};
+ghost use Rattle.sip_message.specs.inner.Only.{IsOnlyValue};
 ghost use Rattle.sip_message.specs.inner.Fronts.{pair_parts};
-ghost use Rattle.sip_message.specs.inner.ParamFronts.{Param, is_bare_byte, PastRun, BareFront, QuotedFront, BracketFront, ReferenceFront, ValueFront, LedFront, ParamFront, AllParamsFront, led_parts, param_parts};
+ghost use Rattle.sip_message.specs.inner.ParamFronts.{Param, GenericParams, is_bare_byte, PastRun, BareFront, QuotedFront, BracketFront, ReferenceFront, ValueFront, LedFront, ParamFront, AllParamsFront, led_parts, param_parts};
 
 use crate::cursor::{cut, cut_token, past, past_mark};
-use sip_text::{is_ipv6_address, read_host, read_quoted, token_len};
+use sip_text::{is_host, is_ipv6_address, read_quoted, token_len};
 
-/// Whether the whole text is parameters, from their first `;` on. The empty text is parameters as well.
+/// Whether the whole text is parameters, each after a `;`. The empty text is parameters as well.
 pub(crate) fn are_params(text: &[u8]) -> bool
-    ensures { IsTrue result ↔ ((params : List (List ℕ × Option (List ℕ))) × ParamsPart text.now params) }
+    ensures { IsTrue result ↔ GenericParams text.now }
 {
-    match past(text, b';') {
-        Some(_) => past_params(text).is_empty(),
-        None => text.is_empty(),
-    }
+    past_params(text).is_empty()
 }
 
 // What is left after the parameters at the front.
@@ -85,8 +81,11 @@ fn cut_reference(text: &[u8]) -> Option<(&[u8], &[u8])>
     ensures { IsOnlyValue ReferenceFront pair_parts text.now result }
 {
     let (part, rest) = cut_brackets(text)?;
-    read_host(part)?;
-    Some((part, rest))
+    if is_host(part) {
+        Some((part, rest))
+    } else {
+        None
+    }
 }
 
 /// What stands at the front from a `[` to the first `]`, and what is left after it.

@@ -3,21 +3,21 @@
 //! no place is held against the end.
 ghost use Rattle.std.specs.Prelude.{◌≡◌, ◌⊎◌, ◌≤◌, [], IfSome, IsTrue, codes, option_copied};
 ghost use Rattle.sip_standard.specs.Text.{Exactly, ◌then◌};
-ghost use Rattle.sip_standard.specs.Profile.{Sws, Token, Hostname, Port, Quoted};
+ghost use Rattle.sip_standard.specs.Profile.{Sws, Token, Hostname, Host, Port, Quoted, Uri};
 ghost use Rattle.sip_text.specs.Bytes.{at_sign, Byte};
-ghost use Rattle.sip_text.specs.Host.{HostParts, HostText, host_parts};
-ghost use Rattle.sip_message.specs.Address.{DisplayName};
-ghost use Rattle.sip_message.specs.inner.AddressFronts.{Words};
-ghost use Rattle.sip_message.specs.inner.Plain.{segment, EndsAt, LiesWithin, PlainRun, PlainParam, HostPort, SomeUri, Opening, SomeParams, SomeAddress};
+ghost use Rattle.sip_standard.specs.Values.{Address};
+ghost use Rattle.sip_message.specs.inner.AddressFronts.{DisplayName, Words, Opening};
+ghost use Rattle.sip_message.specs.inner.ParamFronts.{GenericParams};
+ghost use Rattle.sip_message.specs.inner.Plain.{segment, EndsAt, LiesWithin, PlainRun, PlainParam, HostPort};
 
 use crate::params::cut_quoted;
 use sip_masks::Masks;
-use sip_text::{Host, is_port, read_host};
+use sip_text::{is_host, is_port};
 
 /// Whether an address stands from one place up to another, with a URI in `<` and `>`.
 pub(crate) fn is_plain_address(masks: &Masks<'_, '_>, at: usize, end: usize) -> bool
     requires { (at ≤ end) × EndsAt masks.now end }
-    ensures { IsTrue result → SomeAddress (segment at end masks.now) }
+    ensures { IsTrue result → Address (segment at end masks.now) }
 {
     let Some(inner) = past_opening(masks, at, end) else {
         return false;
@@ -99,7 +99,7 @@ fn past_words(masks: &Masks<'_, '_>, at: usize, end: usize) -> Option<usize>
 /// The place after the SIP URI without parameters and headers that stands at `at`.
 pub(crate) fn past_uri(masks: &Masks<'_, '_>, at: usize, end: usize) -> Option<usize>
     requires { (at ≤ end) × EndsAt masks.now end }
-    ensures { IfSome result (LiesWithin SomeUri masks.now at end) }
+    ensures { IfSome result (LiesWithin Uri masks.now at end) }
 {
     let start = past_sip(masks, at, end)?;
     let host = past_user(masks, start, end)?;
@@ -136,25 +136,22 @@ fn past_hostport(masks: &Masks<'_, '_>, at: usize, end: usize) -> Option<usize>
     requires { (at ≤ end) × EndsAt masks.now end }
     ensures { IfSome result (LiesWithin HostPort masks.now at end) }
 {
-    let host = past_any_host(masks, at, end)?;
+    let host = past_host(masks, at, end)?;
     match past_byte(masks, host, end, b':') {
         Some(port) => past_port(masks, port, end),
         None => Some(host),
     }
 }
 
-// The place after the host that stands at `at`. Most hosts are names of an ordinary kind.
-#[inline]
-fn past_any_host(masks: &Masks<'_, '_>, at: usize, end: usize) -> Option<usize>
+/// The place after the host that stands at `at`. Most hosts are names of an ordinary kind.
+#[inline(always)]
+pub(crate) fn past_host(masks: &Masks<'_, '_>, at: usize, end: usize) -> Option<usize>
     requires { (at ≤ end) × EndsAt masks.now end }
-    ensures { IfSome result (LiesWithin (λ u. (host : HostParts) × HostText u host) masks.now at end) }
+    ensures { IfSome result (LiesWithin Host masks.now at end) }
 {
     match past_hostname(masks, at, end) {
         Some(to) => Some(to),
-        None => {
-            let (_, to) = past_other_host(masks, at, end)?;
-            Some(to)
-        }
+        None => past_other_host(masks, at, end),
     }
 }
 
@@ -168,31 +165,18 @@ fn past_hostname(masks: &Masks<'_, '_>, at: usize, end: usize) -> Option<usize>
     Some(at + len)
 }
 
-// The host of any kind that the plain run at `at` is, and the place after it.
+// The place after the plain run at `at`, if the run is a host of any kind.
 #[inline(never)]
-fn past_other_host<'a>(masks: &Masks<'a, '_>, at: usize, end: usize) -> Option<(Host<'a>, usize)>
+fn past_other_host(masks: &Masks<'_, '_>, at: usize, end: usize) -> Option<usize>
     requires { (at ≤ end) × EndsAt masks.now end }
-    ensures { IfSome result (λ found. LiesWithin (λ u. HostText u (host_parts found.0)) masks.now at end found.1) }
+    ensures { IfSome result (LiesWithin Host masks.now at end) }
 {
     let to = past_run(masks, at, end)?;
-    let host = read_host(&masks.text()[at..to])?;
-    Some((host, to))
-}
-
-/// The host that stands at `at`, and the place after it.
-#[inline(always)]
-pub(crate) fn past_host<'a>(
-    masks: &Masks<'a, '_>,
-    at: usize,
-    end: usize,
-) -> Option<(Host<'a>, usize)>
-    requires { (at ≤ end) × EndsAt masks.now end }
-    ensures { IfSome result (λ found. LiesWithin (λ u. HostText u (host_parts found.0)) masks.now at end found.1) }
-{
-    if let Some(to) = past_hostname(masks, at, end) {
-        return Some((Host::Name(&masks.text()[at..to]), to));
+    if is_host(&masks.text()[at..to]) {
+        Some(to)
+    } else {
+        None
     }
-    past_other_host(masks, at, end)
 }
 
 /// The place after the port that stands at `at`.
@@ -211,7 +195,7 @@ pub(crate) fn past_port(masks: &Masks<'_, '_>, at: usize, end: usize) -> Option<
 // Whether parameters stand from one place up to another.
 fn are_plain_params(masks: &Masks<'_, '_>, at: usize, end: usize) -> bool
     requires { (at ≤ end) × EndsAt masks.now end }
-    ensures { IsTrue result → SomeParams (segment at end masks.now) }
+    ensures { IsTrue result → GenericParams (segment at end masks.now) }
 {
     let mut from = at;
     'params: while from < end {

@@ -1,7 +1,7 @@
 //! Call-IDs and CSeqs whose parts are plain.
 ghost use Rattle.std.specs.Prelude.{◌≡◌, ◌≤◌, ◌<◌, ◌^◌, IfSome, IsTrue};
 ghost use Rattle.std.specs.Str.Parse.{digits_value};
-ghost use Rattle.sip_text.specs.Parts.{IsOnlyValue};
+ghost use Rattle.sip_message.specs.inner.Only.{IsOnlyValue};
 ghost use Rattle.sip_standard.specs.Values.{CallId};
 ghost use Rattle.sip_message.specs.inner.Values.{Digits, CSeqValue};
 ghost use Rattle.sip_message.specs.ValueParts.{cseq_parts};

@@ -1,10 +1,10 @@
 //! Elements of Via whose parts are plain, with no blanks but the one before the host.
 ghost use Rattle.std.specs.Prelude.{◌≤◌, IfSome, option_copied};
-ghost use Rattle.sip_standard.specs.Profile.{Token, Port};
-ghost use Rattle.sip_message.specs.Via.{ColonPort, ViaParams};
-ghost use Rattle.sip_message.specs.ViaParts.{element};
+ghost use Rattle.sip_standard.specs.Profile.{Token};
+ghost use Rattle.sip_standard.specs.Via.{PortSays};
+ghost use Rattle.sip_message.specs.ValueParts.{element};
 ghost use Rattle.sip_message.specs.inner.ElementFronts.{FirstVia};
-ghost use Rattle.sip_message.specs.inner.ViaFronts.{BranchOf};
+ghost use Rattle.sip_message.specs.inner.ViaFronts.{BranchOf, BranchText};
 ghost use Rattle.sip_message.specs.inner.Plain.{segment, EndsAt, LiesWithin};
 
 use crate::plain::{past_byte, past_host, past_param, past_port, past_run};
@@ -25,17 +25,14 @@ pub(crate) fn plain_via<'a>(masks: &Masks<'a, '_>, at: usize, end: usize) -> Opt
     let second = past_byte(masks, version, end, b'/')?;
     let transport = past_run(masks, second, end)?;
     let sent_by = past_byte(masks, transport, end, b' ')?;
-    let (host, behind) = past_host(masks, sent_by, end)?;
+    let behind = past_host(masks, sent_by, end)?;
     let (port, params) = past_led_port(masks, behind, end)?;
     let branch = plain_branch(masks, params, end)?;
     Some(Via {
         whole: &text[at..end],
-        protocol: &text[at..name],
-        version: &text[first..version],
         transport: &text[second..transport],
-        host,
+        host: &text[sent_by..behind],
         port,
-        params: &text[params..end],
         branch,
     })
 }
@@ -48,7 +45,7 @@ fn past_led_port<'a>(
     end: usize,
 ) -> Option<(Option<&'a [u8]>, usize)>
     requires { (at ≤ end) × EndsAt masks.now end }
-    ensures { IfSome result (λ found. LiesWithin (λ u. ColonPort (option_copied found.0) u × IfSome (option_copied found.0) Port) masks.now at end found.1) }
+    ensures { IfSome result (λ found. LiesWithin (PortSays (option_copied found.0)) masks.now at end found.1) }
 {
     let Some(port) = past_byte(masks, at, end, b':') else {
         return Some((None, at));
@@ -60,7 +57,7 @@ fn past_led_port<'a>(
 // The branch of the plain parameters that stand from one place up to another.
 fn plain_branch<'a>(masks: &Masks<'a, '_>, at: usize, end: usize) -> Option<Option<&'a [u8]>>
     requires { (at ≤ end) × EndsAt masks.now end }
-    ensures { IfSome result (λ branch. ViaParams (segment at end masks.now) (option_copied branch)) }
+    ensures { IfSome result (λ branch. BranchText (segment at end masks.now) (option_copied branch)) }
 {
     let mut branch = None;
     let mut from = at;

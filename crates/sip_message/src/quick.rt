@@ -5,14 +5,16 @@ ghost use Rattle.std.specs.Prelude.{◌≡◌, ◌+◌, ◌-◌, ◌^◌, ◌≤
 ghost use Rattle.std.specs.List.{prefix_len};
 ghost use Rattle.sip_masks.specs.Marks.{is_control};
 ghost use Rattle.sip_message.specs.inner.Lines.{with_end};
-ghost use Rattle.sip_message.specs.inner.FieldText.{Row, ValueText, FieldText};
-ghost use Rattle.sip_message.specs.inner.Views.{name_parts, field_parts, fields_parts};
+ghost use Rattle.sip_message.specs.inner.FieldText.{Row, ValueText};
+ghost use Rattle.sip_message.specs.inner.Views.{name_parts, fields_parts};
 ghost use Rattle.sip_message.specs.ValueParts.{start_parts};
 ghost use Rattle.sip_message.specs.inner.Asked.{AskedOf, AsksMore, KeepsVia};
-ghost use Rattle.sip_message.specs.inner.Plain.{segment, EndsAt, SomeAddress};
+ghost use Rattle.sip_standard.specs.Values.{Address};
+ghost use Rattle.sip_message.specs.inner.Plain.{segment, EndsAt};
 ghost use Rattle.sip_message.specs.inner.Values.{is_solid};
 ghost use Rattle.sip_message.specs.inner.Quick.{IsOpen, AreOrdinary, IsOrdinary, PushesField};
 
+use crate::address::is_address;
 use crate::asked::{Asked, keep_once, keep_one};
 use crate::field::Field;
 use crate::name::{Known, Name, quick_name};
@@ -20,7 +22,6 @@ use crate::plain::is_plain_address;
 use crate::plain_start::start_up_to;
 use crate::plain_values::{cseq_at, is_call_id_at};
 use crate::plain_via::plain_via;
-use crate::row::is_address;
 use crate::start_line::StartLine;
 use crate::values::is_length;
 use crate::via::{Via, first_via};
@@ -257,7 +258,7 @@ fn keep_any_via<'a>(text: &'a [u8], kept: &mut Option<Via<'a>>) -> bool
 // Whether an address stands between two places.
 fn is_address_at(masks: &Masks<'_, '_>, at: usize, end: usize) -> bool
     requires { (at ≤ end) × EndsAt masks.now end }
-    ensures { IsTrue result → SomeAddress (segment at end masks.now) }
+    ensures { IsTrue result → Address (segment at end masks.now) }
 {
     is_plain_address(masks, at, end) || is_address(&masks.text()[at..end])
 }

@@ -1,17 +1,16 @@
 //! Values of field lines: cut off their blanks, and judged by the row of their field's name.
-ghost use Rattle.std.specs.Prelude.{◌≡◌, ◌≤◌, ◌<◌, ◌-◌, ◌↔◌, ℕ, List, IsTrue, length, slice_index, true, false};
+ghost use Rattle.std.specs.Prelude.{◌≡◌, ◌≤◌, ◌<◌, ◌-◌, ◌↔◌, ℕ, IsTrue, length, slice_index, true, false};
 ghost use Rattle.std.specs.List.{prefix_len};
 ghost use Rattle.sip_standard.specs.Profile.{Sws};
-ghost use Rattle.sip_text.specs.Parts.{IsOnlyValue};
+ghost use Rattle.sip_message.specs.inner.Only.{IsOnlyValue};
 ghost use Rattle.sip_standard.specs.Field.{is_lws_byte};
-ghost use Rattle.sip_message.specs.Address.{AddressParts, AddressText};
 ghost use Rattle.sip_message.specs.inner.FieldText.{ValueText, Row};
 ghost use Rattle.sip_message.specs.inner.Fronts.{text_parts};
 ghost use Rattle.sip_message.specs.inner.Values.{is_solid};
 ghost use Rattle.sip_message.specs.inner.Kept.{KeepsMore};
 ghost use Rattle.sip_message.specs.inner.Views.{name_parts};
 
-use crate::address::read_address;
+use crate::address::is_address;
 use crate::cursor::past;
 use crate::kept::{Kept, keep};
 use crate::name::{Known, Name};
@@ -108,11 +107,4 @@ pub(crate) fn is_of_row<'a>(name: Name<'a>, value: &'a [u8], kept: &mut Kept<'a>
         Name::Known(Known::ContentLength) => is_length(value),
         _ => is_other(value),
     }
-}
-
-/// Whether the text is an address.
-pub(crate) fn is_address(text: &[u8]) -> bool
-    ensures { IsTrue result ↔ ((a : AddressParts) × AddressText text.now a) }
-{
-    read_address(text).is_some()
 }

@@ -4,7 +4,7 @@ ghost use Rattle.std.specs.Option.{option_map};
 ghost use Rattle.std.specs.Str.Parse.{digits_value};
 ghost use Rattle.memchr.specs.Find.{FindsNeedle};
 ghost use Rattle.sip_text.specs.Bytes.{crlf, carriage_return};
-ghost use Rattle.sip_text.specs.Parts.{IsOnlyValue};
+ghost use Rattle.sip_message.specs.inner.Only.{IsOnlyValue};
 ghost use Rattle.sip_message.specs.inner.Lines.{AreLines};
 ghost use Rattle.std.specs.List.{AllByRecursion};
 ghost use Rattle.sip_message.specs.inner.FieldText.{Row};
@@ -17,8 +17,7 @@ ghost use Rattle.sip_message.specs.inner.Finds.{IsFound, found_parts, nothing_pa
 ghost use Rattle.sip_message.specs.inner.Fronts.{pair_parts, text_parts};
 ghost use Rattle.sip_message.specs.inner.Views.{slice_fields};
 ghost use Rattle.sip_message.specs.inner.Settles.{outcome_of};
-ghost use Rattle.sip_message.specs.ValueParts.{start_parts, cseq_parts};
-ghost use Rattle.sip_message.specs.ViaParts.{element};
+ghost use Rattle.sip_message.specs.ValueParts.{start_parts, element, cseq_parts};
 ghost use Rattle.sip_message.specs.inner.ElementFronts.{FirstVia};
 ghost use Rattle.sip_message.specs.inner.Stages.{names_parts, names_of, Stand, HasBody};
 

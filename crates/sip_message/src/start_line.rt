@@ -1,14 +1,14 @@
 //! Start lines.
 ghost use Rattle.std.specs.Prelude.{◌≡◌};
 ghost use Rattle.std.specs.List.{list_all};
-ghost use Rattle.sip_text.specs.Parts.{IsOnlyValue};
+ghost use Rattle.sip_message.specs.inner.Only.{IsOnlyValue};
 ghost use Rattle.sip_message.specs.inner.StartLine.{StartText, is_reason_byte, RequestLine, StatusLine, CodeFront, status_parts};
 ghost use Rattle.sip_message.specs.inner.Fronts.{pair_parts};
 ghost use Rattle.sip_message.specs.ValueParts.{start_parts};
 
 use crate::cursor::{cut_token, past};
 use crate::values::{is_length, number_at_most};
-use sip_text::{read_uri, same_text};
+use sip_text::{is_uri, same_text};
 
 /// The start line of a message (RFC 3261, sections 7.1 and 7.2).
 #[derive(Clone, Copy, Debug, PartialEq, Eq)]
@@ -52,8 +52,11 @@ fn read_request(line: &[u8]) -> Option<(&[u8], &[u8])>
     if !same_text(version, b" SIP/2.0") {
         return None;
     }
-    read_uri(uri)?;
-    Some((method, uri))
+    if is_uri(uri) {
+        Some((method, uri))
+    } else {
+        None
+    }
 }
 
 // The Status-Code and the Reason-Phrase of the Status-Line that the line is.

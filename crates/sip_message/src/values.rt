@@ -3,7 +3,7 @@ ghost use Rattle.std.specs.Prelude.{◌≡◌, ◌≤◌, ◌<◌, ◌↔◌, �
 ghost use Rattle.std.specs.List.{list_all, prefix_len};
 ghost use Rattle.std.specs.Char.{is_ascii_digit};
 ghost use Rattle.std.specs.Str.Parse.{digits_value};
-ghost use Rattle.sip_text.specs.Parts.{IsOnlyValue};
+ghost use Rattle.sip_message.specs.inner.Only.{IsOnlyValue};
 ghost use Rattle.sip_standard.specs.Values.{CallId};
 ghost use Rattle.sip_message.specs.inner.Values.{is_word_byte, Word, Digits, CSeqText, CSeqValue};
 ghost use Rattle.sip_message.specs.ValueParts.{cseq_parts};

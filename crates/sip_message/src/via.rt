@@ -1,35 +1,29 @@
 //! Via elements.
-ghost use Rattle.std.specs.Prelude.{◌≡◌, ◌↔◌, ℕ, List, Option, IsTrue, MatchOption, option_copied};
+ghost use Rattle.std.specs.Prelude.{◌↔◌, ℕ, List, Option, IsTrue, MatchOption, option_copied};
 ghost use Rattle.sip_text.specs.Bytes.{colon};
-ghost use Rattle.sip_text.specs.Parts.{IsOnlyValue};
-ghost use Rattle.sip_message.specs.Via.{ViaParts};
-ghost use Rattle.sip_message.specs.inner.ElementFronts.{MoreVias, EndsElement, ViaFront, FirstVia, front_parts};
+ghost use Rattle.sip_message.specs.inner.Only.{IsOnlyValue};
+ghost use Rattle.sip_standard.specs.Via.{SaidVia};
+ghost use Rattle.sip_message.specs.inner.ElementFronts.{MoreSay, EndsElement, ViaFront, FirstVia, front_parts};
 ghost use Rattle.sip_message.specs.inner.Fronts.{pair_parts};
-ghost use Rattle.sip_message.specs.ViaParts.{element};
+ghost use Rattle.sip_message.specs.ValueParts.{element};
 ghost use Rattle.sip_message.specs.inner.ParamFronts.{LedFront, led_parts};
-ghost use Rattle.sip_message.specs.inner.ViaFronts.{HostCut, HostFront, PortFront, BranchOf, BranchFront, TailFront, host_front_parts, tail_parts};
+ghost use Rattle.sip_message.specs.inner.ViaFronts.{HostCut, HostFront, PortFront, BranchOf, BranchFront};
 
-use crate::cursor::{cut_token, past_mark, read_protocol, skip_blanks};
+use crate::cursor::{cut_token, past_mark, read_protocol};
 use crate::params::{cut_brackets, cut_param, is_token};
-use sip_text::{Host, is_port, read_host, same_text};
+use sip_text::{is_host, is_port, same_text};
 
 /// An element of Via (RFC 3261, section 20.42), in slices of the message.
 #[derive(Clone, Copy, Debug, PartialEq, Eq)]
 pub struct Via<'a> {
     /// The whole element.
     pub whole: &'a [u8],
-    /// The protocol's name.
-    pub protocol: &'a [u8],
-    /// The protocol's version.
-    pub version: &'a [u8],
     /// The transport.
     pub transport: &'a [u8],
     /// The host of sent-by.
-    pub host: Host<'a>,
+    pub host: &'a [u8],
     /// The port of sent-by.
     pub port: Option<&'a [u8]>,
-    /// The parameters, from their first `;` on.
-    pub params: &'a [u8],
     /// The value of the first parameter named branch.
     pub branch: Option<&'a [u8]>,
 }
@@ -48,7 +42,7 @@ pub(crate) fn first_via(text: &[u8]) -> Option<Via<'_>>
 
 // Whether the whole text is elements of Via, each with a comma before it.
 fn are_more_vias(text: &[u8]) -> bool
-    ensures { IsTrue result ↔ ((vias : List ViaParts) × MoreVias vias text.now) }
+    ensures { IsTrue result ↔ ((vias : List SaidVia) × MoreSay vias text.now) }
 {
     let mut rest = text;
     'elements: while let Some(next) = past_mark(rest, b',') {
@@ -64,22 +58,19 @@ fn are_more_vias(text: &[u8]) -> bool
 pub(crate) fn read_via(text: &[u8]) -> Option<(Via<'_>, &[u8])>
     ensures { IsOnlyValue ViaFront front_parts text.now result }
 {
-    let (protocol, version, transport, rest) = read_protocol(text)?;
+    let (transport, rest) = read_protocol(text)?;
     let (host, rest) = cut_host(rest)?;
     let (port, rest) = cut_led_port(rest)?;
-    let (params, branch, rest) = cut_tail(rest)?;
+    let (branch, rest) = cut_branch(rest)?;
     if !ends_element(rest) {
         return None;
     }
     Some((
         Via {
             whole: &text[..text.len() - rest.len()],
-            protocol,
-            version,
             transport,
             host,
             port,
-            params,
             branch,
         },
         rest,
@@ -94,12 +85,15 @@ fn ends_element(text: &[u8]) -> bool
 }
 
 // The host at the front, and what is left after it. It is None where what may be a host is none.
-fn cut_host(text: &[u8]) -> Option<(Host<'_>, &[u8])>
-    ensures { IsOnlyValue HostFront host_front_parts text.now result }
+fn cut_host(text: &[u8]) -> Option<(&[u8], &[u8])>
+    ensures { IsOnlyValue HostFront pair_parts text.now result }
 {
-    let (part, rest) = cut_host_text(text)?;
-    let host = read_host(part)?;
-    Some((host, rest))
+    let (host, rest) = cut_host_text(text)?;
+    if is_host(host) {
+        Some((host, rest))
+    } else {
+        None
+    }
 }
 
 // What may be a host at the front, from a `[` to the first `]` or else the longest token, and what is left after it.
@@ -134,14 +128,6 @@ fn cut_port(text: &[u8]) -> Option<(&[u8], &[u8])>
     } else {
         None
     }
-}
-
-// The parameters at the front from their first `;` on, their branch, and what is left after them.
-fn cut_tail(text: &[u8]) -> Option<(&[u8], Option<&[u8]>, &[u8])>
-    ensures { IsOnlyValue TailFront tail_parts text.now result }
-{
-    let (branch, rest) = cut_branch(text)?;
-    Some((skip_blanks(&text[..text.len() - rest.len()]), branch, rest))
 }
 
 // The branch of the parameters at the front, if one of them is named branch, and what is left after them. It is None where such a one has no token

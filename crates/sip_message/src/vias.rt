@@ -3,10 +3,12 @@ ghost use Rattle.std.specs.Prelude.{◌≡◌, ℕ, List, [], drop, MatchOption}
 ghost use Rattle.sip_message.specs.declared.name.Known.TheVariants as known_name;
 ghost use Rattle.sip_message.specs.Only.{IsOnly};
 ghost use Rattle.sip_message.specs.inner.Only.{ExactlyOne, the, One-prop};
-ghost use Rattle.sip_message.specs.Elements.{Element, AreElements, values};
+ghost use Rattle.sip_standard.specs.Via.{SaidVia};
+ghost use Rattle.sip_standard.specs.Says.{ViasTell};
+ghost use Rattle.sip_message.specs.Field.{values};
 ghost use Rattle.sip_message.specs.inner.ElementFronts.{AreLeft, NextText};
 ghost use Rattle.sip_message.specs.inner.Codes.{elements_code};
-ghost use Rattle.sip_message.specs.ViaParts.{element};
+ghost use Rattle.sip_message.specs.ValueParts.{element};
 ghost use Rattle.sip_message.specs.inner.Views.{slice_fields};
 
 use crate::cursor::past_mark;
@@ -30,7 +32,7 @@ pub struct Vias<'s, 'a> {
 
 impl<'s, 'a> Model for Vias<'s, 'a> {
     // Contracts see this as the list of the elements that are left.
-    ghost Value = { List Element };
+    ghost Value = { List SaidVia };
 
     // Elements are written as lists and numbers, as `coded` asks: of such values two proofs of one equality are the same, and so there is one proof at most
     // that exactly one list is left.
@@ -43,8 +45,8 @@ impl<'s, 'a> Model for Vias<'s, 'a> {
 impl<'s, 'a> Vias<'s, 'a> {
     /// The elements of the Via fields among these.
     pub(crate) fn new(fields: &'s [Field<'a>]) -> Self
-        requires { (es : List Element) × IsOnly (AreElements (values known_name.Via (slice_fields fields))) es }
-        ensures { IsOnly (AreElements (values known_name.Via (slice_fields fields.entry))) result }
+        requires { (es : List SaidVia) × IsOnly (ViasTell (values known_name.Via (slice_fields fields))) es }
+        ensures { IsOnly (ViasTell (values known_name.Via (slice_fields fields.entry))) result }
     {
         Vias {
             fields,
@@ -56,7 +58,7 @@ impl<'s, 'a> Vias<'s, 'a> {
 
 impl<'s, 'a> Iterator for Vias<'s, 'a> {
     ghost use Rattle.std.specs.Iterator.{YieldsFirstBy, item_count};
-    ghost use Rattle.sip_message.specs.ViaParts.{element};
+    ghost use Rattle.sip_message.specs.ValueParts.{element};
 
     type Item = Via<'a>;
 
@@ -78,8 +80,8 @@ impl<'s, 'a> Iterator for Vias<'s, 'a> {
 // The text at whose front the next element stands, and the place after the field of that text; None where no element is left.
 fn next_text<'a>(fields: &[Field<'a>], at: usize, rest: &'a [u8]) -> Option<(&'a [u8], usize)>
     ensures { MatchOption result
-        ((es : List Element) → AreLeft rest.entry.now (values known_name.Via (drop at (slice_fields fields.entry))) es → es ≡ [])
-        (λ next. (es : List Element) → AreLeft rest.entry.now (values known_name.Via (drop at (slice_fields fields.entry))) es
+        ((es : List SaidVia) → AreLeft rest.entry.now (values known_name.Via (drop at (slice_fields fields.entry))) es → es ≡ [])
+        (λ next. (es : List SaidVia) → AreLeft rest.entry.now (values known_name.Via (drop at (slice_fields fields.entry))) es
         → NextText rest.entry.now (values known_name.Via (drop at (slice_fields fields.entry))) next.0.now (values known_name.Via (drop next.1 (slice_fields fields.entry)))) }
 {
     match past_mark(rest, b',') {

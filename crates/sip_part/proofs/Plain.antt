@@ -19,7 +19,6 @@ use Rattle.std.specs.Cmp.Lexicographic.{same_text}
 use Rattle.sip_text.proofs.strings.BlanksLemmas.{units-blanks}
 use Rattle.sip_text.proofs.texts.LacksLemmas.{Lacks, AllLack, lacks-append, lack-one, lack-exactly, lack-then, lack-optional, lack-many, lack-some, lack-between}
 use Rattle.sip_text.proofs.uris.UriHostLemmas.{IsForeign, lack-host}
-use Rattle.sip_text.proofs.hosts.ProfileLemmas.{host-parts}
 use Rattle.sip_standard.specs.Via.{SaidVia, GenValue, PortSays, ParamSays, ViaSays, ViasSay, first_some}
 use Rattle.sip_part.specs.Led.{branch_in, from_stop, is_end, opens_other, token_at}
 use Rattle.sip_part.proofs.Stops.{no_stop}
@@ -132,7 +131,7 @@ lacks-front (b ∷ u) v (other, lacks) = (other, lacks-front u v lacks)
 
 -- no host has a semicolon
 lack-a-host : AllLack semicolon Host
-lack-a-host u host = let parts = host-parts u host in subst (Lacks semicolon) (sym parts.2) (lack-host semicolon _ parts.0 foreign parts.1)
+lack-a-host = lack-host semicolon foreign
 
 -- What follows shows that the search passes over a text without a semicolon, or ends in it.
 

@@ -4,4 +4,3 @@ pub mod HostnameLemmas
 pub mod LabelLemmas
 pub mod V4Lemmas
 pub mod V6Lemmas
-pub mod ProfileLemmas

@@ -1,5 +1,3 @@
 pub mod Bytes
-pub mod Parts
-pub mod Host
-pub mod Uri
+pub mod Front
 pub mod inner

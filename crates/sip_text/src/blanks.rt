@@ -1,7 +1,7 @@
 //! Blank runs.
 ghost use Rattle.std.specs.Prelude.{◌≡◌, ◌≤◌, length};
 ghost use Rattle.sip_standard.specs.Profile.{Blanks};
-ghost use Rattle.sip_text.specs.Parts.{IsLongestFront};
+ghost use Rattle.sip_text.specs.Front.{IsLongestFront};
 ghost use Rattle.sip_text.specs.inner.Blanks.{blank_len};
 
 /// The length in bytes of the longest front of the text that is a blank run: one `LWS` (RFC 3261,

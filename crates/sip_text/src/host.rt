@@ -1,46 +1,25 @@
 //! Hosts: names and addresses.
 ghost use Rattle.std.specs.Prelude.{◌≡◌, ◌↔◌, IsTrue, option_copied};
-ghost use Rattle.sip_standard.specs.Profile.{Ipv6};
+ghost use Rattle.sip_standard.specs.Profile.{Host, Ipv6};
 ghost use Rattle.sip_text.specs.Bytes.{dot};
-ghost use Rattle.sip_text.specs.Parts.{IsOnlyValue};
-ghost use Rattle.sip_text.specs.Host.{HostText, host_parts};
 ghost use Rattle.sip_text.specs.inner.Cut.{parts};
 ghost use Rattle.sip_text.specs.inner.HostTests.{are_labels, before_double, behind_double, has_label_ends, has_len, has_top_ends, has_v4_tail, is_before_v4, is_group, is_hexpart, is_hexseq, is_hostname, is_open, is_optional_hexseq, is_v4, is_v6, is_v6_reference, past_decimal};
 
 use crate::class::{Class, all_in, has};
 use crate::cut::{cut_last, cut_run, past, up_to};
 
-/// A host (RFC 3261, section 25.1), with its text as it was spelled.
-#[derive(Clone, Copy, Debug, PartialEq, Eq)]
-pub enum Host<'a> {
-    /// A hostname, with its dot at the end if it has one.
-    Name(&'a [u8]),
-    /// An IPv4 address.
-    V4(&'a [u8]),
-    /// An IPv6 address, with its brackets.
-    V6(&'a [u8]),
-}
-
-/// The `host` that the whole text is (RFC 3261, section 25.1), or None if it is none.
+/// Whether the whole text is a `host` (RFC 3261, section 25.1): a hostname, an IPv4 address, or an IPv6 address in brackets.
 ///
 /// An IPv6 address is as wide as the grammar there: it may have any number of groups, and stand
 /// before an IPv4 address. After `::` the colon before an IPv4 address may be missing.
-pub fn read_host(text: &[u8]) -> Option<Host<'_>>
-    ensures { IsOnlyValue HostText host_parts text.now result }
+pub fn is_host(text: &[u8]) -> bool
+    ensures { IsTrue result ↔ Host text.now }
 {
-    if is_v6_reference(text) {
-        Some(Host::V6(text))
-    } else if is_v4(text) {
-        Some(Host::V4(text))
-    } else if is_hostname(text) {
-        Some(Host::Name(text))
-    } else {
-        None
-    }
+    is_v6_reference(text) || is_v4(text) || is_hostname(text)
 }
 
 /// Whether the whole text is an `IPv6address` (RFC 3261, section 25.1), without brackets, and as wide
-/// as in [`read_host`].
+/// as in [`is_host`].
 pub fn is_ipv6_address(text: &[u8]) -> bool
     ensures { IsTrue result ↔ Ipv6 text.now }
 {

@@ -13,7 +13,7 @@ mod uri;
 
 pub use crate::blanks::skip_lws;
 pub use crate::case::same_text;
-pub use crate::host::{Host, is_ipv6_address, read_host};
+pub use crate::host::{is_host, is_ipv6_address};
 pub use crate::quoted::read_quoted;
 pub use crate::token::token_len;
-pub use crate::uri::{Uri, is_port, read_uri};
+pub use crate::uri::{is_port, is_uri};

@@ -2,7 +2,7 @@
 ghost use Rattle.std.specs.Prelude.{◌≡◌, ◌≤◌, length, drop, IfSome};
 ghost use Rattle.sip_standard.specs.Text.{Many, ◌then◌};
 ghost use Rattle.sip_standard.specs.Profile.{Sws, Quoted};
-ghost use Rattle.sip_text.specs.Parts.{HasFront, IsOnlyFront};
+ghost use Rattle.sip_text.specs.Front.{HasFront, IsOnlyFront};
 ghost use Rattle.sip_text.specs.inner.Quoted.{QuotedItem, item_len};
 
 use crate::blanks::{blank_len, skip_lws};

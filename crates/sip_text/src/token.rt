@@ -4,7 +4,7 @@ ghost use Rattle.std.specs.List.{list_all, prefix_len};
 ghost use Rattle.std.specs.Simd.Lanes.{chunk};
 ghost use Rattle.sip_standard.specs.Profile.{Token};
 ghost use Rattle.sip_text.specs.Bytes.{is_token_byte};
-ghost use Rattle.sip_text.specs.Parts.{IsLongestFront};
+ghost use Rattle.sip_text.specs.Front.{IsLongestFront};
 ghost use Rattle.sip_text.specs.declared.token.TheConstants.{LOW, HIGH};
 
 use crate::class::{Class, run_len};

@@ -1,70 +1,35 @@
-//! URIs: those of SIP in their parts, and any other by its scheme.
+//! URIs: those of SIP by their parts, and any other by its scheme.
 ghost use Rattle.std.specs.Prelude.{◌≡◌, ◌↔◌, false, IsTrue, option_copied};
 ghost use Rattle.sip_standard.specs.Text.{Many, OneOrMore};
-ghost use Rattle.sip_standard.specs.Profile.{Port, UriParameters, Headers, Scheme};
+ghost use Rattle.sip_standard.specs.Profile.{Port, UriParameters, Headers, Scheme, Uri};
 ghost use Rattle.sip_text.specs.Bytes.{colon, percent, semicolon};
-ghost use Rattle.sip_text.specs.Parts.{IsOnlyValue};
-ghost use Rattle.sip_text.specs.Uri.{UriText, uri_parts};
 ghost use Rattle.sip_text.specs.inner.Class.{is_in};
 ghost use Rattle.sip_text.specs.inner.Cut.{before, behind};
 ghost use Rattle.sip_text.specs.inner.Pieces.{Joined, UriParameter, Header};
-ghost use Rattle.sip_text.specs.inner.UriCut.{ClassChar, behind_escape, IsInfoCut, IsPortCut, cut_parts, IsSipCut, InfoFits, TailFits, SipText};
+ghost use Rattle.sip_text.specs.inner.UriCut.{ClassChar, behind_escape, IsInfoCut, IsPortCut, cut_parts, IsSipCut, InfoFits, TailFits, SipRest};
 
 use crate::case::same_text;
 use crate::class::{Class, all_in, has, run_len};
 use crate::cut::{cut, cut_last, past};
-use crate::host::{Host, read_host};
+use crate::host::is_host;
 use crate::token::are_token_bytes;
 
-/// A URI (RFC 3261, section 25.1), in slices of its text.
-#[derive(Clone, Copy, Debug, PartialEq, Eq)]
-pub enum Uri<'a> {
-    /// A SIP or SIPS URI.
-    Sip {
-        /// Whether the scheme is `sips`.
-        secure: bool,
-        /// The user, without its `@`.
-        user: Option<&'a [u8]>,
-        /// The password, without its `:`; it may be empty.
-        password: Option<&'a [u8]>,
-        /// The host.
-        host: Host<'a>,
-        /// The port, one to five digits, at most 65535, without its `:`.
-        port: Option<&'a [u8]>,
-        /// The parameters, from their first `;` on; empty if there is none.
-        params: &'a [u8],
-        /// The headers, without their `?`.
-        headers: Option<&'a [u8]>,
-    },
-    /// Any other URI.
-    Other {
-        /// The scheme, without its `:`.
-        scheme: &'a [u8],
-        /// What follows the `:`.
-        rest: &'a [u8],
-    },
-}
-
-/// The URI that the whole text is (RFC 3261, section 25.1), or None if it is none.
+/// Whether the whole text is a URI (RFC 3261, section 25.1).
 ///
-/// A SIP URI is cut into its parts in the only way there is. A port has one to five digits and is at
-/// most 65535. Any other URI is a scheme that is neither `sip` nor `sips`, compared without case, a
-/// `:` and one or more `uric`, whatever the scheme asks of them.
+/// A port has one to five digits and is at most 65535. Any URI but a SIP or SIPS URI is a scheme that is neither `sip` nor
+/// `sips`, compared without case, a `:` and one or more `uric`, whatever the scheme asks of them.
 #[inline(always)]
-pub fn read_uri(text: &[u8]) -> Option<Uri<'_>>
-    ensures { IsOnlyValue UriText uri_parts text.now result }
+pub fn is_uri(text: &[u8]) -> bool
+    ensures { IsTrue result ↔ Uri text.now }
 {
     let (scheme, rest) = cut_scheme(text);
-    let rest = rest?;
-    let is_sip = same_text(scheme, b"sip");
-    if is_sip || same_text(scheme, b"sips") {
-        return read_sip(!is_sip, rest);
+    let Some(rest) = rest else {
+        return false;
+    };
+    if same_text(scheme, b"sip") || same_text(scheme, b"sips") {
+        return is_sip_rest(rest);
     }
-    if is_scheme(scheme) && is_some_chars(Class::Uric, rest) {
-        Some(Uri::Other { scheme, rest })
-    } else {
-        None
-    }
+    is_scheme(scheme) && is_some_chars(Class::Uric, rest)
 }
 
 // The text before the first colon, and the text after it if there is one. Most URIs begin with
@@ -91,33 +56,13 @@ struct Cuts<'a> {
     headers: Option<&'a [u8]>,
 }
 
-// The SIP URI that the text is after its scheme and `:`.
+// Whether the text is a SIP URI after its scheme and `:`.
 #[inline(always)]
-fn read_sip(secure: bool, text: &[u8]) -> Option<Uri<'_>>
-    ensures { IsOnlyValue (SipText secure) uri_parts text.now result }
+fn is_sip_rest(text: &[u8]) -> bool
+    ensures { IsTrue result ↔ SipRest text.now }
 {
     let cuts = cut_sip(text);
-    let host = read_host(cuts.host)?;
-    if !userinfo_fits(&cuts) || !tail_fits(&cuts) {
-        return None;
-    }
-    let Cuts {
-        user,
-        password,
-        port,
-        params,
-        headers,
-        ..
-    } = cuts;
-    Some(Uri::Sip {
-        secure,
-        user,
-        password,
-        host,
-        port,
-        params,
-        headers,
-    })
+    is_host(cuts.host) && userinfo_fits(&cuts) && tail_fits(&cuts)
 }
 
 // Cuts what follows the scheme of a SIP URI: each part ends at the first byte that it cannot hold. Where no such byte

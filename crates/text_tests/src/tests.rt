@@ -1,9 +1,7 @@
 //! Tokens, blanks, quoted strings, hosts and ports, and texts that differ in case.
 
 use crate::wants::is;
-use sip_text::{
-    Host, is_ipv6_address, is_port, read_host, read_quoted, same_text, skip_lws, token_len,
-};
+use sip_text::{is_host, is_ipv6_address, is_port, read_quoted, same_text, skip_lws, token_len};
 
 // A text, and the length of the longest token and of the longest blank run at its front.
 static FRONTS: &[(&[u8], usize, usize)] = &[
@@ -31,30 +29,30 @@ static QUOTED: &[(&[u8], Option<usize>)] = &[
     (b"\"a\r\nb\"", None),
 ];
 
-// A text, and what kind of host it is.
-static HOSTS: &[(&[u8], &str)] = &[
+// A text, and whether it is a host.
+static HOSTS: &[(&[u8], bool)] = &[
     // A name ends with a label that begins with a letter, and perhaps a dot.
-    (b"a.example.com.", "name"),
-    (b"x--y", "name"),
-    (b"1.2.3.4.a", "name"),
+    (b"a.example.com.", true),
+    (b"x--y", true),
+    (b"1.2.3.4.a", true),
     // The groups of an IPv4 address are not looked into beyond their three digits.
-    (b"999.1.1.1", "v4"),
+    (b"999.1.1.1", true),
     // The grammar of RFC 3261 lets more through than addresses have.
-    (b"[::ffff:1.2.3.4]", "v6"),
-    (b"[64:ff9b::1.2.3.4]", "v6"),
-    (b"[:::1.2.3.4]", "v6"),
-    (b"[1:::1.2.3.4]", "v6"),
-    (b"[1:2:3:4:5:6:7:8:9]", "v6"),
-    (b"[::]", "v6"),
+    (b"[::ffff:1.2.3.4]", true),
+    (b"[64:ff9b::1.2.3.4]", true),
+    (b"[:::1.2.3.4]", true),
+    (b"[1:::1.2.3.4]", true),
+    (b"[1:2:3:4:5:6:7:8:9]", true),
+    (b"[::]", true),
     // A last label of digits, an empty one, a hyphen at an end, and what is neither.
-    (b"a.1", "none"),
-    (b"a..b", "none"),
-    (b"a-.b", "none"),
-    (b"[1:::2]", "none"),
-    (b"[1.2.3.4]", "none"),
-    (b"1.2.3.4.", "none"),
-    (b"::1", "none"),
-    (b"", "none"),
+    (b"a.1", false),
+    (b"a..b", false),
+    (b"a-.b", false),
+    (b"[1:::2]", false),
+    (b"[1.2.3.4]", false),
+    (b"1.2.3.4.", false),
+    (b"::1", false),
+    (b"", false),
 ];
 
 // A text, whether it is an IPv6 address, and whether it is a port.
@@ -77,16 +75,6 @@ static PAIRS: &[(&[u8], &[u8], bool)] = &[
     (b"\xc0", b"\xe0", false),
 ];
 
-/// The word for the kind of a host, or `none` where there is no host.
-fn kind(host: Option<Host<'_>>) -> &'static str {
-    match host {
-        Some(Host::Name(_)) => "name",
-        Some(Host::V4(_)) => "v4",
-        Some(Host::V6(_)) => "v6",
-        None => "none",
-    }
-}
-
 /// How long the token, the blanks and the quoted string at the front of a text are.
 #[test]
 fn reads_fronts(rt: HostRuntime) {
@@ -99,11 +87,11 @@ fn reads_fronts(rt: HostRuntime) {
     }
 }
 
-/// Which kind of host a text is, and whether it is an IPv6 address or a port.
+/// Whether a text is a host, an IPv6 address or a port.
 #[test]
 fn reads_hosts(rt: HostRuntime) {
     for &(text, want) in HOSTS {
-        is(&rt, kind(read_host(text)), want, text);
+        is(&rt, is_host(text), want, text);
     }
     for &(text, address, port) in ADDRESSES {
         is(&rt, is_ipv6_address(text), address, text);

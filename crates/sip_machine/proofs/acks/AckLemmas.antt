@@ -17,7 +17,7 @@ AckOf-read ack invite response a i reads_a reads_i of =
 module _ (ack invite response : List ℕ) (a i : Reading) (is : Bool) (reads_a : Reads ack a) (reads_i : Reads invite i)
     (tells : (r : Said) → SameSolid (said_of a).to r.to → IsTrue is ↔ IsAckOf (said_of a) (said_of i) r) where
   -- where an ACK is one for the INVITE whatever the response is, it belongs to each response that has the To of the ACK
-  pub AckOf-by_to : IsTrue is → (to : List ℕ) → to ≡ solid a.parts.to.0 → IsToOf response to ↔ AckOf ack invite response
+  pub AckOf-by_to : IsTrue is → (to : List ℕ) → to ≡ solid a.parts.to → IsToOf response to ↔ AckOf ack invite response
   AckOf-by_to true to to_is = (
     -- if the response has the To of the ACK, the ACK belongs to it, since it is one for the INVITE; if it belongs to it, the response has its To
     λ its. (ack-of_says ack invite response (said_of a) (said_of i) (said_of its.message) reads_a.says reads_i.says its.reads.says).1 ((tells (said_of its.message) (sym to_is ∙ its.is)).0 true),

@@ -8,7 +8,7 @@ use Rattle.sip_machine.proofs.texts.RetainLemmas.{only-Keeps, text_of-only}
 pub IsToOf-same : (bytes to text : List ℕ) → IsToOf bytes text → IsTrue (bytes_eq text to) ↔ IsToOf bytes to
 IsToOf-same bytes to text is = (
   λ same. subst (IsToOf bytes) ((bytes_decides text to).0 same) is,
-  λ its. (bytes_decides text to).1 (is.is ∙ ap (λ r. solid r.parts.to.0) (same_reading bytes is.message its.message is.reads its.reads) ∙ sym its.is),
+  λ its. (bytes_decides text to).1 (is.is ∙ ap (λ r. solid r.parts.to) (same_reading bytes is.message its.message is.reads its.reads) ∙ sym its.is),
 )
 
 -- bytes have one To

@@ -14,7 +14,7 @@ use Rattle.sip_machine.specs.inner.Order.{full_hash}
 pub record IsToOf (bytes text : List ℕ) : Type 0 where
   pub message : Reading
   pub reads : Reads bytes message
-  pub is : text ≡ solid message.parts.to.0
+  pub is : text ≡ solid message.parts.to
 
 -- the book keeps the message with this number, and the text is its To without blanks
 pub record IsTo (texts : Texts) (to : To) : Type 0 where

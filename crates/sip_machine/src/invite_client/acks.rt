@@ -47,7 +47,7 @@ pub(crate) fn first_acked(
     if !is_ack_for(&ack, &invite) {
         return Ok(None);
     }
-    let to = solid_of(alloc, ack.to().whole)?;
+    let to = solid_of(alloc, ack.to())?;
     let to = Hashed::of(to);
     let Some(accounts) = dues.accounts() else {
         return Ok(None);

@@ -4,3 +4,4 @@ pub mod Closed
 pub mod Ends
 pub mod Solid
 pub mod Items
+pub mod Says

@@ -1,7 +1,6 @@
 -- What the quick reader keeps of the fields that are asked for, as they come.
 use Rattle.std.specs.Prelude.{◌≡◌, ℕ, Bool, List, [], ◌∷◌, ◌++◌, Option, None, Some, is_some, option_copied}
 use Rattle.std.specs.Option.{option_map, option_or}
-use Rattle.sip_text.specs.Parts.{IsOnlyValue}
 use Rattle.sip_message.specs.declared.asked.Asked.{Asked}
 use Rattle.sip_message.specs.declared.name.Known.{Known}
 use Rattle.sip_message.specs.declared.name.Known.TheVariants as known_name
@@ -9,8 +8,8 @@ use Rattle.sip_message.specs.declared.via.Via.{Via}
 use Rattle.sip_message.specs.Field.{Field}
 use Rattle.sip_message.specs.inner.MessageText.{found, IsFirstFound}
 use Rattle.sip_message.specs.inner.Values.{CSeqValue}
-use Rattle.sip_message.specs.ViaParts.{element}
-use Rattle.sip_message.specs.ValueParts.{cseq_parts}
+use Rattle.sip_message.specs.ValueParts.{element, cseq_parts}
+use Rattle.sip_message.specs.inner.Only.{IsOnlyValue}
 use Rattle.sip_message.specs.inner.ElementFronts.{FirstVia}
 
 -- what the one field of the name says, or None where there is no field of the name

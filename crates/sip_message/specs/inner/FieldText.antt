@@ -7,13 +7,15 @@ use Rattle.sip_text.specs.inner.Blanks.{is_wsp}
 use Rattle.sip_standard.specs.Field.{is_lws_byte}
 use Rattle.sip_message.specs.declared.name.Known.TheVariants as known_name
 use Rattle.sip_message.specs.Name.{FieldName, known, name_of}
-use Rattle.sip_message.specs.Params.{OpensSolid}
-use Rattle.sip_message.specs.Via.{ViaParts}
-use Rattle.sip_message.specs.inner.ElementFronts.{ViasText}
-use Rattle.sip_message.specs.Address.{AddressParts, AddressText}
 use Rattle.sip_message.specs.Field.{Field}
-use Rattle.sip_standard.specs.Values.{CallId}
+use Rattle.sip_standard.specs.Via.{SaidVia, ViasSay}
+use Rattle.sip_standard.specs.Values.{Address, CallId}
 use Rattle.sip_message.specs.inner.Values.{CSeqText, Digits, OtherText}
+
+-- the text does not begin with a byte of a blank run
+abbrev pub OpensSolid : List ℕ → Type 0
+OpensSolid [] = ⊤
+OpensSolid (byte ∷ text) = is_lws_byte byte ≡ false
 
 -- the text does not end with a byte of a blank run
 abbrev pub EndsSolid : List ℕ → Type 0
@@ -23,9 +25,9 @@ EndsSolid (byte ∷ next ∷ text) = EndsSolid (next ∷ text)
 
 -- the values that a field of the name may have: its row
 abbrev pub Row : FieldName → List ℕ → Type 0
-Row (known known_name.Via) value = (v : ViaParts) × (vias : List ViaParts) × ViasText value v vias
-Row (known known_name.From) value = (a : AddressParts) × AddressText value a
-Row (known known_name.To) value = (a : AddressParts) × AddressText value a
+Row (known known_name.Via) value = (vias : List SaidVia) × ViasSay vias value
+Row (known known_name.From) value = Address value
+Row (known known_name.To) value = Address value
 Row (known known_name.CallId) value = CallId value
 Row (known known_name.CSeq) value = (number : ℕ) × (method : List ℕ) × CSeqText value number method
 Row (known known_name.ContentLength) value = Digits value

@@ -35,13 +35,6 @@ TokenFront text (token, rest) =
 abbrev pub MarkFront : ℕ → List ℕ → List ℕ → Type 0
 MarkFront mark text rest = StopsBlank rest × (Mark mark then Exactly rest) text
 
--- the parts of sent-protocol LWS at the front of a text, and what is left
-pub record ProtocolParts : Type 0 where
-  pub protocol : List ℕ
-  pub version : List ℕ
-  pub transport : List ℕ
-  pub rest : List ℕ
-
 -- R gives some value x, and S after it gives y: two steps of a reader
 pub data Seq {X Y : Type 0} (R : X → Type 0) (S : X → Y → Type 0) (y : Y) : Type 0 where
   both : (x : X) → R x → S x y → Seq R S y
@@ -50,16 +43,15 @@ pub data Seq {X Y : Type 0} (R : X → Type 0) (S : X → Y → Type 0) (y : Y) 
 abbrev pub BlanksFront : List ℕ → List ℕ → Type 0
 BlanksFront text rest = StopsBlank rest × (Blanks then Exactly rest) text
 
--- sent-protocol LWS at the front of the text, and what is left, step by step
-abbrev pub ProtocolFront : List ℕ → ProtocolParts → Type 0
+-- sent-protocol LWS at the front of the text, with its transport, and what is left, step by step
+abbrev pub ProtocolFront : List ℕ → List ℕ × List ℕ → Type 0
 ProtocolFront text =
-    Seq (TokenFront text) (λ protocol.
-    Seq (MarkFront slash (protocol.1)) (λ behind_protocol.
-    Seq (TokenFront behind_protocol) (λ version.
+    Seq (TokenFront text) (λ name.
+    Seq (MarkFront slash (name.1)) (λ behind_name.
+    Seq (TokenFront behind_name) (λ version.
     Seq (MarkFront slash (version.1)) (λ behind_version.
     Seq (TokenFront behind_version) (λ transport.
-    Seq (BlanksFront (transport.1)) (λ rest p.
-    p ≡ record { protocol = protocol.0; version = version.0; transport = transport.0; rest = rest }))))))
+    Seq (BlanksFront (transport.1)) (λ rest p. p ≡ (transport.0, rest)))))))
 
 -- the text that the code's borrow means
 abbrev pub text_parts : Bor (List ℕ) → List ℕ
@@ -68,11 +60,6 @@ text_parts text = text.now
 -- the two texts that the code's borrows mean
 abbrev pub pair_parts : Bor (List ℕ) × Bor (List ℕ) → List ℕ × List ℕ
 pair_parts (a, b) = (a.now, b.now)
-
--- the protocol, the version, the transport and the rest that the code's borrows mean
-abbrev pub protocol_parts : Bor (List ℕ) × Bor (List ℕ) × Bor (List ℕ) × Bor (List ℕ) → ProtocolParts
--- a, b, c and d are the four in this order
-protocol_parts (a, b, c, d) = record { protocol = a.now; version = b.now; transport = c.now; rest = d.now }
 
 -- a logical line with its end at the front of the text, and what is left, which begins with no blank
 abbrev pub LineFront : List ℕ → List ℕ × List ℕ → Type 0

@@ -3,16 +3,15 @@ use Rattle.std.specs.Prelude.{◌≡◌, ℕ, List, [], ◌∷◌, ◌++◌, Opt
 use Rattle.std.specs.Option.{option_map}
 use Rattle.sip_message.specs.declared.kept.Kept.{Kept}
 use Rattle.sip_message.specs.declared.name.Known.TheVariants as known_name
-use Rattle.sip_message.specs.Field.{Field}
+use Rattle.sip_message.specs.Field.{Field, values}
 use Rattle.sip_message.specs.Message.{Message}
-use Rattle.sip_message.specs.Elements.{Element, values}
 use Rattle.sip_message.specs.inner.Values.{CSeqValue}
 use Rattle.sip_message.specs.Reading.{Parts, HasParts}
 use Rattle.sip_message.specs.Only.{IsOnly}
+use Rattle.sip_standard.specs.Via.{SaidVia}
 use Rattle.sip_standard.specs.Says.{IsFirstOf}
 use Rattle.sip_message.specs.inner.MessageText.{MessageText}
-use Rattle.sip_message.specs.ViaParts.{element}
-use Rattle.sip_message.specs.ValueParts.{cseq_parts}
+use Rattle.sip_message.specs.ValueParts.{element, cseq_parts}
 use Rattle.sip_message.specs.inner.ElementFronts.{FirstVia}
 
 -- some bytes are the text of the message, p are the parts of its named fields, and v, f, t, i and c are the first values of their names
@@ -41,7 +40,7 @@ KeepsMore f old new = (fields : List Field) → KeptOf fields old → KeptOf (fi
 
 -- some bytes are the text of the message m, p are the parts of its named fields, e and s are what its top Via and its CSeq say, and
 -- f, t and i are the first values of From, To and Call-ID
-pub record KeepsRead (m : Message) (p : Parts) (e : Element) (f t i : List ℕ) (s : ℕ × List ℕ) : Type 0 where
+pub record KeepsRead (m : Message) (p : Parts) (e : SaidVia) (f t i : List ℕ) (s : ℕ × List ℕ) : Type 0 where
   pub via_text : List ℕ
   pub cseq_text : List ℕ
   pub keeps : Keeps m p via_text f t i cseq_text

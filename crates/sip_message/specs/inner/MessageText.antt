@@ -9,8 +9,7 @@ use Rattle.sip_message.specs.inner.Lines.{HasNoBareEnd}
 use Rattle.sip_message.specs.Name.{is_name_of}
 use Rattle.sip_standard.specs.StartLine.{StartLine, request, status}
 use Rattle.sip_message.specs.inner.StartLine.{StartText}
-use Rattle.sip_message.specs.Via.{ViaParts}
-use Rattle.sip_message.specs.inner.ElementFronts.{ViasText}
+use Rattle.sip_standard.specs.Via.{SaidVia, ViasSay}
 use Rattle.sip_message.specs.inner.Values.{CSeqText}
 use Rattle.sip_message.specs.Field.{Field}
 use Rattle.sip_message.specs.Message.{Message}
@@ -43,7 +42,7 @@ IsNotTwice name fields = length (found name fields) ≤ 1
 -- the transport of the first element of this value of Via
 abbrev pub TopTransport : List ℕ → List ℕ → Type 0
 TopTransport value transport =
-    (v : ViaParts) × (vias : List ViaParts) × ViasText value v vias × (transport ≡ v.transport)
+    (v : SaidVia) × (more : List SaidVia) × ViasSay (v ∷ more) value × (transport ≡ v.transport)
 
 -- a transport is a stream where it is TCP or TLS
 abbrev pub is_stream : List ℕ → Bool

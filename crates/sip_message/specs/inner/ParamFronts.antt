@@ -2,14 +2,31 @@
 use Rattle.std.specs.Prelude.{◌≡◌, ◌⊎◌, ◌||◌, ◌==◌, ℕ, Bool, List, [], ◌∷◌, ◌++◌, true, false, Option, None, Some, option_copied}
 use Rattle.std.specs.List.{AllByRecursion}
 use Rattle.std.specs.Borrow.{Bor}
-use Rattle.sip_standard.specs.Text.{◌or◌}
+use Rattle.sip_standard.specs.Text.{Exactly, ◌then◌, ◌or◌, Optional, Many}
+use Rattle.sip_standard.specs.Chars.{EachSays}
 use Rattle.sip_standard.specs.Profile.{Token, Ipv6, Bracketed, Quoted}
+use Rattle.sip_standard.specs.Via.{GenValue}
 use Rattle.sip_text.specs.Bytes.{colon, semicolon, equals, left_bracket, right_bracket, is_token_byte}
+use Rattle.sip_message.specs.inner.Marks.{Mark}
 use Rattle.sip_message.specs.inner.Fronts.{Stops, TokenFront, MarkFront, Seq}
 
 -- a parameter: its name, and its value if it has one
 abbrev pub Param : Type 0
 Param = List ℕ × Option (List ℕ)
+
+-- generic-param = token [ EQUAL gen-value ], with its name and its value
+abbrev pub ParamText : Param → List ℕ → Type 0
+ParamText (name, None) text = Token name × (text ≡ name)
+ParamText (name, Some value) text =
+    Token name × GenValue value × (Exactly name then Mark equals then Exactly value) text
+
+-- *( SEMI generic-param ), with the name and the value of each
+abbrev pub ParamsText : List Param → List ℕ → Type 0
+ParamsText = EachSays (λ param. Mark semicolon then ParamText param)
+
+-- *( SEMI generic-param )
+abbrev pub GenericParams : List ℕ → Type 0
+GenericParams = Many (Mark semicolon then (Token then Optional (Mark equals then GenValue)))
 
 -- a byte of a value that is neither quoted nor in brackets: of a token, or a colon
 abbrev pub is_bare_byte : ℕ → Bool

@@ -7,14 +7,12 @@ use Rattle.sip_message.specs.declared.start_line.StartLine.{StartLine}
 use Rattle.sip_message.specs.declared.stages.Named.{Named}
 use Rattle.sip_message.specs.declared.values.CSeq.{CSeq}
 use Rattle.sip_message.specs.declared.via.Via.{Via}
-use Rattle.sip_message.specs.Field.{Field}
+use Rattle.sip_message.specs.Field.{Field, values}
 use Rattle.sip_message.specs.inner.Faults.{BodyOf}
 use Rattle.sip_standard.specs.Outcome.{gives}
 use Rattle.sip_standard.specs.Says.{IsFirstOf}
-use Rattle.sip_message.specs.Elements.{values}
 use Rattle.sip_message.specs.inner.Values.{CSeqValue}
-use Rattle.sip_message.specs.ValueParts.{start_parts, cseq_parts}
-use Rattle.sip_message.specs.ViaParts.{element}
+use Rattle.sip_message.specs.ValueParts.{start_parts, element, cseq_parts}
 use Rattle.sip_message.specs.inner.ElementFronts.{FirstVia}
 
 -- the first Via and the CSeq that the code found, with the numbers of their lines

@@ -4,8 +4,7 @@ use Rattle.std.specs.List.{onto_first, list_all}
 use Rattle.std.proofs.lemmas.Bool.{false_from_ne_true, eqb-true, eq-eqb}
 use Rattle.std.proofs.lemmas.List.{append-nil, length-append}
 use Rattle.memchr.specs.Find.{Nowhere, Passes, is_byte}
-use Rattle.sip_text.specs.Parts.{led}
-use Rattle.sip_text.specs.inner.Cut.{before, behind, parts, past}
+use Rattle.sip_text.specs.inner.Cut.{led, before, behind, parts, past}
 use Rattle.sip_text.proofs.texts.LacksLemmas.{Lacks}
 
 -- what holds in both cases, where a byte is the mark and where it is not, holds of the test of the byte

@@ -4,8 +4,7 @@ use Rattle.std.specs.List.{prefix_len, list_all}
 use Rattle.std.proofs.lemmas.Bool.{and_parts, eq-eqb, false_from_ne_true}
 use Rattle.std.proofs.lemmas.List.{append-nil}
 use Rattle.sip_standard.specs.Text.{One, Many}
-use Rattle.sip_text.specs.Parts.{led}
-use Rattle.sip_text.specs.inner.Cut.{before, behind, past}
+use Rattle.sip_text.specs.inner.Cut.{led, before, behind, past}
 use Rattle.sip_text.proofs.texts.ManyLemmas.{drop-front, front-whole}
 use Rattle.sip_text.proofs.texts.LacksLemmas.{lack-many, lack-one}
 use Rattle.sip_text.proofs.texts.RunLemmas.{run-front, run-list_all}

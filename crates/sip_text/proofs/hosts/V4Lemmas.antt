@@ -6,8 +6,7 @@ use Rattle.sip_text.specs.declared.class.Class.TheVariants as variant
 use Rattle.sip_standard.specs.Text.{One, ◌then◌}
 use Rattle.sip_standard.specs.Profile.{Ipv4}
 use Rattle.sip_text.specs.Bytes.{dot, Byte}
-use Rattle.sip_text.specs.Parts.{led}
-use Rattle.sip_text.specs.inner.Cut.{before, behind}
+use Rattle.sip_text.specs.inner.Cut.{led, before, behind}
 use Rattle.sip_text.specs.inner.Pieces.{DecimalGroup}
 use Rattle.sip_text.specs.inner.HostTests.{is_decimal, is_decimal_dot, is_v4}
 use Rattle.sip_text.proofs.texts.LacksLemmas.{AllLack, lack-one, lack-byte, lack-then, lack-between}

@@ -6,7 +6,7 @@ use Rattle.sip_standard.specs.Text.{One, Many}
 use Rattle.sip_standard.specs.Profile.{Lws, Blanks, Sws}
 use Rattle.sip_text.specs.Bytes.{carriage_return, line_feed, crlf}
 use Rattle.sip_text.specs.inner.Blanks.{is_wsp, Blank, begins_with_fold, blank_len}
-use Rattle.sip_text.specs.Parts.{HasFront, IsLongestFront}
+use Rattle.sip_text.specs.Front.{HasFront, IsLongestFront}
 use Rattle.sip_text.proofs.texts.ManyLemmas.{many-cons, many-nil, many-some, some-many, many-map, many-flat, many-append, IsStep, run-more, longest_many}
 
 -- a WSP is a blank

@@ -7,7 +7,7 @@ use Rattle.sip_standard.specs.Text.{◌or◌, Many, ◌then◌}
 use Rattle.sip_standard.specs.Profile.{Sws, Quoted}
 use Rattle.sip_text.specs.Bytes.{space, tab, dquote, backslash, crlf}
 use Rattle.sip_text.specs.inner.Blanks.{is_wsp, Blank, blank_len}
-use Rattle.sip_text.specs.Parts.{HasFront, IsOnlyFront}
+use Rattle.sip_text.specs.Front.{HasFront, IsOnlyFront}
 use Rattle.sip_text.specs.inner.Class.{is_quoted_byte, is_escaped_byte}
 use Rattle.sip_text.specs.inner.Cut.{past}
 use Rattle.sip_text.specs.inner.Pieces.{Qdtext, QuotedPair}

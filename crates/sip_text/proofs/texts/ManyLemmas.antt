@@ -5,7 +5,7 @@ use Rattle.std.specs.List.{AllByRecursion, concat}
 use Rattle.std.proofs.lemmas.List.{append-nil, append_assoc, length-append}
 use Rattle.std.proofs.lemmas.List.Folds.{concat-append}
 use Rattle.sip_standard.specs.Text.{Many, OneOrMore}
-use Rattle.sip_text.specs.Parts.{HasFront}
+use Rattle.sip_text.specs.Front.{HasFront}
 
 -- what holds of each element of two lists holds of each element of the one after the other
 pub AllByRecursion-append : {X : Type 0} (P : X → Type 0) (us vs : List X) → AllByRecursion P us → AllByRecursion P vs → AllByRecursion P (us ++ vs)

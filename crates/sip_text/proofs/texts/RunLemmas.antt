@@ -6,7 +6,7 @@ use Rattle.std.proofs.lemmas.Bool.{and_from, and_parts, eq-eqb, eqb-true}
 use Rattle.std.proofs.lemmas.List.{append-nil}
 use Rattle.std.proofs.lemmas.List.Sums.{prefix_len-le-length}
 use Rattle.sip_standard.specs.Text.{One, Many, OneOrMore}
-use Rattle.sip_text.specs.Parts.{HasFront, IsLongestFront}
+use Rattle.sip_text.specs.Front.{HasFront, IsLongestFront}
 use Rattle.sip_text.proofs.texts.ManyLemmas.{many-cons, many-nil, many-some, front-whole}
 
 -- all bytes of a run of bytes of the class pass the test

@@ -1,16 +1,13 @@
 -- Where a host ends in a URI: it lacks the marks of what follows, and does not end like a port.
--- A host is a name (`name`), an IPv4 address (`v4`) or an IPv6 address (`v6`).
-use Rattle.std.proofs.Common.{◌≡◌, ℕ, false, nat_eq, List, [], ◌∷◌, ◌++◌, length, refl, sym, ap, ◌∙◌, subst, arith}
+use Rattle.std.proofs.Common.{◌≡◌, ℕ, false, nat_eq, List, [], ◌∷◌, ◌++◌, length, refl, sym, ap, ◌∙◌, subst, inl, inr, arith}
 use Rattle.std.specs.Char.{is_ascii_alphabetic, is_ascii_alphanumeric, is_ascii_digit, is_ascii_hexdigit}
 use Rattle.std.proofs.lemmas.Bool.{both_ways, eq-eqb}
 use Rattle.std.proofs.lemmas.List.{append_assoc, length-append}
 use Rattle.sip_standard.specs.Text.{One, Exactly, ◌then◌}
-use Rattle.sip_standard.specs.Profile.{Hexseq, Ipv6, Bracketed, Port}
+use Rattle.sip_standard.specs.Profile.{Hexseq, Ipv6, Bracketed, Host, Port}
 use Rattle.sip_text.specs.Bytes.{colon, dot, left_bracket, right_bracket, Byte}
-use Rattle.sip_text.specs.Host.{HostParts, HostText, host_text}
 use Rattle.sip_text.specs.inner.Class.{is_label_byte}
 use Rattle.sip_text.specs.inner.Pieces.{double_colon, Hex4, Hexpart, OpenHexpart}
-use Rattle.sip_text.specs.Host.HostParts.{name, v4, v6}
 use Rattle.sip_text.proofs.texts.LacksLemmas.{Lacks, AllLack, lack-one, lack-byte, lack-exactly, lack-then, lack-or, lack-optional, lack-between, lack-joined}
 use Rattle.sip_text.proofs.hosts.HostnameLemmas.{lack-hostname}
 use Rattle.sip_text.proofs.hosts.V4Lemmas.{lack-v4}
@@ -61,17 +58,11 @@ pub record IsForeign (mark : ℕ) : Type 0 where
   pub of_right : nat_eq right_bracket mark ≡ false
 
 -- a host lacks each byte that is foreign to hosts
-pub lack-host : (mark : ℕ) (text : List ℕ) (host : HostParts) → IsForeign mark → HostText text host → Lacks mark text
-lack-host mark text (name host) foreign fits = lack-hostname mark foreign.of_dot foreign.alphabetic foreign.label foreign.alphanumeric text fits.0
-lack-host mark text (v4 host) foreign fits = lack-v4 mark foreign.digit foreign.of_dot text fits.0
-lack-host mark text (v6 host) foreign fits =
-    lack-v6 mark foreign.hexdigit foreign.digit foreign.of_colon foreign.of_dot foreign.of_left foreign.of_right text fits.0
-
--- the text that the parts of a host say is the text that has these parts
-pub host-spelled : (text : List ℕ) (host : HostParts) → HostText text host → host_text host ≡ text
-host-spelled text (name host) fits = fits.1
-host-spelled text (v4 host) fits = fits.1
-host-spelled text (v6 host) fits = fits.1
+pub lack-host : (mark : ℕ) → IsForeign mark → AllLack mark Host
+lack-host mark foreign =
+    lack-or mark _ _ (lack-hostname mark foreign.of_dot foreign.alphabetic foreign.label foreign.alphanumeric)
+    (lack-or mark _ _ (lack-v4 mark foreign.digit foreign.of_dot)
+    (lack-v6 mark foreign.hexdigit foreign.digit foreign.of_colon foreign.of_dot foreign.of_left foreign.of_right))
 
 -- u, the mark and v do not lack the mark
 has-mark : (mark : ℕ) (u v : List ℕ) → Lacks mark (u ++ mark ∷ v) → ⊥
@@ -92,14 +83,14 @@ last-in mark b (a ∷ x) (c ∷ u) v same lacks =
     last-in mark b x u v tail lacks
 
 -- no host ends with ":" and a port
-pub host-no_port : (text : List ℕ) (host : HostParts) (u port : List ℕ) → HostText text host → Port port → text ≡ u ++ colon ∷ port → ⊥
+pub host-no_port : (text u port : List ℕ) → Host text → Port port → text ≡ u ++ colon ∷ port → ⊥
 -- neither a name nor an IPv4 address has a colon
-host-no_port text (name host) u port fits is_port whole =
-    has-mark colon u port (subst (Lacks colon) whole (lack-hostname colon refl refl refl refl text fits.0))
-host-no_port text (v4 host) u port fits is_port whole =
-    has-mark colon u port (subst (Lacks colon) whole (lack-v4 colon refl refl text fits.0))
+host-no_port text u port (inl name) is_port whole =
+    has-mark colon u port (subst (Lacks colon) whole (lack-hostname colon refl refl refl refl text name))
+host-no_port text u port (inr (inl v4)) is_port whole =
+    has-mark colon u port (subst (Lacks colon) whole (lack-v4 colon refl refl text v4))
 -- an IPv6 address in brackets ends with "]", which no port has
-host-no_port text (v6 host) u port ((a, b, _, (inner, end, _, is_end, b_is), text_is), _) is_port whole =
+host-no_port text u port (inr (inr (a, b, _, (inner, end, _, is_end, b_is), text_is))) is_port whole =
     let ends : text ≡ (a ++ inner) ++ right_bracket ∷ [] =
     text_is ∙ ap (λ t. a ++ t) (b_is ∙ ap (λ t. inner ++ t) is_end) ∙ sym (append_assoc a inner (right_bracket ∷ [])) in
     let digits : Lacks right_bracket port =

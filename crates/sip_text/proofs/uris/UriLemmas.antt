@@ -1,18 +1,17 @@
 -- A URI is cut at its first ":", and its scheme says which it is.
-use Rattle.std.proofs.Common.{◌≡◌, ℕ, Bool, true, false, not, nat_eq, List, [], ◌∷◌, ◌++◌, Option, None, Some, Bor, option_copied, refl, sym, ap, ◌∙◌, subst}
+use Rattle.std.proofs.Common.{◌≡◌, ℕ, Bool, true, false, nat_eq, List, [], ◌∷◌, ◌++◌, Option, None, Some, Bor, option_copied, inl, inr, refl, sym, ap, ◌∙◌, subst}
+use Rattle.std.specs.Bool.{Decides}
 use Rattle.std.specs.Char.{is_ascii_alphabetic, to_ascii_lowercase}
 use Rattle.std.proofs.lemmas.Bool.{both_ways, eqb-true}
+use Rattle.std.proofs.lemmas.Bool.Decides.{Decides-like}
 use Rattle.sip_standard.specs.Text.{OneOrMore}
 use Rattle.sip_standard.specs.Case.{folded}
-use Rattle.sip_standard.specs.Profile.{Scheme, Uric}
+use Rattle.sip_standard.specs.Chars.{AnyCase}
+use Rattle.sip_standard.specs.Profile.{SipScheme, Scheme, Uric, Uri}
 use Rattle.sip_text.specs.Bytes.{colon}
-use Rattle.sip_text.specs.Parts.{led, IsOnlyValue}
-use Rattle.sip_text.specs.inner.Case.{SameText}
-use Rattle.sip_text.specs.Uri.{sip_text, scheme_name, UriParts, sip, other, UriText, uri_parts}
 use Rattle.sip_text.specs.inner.Class.{is_scheme_byte}
-use Rattle.sip_text.specs.inner.Cut.{before, behind}
-use Rattle.sip_text.specs.inner.UriCut.{SipText}
-use Rattle.sip_text.specs.declared.uri.Uri.{Uri}
+use Rattle.sip_text.specs.inner.Cut.{led, before, behind}
+use Rattle.sip_text.specs.inner.UriCut.{SipRest}
 use Rattle.sip_text.proofs.texts.LacksLemmas.{Lacks, AllLack, lack-one, lack-then, lack-many}
 use Rattle.sip_text.proofs.cuts.CutLemmas.{cut-whole, before-led, behind-led}
 
@@ -29,22 +28,14 @@ folded-lacks (b ∷ text) lacks = (at (nat_eq b colon) refl, folded-lacks text l
     at false is = is
 
 -- "sip" and "sips" lack ":"
-sip-lacks : (scheme : List ℕ) (secure : Bool) → SameText scheme (scheme_name secure) → Lacks colon scheme
-sip-lacks scheme true same = folded-lacks scheme (subst (Lacks colon) (sym same) (refl, (refl, (refl, (refl, tt)))))
-sip-lacks scheme false same = folded-lacks scheme (subst (Lacks colon) (sym same) (refl, (refl, (refl, tt))))
+sip-lacks : AllLack colon SipScheme
+sip-lacks scheme (inl same) = folded-lacks scheme (subst (Lacks colon) (sym same) (refl, (refl, (refl, tt))))
+sip-lacks scheme (inr same) = folded-lacks scheme (subst (Lacks colon) (sym same) (refl, (refl, (refl, (refl, tt)))))
 
 -- no colon stands in a scheme
 scheme-lacks : AllLack colon Scheme
 scheme-lacks =
     lack-then colon _ _ (lack-one colon is_ascii_alphabetic refl) (lack-many colon _ (lack-one colon is_scheme_byte refl))
-
--- a scheme that is one of "sip" and "sips" is one of them alone
-one-scheme : (scheme : List ℕ) (a b : Bool) → SameText scheme (scheme_name a) → SameText scheme (scheme_name b) → a ≡ b
-one-scheme scheme true true same also = refl
-one-scheme scheme false false same also = refl
--- a scheme cannot have both names, since one has more letters than the other
-one-scheme scheme true false same also = let names = sym same ∙ also in cc
-one-scheme scheme false true same also = let names = sym same ∙ also in cc
 
 -- the scheme of a text stands before its first ":", and the rest follows that ":"
 pub record IsSchemeCut (text scheme rest : List ℕ) : Type 0 where
@@ -69,78 +60,55 @@ pub scheme-at : (text scheme : List ℕ) (later : Option (Bor (List ℕ))) (rest
 scheme-at text scheme later rest front_is later_is some =
     record { front = front_is; later = ap option_copied (sym some) ∙ later_is }
 
--- where a URI has the scheme "sip" or "sips", its rest is that of a SIP URI
-uri-sip : (secure : Bool) (text scheme rest : List ℕ) (x : UriParts) → IsSchemeCut text scheme rest → SameText scheme (scheme_name secure) → UriText text x → SipText secure rest x
--- the scheme of the parts is what stands before the first ":", so it is the one that was cut off
-uri-sip secure text scheme rest (sip p) cut same (name, same_name, fits, whole) =
-    let parts = scheme-cut text scheme rest name (sip_text p) cut (sip-lacks name p.secure same_name) whole in (
-      one-scheme scheme p.secure secure (subst (λ s. SameText s (scheme_name p.secure)) parts.0 same_name) same,
-      fits,
-      parts.1,
-    )
--- another URI has another scheme than "sip" or "sips"
-uri-sip secure text scheme rest (other name tail) cut same (is_scheme, not_sip, _, whole) =
-    let parts = scheme-cut text scheme rest name tail cut (scheme-lacks name is_scheme) whole in
-    absurd (not_sip secure (subst (λ s. SameText s (scheme_name secure)) (sym parts.0) same))
+-- where the scheme is "sip" or "sips", what decides the rest of a SIP URI decides a URI
+pub decides-sip : (text scheme rest : List ℕ) (r : Bool) → IsSchemeCut text scheme rest → SipScheme scheme → Decides r (SipRest rest) → Decides r (Uri text)
+decides-sip text scheme rest r cut sip = Decides-like r to from
+  where
+    -- the scheme, ":" and the rest are a URI
+    to : SipRest rest → Uri text
+    to is = inl (scheme, colon ∷ rest, sip, (colon ∷ [], rest, refl, is, refl), scheme-whole text scheme rest cut)
 
--- where the scheme is "sip" or "sips", and the rest is that of a SIP URI, the text is a URI
-sip-uri : (secure : Bool) (text scheme rest : List ℕ) (x : UriParts) → IsSchemeCut text scheme rest → SameText scheme (scheme_name secure) → SipText secure rest x → UriText text x
--- the scheme is the one that the parts name, and the text is the scheme, ":" and the rest
-sip-uri secure text scheme rest (sip p) cut same (secure_is, fits, rest_is) = (
-  scheme,
-  subst (λ b. SameText scheme (scheme_name b)) (sym secure_is) same,
-  fits,
-  scheme-whole text scheme rest cut ∙ ap (λ t. scheme ++ colon ∷ t) rest_is,
-)
--- what follows the scheme of a SIP URI is not read as the rest of another URI
-sip-uri secure text scheme rest (other name tail) cut same none = absurd none
+    -- what follows the ":" of a URI is the rest, since its scheme is the one that was cut off
+    from : Uri text → SipRest rest
+    from (inl (name, v, is_sip, (c, tail, c_is, is, v_is), whole)) =
+        subst SipRest (sym (scheme-cut text scheme rest name tail cut (sip-lacks name is_sip) (whole ∙ ap (λ t. name ++ t) (v_is ∙ ap (λ t. t ++ tail) c_is))).1) is
+    -- another URI has another scheme than "sip" or "sips"
+    from (inr (name, v, (is_scheme, other), (c, tail, c_is, is, v_is), whole)) =
+        absurd (other (subst SipScheme (sym (scheme-cut text scheme rest name tail cut (scheme-lacks name is_scheme) (whole ∙ ap (λ t. name ++ t) (v_is ∙ ap (λ t. t ++ tail) c_is))).0) sip))
 
--- where the scheme is "sip" or "sips", what is read of the rest is the one value that the text has as a URI
-pub read-sip : (secure : Bool) (text scheme rest : List ℕ) (result : Option Uri) → IsSchemeCut text scheme rest → SameText scheme (scheme_name secure) → IsOnlyValue (SipText secure) uri_parts rest result → IsOnlyValue UriText uri_parts text result
-read-sip secure text scheme rest None cut same none =
-    λ x fits. none x (uri-sip secure text scheme rest x cut same fits)
-read-sip secure text scheme rest (Some uri) cut same only = (
-  sip-uri secure text scheme rest (uri_parts uri) cut same only.0,
-  λ x fits. only.1 x (uri-sip secure text scheme rest x cut same fits),
-)
+-- where the tests that decide whether a scheme is "sip" and whether it is "sips" fail, it is neither
+pub not-sip : (scheme : List ℕ) (a b : Bool) → Decides a (AnyCase "sip" scheme) → Decides b (AnyCase "sips" scheme) → a ≡ false → b ≡ false → ¬ (SipScheme scheme)
+not-sip scheme a b sip sips no_sip no_sips (inl same) = both_ways a no_sip (sip.1 same)
+not-sip scheme a b sip sips no_sip no_sips (inr same) = both_ways b no_sips (sips.1 same)
 
--- a scheme that is one of "sip" and "sips" is the one that the test `is_sip` tells
-pub named-so : (is_sip : Bool) (scheme : List ℕ) → (is_sip ≡ true → SameText scheme (scheme_name false)) → (is_sip ≡ false → SameText scheme (scheme_name true)) → SameText scheme (scheme_name (not is_sip))
-named-so true scheme sip_named sips_named = sip_named refl
-named-so false scheme sip_named sips_named = sips_named refl
+-- where the scheme is neither "sip" nor "sips", what decides a scheme and bytes of a URI after it decides a URI
+pub decides-other : (text scheme rest : List ℕ) (r : Bool) → IsSchemeCut text scheme rest → ¬ (SipScheme scheme) → Decides r (Scheme scheme × OneOrMore Uric rest) → Decides r (Uri text)
+decides-other text scheme rest r cut other = Decides-like r to from
+  where
+    -- the scheme, ":" and the bytes of a URI are a URI
+    to : Scheme scheme × OneOrMore Uric rest → Uri text
+    to is = inr (scheme, colon ∷ rest, (is.0, other), (colon ∷ [], rest, refl, is.1, refl), scheme-whole text scheme rest cut)
 
--- a scheme that is neither "sip" nor "sips" is the name of no SIP URI
-pub not-sip : (scheme : List ℕ) → (SameText scheme (scheme_name false) → ⊥) → (SameText scheme (scheme_name true) → ⊥) → (secure : Bool) → SameText scheme (scheme_name secure) → ⊥
-not-sip scheme not_sip not_sips true = not_sips
-not-sip scheme not_sip not_sips false = not_sip
-
--- where the scheme is neither "sip" nor "sips", the text is a URI with the scheme and the rest as its parts
-pub other-fits : (text scheme rest : List ℕ) → IsSchemeCut text scheme rest → ((secure : Bool) → SameText scheme (scheme_name secure) → ⊥) → Scheme scheme → OneOrMore Uric rest → UriText text (other scheme rest)
-other-fits text scheme rest cut neither fits uric = (fits, neither, uric, scheme-whole text scheme rest cut)
-
--- where the scheme is neither "sip" nor "sips", a URI's parts are its scheme and its rest, and nothing else
-pub other-only : (text scheme rest : List ℕ) (x : UriParts) → IsSchemeCut text scheme rest → ((secure : Bool) → SameText scheme (scheme_name secure) → ⊥) → UriText text x → Scheme scheme × OneOrMore Uric rest × (x ≡ other scheme rest)
--- the parts of a SIP URI have the scheme "sip" or "sips", which this one is not
-other-only text scheme rest (sip p) cut neither (name, same, _, whole) =
-    let parts = scheme-cut text scheme rest name (sip_text p) cut (sip-lacks name p.secure same) whole in
-    absurd (neither p.secure (subst (λ s. SameText s (scheme_name p.secure)) parts.0 same))
--- the scheme and the rest of the parts are those that were cut
-other-only text scheme rest (other name tail) cut neither (fits, _, uric, whole) =
-    let parts = scheme-cut text scheme rest name tail cut (scheme-lacks name fits) whole in (
-      subst Scheme parts.0 fits,
-      subst (OneOrMore Uric) (sym parts.1) uric,
-      ap (λ s. other s tail) parts.0 ∙ ap (other scheme) (sym parts.1),
-    )
+    -- a SIP URI has the scheme "sip" or "sips", which this one is not
+    from : Uri text → Scheme scheme × OneOrMore Uric rest
+    from (inl (name, v, is_sip, (c, tail, c_is, is, v_is), whole)) =
+        absurd (other (subst SipScheme (scheme-cut text scheme rest name tail cut (sip-lacks name is_sip) (whole ∙ ap (λ t. name ++ t) (v_is ∙ ap (λ t. t ++ tail) c_is))).0 is_sip))
+    -- the scheme and the rest are those that were cut
+    from (inr (name, v, (is_scheme, none), (c, tail, c_is, is, v_is), whole)) =
+        let parts = scheme-cut text scheme rest name tail cut (scheme-lacks name is_scheme) (whole ∙ ap (λ t. name ++ t) (v_is ∙ ap (λ t. t ++ tail) c_is)) in
+        (subst Scheme parts.0 is_scheme, subst (OneOrMore Uric) (sym parts.1) is)
 
 -- a text with no ":" is no URI
-pub no-colon : (text : List ℕ) (x : UriParts) → None ≡ behind colon text → UriText text x → ⊥
--- a SIP URI has ":" after its scheme
-no-colon text (sip p) none (name, same, _, whole) =
-    let some : behind colon text ≡ Some (sip_text p) =
-    ap (behind colon) whole ∙ behind-led colon name (Some (sip_text p)) (sip-lacks name p.secure same) in
-    cc
--- so has any other URI
-no-colon text (other name tail) none (fits, _, _, whole) =
-    let some : behind colon text ≡ Some tail =
-    ap (behind colon) whole ∙ behind-led colon name (Some tail) (scheme-lacks name fits) in
-    cc
+pub no-colon : (text : List ℕ) → None ≡ behind colon text → Uri text → ⊥
+no-colon text none is = at is
+  where
+    -- no name without ":" stands before a ":"
+    without : (name tail : List ℕ) → Lacks colon name → text ≡ name ++ colon ∷ tail → ⊥
+    without name tail lacks whole =
+        let some : behind colon text ≡ Some tail = ap (behind colon) whole ∙ behind-led colon name (Some tail) lacks in
+        cc
+
+    -- a SIP URI has ":" after its scheme, and so has any other URI
+    at : Uri text → ⊥
+    at (inl (name, v, is_sip, (c, tail, c_is, rest, v_is), whole)) = without name tail (sip-lacks name is_sip) (whole ∙ ap (λ t. name ++ t) (v_is ∙ ap (λ t. t ++ tail) c_is))
+    at (inr (name, v, (is_scheme, other), (c, tail, c_is, rest, v_is), whole)) = without name tail (scheme-lacks name is_scheme) (whole ∙ ap (λ t. name ++ t) (v_is ∙ ap (λ t. t ++ tail) c_is))

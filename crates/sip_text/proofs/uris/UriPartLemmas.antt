@@ -9,9 +9,8 @@ use Rattle.std.proofs.lemmas.List.{length-append}
 use Rattle.sip_standard.specs.Text.{◌then◌, Optional, Many, OneOrMore}
 use Rattle.sip_standard.specs.Profile.{UriParameters, Headers}
 use Rattle.sip_text.specs.Bytes.{equals, semicolon, ampersand, Byte}
-use Rattle.sip_text.specs.Parts.{led}
 use Rattle.sip_text.specs.inner.Class.{is_param_unreserved, is_hnv_unreserved}
-use Rattle.sip_text.specs.inner.Cut.{before, behind, past, parts}
+use Rattle.sip_text.specs.inner.Cut.{led, before, behind, past, parts}
 use Rattle.sip_text.specs.inner.Pieces.{Joined, ParamChar, ParamWord, UriParameter, HeaderChar, Header}
 use Rattle.sip_text.proofs.texts.ManyLemmas.{many-nil, many-cons, some-many}
 use Rattle.sip_text.proofs.texts.LacksLemmas.{AllLack, lack-byte, lack-then, lack-optional, lack-many, lack-some}

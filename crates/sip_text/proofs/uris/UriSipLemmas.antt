@@ -1,20 +1,20 @@
 -- What follows the scheme of a SIP URI is cut into its parts in one way.
--- In the lemmas x is a reading of the text and y a host of it; P and Q are sets of texts, and o is an optional part.
-use Rattle.std.proofs.Common.{◌≡◌, ℕ, Bool, true, false, nat_eq, List, [], ◌∷◌, ◌++◌, Option, None, Some, IsNone, IfSome, is_some, length, drop, ◌≤◌, arith, refl, sym, ap, ◌∙◌, subst}
+-- In the lemmas p is the parts of a text, P and Q are sets of texts, and o is an optional part. Of a text i is the userinfo, h the host, o the port, a and b
+-- the parameters and the headers; r1 to r3 are what follows the first three of these, and e1 to e4 say so.
+use Rattle.std.proofs.Common.{◌≡◌, ℕ, Bool, true, false, nat_eq, List, [], ◌∷◌, ◌++◌, Option, None, Some, IsNone, IfSome, is_some, length, drop, ◌≤◌, inl, inr, arith, refl, sym, ap, ◌∙◌, subst}
+use Rattle.std.specs.Bool.{Decides}
 use Rattle.std.specs.List.{list_all}
+use Rattle.std.proofs.lemmas.Bool.Decides.{Decides-like}
 use Rattle.std.proofs.lemmas.Bool.{false≢true, both_ways, and_parts, eq-eqb}
 use Rattle.std.proofs.lemmas.List.{append-nil, append_assoc, length-append}
 use Rattle.std.specs.Char.{is_ascii_digit}
-use Rattle.sip_standard.specs.Text.{One}
-use Rattle.sip_standard.specs.Profile.{User, Password, Port, UriParameters, Headers}
-use Rattle.sip_text.specs.Bytes.{ampersand, equals, colon, semicolon, question, at_sign}
-use Rattle.sip_text.specs.Parts.{led}
-use Rattle.sip_text.specs.Host.{HostParts, HostText, host_text}
-use Rattle.sip_text.specs.Uri.{sip, other, SipParts, SipFits, userinfo_text, hostport_text, sip_text, UriParts}
+use Rattle.sip_standard.specs.Text.{One, ◌then◌, Optional}
+use Rattle.sip_standard.specs.Profile.{User, Password, Userinfo, Host, Port, UriParameters, Headers}
+use Rattle.sip_text.specs.Bytes.{ampersand, equals, colon, semicolon, question, at_sign, Byte}
 use Rattle.sip_text.specs.inner.Class.{is_user_unreserved, is_password_unreserved, is_param_unreserved, is_hnv_unreserved}
-use Rattle.sip_text.specs.inner.Cut.{before, behind, before_last, behind_last}
+use Rattle.sip_text.specs.inner.Cut.{led, before, behind, before_last, behind_last}
 use Rattle.sip_text.specs.inner.Pieces.{Header}
-use Rattle.sip_text.specs.inner.UriCut.{IsInfoCut, IsPortCut, CutParts, IsSipCut, InfoFits, TailFits, SipText}
+use Rattle.sip_text.specs.inner.UriCut.{IsInfoCut, IsPortCut, CutParts, IsSipCut, InfoFits, TailFits, SipRest}
 use Rattle.sip_text.proofs.texts.LacksLemmas.{Lacks, AllLack, lacks-append, lack-one, lack-byte, lack-then, lack-many, lack-some, lack-between, lack-joined}
 use Rattle.sip_text.proofs.texts.ManyLemmas.{drop-front}
 use Rattle.sip_text.proofs.cuts.CutLemmas.{cut-whole, before-led, behind-led}
@@ -22,7 +22,124 @@ use Rattle.sip_text.proofs.cuts.LastLemmas.{before_last-mark, behind_last-mark}
 use Rattle.sip_text.proofs.uris.UriCharLemmas.{is_char_byte, lack-char}
 use Rattle.sip_text.proofs.uris.UriPartLemmas.{lack-param, params-led}
 use Rattle.sip_text.proofs.uris.UriPortLemmas.{lack-port}
-use Rattle.sip_text.proofs.uris.UriHostLemmas.{IsForeign, lack-host, host-spelled, host-no_port}
+use Rattle.sip_text.proofs.uris.UriHostLemmas.{IsForeign, lack-host, host-no_port}
+
+-- each part is a text of its production, and a password stands after a user
+record SipFits (p : CutParts) : Type 0 where
+  user : IfSome p.user User
+  password : IfSome p.password Password
+  owner : IsNone p.user → IsNone p.password
+  host : Host p.host
+  port : IfSome p.port Port
+  params : UriParameters p.params
+  headers : IfSome p.headers Headers
+
+-- [ userinfo ], userinfo = user [ ":" password ] "@"
+abbrev userinfo_text : Option (List ℕ) → Option (List ℕ) → List ℕ
+userinfo_text None password = []
+userinfo_text (Some user) password = user ++ led colon password ++ at_sign ∷ []
+
+-- hostport = host [ ":" port ]
+abbrev hostport_text : List ℕ → Option (List ℕ) → List ℕ
+hostport_text host port = host ++ led colon port
+
+-- [ userinfo ] hostport uri-parameters [ headers ]
+abbrev sip_text : CutParts → List ℕ
+sip_text p =
+    userinfo_text p.user p.password
+    ++ (hostport_text p.host p.port ++ p.params ++ led question p.headers)
+
+-- the mark and a part of P, or nothing where there is no part, are an optional part of P after its mark
+led-optional : (mark : ℕ) (P : List ℕ → Type 0) (part : Option (List ℕ)) → IfSome part P → Optional (Byte mark then P) (led mark part)
+led-optional mark P None fits = inl refl
+led-optional mark P (Some part) fits = inr (mark ∷ [], part, refl, fits, refl)
+
+-- a text that may have a part after a mark is the mark and that part, or empty
+optional-led : (mark : ℕ) (P : List ℕ → Type 0) (text : List ℕ) → Optional (Byte mark then P) text → (part : Option (List ℕ)) × IfSome part P × (text ≡ led mark part)
+optional-led mark P text (inl none) = (None, tt, none)
+optional-led mark P text (inr (u, v, u_is, is, whole)) = (Some v, is, whole ∙ ap (λ x. x ++ v) u_is)
+
+-- the text of a user and a password, or of none, is an optional userinfo
+userinfo-optional : (user password : Option (List ℕ)) → IfSome user User → IfSome password Password → Optional Userinfo (userinfo_text user password)
+userinfo-optional None password user_fits fits = inl refl
+userinfo-optional (Some user) password user_fits fits =
+    -- before the "@" stand the user and, after a colon, the password if there is one
+    inr (
+      user,
+      led colon password ++ at_sign ∷ [],
+      user_fits,
+      (led colon password, at_sign ∷ [], led-optional colon Password password fits, refl, refl),
+      append_assoc user (led colon password) (at_sign ∷ []),
+    )
+
+-- the user and the password that stand before a host, where there are any, and that the text is theirs
+record Info (text : List ℕ) : Type 0 where
+  user : Option (List ℕ)
+  password : Option (List ℕ)
+  user_fits : IfSome user User
+  fits : IfSome password Password
+  owner : IsNone user → IsNone password
+  whole : text ≡ userinfo_text user password
+
+-- an optional userinfo is the text of a user and a password, or of none
+optional-userinfo : (text : List ℕ) → Optional Userinfo text → Info text
+optional-userinfo text (inl none) = record { user = None; password = None; user_fits = tt; fits = tt; owner = λ is. is; whole = none }
+-- this clause is of a user, perhaps with a password, and an "@"
+-- u is the user and v what follows: w the password with its colon, and x the "@"
+optional-userinfo text (inr (u, v, user, (w, x, word, at, v_is), whole)) =
+    -- `password` is the password that w has, if w is not empty
+    let password = optional-led colon Password w word in
+    record {
+      user = Some u;
+      password = password.0;
+      user_fits = user;
+      fits = password.1;
+      owner = λ none. absurd (both_ways true none refl);
+      whole = whole ∙ ap (λ t. u ++ t) (v_is ∙ ap (λ t. t ++ x) password.2 ∙ ap (λ t. led colon password.0 ++ t) at) ∙ sym (append_assoc u (led colon password.0) (at_sign ∷ []));
+    }
+
+-- what follows the scheme of a SIP URI is the text of parts that fit
+rest-parts : (text : List ℕ) → SipRest text → (p : CutParts) × SipFits p × (text ≡ sip_text p)
+rest-parts text (i, r1, info, (h, r2, host, (o, r3, port, (a, b, params, headers, e4), e3), e2), e1) =
+    -- what each text is: a user and a password, a port and headers if there are any
+    let info_parts = optional-userinfo i info in
+    let port_is = optional-led colon Port o port in
+    let headers_is = optional-led question Headers b headers in
+    -- each part stands where its text is
+    let p : CutParts = record { user = info_parts.user; password = info_parts.password; host = h; port = port_is.0; params = a; headers = headers_is.0 } in
+    -- what follows the userinfo is the host, the port, the parameters and the headers in a row
+    let rest : r1 ≡ hostport_text p.host p.port ++ p.params ++ led question p.headers =
+    e2 ∙ ap (λ t. h ++ t) (e3 ∙ ap (λ t. t ++ r3) port_is.2 ∙ ap (λ t. led colon port_is.0 ++ t) (e4 ∙ ap (λ t. a ++ t) headers_is.2))
+    ∙ sym (append_assoc (h ++ led colon port_is.0) a (led question headers_is.0) ∙ append_assoc h (led colon port_is.0) (a ++ led question headers_is.0)) in (
+      p,
+      record { user = info_parts.user_fits; password = info_parts.fits; owner = info_parts.owner; host = host; port = port_is.1; params = params; headers = headers_is.1 },
+      e1 ∙ ap (λ t. t ++ r1) info_parts.whole ∙ ap (λ t. userinfo_text info_parts.user info_parts.password ++ t) rest,
+    )
+
+-- the text of parts that fit may follow the scheme of a SIP URI
+parts-rest : (p : CutParts) → SipFits p → SipRest (sip_text p)
+parts-rest p fits =
+    -- the user, the host, the port, the parameters and the headers stand in the order of the text
+    let tail : List ℕ = p.params ++ led question p.headers in (
+      userinfo_text p.user p.password,
+      hostport_text p.host p.port ++ p.params ++ led question p.headers,
+      userinfo-optional p.user p.password fits.user fits.password,
+      (
+        p.host,
+        led colon p.port ++ tail,
+        -- after the host come the port, the parameters and the headers
+        fits.host,
+        (
+          led colon p.port,
+          tail,
+          led-optional colon Port p.port fits.port,
+          (p.params, led question p.headers, fits.params, led-optional question Headers p.headers fits.headers, refl),
+          refl,
+        ),
+        append_assoc (p.host ++ led colon p.port) p.params (led question p.headers) ∙ append_assoc p.host (led colon p.port) tail,
+      ),
+      refl,
+    )
 
 -- an optional part after another mark lacks the mark where the part does
 lacks-led : (mark sep : ℕ) (o : Option (List ℕ)) → nat_eq sep mark ≡ false → IfSome o (Lacks mark) → Lacks mark (led sep o)
@@ -47,7 +164,7 @@ none-is None none = refl
 none-is (Some u) none = absurd (false≢true (sym none))
 
 -- where a text is the spelling of a userinfo and a tail, the reader cuts off that userinfo and leaves that tail
-pub info-agrees : (text : List ℕ) (user password : Option (List ℕ)) (rest : List ℕ) (owner key : Option (List ℕ)) (tail : List ℕ) → IsInfoCut text user password rest → text ≡ userinfo_text owner key ++ tail → IfSome owner (Lacks at_sign) → IfSome owner (Lacks colon) → IfSome key (Lacks at_sign) → (IsNone owner → IsNone key) → Lacks at_sign tail → (user ≡ owner) × (password ≡ key) × (rest ≡ tail)
+info-agrees : (text : List ℕ) (user password : Option (List ℕ)) (rest : List ℕ) (owner key : Option (List ℕ)) (tail : List ℕ) → IsInfoCut text user password rest → text ≡ userinfo_text owner key ++ tail → IfSome owner (Lacks at_sign) → IfSome owner (Lacks colon) → IfSome key (Lacks at_sign) → (IsNone owner → IsNone key) → Lacks at_sign tail → (user ≡ owner) × (password ≡ key) × (rest ≡ tail)
 -- neither has a userinfo, so the rest is the whole text, which is the tail
 info-agrees text None password rest None key tail (_, password_is, rest_is) whole _ _ _ unowned _ =
     (refl, password_is ∙ sym (none-is key (unowned refl)), rest_is ∙ whole)
@@ -78,17 +195,17 @@ info-agrees text (Some user) password rest (Some owner) key tail (behind_is, use
     )
 
 -- where a text is a host with a port or without one, the reader cuts it into that host and that port
-pub port-agrees : (text host : List ℕ) (port : Option (List ℕ)) (name : List ℕ) (parts : HostParts) (number : Option (List ℕ)) → IsPortCut text host port → HostText name parts → IfSome number Port → text ≡ name ++ led colon number → (host ≡ name) × (port ≡ number)
+port-agrees : (text host : List ℕ) (port : Option (List ℕ)) (name : List ℕ) (number : Option (List ℕ)) → IsPortCut text host port → Host name → IfSome number Port → text ≡ name ++ led colon number → (host ≡ name) × (port ≡ number)
 -- neither has a port, so the text is the host alone
-port-agrees text host None name parts None (host_is, _) fits _ whole =
+port-agrees text host None name None (host_is, _) fits _ whole =
     (host_is ∙ whole ∙ append-nil name, refl)
 -- the text is spelled with a port at its end, which the reader would have cut off
-port-agrees text host None name parts (Some number) (_, none) fits is_port whole = absurd (none name number is_port whole)
+port-agrees text host None name (Some number) (_, none) fits is_port whole = absurd (none name number is_port whole)
 -- the reader has cut off a port, but the text is a host alone, and no host ends with ":" and a port
-port-agrees text host (Some port) name parts None (is_port, there) fits _ whole =
-    absurd (host-no_port name parts host port fits is_port (sym (append-nil name) ∙ sym whole ∙ there))
+port-agrees text host (Some port) name None (is_port, there) fits _ whole =
+    absurd (host-no_port name host port fits is_port (sym (append-nil name) ∙ sym whole ∙ there))
 -- both have a port, which stands after the last colon
-port-agrees text host (Some port) name parts (Some number) (is_port, there) fits is_number whole =
+port-agrees text host (Some port) name (Some number) (is_port, there) fits is_number whole =
     let same : host ++ colon ∷ port ≡ name ++ colon ∷ number = sym there ∙ whole in
     let lacks = lack-port port is_port.0 in
     let number_lacks = lack-port number is_number.0 in
@@ -143,22 +260,13 @@ headers-at_sign =
     (lack-then at_sign _ _ (lack-byte at_sign equals refl) (lack-many at_sign _ char)))
 
 -- a host with its port lacks each byte that is foreign to hosts
-hostport-lacks : (mark : ℕ) (host : HostParts) (port : Option (List ℕ)) → IsForeign mark → HostText (host_text host) host → IfSome port Port → Lacks mark (hostport_text host port)
+hostport-lacks : (mark : ℕ) (host : List ℕ) (port : Option (List ℕ)) → IsForeign mark → Host host → IfSome port Port → Lacks mark (hostport_text host port)
 hostport-lacks mark host port foreign fits is_port =
-    lacks-append mark (host_text host) (led colon port) (lack-host mark (host_text host) host foreign fits)
+    lacks-append mark host (led colon port) (lack-host mark foreign host fits)
     (lacks-led mark colon port foreign.of_colon (weaker Port (Lacks mark) port (port-lacks mark foreign.digit) is_port))
 
--- the parts that the reader cuts are those that the text spells
-pub record Agrees (cut : CutParts) (p : SipParts) : Type 0 where
-  pub user : cut.user ≡ p.user
-  pub password : cut.password ≡ p.password
-  pub host : cut.host ≡ host_text p.host
-  pub port : cut.port ≡ p.port
-  pub params : cut.params ≡ p.params
-  pub headers : cut.headers ≡ p.headers
-
 -- where a text spells parts that fit, the reader cuts it into these parts
-pub cuts-agree : (text : List ℕ) (cut : CutParts) (p : SipParts) → IsSipCut text cut → SipFits p → text ≡ sip_text p → Agrees cut p
+cuts-agree : (text : List ℕ) (cut p : CutParts) → IsSipCut text cut → SipFits p → text ≡ sip_text p → p ≡ cut
 cuts-agree text cut p is fits whole =
     let hostport = hostport_text p.host p.port in
     -- no @ stands after the one of the user, so the user is cut off there
@@ -183,18 +291,12 @@ cuts-agree text cut p is fits whole =
     ∙ ap (λ t. hostport ++ t) listed_is in
     -- no ; stands in the host and the port, so the parameters are cut off there
     let no_semicolon = hostport-lacks semicolon p.host p.port semicolon-foreign fits.host fits.port in
-    let port = port-agrees (before semicolon (before question is.rest)) cut.host cut.port (host_text p.host) p.host p.port
+    let port = port-agrees (before semicolon (before question is.rest)) cut.host cut.port p.host p.port
     is.port fits.host fits.port (ap (before semicolon) front ∙ before-led semicolon hostport listed no_semicolon) in
-    record {
-      user = info.0;
-      password = info.1;
-      host = port.0;
-      port = port.1;
-      -- the parameters stand after the first semicolon, and the headers after the first question mark
-      params = is.params ∙ ap (λ t. led semicolon (behind semicolon t)) front
-          ∙ ap (led semicolon) (behind-led semicolon hostport listed no_semicolon) ∙ sym listed_is;
-      headers = is.headers ∙ ap (behind question) info.2 ∙ behind-led question (hostport ++ p.params) p.headers no_question;
-    }
+    -- the parameters stand after the first semicolon, and the headers after the first question mark
+    let params : cut.params ≡ p.params = is.params ∙ ap (λ t. led semicolon (behind semicolon t)) front ∙ ap (led semicolon) (behind-led semicolon hostport listed no_semicolon) ∙ sym listed_is in
+    let headers : cut.headers ≡ p.headers = is.headers ∙ ap (behind question) info.2 ∙ behind-led question (hostport ++ p.params) p.headers no_question in
+    λ i. record { user = sym info.0 i; password = sym info.1 i; host = sym port.0 i; port = sym port.1 i; params = sym params i; headers = sym headers i }
 
 -- what stands before a mark is no longer than the text
 pub before-within : (mark : ℕ) (text front : List ℕ) → front ≡ before mark text → length front ≤ length text
@@ -278,88 +380,35 @@ port-fits : (text host : List ℕ) (port : Option (List ℕ)) → IsPortCut text
 port-fits text host None cut = tt
 port-fits text host (Some port) (fits, _) = fits
 
--- the parts that were cut, with the host that was read
-abbrev pub read_parts : Bool → CutParts → HostParts → SipParts
-read_parts secure cut host = record {
-  secure = secure;
-  user = cut.user;
-  password = cut.password;
-  host = host;
-  port = cut.port;
-  params = cut.params;
-  headers = cut.headers;
-}
-
--- where the parts that were cut fit, and the host was read of its text, the text is a SIP URI with these parts
-pub parts-fit : (secure : Bool) (text : List ℕ) (cut : CutParts) (host : HostParts) → IsSipCut text cut → InfoFits cut → TailFits cut → HostText cut.host host → SipText secure text (sip (read_parts secure cut host))
-parts-fit secure text cut host is info tail fits =
-    -- the text of the host that was read is the text that was cut off as a host
-    let spelled = host-spelled cut.host host fits in
+-- where the parts that were cut fit, the text may follow the scheme of a SIP URI
+parts-fit : (text : List ℕ) (cut : CutParts) → IsSipCut text cut → (Host cut.host × InfoFits cut) × TailFits cut → SipRest text
+parts-fit text cut is ((host, info), tail) =
     let hostport = before semicolon (before question is.rest) in
     -- the rest is the host, the port, the parameters and the headers in a row
-    let whole : is.rest ≡ host_text host ++ led colon cut.port ++ cut.params ++ led question cut.headers =
+    let rest : is.rest ≡ cut.host ++ led colon cut.port ++ cut.params ++ led question cut.headers =
     cut-whole question is.rest ∙ ap (λ o. before question is.rest ++ led question o) (sym is.headers)
     ∙ ap (λ t. t ++ led question cut.headers) (
     cut-whole semicolon (before question is.rest) ∙ ap (λ t. hostport ++ t) (sym is.params)
-    ∙ ap (λ t. t ++ cut.params) (port-whole hostport cut.host cut.port is.port
-    ∙ ap (λ t. t ++ led colon cut.port) (sym spelled))) in (
-      refl,
-      -- each part is a text of its production
-      record {
-        user = info.0;
-        password = info.1;
-        owner = info-owner text cut.user cut.password is.rest is.userinfo;
-        -- the host and the port fit
-        host = subst (λ t. HostText t host) (sym spelled) fits;
-        port = port-fits hostport cut.host cut.port is.port;
-        params = tail.0;
-        headers = tail.1;
-      },
-      info-whole text cut.user cut.password is.rest is.userinfo ∙ ap (λ t. userinfo_text cut.user cut.password ++ t) whole,
-    )
+    ∙ ap (λ t. t ++ cut.params) (port-whole hostport cut.host cut.port is.port)) in
+    let whole : text ≡ sip_text cut = info-whole text cut.user cut.password is.rest is.userinfo ∙ ap (λ t. userinfo_text cut.user cut.password ++ t) rest in
+    subst SipRest (sym whole) (parts-rest cut (record {
+      user = info.0;
+      password = info.1;
+      owner = info-owner text cut.user cut.password is.rest is.userinfo;
+      host = host;
+      -- the port is one, and so are the parameters and the headers
+      port = port-fits hostport cut.host cut.port is.port;
+      params = tail.0;
+      headers = tail.1;
+    }))
 
--- parts of a SIP URI are those that were read where each of them is
-same-parts : (p : SipParts) (secure : Bool) (cut : CutParts) (host : HostParts) → p.secure ≡ secure → Agrees cut p → p.host ≡ host → p ≡ read_parts secure cut host
-same-parts p secure cut host secure_is same host_is =
-    -- one part after another is put in the place of the part that was read
-    ap (λ (s : Bool). read_parts s (cut_of p) p.host) secure_is
-    ∙ ap (λ (h : HostParts). read_parts secure (cut_of p) h) host_is
-    ∙ ap (λ (u : Option (List ℕ)). read_parts secure (record (cut_of p) { user = u }) host) (sym same.user)
-    ∙ ap (λ (u : Option (List ℕ)). read_parts secure (record (cut_of p) { user = cut.user; password = u }) host) (sym same.password)
-    ∙ ap (λ (u : Option (List ℕ)). read_parts secure (record (cut_of p) { user = cut.user; password = cut.password; port = u }) host) (sym same.port)
-    ∙ ap (λ (u : List ℕ). read_parts secure (record (cut_of p) { user = cut.user; password = cut.password; port = cut.port; params = u }) host) (sym same.params)
-    ∙ ap (λ (u : Option (List ℕ)). read_parts secure (record cut { headers = u }) host) (sym same.headers)
-  where
-    -- the parts of a SIP URI as they are cut, with the text of the host that was cut
-    cut_of : SipParts → CutParts
-    cut_of q = record { user = q.user; password = q.password; host = cut.host; port = q.port; params = q.params; headers = q.headers }
+-- where a text may follow the scheme of a SIP URI, the parts that are cut off it fit
+fit-parts : (text : List ℕ) (cut : CutParts) → IsSipCut text cut → SipRest text → (Host cut.host × InfoFits cut) × TailFits cut
+fit-parts text cut is rest =
+    -- p are the parts that the text spells, and so those that are cut
+    let (p, fits, whole) = rest-parts text rest in
+    subst (λ q. (Host q.host × InfoFits q) × TailFits q) (cuts-agree text cut p is fits whole) ((fits.host, (fits.user, fits.password)), (fits.params, fits.headers))
 
--- where the host's text is one host alone, the parts that a SIP URI has are those that were cut
-pub parts-only : (secure : Bool) (text : List ℕ) (cut : CutParts) (host : HostParts) (x : UriParts) → IsSipCut text cut → ((y : HostParts) → HostText cut.host y → y ≡ host) → SipText secure text x → x ≡ sip (read_parts secure cut host)
-parts-only secure text cut host (sip p) is only (secure_is, fits, whole) =
-    -- what was cut are the parts of this URI, so its host is one that the text cut off as a host spells, and that is the one that was read
-    let same = cuts-agree text cut p is fits whole in
-    ap sip (same-parts p secure cut host secure_is same (only p.host (subst (λ t. HostText t p.host) (sym same.host) fits.host)))
-parts-only secure text cut host (other scheme rest) is only none = absurd none
-
--- where the text that was cut off as a host is no host, the text is no SIP URI
-pub no-host_cut : (secure : Bool) (text : List ℕ) (cut : CutParts) (x : UriParts) → IsSipCut text cut → ((y : HostParts) → HostText cut.host y → ⊥) → SipText secure text x → ⊥
-no-host_cut secure text cut (sip p) is none (_, fits, whole) =
-    none p.host (subst (λ t. HostText t p.host) (sym (cuts-agree text cut p is fits whole).host) fits.host)
-no-host_cut secure text cut (other scheme rest) is none not_sip = absurd not_sip
-
--- where a text is a SIP URI, the parts that are cut off it fit
-pub info-fits : (secure : Bool) (text : List ℕ) (cut : CutParts) (x : UriParts) → IsSipCut text cut → SipText secure text x → InfoFits cut × TailFits cut
-info-fits secure text cut (sip p) is (_, fits, whole) =
-    let same = cuts-agree text cut p is fits whole in (
-      (
-        subst (λ o. IfSome o User) (sym same.user) fits.user,
-        subst (λ o. IfSome o Password) (sym same.password) fits.password,
-      ),
-      -- the parameters and the headers fit, since they are those of the URI
-      (
-        subst UriParameters (sym same.params) fits.params,
-        subst (λ o. IfSome o Headers) (sym same.headers) fits.headers,
-      ),
-    )
-info-fits secure text cut (other scheme rest) is not_sip = absurd not_sip
+-- what decides that the parts that were cut fit decides whether the text may follow the scheme of a SIP URI
+pub decides-rest : (text : List ℕ) (cut : CutParts) (r : Bool) → IsSipCut text cut → Decides r ((Host cut.host × InfoFits cut) × TailFits cut) → Decides r (SipRest text)
+decides-rest text cut r is fits = Decides-like r (parts-fit text cut is) (fit-parts text cut is) fits

@@ -3,6 +3,11 @@ use Rattle.std.specs.Prelude.{ℕ, List, [], ◌∷◌, Option, None, Some, leng
 use Rattle.std.specs.List.{slice_split}
 use Rattle.std.specs.Option.{option_map_or}
 
+-- [ "mark" part ]: the text of an optional part after its mark
+abbrev pub led : ℕ → Option (List ℕ) → List ℕ
+led mark None = []
+led mark (Some part) = mark ∷ part
+
 -- the text before the first mark, which is all of it if there is none
 abbrev pub before : ℕ → List ℕ → List ℕ
 before mark [] = []

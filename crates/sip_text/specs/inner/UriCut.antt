@@ -1,13 +1,11 @@
 -- How the reader of URIs cuts a text: each part ends at the first byte that it cannot hold.
-use Rattle.std.specs.Prelude.{◌≡◌, ℕ, ◌&&◌, ◌==◌, Bool, List, ◌∷◌, ◌++◌, Option, None, Some, IfSome, option_copied, if◌then◌else◌}
+use Rattle.std.specs.Prelude.{◌≡◌, ℕ, ◌&&◌, ◌==◌, List, ◌∷◌, ◌++◌, Option, None, Some, IfSome, option_copied, if◌then◌else◌}
 use Rattle.std.specs.Char.{is_ascii_hexdigit}
-use Rattle.sip_standard.specs.Text.{One, ◌or◌}
-use Rattle.sip_standard.specs.Profile.{User, Password, Port, UriParameters, Headers}
-use Rattle.sip_text.specs.Bytes.{percent, colon, semicolon, question, at_sign}
-use Rattle.sip_text.specs.Parts.{led}
-use Rattle.sip_text.specs.Uri.{SipFits, sip_text, UriParts, sip, other}
+use Rattle.sip_standard.specs.Text.{One, ◌then◌, ◌or◌, Optional}
+use Rattle.sip_standard.specs.Profile.{User, Password, Userinfo, Host, Port, UriParameters, Headers}
+use Rattle.sip_text.specs.Bytes.{percent, colon, semicolon, question, at_sign, Byte}
 use Rattle.sip_text.specs.inner.Class.{is_in}
-use Rattle.sip_text.specs.inner.Cut.{before, behind}
+use Rattle.sip_text.specs.inner.Cut.{led, before, behind}
 use Rattle.sip_text.specs.inner.Pieces.{Escaped}
 use Rattle.sip_text.specs.declared.class.Class.{Class}
 use Rattle.sip_text.specs.declared.uri.Cuts.{Cuts}
@@ -73,7 +71,8 @@ InfoFits cut = IfSome cut.user User × IfSome cut.password Password
 abbrev pub TailFits : CutParts → Type 0
 TailFits cut = UriParameters cut.params × IfSome cut.headers Headers
 
--- what follows the scheme of a SIP URI, with its parts
-abbrev pub SipText : Bool → List ℕ → UriParts → Type 0
-SipText secure text (sip p) = (p.secure ≡ secure) × SipFits p × (text ≡ sip_text p)
-SipText secure text (other scheme rest) = ⊥
+-- [ userinfo ] hostport uri-parameters [ headers ]: what follows the scheme of a SIP URI and its ":"
+abbrev pub SipRest : List ℕ → Type 0
+SipRest =
+    Optional Userinfo then Host then Optional (Byte colon then Port)
+    then UriParameters then Optional (Byte question then Headers)

@@ -126,7 +126,7 @@ observes_none item direction text r same reads has concerns = is_heard (said_of 
 
 -- the event of an entry with a message that was read, whose bytes have this number
 abbrev pub event_of : Item → message.Reading → ℕ → NumberedEvent
-event_of item r number = record { moment = item.moment; action = item.action; number = number; kind = kind_of r.message.start; reliable = is_reliable r.parts.via.1.transport }
+event_of item r number = record { moment = item.moment; action = item.action; number = number; kind = kind_of r.message.start; reliable = is_reliable r.parts.via.transport }
 
 -- of a message that was read, its event is observed with the keys that it concerns
 pub observes_heard : (item : Item) (direction : Direction) (text : List ℕ) (r : message.Reading) (texts : Texts) (event : NumberedEvent) (number : ℕ) (keys : List KeyParts) → text ≡ item.text → Reads text r
@@ -137,7 +137,7 @@ observes_heard item direction text r texts event number keys same reads has conc
   where
     -- the event of the code is the event of the definitions
     alike : event_in texts (event_of item r number) ≡ message_event item (said_of r)
-    alike = ap (λ t. record { moment = item.moment; action = item.action; text = t; kind = kind_of r.message.start; reliable = is_reliable r.parts.via.1.transport }) kept
+    alike = ap (λ t. record { moment = item.moment; action = item.action; text = t; kind = kind_of r.message.start; reliable = is_reliable r.parts.via.transport }) kept
 
 -- the event fits the book that keeps its message
 pub event_fits : (item : Item) (r : message.Reading) (texts : Texts) (event : NumberedEvent) (number : ℕ) → event ≡ event_of item r number → Keeps texts number → item.moment ≤ last_moment

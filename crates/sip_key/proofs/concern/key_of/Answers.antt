@@ -1,8 +1,8 @@
 use Rattle.std.specs.Prelude.{IfSome}
 use Rattle.std.proofs.Common.{sym, ◌∙◌, ap, subst}
 use Rattle.sip_standard.specs.Profile.{Port}
-use Rattle.sip_message.specs.Elements.{Element}
-use Rattle.sip_message.specs.SaidOf.{said_of, said_via}
+use Rattle.sip_standard.specs.Via.{SaidVia}
+use Rattle.sip_message.specs.SaidOf.{said_of}
 use Rattle.sip_standard.specs.Branch.{cookie_branch}
 use Rattle.sip_standard.specs.Concerns.{role_of, sent_by_of}
 use Rattle.sip_key.proofs.ConcernLemmas.{top-port, own-is}
@@ -11,7 +11,7 @@ use Rattle.sip_key.proofs.concern.key_of.Goals as goal
 -- the port of the top Via is a port by the grammar
 pub key_with-requires : goal.key_with-requires
 key_with-requires c =
-    let P : Element → Type 0 = λ e. IfSome e.1.port Port in
+    let P : SaidVia → Type 0 = λ v. IfSome v.port Port in
     subst P (sym c.top_via-via.ensures) (top-port _ _ c.known.ensures.1.parts.is)
 
 -- the role, the branch, the sent-by and the method are those of the message, so the key is that of its own transaction
@@ -24,6 +24,6 @@ returns c =
     -- `own-is`: a key with the role, the branch, the sent-by and the method of a message is its own key; each line after it shows one of these four parts
     own-is (said_of c.args.message.now) d _ _ _ _ c.in_ok-key.ensures
     (c.role_of-role.ensures ∙ ap (λ s. role_of s d) start)
-    (sym (ap (λ (e : Element). cookie_branch e.1.branch) via) ∙ c.in-Some.ensures)
-    (ap (λ (e : Element). sent_by_of c.role_of-role.result (said_via e)) via)
+    (sym (ap (λ (v : SaidVia). cookie_branch v.branch) via) ∙ c.in-Some.ensures)
+    (ap (sent_by_of c.role_of-role.result) via)
     c.method_of.ensures

@@ -13,7 +13,7 @@ returns c texts kept reads are =
     let to : To = record { number = c.args.number; text = c.of.result } in
     let is : IsTo texts to = record {
       kept = kept;
-      text = record { message = c.args.message.now; reads = reads; is = c.of.ensures ∙ c.in_ok-text.ensures ∙ ap (λ a. solid a.0) c.to.ensures };
+      text = record { message = c.args.message.now; reads = reads; is = c.of.ensures ∙ c.in_ok-text.ensures ∙ ap solid c.to.ensures };
     } in
     by_result c.push.result c.push.ensures.ok c.push.ensures.err
     (λ more. AreTos-push texts c.args.tos.now c.push.new.self to is are more)

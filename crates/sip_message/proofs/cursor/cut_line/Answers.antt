@@ -1,10 +1,10 @@
 use Rattle.std.proofs.Common.{◌+◌, ◌-◌, option_copied, length, sym, ap, ◌∙◌, subst, arith}
 use Rattle.std.proofs.lemmas.List.{take_rest, length-take-le}
 use Rattle.sip_text.specs.Bytes.{line_feed}
-use Rattle.sip_text.specs.Parts.{IsOnlyValue}
 use Rattle.sip_text.specs.inner.Cut.{before, behind}
 use Rattle.sip_message.specs.inner.Fronts.{LineFront, pair_parts}
 use Rattle.sip_message.proofs.lemmas.lines.Scan.{scan-nothing, cut-none, line-found, line-on, lf-within}
+use Rattle.sip_message.specs.inner.Only.{IsOnlyValue}
 use Rattle.sip_message.proofs.cursor.cut_line.Goals as goal
 
 -- no line feed was looked at yet

@@ -1,7 +1,7 @@
 use Rattle.std.proofs.Common.{◌≡◌, List, ℕ, take, drop, sym, ap, ◌∙◌, subst}
 use Rattle.std.proofs.lemmas.List.{take_rest}
 use Rattle.sip_standard.specs.Profile.{Token}
-use Rattle.sip_text.specs.Parts.{IsLongestFront}
+use Rattle.sip_text.specs.Front.{IsLongestFront}
 use Rattle.sip_message.specs.inner.Fronts.{TokenFront}
 use Rattle.sip_message.proofs.lemmas.front.Cuts.{token-cut, no-token, same-token}
 use Rattle.sip_message.proofs.cursor.cut_token.Goals as goal

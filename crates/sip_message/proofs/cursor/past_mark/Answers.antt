@@ -1,7 +1,7 @@
 use Rattle.std.proofs.Common.{sym, subst}
-use Rattle.sip_text.specs.Parts.{IsOnlyValue}
 use Rattle.sip_message.specs.inner.Fronts.{MarkFront, text_parts}
 use Rattle.sip_message.proofs.lemmas.front.Cuts.{no-mark, one-mark}
+use Rattle.sip_message.specs.inner.Only.{IsOnlyValue}
 use Rattle.sip_message.proofs.cursor.past_mark.Goals as goal
 
 -- where the mark does not stand after the blanks, no mark is read

@@ -1,11 +1,11 @@
 use Rattle.std.proofs.Common.{sym, ap, ◌∙◌, subst}
 use Rattle.sip_text.specs.Bytes.{colon}
-use Rattle.sip_text.specs.Parts.{IsOnlyValue}
 use Rattle.sip_text.specs.inner.Cut.{past}
 use Rattle.sip_message.specs.inner.Faults.{HasName}
 use Rattle.sip_message.specs.inner.Names.{named_parts}
 use Rattle.sip_message.proofs.lemmas.front.Cuts.{ReadAs}
 use Rattle.sip_message.proofs.lemmas.field.Name.{named-no_token, named-no_colon, named-read}
+use Rattle.sip_message.specs.inner.Only.{IsOnlyValue}
 use Rattle.sip_message.proofs.field.cut_name.Goals as goal
 
 -- no token stands at the front, so the line has no name

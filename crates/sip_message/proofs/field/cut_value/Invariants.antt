@@ -1,7 +1,7 @@
 use Rattle.std.proofs.Common.{◌+◌, length, ◌-◌, ◌≡◌, drop, map}
-use Rattle.sip_message.specs.Elements.{values}
 use Rattle.sip_message.specs.inner.MessageText.{found_from}
 use Rattle.sip_message.specs.inner.Views.{field_parts}
+use Rattle.sip_message.specs.Field.{values}
 use Rattle.sip_message.proofs.field.cut_value.Given as goal
 
 -- no field of the name stands between the place from which they are looked for and the index

@@ -10,7 +10,6 @@ use Rattle.std.specs.Option.{option_map, option_or}
 use Rattle.std.specs.Str.Parse.{digits_value}
 use Rattle.std.proofs.lemmas.Bool.{false≢true}
 use Rattle.std.proofs.lemmas.List.{append-nil}
-use Rattle.sip_text.specs.Parts.{IsOnlyValue}
 use Rattle.sip_message.specs.declared.asked.Asked.{Asked}
 use Rattle.sip_message.specs.declared.name.Known.{Known}
 use Rattle.sip_message.specs.declared.name.Known.TheVariants as known_name
@@ -22,11 +21,11 @@ use Rattle.sip_message.specs.inner.FieldText.{Row}
 use Rattle.sip_standard.specs.Body.{length_in}
 use Rattle.sip_message.specs.inner.MessageText.{found, found_from, IsFirstFound, content_length}
 use Rattle.sip_message.specs.inner.Values.{CSeqValue, Digits}
-use Rattle.sip_message.specs.ViaParts.{element}
-use Rattle.sip_message.specs.ValueParts.{cseq_parts}
+use Rattle.sip_message.specs.ValueParts.{cseq_parts, element}
 use Rattle.sip_message.specs.inner.ElementFronts.{FirstVia}
 use Rattle.sip_message.specs.inner.Asked.{OnceSays, FirstSays, Itself, AsksMore}
 use Rattle.sip_message.proofs.lemmas.asked.Parts.{row-of, first-value}
+use Rattle.sip_message.specs.inner.Only.{IsOnlyValue}
 use Rattle.sip_message.proofs.lemmas.asked.Kept.{map-or}
 
 -- the fields of a name among some fields and a further one are those among the first, and then the further one, if it has the name

@@ -7,23 +7,21 @@ use Rattle.std.specs.Prelude.{IsTrue, IsSome, is_some}
 use Rattle.std.specs.Option.{option_map, option_or}
 use Rattle.std.proofs.lemmas.Bool.{false≢true}
 use Rattle.std.proofs.lemmas.List.{append-nil}
-use Rattle.sip_text.specs.Parts.{IsOnlyValue}
 use Rattle.sip_message.specs.declared.kept.Kept.{Kept}
 use Rattle.sip_message.specs.declared.via.Via.{Via}
 use Rattle.sip_message.specs.declared.values.CSeq.{CSeq}
 use Rattle.sip_message.specs.declared.name.Known.{Known}
 use Rattle.sip_message.specs.declared.name.Known.TheVariants as known_name
 use Rattle.sip_message.specs.Name.{known, is_name_of}
-use Rattle.sip_message.specs.Field.{Field}
+use Rattle.sip_message.specs.Field.{Field, values}
 use Rattle.sip_message.specs.inner.FieldText.{Row}
-use Rattle.sip_message.specs.Elements.{values}
 use Rattle.sip_message.specs.inner.Values.{CSeqValue}
-use Rattle.sip_message.specs.ViaParts.{element}
-use Rattle.sip_message.specs.ValueParts.{cseq_parts}
+use Rattle.sip_message.specs.ValueParts.{cseq_parts, element}
 use Rattle.sip_message.specs.inner.ElementFronts.{FirstVia}
 use Rattle.sip_message.specs.inner.Kept.{SaysFirst, KeptOf, KeepsMore}
 use Rattle.sip_message.proofs.lemmas.via.Value.{first-none}
 use Rattle.sip_standard.specs.Says.{IsFirstOf}
+use Rattle.sip_message.specs.inner.Only.{IsOnlyValue}
 use Rattle.std.proofs.lemmas.Option.{same_Some}
 
 -- the values of a name in some fields and a further one are those in the first, and then the value of the further one, if it has the name
@@ -68,7 +66,7 @@ map-or parts (Some a) p = refl
 pub via-row : (text : List ℕ) (r : Option Via) (b : Bool) → b ≡ is_some r → IsOnlyValue FirstVia element text r → IsTrue b ↔ Row (known known_name.Via) text
 -- nothing is read, so it is no value of Via
 via-row text None b is none = (λ so. absurd (false≢true (sym is ∙ so)), λ row. absurd (first-none text none row))
-via-row text (Some v) b is read = (λ _. read.0.0, λ _. is)
+via-row text (Some v) b is read = (λ _. (element v ∷ read.0.0, read.0.1), λ _. is)
 
 -- with a further Via, what the first one says is kept
 pub via-keeps : (f : Field) (r : Option Via) (b : Bool) (old new : Kept) → f.name ≡ known known_name.Via → b ≡ is_some r → IsOnlyValue FirstVia element f.value r → new.via ≡ option_or old.via r → new.cseq ≡ old.cseq → IsTrue b → KeepsMore f old new

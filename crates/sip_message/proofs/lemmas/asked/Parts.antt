@@ -6,18 +6,16 @@ use Rattle.std.proofs.lemmas.Slice.Eq.{bytes_eq-Decides}
 use Rattle.std.proofs.lemmas.Bool.{both_ways}
 use Rattle.sip_message.specs.declared.name.Known.{Known}
 use Rattle.sip_message.specs.declared.name.Known.TheVariants as known_name
-use Rattle.sip_message.specs.Via.{ViaParts}
-use Rattle.sip_message.specs.inner.ElementFronts.{MoreVias}
 use Rattle.sip_message.specs.Name.{FieldName, known, other, name_of, long_name, is_name_of}
-use Rattle.sip_message.specs.Field.{Field}
+use Rattle.sip_message.specs.Field.{Field, values}
 use Rattle.sip_message.specs.inner.FieldText.{Row}
 use Rattle.sip_message.specs.Message.{Message}
 use Rattle.sip_message.specs.inner.MessageText.{found_from, IsFirstFound, MessageText}
-use Rattle.sip_message.specs.Elements.{Element, MoreElements, ElementsText, AreElements, values}
 use Rattle.sip_message.specs.Reading.{Parts, HasParts}
 use Rattle.sip_message.proofs.lemmas.canon.Law.{fields-rows, name-known}
 use Rattle.sip_message.proofs.lemmas.says.Values.{cseq-said}
-use Rattle.sip_standard.specs.Says.{IsFirstOf}
+use Rattle.sip_standard.specs.Via.{SaidVia}
+use Rattle.sip_standard.specs.Says.{ViasTell, IsFirstOf}
 
 -- a field name that passes the test of a known name is that known name
 pub named-known : (k : Known) (n : FieldName) → is_name_of k n ≡ true → n ≡ known k
@@ -57,41 +55,23 @@ pub first-value : (k : Known) (fs : List Field) (one : ℕ × List ℕ) → IsFi
 -- the first field that is found gives the first value
 first-value k fs one first = (map (λ x. x.1) first.0, found-values 1 k fs ∙ ap (map (λ x. x.1)) first.1)
 
--- further elements of Via by their parts are further elements with their texts
-pub more-elements : (vias : List ViaParts) (text : List ℕ) → MoreVias vias text → (es : List Element) × MoreElements es text
--- the text of no further elements is empty
-more-elements [] text is = ([], is)
--- u is the comma and w what follows: x the text of v, and y that of the other elements
-more-elements (v ∷ vias) text (u, w, mark, (x, y, via, more, w_is), text_is) =
-    -- `later` is the elements after the first, with their texts
-    let later = more-elements vias y more in
-    ((x, v) ∷ later.0, (via, (u, w, mark, (x, y, refl, later.1, w_is), text_is)))
-
--- a value of Via is elements, at least one
-via-elements : (text : List ℕ) → Row (known known_name.Via) text → (e : Element) × (es : List Element) × ElementsText text (e ∷ es)
--- x is the text of the first element, v, and y that of the others
-via-elements text (v, vias, (x, y, via, more, text_is)) =
-    -- `later` is the elements after the first, with their texts
-    let later = more-elements vias y more in
-    ((x, v), later.0, (via, (x, y, refl, later.1, text_is)))
-
 -- values of Via, one after another, are elements
-are-elements : (texts : List (List ℕ)) → AllByRecursion (Row (known known_name.Via)) texts → (es : List Element) × AreElements texts es
+are-elements : (texts : List (List ℕ)) → AllByRecursion (Row (known known_name.Via)) texts → (es : List SaidVia) × ViasTell texts es
 -- of no values there are no elements
 are-elements [] rows = ([], refl)
-are-elements (text ∷ texts) rows =
-    -- `now` is the elements of the first value, and `later` those of the others
-    let now = via-elements text rows.0 in
-    let later = are-elements texts rows.1 in
-    ((now.0 ∷ now.1) ++ later.0, (now.0 ∷ now.1, later.0, now.2, later.1, refl))
+are-elements (text ∷ texts) (now, rows) =
+    -- `later` is the elements of the values after the first
+    let later = are-elements texts rows in
+    (now.0 ++ later.0, (now.0, later.0, now.1, later.1, refl))
 
 -- one value of Via or more, one after another, are elements, at least one
-first-elements : (text : List ℕ) (texts : List (List ℕ)) → AllByRecursion (Row (known known_name.Via)) (text ∷ texts) → (e : Element) × (es : List Element) × AreElements (text ∷ texts) (e ∷ es)
-first-elements text texts rows =
-    -- `now` is the elements of the first value, and `later` those of the others
-    let now = via-elements text rows.0 in
-    let later = are-elements texts rows.1 in
-    (now.0, now.1 ++ later.0, (now.0 ∷ now.1, later.0, now.2, later.1, refl))
+first-elements : (text : List ℕ) (texts : List (List ℕ)) → AllByRecursion (Row (known known_name.Via)) (text ∷ texts) → (e : SaidVia) × (es : List SaidVia) × ViasTell (text ∷ texts) (e ∷ es)
+-- a value has one element at least
+first-elements text texts (([], none), rows) = absurd none
+first-elements text texts ((e ∷ now, is), rows) =
+    -- `later` is the elements of the values after the first
+    let later = are-elements texts rows in
+    (e, now ++ later.0, (e ∷ now, later.0, is, later.1, refl))
 
 -- where each field is of its row, the first value of a name is of the row of the name
 pub row-of : (k : Known) (fs : List Field) (text : List ℕ) → AllByRecursion (λ f. Row f.name f.value) fs → IsFirstOf (values k fs) text → Row (known k) text
@@ -108,17 +88,15 @@ has-parts bytes m text =
     let to = first-value known_name.To m.fields text.fits.to.0 text.fits.to.1 in
     let call_id = first-value known_name.CallId m.fields text.fits.call_id.0 text.fits.call_id.1 in
     let cseq = first-value known_name.CSeq m.fields text.fits.cseq.0 text.fits.cseq.1 in
-    -- each of these values is of its row
+    -- the values of Via and the CSeq are of their rows
     let vias = first-elements _ via.0 (subst (AllByRecursion (Row (known known_name.Via))) via.1 (row-values known_name.Via m.fields rows)) in
-    let from_row = row-of known_name.From m.fields _ rows from in
-    let to_row = row-of known_name.To m.fields _ rows to in
     let cseq_row = row-of known_name.CSeq m.fields _ rows cseq in (
       -- the parts are those that the values say
-      record { via = vias.0; others = vias.1; from = (text.fits.from.0.1, from_row.0); to = (text.fits.to.0.1, to_row.0); call_id = text.fits.call_id.0.1; cseq = (cseq_row.0, cseq_row.1) },
+      record { via = vias.0; others = vias.1; from = text.fits.from.0.1; to = text.fits.to.0.1; call_id = text.fits.call_id.0.1; cseq = (cseq_row.0, cseq_row.1) },
       record {
-        vias = subst (λ t. AreElements t (vias.0 ∷ vias.1)) (sym via.1) vias.2;
-        from = (text.fits.from.0.1, from, (from_row.1, refl));
-        to = (text.fits.to.0.1, to, (to_row.1, refl));
+        vias = subst (λ t. ViasTell t (vias.0 ∷ vias.1)) (sym via.1) vias.2;
+        from = from;
+        to = to;
         call_id = call_id;
         cseq = (text.fits.cseq.0.1, cseq, cseq-said text.fits.cseq.0.1 cseq_row.0 cseq_row.1 cseq_row.2);
       },

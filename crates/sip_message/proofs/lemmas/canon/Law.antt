@@ -25,9 +25,9 @@ use Rattle.sip_message.specs.declared.name.Known.{Known}
 use Rattle.sip_message.specs.declared.name.Known.TheVariants as known_name
 use Rattle.sip_standard.specs.Lines.{OpensBlank}
 use Rattle.sip_message.specs.inner.Lines.{is_inner_byte, with_end}
-use Rattle.sip_message.specs.Params.{OpensSolid}
-use Rattle.sip_message.specs.inner.FieldText.{EndsSolid, Row, FieldText, FieldsText}
+use Rattle.sip_message.specs.inner.FieldText.{EndsSolid, Row, FieldText, FieldsText, OpensSolid}
 use Rattle.sip_standard.specs.Field.{is_lws_byte}
+use Rattle.sip_standard.specs.Via.{SaidVia, ViasSay}
 use Rattle.sip_standard.specs.Canonical.{unfolded, start_text}
 use Rattle.sip_message.specs.Name.{FieldName, known, other, spellings, name_by, name_of, long_name, is_name_of}
 use Rattle.sip_message.specs.inner.Canon.{name_text, field_text, canon}
@@ -37,14 +37,14 @@ use Rattle.sip_message.specs.inner.Values.{Digits}
 use Rattle.sip_message.specs.Field.{Field}
 use Rattle.sip_standard.specs.Body.{length_in, cut_body}
 use Rattle.sip_message.specs.Message.{Message}
-use Rattle.sip_message.specs.inner.MessageText.{found_from, found, HasField, IsNotTwice, IsStream, MethodFits, is_stream, content_length, IsEnough, IsNoMore, MessageFits, MessageText, unfolded_field, message_of, Spells}
+use Rattle.sip_message.specs.inner.MessageText.{found_from, found, HasField, IsNotTwice, TopTransport, IsStream, MethodFits, is_stream, content_length, IsEnough, IsNoMore, MessageFits, MessageText, unfolded_field, message_of, Spells}
 use Rattle.sip_message.proofs.lemmas.text.Cuts.{All, all_both}
 use Rattle.sip_message.proofs.lemmas.text.Each.{each-many, each-one, each-between, is_solid, solid_class, wsp-blank}
 use Rattle.sip_message.proofs.lemmas.field.OneWay.{each-token, blank-token, ends_blank}
 use Rattle.sip_message.proofs.lemmas.text.Solid.{solid-token, solid-uri, solid-digits}
 use Rattle.sip_message.proofs.lemmas.text.Closed.{Closed, closed-unfolded, solid_is, ends-right}
 use Rattle.sip_message.proofs.lemmas.params.Closed.{blanks-space, some-run}
-use Rattle.sip_message.proofs.lemmas.via.Transport.{same_transport}
+use Rattle.sip_message.proofs.lemmas.via.Value.{same_transport}
 use Rattle.sip_message.proofs.lemmas.via.Closed.{unfolded-via}
 use Rattle.sip_message.proofs.RowLemmas.{unfolded-solid, unfolded-cseq, unfolded-row}
 use Rattle.sip_message.proofs.lemmas.canon.Spelling.{Inner, AreInner, unfolded-inner, unfolded-twice, solid-inner, lines-head, inner-folds, inner-no_bare}
@@ -223,7 +223,7 @@ start-inner : (line : List ℕ) (s : StartLine) → StartText line s → Inner (
 -- the method and the URI have no blanks, and so neither CR nor LF; and the line has at least its SP
 start-inner line (request method uri) (token, is_uri, whole) = (
   all_both is_inner_byte method (space ∷ (uri ++ space ∷ codes "SIP/2.0")) (solid-inners method (solid-token method token))
-      (refl, all_both is_inner_byte uri (space ∷ codes "SIP/2.0") (solid-inners uri (solid-uri uri is_uri.0 is_uri.1)) (refl, version-inner)),
+      (refl, all_both is_inner_byte uri (space ∷ codes "SIP/2.0") (solid-inners uri (solid-uri uri is_uri)) (refl, version-inner)),
   (λ none. absurd (omega (arith, ap length none, length-append method (space ∷ (uri ++ space ∷ codes "SIP/2.0"))))),
 )
 start-inner line (status code reason) (bytes, whole) =
@@ -446,12 +446,16 @@ fits-unfolded start fs rest rows fits = record {
     via_row : Row (known known_name.Via) fits.via.0.1
     via_row = first-via 1 fs rows fits.via.0 fits.via.1.0 fits.via.1.1
 
+    -- the transport of the folded value is the same, since its first element keeps it
+    top : (value : List ℕ) (vias : List SaidVia) → ViasSay vias value → IsStream (unfolded value) → IsStream value
+    top value [] none streams = absurd none
+    top value (v ∷ vias) says (t, is, so) =
+        let before : TopTransport value v.transport = (v, vias, says, refl) in
+        (v.transport, before, subst (λ x. IsTrue (is_stream x)) (same_transport (unfolded value) t v.transport is (unfolded-via value v.transport before)) so)
+
     -- the transport is the same without its folds
     stream : IsStream (unfolded fits.via.0.1) → IsStream fits.via.0.1
-    stream (t, top, is) =
-        -- `before` is the elements of the folded value, whose first one has the same transport
-        let before = via_row in
-        (before.0.transport, (before.0, before.1, before.2, refl), subst (λ x. IsTrue (is_stream x)) (same_transport (unfolded fits.via.0.1) t before.0.transport top (unfolded-via fits.via.0.1 before.0.transport (before.0, before.1, before.2, refl))) is)
+    stream streams = top fits.via.0.1 via_row.0 via_row.1 streams
 
     -- the method is the same without its folds
     method : (s : StartLine) → MethodFits s (fits.cseq.0.1) → MethodFits s (unfolded fits.cseq.0.1)

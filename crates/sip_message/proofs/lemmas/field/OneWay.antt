@@ -7,8 +7,7 @@ use Rattle.sip_standard.specs.Profile.{Token}
 use Rattle.sip_text.specs.Bytes.{colon, is_token_byte}
 use Rattle.sip_text.specs.inner.Blanks.{is_wsp}
 use Rattle.sip_message.specs.Name.{FieldName, name_of}
-use Rattle.sip_message.specs.inner.FieldText.{NameText, ValueText, EndsSolid}
-use Rattle.sip_message.specs.Params.{OpensSolid}
+use Rattle.sip_message.specs.inner.FieldText.{NameText, ValueText, EndsSolid, OpensSolid}
 use Rattle.sip_standard.specs.Field.{is_lws_byte}
 use Rattle.sip_message.proofs.lemmas.text.Cuts.{Cuts, first_longer, same_length, second_longer, two_cuts, same_front, Stops, All, all_left, all_right, all_both}
 use Rattle.sip_message.proofs.lemmas.text.Each.{Each, each-one, each-some, each-many, each-sws, blank_is, wsp-blank}

@@ -10,7 +10,7 @@ use Rattle.sip_standard.specs.Text.{One, Many}
 use Rattle.sip_standard.specs.Profile.{Token, Sws, Blanks}
 use Rattle.sip_text.specs.Bytes.{carriage_return, line_feed, is_token_byte}
 use Rattle.sip_text.specs.inner.Blanks.{is_wsp, Blank, blank_len}
-use Rattle.sip_text.specs.Parts.{HasFront, IsLongestFront}
+use Rattle.sip_text.specs.Front.{HasFront, IsLongestFront}
 use Rattle.sip_text.specs.inner.Cut.{past}
 use Rattle.sip_text.proofs.texts.ManyLemmas.{front-rest, many-nil, many-push, same_many}
 use Rattle.sip_text.proofs.strings.BlanksLemmas.{units-blanks, blanks-units, blank-step, blanks-longest}

@@ -11,13 +11,12 @@ use Rattle.sip_standard.specs.Text.{One, Exactly, ◌or◌, Many}
 use Rattle.sip_standard.specs.Profile.{Token, Hostname, Ipv4, Hexseq, Ipv6, Quoted}
 use Rattle.sip_text.specs.Bytes.{colon, dot, hyphen, dquote, left_bracket, right_bracket, Byte, is_token_byte}
 use Rattle.sip_standard.specs.Chars.{is_among}
-use Rattle.sip_text.specs.Host.{HostText}
 use Rattle.sip_text.specs.inner.Class.{is_label_byte}
 use Rattle.sip_text.specs.inner.Cut.{behind}
 use Rattle.sip_text.specs.inner.Blanks.{Blank}
 use Rattle.sip_text.specs.inner.Pieces.{Qdtext, QuotedPair, DecimalGroup, Hex4, Hexpart}
 use Rattle.sip_text.specs.inner.Quoted.{QuotedItem, item_len}
-use Rattle.sip_text.specs.inner.HostTests.{is_v4, is_v6, is_v6_reference, is_hostname}
+use Rattle.sip_text.specs.inner.HostTests.{is_v6}
 use Rattle.sip_text.proofs.texts.LacksLemmas.{Lacks}
 use Rattle.sip_text.proofs.hosts.LabelLemmas.{other_byte, alphanumeric-alphabetic}
 use Rattle.sip_text.proofs.cuts.CutLemmas.{behind-led}
@@ -25,7 +24,6 @@ use Rattle.sip_text.proofs.texts.ManyLemmas.{many-one, many-map, many-flat, same
 use Rattle.sip_text.proofs.strings.BlanksLemmas.{blanks-lws}
 use Rattle.sip_text.proofs.strings.QuotedLemmas.{item-step}
 use Rattle.sip_text.proofs.hosts.V6Lemmas.{v6-is}
-use Rattle.sip_text.proofs.hosts.HostLemmas.{only-v6, only-v4, only-name, no-host}
 use Rattle.sip_standard.specs.Field.{is_lws_byte}
 use Rattle.sip_message.specs.inner.Fronts.{Behind, TokenFront, MarkFront, BlanksFront, Seq, both}
 use Rattle.sip_message.specs.inner.ParamFronts.{is_bare_byte, BareFront, QuotedFront, BracketFront, ReferenceFront, ValueFront, LedFront}
@@ -351,15 +349,3 @@ one-value text x y (inr (inl a)) (inr (inr b)) = absurd (first-fails B (slice_in
 one-value text x y (inr (inr a)) (inl b) = absurd (first-fails B (slice_index text 0) dquote refl (quoted-first text y b) (bare-first text x a))
 one-value text x y (inr (inr a)) (inr (inl b)) = absurd (first-fails B (slice_index text 0) left_bracket refl (bracket-first text y (reference-bracket text y b)) (bare-first text x a))
 one-value text x y (inr (inr a)) (inr (inr b)) = one-bare text x y a b
-
--- a text has the parts of one host at most
-pub same-host : (text : List ℕ) → AtMostOne (HostText text)
-same-host text a b one other = at (is_v6_reference text) (is_v4 text) (is_hostname text) refl refl refl
-  where
-    -- the claim holds whichever test of a host the text passes
-    -- x, y and z say whether the text is an IPv6 reference, an IPv4 address and a hostname
-    at : (x y z : Bool) → is_v6_reference text ≡ x → is_v4 text ≡ y → is_hostname text ≡ z → a ≡ b
-    at true y z is is_4 is_name = let only = only-v6 text is in only.1 a one ∙ sym (only.1 b other)
-    at false true z is is_4 is_name = let only = only-v4 text is_4 in only.1 a one ∙ sym (only.1 b other)
-    at false false true is is_4 is_name = let only = only-name text is_name in only.1 a one ∙ sym (only.1 b other)
-    at false false false is is_4 is_name = absurd (no-host text is is_4 is_name a one)

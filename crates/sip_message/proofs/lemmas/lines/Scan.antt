@@ -7,8 +7,7 @@ use Rattle.std.proofs.lemmas.Option.{none-some}
 use Rattle.std.proofs.Math.Seq.{take-append_seam, drop-append_seam}
 use Rattle.sip_text.specs.Bytes.{crlf, carriage_return, line_feed}
 use Rattle.sip_text.specs.inner.Blanks.{is_wsp}
-use Rattle.sip_text.specs.Parts.{led}
-use Rattle.sip_text.specs.inner.Cut.{before, behind, up_to}
+use Rattle.sip_text.specs.inner.Cut.{before, behind, up_to, led}
 use Rattle.sip_text.proofs.cuts.CutLemmas.{cut-whole, lacks-before}
 use Rattle.sip_text.proofs.cuts.EndLemmas.{up_to-some, up_to-mark}
 use Rattle.std.proofs.lemmas.List.{append_assoc, append-nil, length-append, append_cancel_left, take-append-drop, length-take-le}

@@ -12,21 +12,18 @@ use Rattle.sip_standard.specs.declared.fault.Reason.TheVariants as reason
 use Rattle.sip_message.specs.declared.start_line.StartLine.{StartLine as Code}
 use Rattle.sip_message.specs.declared.start_line.StartLine.TheVariants as variant
 use Rattle.sip_standard.specs.StartLine.{StartLine, request}
-use Rattle.sip_message.specs.Via.{ViaParts}
-use Rattle.sip_message.specs.inner.ElementFronts.{ViasText, ViaFront, FirstVia}
+use Rattle.sip_standard.specs.Via.{SaidVia}
+use Rattle.sip_message.specs.inner.ElementFronts.{FirstVia}
 use Rattle.sip_message.specs.inner.Values.{CSeqText, CSeqValue}
 use Rattle.sip_message.specs.Field.{Field}
 use Rattle.sip_standard.specs.Body.{length_in, cut_body}
-use Rattle.sip_message.specs.inner.MessageText.{found, content_length, is_stream, IsStream, MethodFits, HasLength, IsEnough}
+use Rattle.sip_message.specs.inner.MessageText.{found, content_length, TopTransport, is_stream, IsStream, MethodFits, HasLength, IsEnough}
 use Rattle.sip_standard.specs.Outcome.{gives, stops, passes, stopped}
 use Rattle.sip_standard.specs.Faults.{fault_in_line, fault_in_body}
 use Rattle.sip_message.specs.inner.Faults.{BodyOf}
-use Rattle.sip_message.specs.Elements.{Element}
 use Rattle.sip_message.specs.ValueParts.{start_parts}
 use Rattle.sip_message.proofs.lemmas.front.Cuts.{ReadAs}
-use Rattle.sip_message.proofs.lemmas.asked.Parts.{more-elements}
-use Rattle.sip_message.proofs.lemmas.via.Elements.{ends-more}
-use Rattle.sip_message.proofs.lemmas.via.Steps.{one-via}
+use Rattle.sip_message.proofs.lemmas.via.Value.{same_transport}
 
 -- the method of a CSeq fits a request exactly if it is equal to the request's method
 -- the request has the method m and the URI u, the CSeq has the number n and the method k, and r is the answer
@@ -44,29 +41,21 @@ method-some start m u cseq n k r is read r_is = subst (λ s. IsTrue r ↔ Method
     -- the CSeq has one method, so the one that fits is k
     from (number, text) = r_is ∙ (bytes_eq-Decides k m.now).1 (sym (ap (λ x. x.1) (read.1 (number, m.now) text)))
 
--- the first element of a value of Via stands at its front
-vias-front : (text : List ℕ) (v : ViaParts) (vias : List ViaParts) → ViasText text v vias → (x : List ℕ) × (rest : List ℕ) × ViaFront text ((x, v), rest)
--- `later` is the elements after the first, with their texts
-vias-front text v vias (x, y, via, more, text_is) = let later = more-elements vias y more in (x, y, (via, text_is, ends-more later.0 y later.1))
-
 -- the transport of the top Via is a stream exactly if that of the first element is
-pub stream-first : (text : List ℕ) (e : Element) (r : Bool) → FirstVia text e → r ≡ is_stream e.1.transport → IsTrue r ↔ IsStream text
-stream-first text e r ((v, vias, is), (rest, front)) r_is = (to, from)
+pub stream-first : (text : List ℕ) (e : SaidVia) (r : Bool) → FirstVia text e → r ≡ is_stream e.transport → IsTrue r ↔ IsStream text
+stream-first text e r first r_is = (to, from)
   where
-    -- each reading of the text has the same top Via
-    top : (w : ViaParts) (others : List ViaParts) → ViasText text w others → e.1 ≡ w
-    -- f is how the first of these elements stands at the front, where one element is read alone
-    top w others are = let f = vias-front text w others are in ap (λ x. x.0.1) (one-via text (e, rest) ((f.0, w), f.1) front f.2)
+    -- the transport of the first element is that of the text
+    top : TopTransport text e.transport
+    top = (e, first.0, first.1, refl)
 
     -- where the answer is yes, the top Via has a stream
     to : IsTrue r → IsStream text
-    -- the transport of the top Via is that of e, of which the test says yes
-    to so = (v.transport, (v, vias, is, refl), ap (λ x. is_stream x.transport) (sym (top v vias is)) ∙ sym r_is ∙ so)
+    to so = (e.transport, top, sym r_is ∙ so)
 
-    -- where the text says a stream, the test passes
+    -- where the text says a stream, the test passes, since the transport that it says is that of e
     from : IsStream text → IsTrue r
-    -- the transport that the text says is that of e
-    from (transport, (w, others, are, same), so) = r_is ∙ ap (λ x. is_stream x.transport) (top w others are) ∙ ap is_stream (sym same) ∙ so
+    from (transport, is, so) = r_is ∙ ap is_stream (same_transport text e.transport transport top is) ∙ so
 
 -- fields without Content-Length have no length
 pub length-none : (fields : List Field) → found known_name.ContentLength fields ≡ [] → content_length fields ≡ None

@@ -8,8 +8,8 @@ use Rattle.sip_message.specs.declared.name.Known.TheVariants as known_name
 use Rattle.sip_message.specs.declared.start_line.StartLine.{StartLine as Code}
 use Rattle.sip_message.specs.declared.values.CSeq.{CSeq}
 use Rattle.sip_message.specs.declared.via.Via.{Via}
-use Rattle.sip_message.specs.Elements.{Element, values}
-use Rattle.sip_message.specs.Field.{Field}
+use Rattle.sip_standard.specs.Via.{SaidVia}
+use Rattle.sip_message.specs.Field.{Field, values}
 use Rattle.sip_message.specs.inner.MessageText.{found, IsNotTwice}
 use Rattle.sip_standard.specs.Outcome.{gives, passes}
 use Rattle.sip_standard.specs.Field.{OneOf}
@@ -17,8 +17,7 @@ use Rattle.sip_message.specs.inner.Faults.{BodyOf}
 use Rattle.sip_message.specs.inner.Values.{CSeqValue}
 use Rattle.sip_standard.specs.StartLine.{StartLine}
 use Rattle.sip_standard.specs.Says.{IsFirstOf}
-use Rattle.sip_message.specs.ValueParts.{start_parts, cseq_parts}
-use Rattle.sip_message.specs.ViaParts.{element}
+use Rattle.sip_message.specs.ValueParts.{start_parts, cseq_parts, element}
 use Rattle.sip_message.specs.inner.Asked.{OnceSays, Itself, AskedOf}
 use Rattle.sip_message.specs.inner.ElementFronts.{FirstVia}
 use Rattle.sip_message.specs.inner.Quick.{IsOrdinary}
@@ -30,7 +29,7 @@ use Rattle.sip_message.proofs.lemmas.message.Stages.{Found}
 
 -- the bytes are a message, and these are the first element of Via, the values of From, To and Call-ID, and the CSeq that are kept of it
 -- e is that element, f, t and i are these values, and s is the number and the method of the CSeq
-pub record IsWhole (bytes rest : List ℕ) (start : StartLine) (fields : List Field) (body : List ℕ) (e : Element) (f t i : List ℕ) (s : ℕ × List ℕ) : Type 0 where
+pub record IsWhole (bytes rest : List ℕ) (start : StartLine) (fields : List Field) (body : List ℕ) (e : SaidVia) (f t i : List ℕ) (s : ℕ × List ℕ) : Type 0 where
   pub first : List ℕ
   pub via : ℕ × List ℕ
   pub cseq : ℕ × List ℕ

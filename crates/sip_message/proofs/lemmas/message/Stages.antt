@@ -2,7 +2,7 @@
 -- In the lemmas n is the named fields that were found, e the first element of Via, and s the CSeq by its number and method.
 -- `LinesOf` is the reading of a head's lines and of the body after them, `NamesOf` that of the named fields, and `BodyOf` that of the body; `KeepsRead` says
 -- what a message keeps of them.
-use Rattle.std.proofs.Common.{◌≡◌, ℕ, List, false, refl, sym, ap, subst}
+use Rattle.std.proofs.Common.{◌≡◌, ℕ, List, false, refl, sym, subst}
 use Rattle.std.specs.Prelude.{Result, Ok, Err, IsErr, IsErrAnd}
 use Rattle.std.proofs.lemmas.Bool.{both_ways}
 use Rattle.sip_standard.specs.declared.fault.Fault.{Fault}
@@ -22,7 +22,7 @@ use Rattle.sip_message.specs.Only.{IsOnly}
 use Rattle.sip_message.specs.Reading.{Reading, Parts, HasParts}
 use Rattle.sip_message.specs.inner.Kept.{Keeps, KeepsRead}
 use Rattle.sip_message.specs.inner.Values.{CSeqValue}
-use Rattle.sip_message.specs.Elements.{Element}
+use Rattle.sip_standard.specs.Via.{SaidVia}
 use Rattle.sip_message.specs.inner.ElementFronts.{FirstVia}
 use Rattle.sip_message.specs.Reads.{Reads, ReadsTo}
 use Rattle.sip_message.specs.inner.Stages.{Names, Stand}
@@ -31,7 +31,7 @@ use Rattle.sip_message.proofs.lemmas.message.Faults.{read-text}
 use Rattle.sip_message.proofs.lemmas.asked.Parts.{has-parts}
 use Rattle.sip_message.proofs.lemmas.asked.OneWay.{parts-one}
 use Rattle.sip_message.proofs.lemmas.message.Views.{keeps-via, keeps-cseq}
-use Rattle.sip_message.proofs.lemmas.via.Steps.{one-via}
+use Rattle.sip_message.proofs.lemmas.via.Value.{one-first}
 use Rattle.sip_message.proofs.lemmas.value.CSeq.{same-cseq}
 use Rattle.sip_message.proofs.lemmas.says.Reading.{text-reads, fault-says}
 
@@ -91,7 +91,7 @@ found-text {bytes = bytes} {body = body} {start = start} {fields = fields} {n = 
     read-text bytes _ (begun f.is_begun (passes start f.is_start (passes fields f.are_fields (passes (n.via, n.cseq) f.are_names (passes body f.is_body refl)))))
 
 -- a message that was found keeps where its named fields stand
-pub found-keeps : {bytes rest first body : List ℕ} {start : StartLine} {fields : List Field} {n : Names} (e : Element) (s : ℕ × List ℕ) → Found bytes rest first start fields n body → FirstVia (n.via.1) e → CSeqValue (n.cseq.1) s
+pub found-keeps : {bytes rest first body : List ℕ} {start : StartLine} {fields : List Field} {n : Names} (e : SaidVia) (s : ℕ × List ℕ) → Found bytes rest first start fields n body → FirstVia (n.via.1) e → CSeqValue (n.cseq.1) s
     → (p : Parts) × KeepsRead (record { start = start; fields = fields; body = body }) p e n.from n.to n.call_id s
 found-keeps {bytes = bytes} {n = n} e s f first said =
     -- `text` says that the bytes are those of the message, and `parts` are its parts
@@ -108,13 +108,13 @@ found-keeps {bytes = bytes} {n = n} e s f first said =
       cseq = f.stand.cseq;
     } in
     -- the first Via and the CSeq say what was found of them
-    let top = keeps-via keeps in (
+    (
       parts.0,
       record {
         via_text = n.via.1;
         cseq_text = n.cseq.1;
         keeps = keeps;
-        via = ap (λ x. x.0) (one-via (n.via.1) (e, first.1.0) (parts.0.via, top.0) first.1.1 top.1);
+        via = one-first (n.via.1) e parts.0.via first (keeps-via keeps);
         cseq = same-cseq (n.cseq.1) s parts.0.cseq said (keeps-cseq keeps);
       },
     )

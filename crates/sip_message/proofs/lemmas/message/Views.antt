@@ -2,41 +2,28 @@
 -- In the lemmas m is a message with the parts p, and v, f, t, i and c are the values of its first Via, From, To, Call-ID and CSeq.
 -- `Keeps` says that some bytes are the text of a message, that these are its parts, and that these are the first values of its named fields; `KeepsRead` says
 -- so of what was read of its first Via and its CSeq.
-use Rattle.std.proofs.Common.{◌≡◌, ℕ, List, [], ◌∷◌, ◌++◌, Option, None, Some, refl, sym, ap, ◌∙◌, subst}
-use Rattle.std.specs.Prelude.{IsSome}
-use Rattle.sip_text.specs.Parts.{IsOnlyValue}
+use Rattle.std.proofs.Common.{◌≡◌, ℕ, List, [], ◌∷◌, ◌++◌, sym, ap, ◌∙◌, subst}
 use Rattle.sip_message.specs.declared.name.Known.{Known}
 use Rattle.sip_message.specs.declared.name.Known.TheVariants as known_name
-use Rattle.sip_message.specs.Field.{Field}
+use Rattle.sip_message.specs.Field.{Field, values}
 use Rattle.sip_standard.specs.Outcome.{Outcome, gives}
 use Rattle.sip_standard.specs.Values.{CSeqSays}
-use Rattle.sip_standard.specs.Says.{IsFirstOf}
+use Rattle.sip_standard.specs.Via.{SaidVia, ViasSay}
+use Rattle.sip_standard.specs.Says.{ViasTell, IsFirstOf}
 use Rattle.sip_message.specs.Message.{Message}
 use Rattle.sip_message.specs.inner.MessageText.{MessageText}
 use Rattle.sip_message.specs.Only.{IsOnly}
 use Rattle.sip_message.specs.inner.Only.{ExactlyOne, the}
-use Rattle.sip_message.specs.Elements.{Element, values, AreElements}
-use Rattle.sip_message.specs.inner.ElementFronts.{ViaFront}
-use Rattle.sip_message.specs.Reading.{AddressValue, Reading, Parts, HasParts}
+use Rattle.sip_message.specs.inner.ElementFronts.{FirstVia}
+use Rattle.sip_message.specs.Reading.{Reading, Parts, HasParts}
 use Rattle.sip_message.specs.inner.Values.{CSeqValue}
 use Rattle.sip_message.specs.inner.Kept.{Keeps, KeepsRead}
 use Rattle.sip_message.specs.inner.Codes.{parts_code}
 use Rattle.sip_message.specs.Reads.{Reads}
 use Rattle.sip_message.proofs.lemmas.message.Faults.{text-read, one-read}
-use Rattle.sip_message.proofs.lemmas.via.Elements.{first-front, One-is}
+use Rattle.sip_message.proofs.lemmas.via.Elements.{One-is}
 use Rattle.sip_message.proofs.lemmas.says.Values.{said-value}
 use Rattle.sip_message.proofs.lemmas.says.Told.{tells-text}
-
--- where R relates a value to a text, the reader of R reads one of it
-pub some-read : {A X : Type 0} (R : List ℕ → X → Type 0) (parts : A → X) (text : List ℕ) {x : X} (r : Option A) → IsOnlyValue R parts text r → R text x → IsSome r
--- nothing is read, so R relates no value to the text
-some-read R parts text None none is = absurd (none _ is)
-some-read R parts text (Some a) read is = refl
-
--- what the reader of R reads of a text is the value that R relates to it
-pub read-is : {A X : Type 0} (R : List ℕ → X → Type 0) (parts : A → X) (text : List ℕ) {x : X} (r : Option A) (a : A) → r ≡ Some a → IsOnlyValue R parts text r → R text x → parts a ≡ x
--- what is read is the only value that R relates to the text
-read-is R parts text {x = x} r a some read is = sym ((subst (IsOnlyValue R parts text) some read).1 x is)
 
 -- a name has one first value in some fields
 pub same-value : (known : Known) (fields : List Field) {a b : List ℕ} → IsFirstOf (values known fields) a → IsFirstOf (values known fields) b → a ≡ b
@@ -45,42 +32,48 @@ same-value known fields {a = a} {b = b} one other =
     let same : ◌≡◌ {A = List (List ℕ)} (a ∷ one.0) (b ∷ other.0) = sym one.1 ∙ other.1 in
     cc
 
--- the value of the first From is an address, with the parts that the message has
+-- the value of the first From is that of the message
 -- in what follows v, f, t, i and c are the values of the first Via, From, To, Call-ID and CSeq, as `Keeps` has them
-pub keeps-from : {m : Message} {p : Parts} {v f t i c : List ℕ} → Keeps m p v f t i c → AddressValue f p.from
--- the first From of the parts is that value
-keeps-from {m = m} {p = p} k = subst (λ x. AddressValue x p.from) (same-value known_name.From m.fields k.parts.is.from.1 k.from) k.parts.is.from.2
+pub keeps-from : {m : Message} {p : Parts} {v f t i c : List ℕ} → Keeps m p v f t i c → f ≡ p.from
+keeps-from {m = m} k = same-value known_name.From m.fields k.from k.parts.is.from
 
--- the value of the first To is an address, with the parts that the message has
-pub keeps-to : {m : Message} {p : Parts} {v f t i c : List ℕ} → Keeps m p v f t i c → AddressValue t p.to
--- the first To of the parts is that value
-keeps-to {m = m} {p = p} k = subst (λ x. AddressValue x p.to) (same-value known_name.To m.fields k.parts.is.to.1 k.to) k.parts.is.to.2
+-- the value of the first To is that of the message
+pub keeps-to : {m : Message} {p : Parts} {v f t i c : List ℕ} → Keeps m p v f t i c → t ≡ p.to
+keeps-to {m = m} k = same-value known_name.To m.fields k.to k.parts.is.to
 
 -- the value of the first CSeq is a CSeq, with the number and the method that the message has
 pub keeps-cseq : {m : Message} {p : Parts} {v f t i c : List ℕ} → Keeps m p v f t i c → CSeqValue c p.cseq
 -- the first CSeq of the parts is that value, and what the definitions say of it the readers read
 keeps-cseq {m = m} {p = p} {c = c} k = said-value c p.cseq (subst (λ x. CSeqSays p.cseq x) (same-value known_name.CSeq m.fields k.parts.is.cseq.1 k.cseq) k.parts.is.cseq.2)
 
--- the top Via of the message stands at the front of the value of the first Via
-pub keeps-via : {m : Message} {p : Parts} {v f t i c : List ℕ} → Keeps m p v f t i c → (rest : List ℕ) × ViaFront v (p.via, rest)
--- the top Via is the first element of all, which stands at the front of the first value
-keeps-via {p = p} {v = v} k = first-front v k.via.0 p.via p.others (subst (λ x. AreElements x (p.via ∷ p.others)) k.via.1 k.parts.is.vias)
+-- the first element of some values of Via is the first of the first value
+first-told : (text : List ℕ) (more : List (List ℕ)) (e : SaidVia) (es : List SaidVia) → ViasTell (text ∷ more) (e ∷ es) → FirstVia text e
+-- a value has one element at least
+first-told text more e es ([], later, none, are, es_is) = absurd none
+first-told text more e es (f ∷ now, later, is, are, es_is) =
+    let whole : ◌≡◌ {A = List SaidVia} (e ∷ es) (f ∷ (now ++ later)) = es_is in
+    let same : f ≡ e = cc in
+    (now, subst (λ g. ViasSay (g ∷ now) text) same is)
+
+-- the top Via of the message is the first element of the value of the first Via
+pub keeps-via : {m : Message} {p : Parts} {v f t i c : List ℕ} → Keeps m p v f t i c → FirstVia v p.via
+keeps-via {p = p} {v = v} k = first-told v k.via.0 p.via p.others (subst (λ x. ViasTell x (p.via ∷ p.others)) k.via.1 k.parts.is.vias)
 
 -- the values of Via are read as elements in one way only: as the first Via and the others
-pub only-elements : {m : Message} {p : Parts} {v f t i c : List ℕ} → Keeps m p v f t i c → (es : List Element) × IsOnly (AreElements (values known_name.Via m.fields)) es
+pub only-elements : {m : Message} {p : Parts} {v f t i c : List ℕ} → Keeps m p v f t i c → (es : List SaidVia) × IsOnly (ViasTell (values known_name.Via m.fields)) es
 only-elements {m = m} {p = p} {v = v} k = (p.via ∷ p.others, record { is = k.parts.is.vias; only = same })
   where
     -- each list of elements that the values are read as is the top Via and the others
-    same : (es : List Element) → AreElements (values known_name.Via m.fields) es → es ≡ p.via ∷ p.others
-    same es are = at es (subst (λ x. AreElements x es) k.via.1 are) are
+    same : (es : List SaidVia) → ViasTell (values known_name.Via m.fields) es → es ≡ p.via ∷ p.others
+    same es are = at es (subst (λ x. ViasTell x es) k.via.1 are) are
       where
         -- the list of elements is not empty
-        at : (es : List Element) → AreElements (v ∷ k.via.0) es → AreElements (values known_name.Via m.fields) es → es ≡ p.via ∷ p.others
+        at : (es : List SaidVia) → ViasTell (v ∷ k.via.0) es → ViasTell (values known_name.Via m.fields) es → es ≡ p.via ∷ p.others
         -- there is at least one element
         at [] ([], more, now_text, later, is) are = absurd now_text
         -- the empty list would have the first element of the first value
         at [] (e ∷ now, more, now_text, later, is) are =
-            let wrong : ◌≡◌ {A = List Element} [] (e ∷ (now ++ more)) = is in
+            let wrong : ◌≡◌ {A = List SaidVia} [] (e ∷ (now ++ more)) = is in
             cc
         -- with these elements the fields would have other parts, but they have only these
         at (e ∷ es) some are =
@@ -91,9 +84,9 @@ only-elements {m = m} {p = p} {v = v} k = (p.via ∷ p.others, record { is = k.p
             cc
 
 -- where es are the only elements of these values, and the values are those of the message's Via fields, es are the elements of the message
-pub same-elements : {m : Message} {p : Parts} {v f t i c : List ℕ} → Keeps m p v f t i c → (vals : List (List ℕ)) (es : List Element) → vals ≡ values known_name.Via m.fields → IsOnly (AreElements vals) es → es ≡ p.via ∷ p.others
+pub same-elements : {m : Message} {p : Parts} {v f t i c : List ℕ} → Keeps m p v f t i c → (vals : List (List ℕ)) (es : List SaidVia) → vals ≡ values known_name.Via m.fields → IsOnly (ViasTell vals) es → es ≡ p.via ∷ p.others
 -- the top Via and the others are the elements of the values, and so they are es
-same-elements {p = p} k vals es same only = sym (only.only (p.via ∷ p.others) (subst (λ x. AreElements x (p.via ∷ p.others)) (sym same) k.parts.is.vias))
+same-elements {p = p} k vals es same only = sym (only.only (p.via ∷ p.others) (subst (λ x. ViasTell x (p.via ∷ p.others)) (sym same) k.parts.is.vias))
 
 -- bytes are the text of one message, as it is spelled
 pub same_text : (bytes : List ℕ) (m n : Message) → MessageText bytes m → MessageText bytes n → m ≡ n
@@ -111,7 +104,7 @@ same_reading bytes r s one other =
     ap (λ m. record { message = m; parts = r.parts }) message ∙ ap (λ p. record { message = s.message; parts = p }) (sym parts)
 
 -- the parts of a message's fields, which are the only ones, keep what was read, whatever proves that they are
-pub kept-one : {m : Message} {p : Parts} {e : Element} {f t i : List ℕ} {s : ℕ × List ℕ} → KeepsRead m p e f t i s → (one : ExactlyOne (HasParts m.fields)) → KeepsRead m (the one) e f t i s
+pub kept-one : {m : Message} {p : Parts} {e : SaidVia} {f t i : List ℕ} {s : ℕ × List ℕ} → KeepsRead m p e f t i s → (one : ExactlyOne (HasParts m.fields)) → KeepsRead m (the one) e f t i s
 kept-one {m = m} {p = p} {e = e} {f = f} {t = t} {i = i} {s = s} k one =
     -- p is the parts that `one` has, so what holds of p holds of them
     subst (λ q. KeepsRead m q e f t i s) (sym (One-is parts_code (HasParts m.fields) one p k.keeps.parts.is)) k

@@ -1,18 +1,13 @@
 -- The branch of parameters, which are read one after another.
 -- In the lemmas ps are parameters, qs those after the first, u their text, and a, b and c are branches, if there are any.
--- `BranchFront` is the parameters at the front with their branch, and `TailFront` these with their own text too, each with what is left; `BranchOf` is the
--- branch that one parameter gives.
-use Rattle.std.proofs.Common.{◌≡◌, ◌↔◌, ℕ, ◌-◌, List, [], ◌∷◌, ◌++◌, Option, Some, None, Bor, option_copied, length, take, refl, sym, ap, ◌∙◌, subst, inl, inr}
+-- `BranchFront` is the parameters at the front with their branch, and what is left; `BranchOf` is the branch that one parameter gives.
+use Rattle.std.proofs.Common.{◌≡◌, ◌↔◌, ℕ, ◌-◌, List, [], ◌∷◌, Option, Some, None, Bor, option_copied, refl, sym, ap, ◌∙◌, subst, inl, inr}
 use Rattle.std.specs.Option.{option_or}
-use Rattle.sip_message.specs.Via.{IsBranch}
-use Rattle.sip_message.specs.inner.Fronts.{Behind, IsOnlyBehind}
 use Rattle.sip_message.specs.inner.ParamFronts.{Param, ParamFront, ParamsFront, AllParamsFront}
-use Rattle.sip_message.specs.inner.ViaFronts.{BranchOf, BranchFront, TailFront}
-use Rattle.sip_message.proofs.lemmas.text.Cuts.{same_by_end}
-use Rattle.sip_message.proofs.lemmas.front.Cuts.{ReadAs, NotRead, same-behind}
+use Rattle.sip_message.specs.inner.ViaFronts.{BranchOf, BranchFront, IsBranch}
+use Rattle.sip_message.proofs.lemmas.front.Cuts.{ReadAs, NotRead}
 use Rattle.sip_message.proofs.lemmas.front.OneWay.{AtMostOne, read-one}
-use Rattle.sip_message.proofs.lemmas.params.Value.{front-is}
-use Rattle.sip_message.proofs.lemmas.params.Reading.{one-all_params, front-params}
+use Rattle.sip_message.proofs.lemmas.params.Reading.{one-all_params}
 
 -- a parameter has one branch at most
 one-branch_of : (p : Param) (a b : Option (List ℕ)) → BranchOf p a → BranchOf p b → a ≡ b
@@ -25,7 +20,7 @@ one-branch_of (name, value) (Some a) None x y = absurd (y x.0)
 one-branch_of (name, value) (Some a) (Some b) x y = sym x.2 ∙ y.2
 
 -- the branch of a parameter and those after it is that of the parameter, or else that of the others
-branch-cons : (p : Param) (ps : List Param) (b : Option (List ℕ)) → IsBranch (p ∷ ps) b → (found : Option (List ℕ)) × BranchOf p found × (later : Option (List ℕ)) × IsBranch ps later × (b ≡ option_or found later)
+pub branch-cons : (p : Param) (ps : List Param) (b : Option (List ℕ)) → IsBranch (p ∷ ps) b → (found : Option (List ℕ)) × BranchOf p found × (later : Option (List ℕ)) × IsBranch ps later × (b ≡ option_or found later)
 -- v is the value of the parameter, whose name is `branch`; ps are the others
 -- the first parameter is the branch that counts
 branch-cons (name, value) ps b (inl (same, v, token, value_is, b_is, later, more)) = (Some v, (same, token, value_is), later, more, b_is)
@@ -122,30 +117,3 @@ pub copied-or : (a b : Option (Bor (List ℕ))) → option_copied (option_or a b
 -- without a first value it is the second
 copied-or None b = refl
 copied-or (Some v) b = refl
-
--- what is left after the parameters of a Via is the end of the text
-pub branch-whole : (text : List ℕ) (b : Option (List ℕ)) (rest : List ℕ) → BranchFront text (b, rest) → (u : List ℕ) × (text ≡ u ++ rest)
-branch-whole text b rest (ps, all, is) = let u = front-params ps text rest all.0 in (u.0, u.2)
-
--- the parameters of a Via, their branch and what is left are read in one way
-pub one-tail : (text : List ℕ) → AtMostOne (TailFront text)
--- p and q are the parameters, b and d their branches, and r and s what is left; u and w are the texts of the parameters
-one-tail text ((p, b), r) ((q, d), s) (is, (u, u_is, behind)) (is_too, (w, w_is, behind_too)) =
-    let same : ◌≡◌ {A = Option (List ℕ) × List ℕ} (b, r) (d, s) = one-branch text (b, r) (d, s) is is_too in
-    -- what is left is the same, and so are the texts before it, and what follows their blanks
-    let rest : r ≡ s = ap (λ x. x.1) same in
-    let fronts : u ≡ w = (same_by_end u r w s (ap length rest) (sym u_is ∙ w_is)).0 in
-    let params : p ≡ q = same-behind w p q (subst (λ t. Behind t p) fronts behind) behind_too in
-    ap (λ x. ((x, b), r)) params ∙ ap (λ x. ((q, x.0), x.1)) same
-
--- where parameters are read with a branch, and the text of them is the one rest after its blanks, they are read with that text and that branch
-pub tail-found : (text params : List ℕ) (b : Option (List ℕ)) (rest : List ℕ) → ReadAs (BranchFront text) (b, rest) → IsOnlyBehind (take (length text - length rest) text) params → ReadAs (TailFront text) ((params, b), rest)
-tail-found text params b rest read behind =
-    -- the text of the parameters stands before what is left
-    let whole = branch-whole text b rest read.0 in
-    read-one (TailFront text) ((params, b), rest) (one-tail text)
-    (read.0, (take (length text - length rest) text, whole.1 ∙ ap (λ t. t ++ rest) (sym (front-is text whole.0 rest whole.1)), behind.0))
-
--- where no parameters of a Via are read with a branch, none are read with their text
-pub tail-missing : (text : List ℕ) → NotRead (BranchFront text) → NotRead (TailFront text)
-tail-missing text none x is = none (x.0.1, x.1) is.0

@@ -1,23 +1,20 @@
 -- Parameters are read one after another, and what is read is what the grammar has.
 -- In the lemmas ps are the parameters that are read of the text u, and r, rest and more are what is left after them.
 -- `ParamFront` is one parameter at the front of a text, `ParamsFront` some, and `AllParamsFront` all that stand there, each with what is left.
-use Rattle.std.proofs.Common.{◌≡◌, ◌↔◌, IsTrue, ℕ, ◌<◌, ◌≤◌, Bool, true, false, nat_eq, cond, ◌||◌, List, [], ◌∷◌, ◌++◌, Option, Some, None, length, refl, sym, ap, ◌∙◌, subst, inl, inr, arith}
-use Rattle.std.proofs.lemmas.Bool.{both_ways, or_cases, eqb-true, eq-eqb}
-use Rattle.std.proofs.lemmas.Option.{none-some}
+use Rattle.std.proofs.Common.{◌≡◌, ◌↔◌, IsTrue, ℕ, ◌<◌, ◌≤◌, Bool, true, false, nat_eq, ◌||◌, List, [], ◌∷◌, ◌++◌, Option, Some, None, length, refl, sym, ap, ◌∙◌, subst, inl, inr, arith}
+use Rattle.std.proofs.lemmas.Bool.{both_ways, or_cases, eqb-true}
 use Rattle.std.proofs.lemmas.List.{append_assoc, append-nil, length-append}
-use Rattle.sip_standard.specs.Text.{◌or◌}
+use Rattle.sip_standard.specs.Text.{◌or◌, ◌then◌, Optional}
 use Rattle.sip_standard.specs.Profile.{Token, Ipv6}
 use Rattle.sip_text.specs.Bytes.{semicolon, equals, dquote, left_bracket, right_bracket, is_token_byte}
-use Rattle.sip_text.specs.inner.Cut.{past}
-use Rattle.sip_text.proofs.cuts.CutLemmas.{past-some}
-use Rattle.sip_message.specs.Params.{OpensSolid, ParamText, ParamsText, ParamsPart, BehindBlanks}
 use Rattle.sip_standard.specs.Field.{is_lws_byte}
 use Rattle.sip_standard.specs.Via.{GenValue}
 use Rattle.sip_message.specs.inner.Marks.{comma, Mark}
 use Rattle.sip_message.specs.inner.Fronts.{StopsBlank, TokenFront, MarkFront, both}
-use Rattle.sip_message.specs.inner.ParamFronts.{Param, is_bare_byte, ValueFront, LedFront, ParamFront, ParamsFront, AllParamsFront}
+use Rattle.sip_message.specs.inner.ParamFronts.{Param, is_bare_byte, ValueFront, LedFront, ParamFront, ParamsFront, AllParamsFront, ParamText, ParamsText, GenericParams}
 use Rattle.sip_message.proofs.lemmas.text.Cuts.{All}
-use Rattle.sip_message.proofs.lemmas.text.Each.{each-sws, blank_is}
+use Rattle.sip_message.proofs.lemmas.text.Says.{says-many, many-says}
+use Rattle.sip_message.proofs.lemmas.text.Each.{blank_is}
 use Rattle.sip_message.proofs.lemmas.field.OneWay.{blank-token}
 use Rattle.sip_message.proofs.lemmas.front.Cuts.{NotRead, stops-byte}
 use Rattle.sip_message.proofs.lemmas.via.Protocol.{token-stops}
@@ -158,7 +155,7 @@ equals-token : (b : ℕ) → is_equals b ≡ true → is_token_byte b ≡ false
 equals-token b is = subst (λ x. is_token_byte x ≡ false) (sym (eqb-true b equals is)) refl
 
 -- where nothing or a separator follows a parameter, the parameter is read at the front of it and what follows
-param-front : (m x rest : List ℕ) (p : Param) → Mark semicolon m → ParamText x p → Next is_separator rest → ParamFront ((m ++ x) ++ rest) (p, rest)
+param-front : (m x rest : List ℕ) (p : Param) → Mark semicolon m → ParamText p x → Next is_separator rest → ParamFront ((m ++ x) ++ rest) (p, rest)
 -- a parameter without a value: its name is read, and no "=" stands after it
 param-front m x rest (name, None) mark (token, x_is) next =
     both (name ++ rest) (token-stops name rest token, (m, name ++ rest, mark, refl, append_assoc m x rest ∙ ap (λ t. m ++ (t ++ rest)) x_is))
@@ -178,25 +175,25 @@ param-front m x rest (name, Some value) mark (token, kind, (u, w, u_is, (e, v, e
         ∙ append_assoc name (e ++ value) rest ∙ ap (λ t. name ++ t) (append_assoc e value rest)
 
 -- where nothing or a separator follows parameters, a separator or nothing stands at the front of them and what follows
-pub params-next : (ps : List Param) (u rest : List ℕ) → ParamsText u ps → Next is_separator rest → Next is_separator (u ++ rest)
+pub params-next : (ps : List Param) (u rest : List ℕ) → ParamsText ps u → Next is_separator rest → Next is_separator (u ++ rest)
 -- without parameters, what follows stands at the front; else the ";" of the first one does
 params-next [] u rest is next = subst (λ t. Next is_separator (t ++ rest)) (sym is) next
-params-next (p ∷ ps) u rest (m, t, mark, more, whole) next =
-    subst (Next is_separator) (sym (ap (λ x. x ++ rest) whole ∙ append_assoc m t rest)) (mark-next is_separator semicolon m (t ++ rest) refl refl mark)
+params-next (p ∷ ps) u rest (v, y, (m, x, mark, param, v_is), more, whole) next =
+    subst (Next is_separator) (sym (ap (λ z. z ++ rest) (whole ∙ ap (λ z. z ++ y) v_is ∙ append_assoc m x y) ∙ append_assoc m (x ++ y) rest)) (mark-next is_separator semicolon m ((x ++ y) ++ rest) refl refl mark)
 
 -- where nothing or a separator follows parameters, they are read at the front of their text and what follows
-pub params-front : (ps : List Param) (u rest : List ℕ) → ParamsText u ps → Next is_separator rest → ParamsFront (u ++ rest) ps rest
+pub params-front : (ps : List Param) (u rest : List ℕ) → ParamsText ps u → Next is_separator rest → ParamsFront (u ++ rest) ps rest
 params-front [] u rest is next = sym (ap (λ t. t ++ rest) is)
--- p is the first parameter: m is the ";" with its blanks, x its text, and y that of the others; t is x and y
-params-front (p ∷ ps) u rest (m, t, mark, (x, y, param, more, t_is), whole) next =
+-- p is the first parameter: m is the ";" with its blanks, x its text, and y that of the others
+params-front (p ∷ ps) u rest (v, y, (m, x, mark, param, v_is), more, whole) next =
     (y ++ rest, subst (λ z. ParamFront z (p, y ++ rest)) (sym flat) (param-front m x (y ++ rest) p mark param (params-next ps y rest more next)), params-front ps y rest more next)
   where
     -- the text with what follows is the first parameter, and then the others with what follows
     flat : u ++ rest ≡ (m ++ x) ++ (y ++ rest)
-    flat = ap (λ z. z ++ rest) (whole ∙ ap (λ z. m ++ z) t_is ∙ sym (append_assoc m x y)) ∙ append_assoc (m ++ x) y rest
+    flat = ap (λ z. z ++ rest) (whole ∙ ap (λ z. z ++ y) v_is) ∙ append_assoc (m ++ x) y rest
 
 -- where a parameter is read at the front of a text, the text begins with ";" and the text of the parameter
-front-param : (text : List ℕ) (p : Param) (rest : List ℕ) → ParamFront text (p, rest) → (m : List ℕ) × (x : List ℕ) × Mark semicolon m × ParamText x p × (text ≡ m ++ (x ++ rest))
+front-param : (text : List ℕ) (p : Param) (rest : List ℕ) → ParamFront text (p, rest) → (m : List ℕ) × (x : List ℕ) × Mark semicolon m × ParamText p x × (text ≡ m ++ (x ++ rest))
 front-param text p rest (both inner mark (both (name, r) token (both (value, s) led is))) =
     let last : rest ≡ s = ap (λ x. x.1) is in
     let param : p ≡ (name, value) = ap (λ x. x.0) is in
@@ -205,7 +202,7 @@ front-param text p rest (both inner mark (both (name, r) token (both (value, s) 
       mark.1.0,
       found.0,
       mark.1.2,
-      subst (ParamText found.0) (sym param) found.1,
+      subst (λ q. ParamText q found.0) (sym param) found.1,
       mark.1.4 ∙ ap (λ z. mark.1.0 ++ z) (mark.1.3 ∙ found.2 ∙ ap (λ z. found.0 ++ z) (sym last)),
     )
   where
@@ -214,7 +211,7 @@ front-param text p rest (both inner mark (both (name, r) token (both (value, s) 
     token_whole = token.2.4 ∙ ap (λ z. z ++ token.2.1) token.2.2 ∙ ap (λ z. name ++ z) token.2.3
 
     -- what is left after the name is the text of the parameter's value and what follows, whether it has a value or none
-    at : (v : Option (List ℕ)) → LedFront equals ValueFront r (v, s) → (x : List ℕ) × ParamText x (name, v) × (inner ≡ x ++ s)
+    at : (v : Option (List ℕ)) → LedFront equals ValueFront r (v, s) → (x : List ℕ) × ParamText (name, v) x × (inner ≡ x ++ s)
     -- without a value the text is the name; with one it is the name, the "=" with its blanks, equal.1.0, and the value w
     at None (none, s_is) = (name, (token.0, refl), token_whole ∙ ap (λ z. name ++ z) (sym s_is))
     at (Some w) (t, equal, of) = (
@@ -226,16 +223,16 @@ front-param text p rest (both inner mark (both (name, r) token (both (value, s) 
     )
 
 -- where parameters are read at the front of a text, the text begins with the text of these parameters
-pub front-params : (ps : List Param) (text rest : List ℕ) → ParamsFront text ps rest → (u : List ℕ) × ParamsText u ps × (text ≡ u ++ rest)
+pub front-params : (ps : List Param) (text rest : List ℕ) → ParamsFront text ps rest → (u : List ℕ) × ParamsText ps u × (text ≡ u ++ rest)
 -- the text of no parameters is empty
 front-params [] text rest is = ([], refl, sym is)
 front-params (p ∷ ps) text rest (more, is, later) =
     -- `one` is the text of the first parameter, its ";" before it, and `others` the text of those after it
     let one = front-param text p more is in
     let others = front-params ps more rest later in (
-      one.0 ++ (one.1 ++ others.0),
-      (one.0, one.1 ++ others.0, one.2, (one.1, others.0, one.3, others.1, refl), refl),
-      one.4 ∙ ap (λ z. one.0 ++ (one.1 ++ z)) others.2 ∙ ap (λ z. one.0 ++ z) (sym (append_assoc one.1 others.0 rest)) ∙ sym (append_assoc one.0 (one.1 ++ others.0) rest),
+      (one.0 ++ one.1) ++ others.0,
+      (one.0 ++ one.1, others.0, (one.0, one.1, one.2, one.3, refl), others.1, refl),
+      one.4 ∙ sym (append_assoc one.0 one.1 more) ∙ ap (λ z. (one.0 ++ one.1) ++ z) others.2 ∙ sym (append_assoc (one.0 ++ one.1) others.0 rest),
     )
 
 -- where one of some bytes stands after the blanks of a text, and ";" is none of them, no parameter is read
@@ -243,14 +240,14 @@ pub no-param : (these : ℕ → Bool) (text : List ℕ) → these semicolon ≡ 
 no-param these text fails next x (both inner mark more) = next-other these semicolon text refl fails next inner mark
 
 -- where parameters are read at the front of a text, and nothing is left, the text is these parameters
-pub params-yes : (text : List ℕ) (ps : List Param) → ParamsFront text ps [] → ParamsText text ps
+pub params-yes : (text : List ℕ) (ps : List Param) → ParamsFront text ps [] → ParamsText ps text
 params-yes text ps so =
     -- nothing is left, so the text is the parameters that stand at its front
     let is = front-params ps text [] so in
-    subst (λ t. ParamsText t ps) (sym (is.2 ∙ append-nil is.0)) is.1
+    subst (ParamsText ps) (sym (is.2 ∙ append-nil is.0)) is.1
 
 -- where a text is parameters, nothing is left after all that are read at its front
-pub params-is : (text : List ℕ) (ps qs : List Param) (rest : List ℕ) → AllParamsFront text (ps, rest) → ParamsText text qs → rest ≡ []
+pub params-is : (text : List ℕ) (ps qs : List Param) (rest : List ℕ) → AllParamsFront text (ps, rest) → ParamsText qs text → rest ≡ []
 params-is text ps qs rest all is =
     -- the parameters qs are read at the front of the text, and nothing is left after them
     let front : ParamsFront text qs [] = subst (λ t. ParamsFront t qs []) (append-nil text) (params-front qs text [] is (inl refl)) in
@@ -258,85 +255,32 @@ params-is text ps qs rest all is =
     let none : NotRead (ParamFront []) = no-param (λ _. false) [] refl (inl refl) in
     ap (λ x. x.1) (one-all_params text (ps, rest) (qs, []) all (front, none))
 
--- a text of parameters that is not empty, and begins with no blank, begins with ";"
-pub params-open : (b : ℕ) (text : List ℕ) (ps : List Param) → ParamsPart (b ∷ text) ps → b ≡ semicolon
--- without parameters the text would be empty
-params-open b text [] (opens, is) = absurd (omega (arith, ap length is))
--- m is the ";" with its blanks, of which s are those before it and c is the rest; t is what follows
-params-open b text (p ∷ ps) (opens, (m, t, (s, c, sws, (byte, after, byte_is, after_is, c_is), m_is), more, whole)) = at s (each-sws s sws) flat
-  where
-    -- the text is blanks, ";", blanks and what follows
-    flat : b ∷ text ≡ s ++ (semicolon ∷ (after ++ t))
-    flat = whole ∙ ap (λ x. x ++ t) (m_is ∙ ap (λ x. s ++ x) (c_is ∙ ap (λ x. x ++ after) byte_is)) ∙ append_assoc s (semicolon ∷ after) t
+-- a parameter with its name and its value is a generic-param after its ";"
+pub text-generic : (p : Param) (x : List ℕ) → (Mark semicolon then ParamText p) x → (Mark semicolon then (Token then Optional (Mark equals then GenValue))) x
+-- a parameter without a value is its name
+text-generic (name, None) x (m, t, mark, (token, t_is), whole) = (m, t, mark, (t, [], subst Token (sym t_is) token, inl refl, sym (append-nil t)), whole)
+-- u is the name's text and w what follows: e is the "=" and v the value
+text-generic (name, Some value) x (m, t, mark, (token, kind, (u, w, u_is, (e, v, equal, v_is, w_is), t_is)), whole) =
+    (m, t, mark, (u, w, subst Token (sym u_is) token, inr (e, v, equal, subst GenValue (sym v_is) kind, w_is), t_is), whole)
 
-    -- no blank stands before the ";", so it is the first byte
-    at : (u : List ℕ) → All is_lws_byte u → b ∷ text ≡ u ++ (semicolon ∷ (after ++ t)) → b ≡ semicolon
-    at [] all same = cc
-    at (a ∷ u) all same =
-        let first : b ≡ a = cc in
-        absurd (both_ways (is_lws_byte b) opens (ap is_lws_byte first ∙ all.0))
+-- a generic-param after its ";" has a name, and a value if there is one
+generic-text : (x : List ℕ) → (Mark semicolon then (Token then Optional (Mark equals then GenValue))) x → (p : Param) × (Mark semicolon then ParamText p) x
+generic-text x (m, t, mark, (u, w, token, inl none, t_is), whole) = ((u, None), (m, t, mark, (token, t_is ∙ ap (λ z. u ++ z) none ∙ append-nil u), whole))
+generic-text x (m, t, mark, (u, w, token, inr (e, v, equal, kind, w_is), t_is), whole) =
+    ((u, Some v), (m, t, mark, (token, kind, (u, w, refl, (e, v, equal, refl, w_is), t_is)), whole))
 
--- a text of parameters that begins with no blank and not with ";" is empty
-pub params-closed : (text : List ℕ) (ps : List Param) → past semicolon text ≡ None → ParamsPart text ps → text ≡ []
--- a text that is not empty begins with ";", and so the test for ";" would have passed
-params-closed [] ps none is = refl
-params-closed (b ∷ text) ps none is =
-    absurd (none-some text (sym none ∙ ap (λ same. cond same (Some text) None) (eq-eqb b semicolon (params-open b text ps is))))
-
--- a text that begins with ";" begins with no blank
-pub opens-semicolon : (text rest : List ℕ) → past semicolon text ≡ Some rest → OpensSolid text
-opens-semicolon text rest found = subst OpensSolid (sym (past-some semicolon text rest found)) refl
-
--- the text is parameters, from their first ";" on
-abbrev pub AreParams : List ℕ → Type 0
-AreParams text = (ps : List Param) × ParamsPart text ps
-
--- a text that begins with ";" is parameters exactly if nothing is left after all that are read at its front
-pub params-some : (text inner rest : List ℕ) → past semicolon text ≡ Some inner → (ps : List Param) × AllParamsFront text (ps, rest) → IsTrue (nat_eq (length rest) 0) ↔ AreParams text
-params-some text inner rest found all = (to rest all.0 all.1, from)
+-- a text is parameters exactly if nothing is left after all that are read at its front
+pub decides-params : (text rest : List ℕ) → (ps : List Param) × AllParamsFront text (ps, rest) → IsTrue (nat_eq (length rest) 0) ↔ GenericParams text
+decides-params text rest (ps, all) = (to rest all.0, from)
   where
     -- where nothing is left after the parameters that are read, the text is these parameters
-    to : (r : List ℕ) (ps : List Param) → AllParamsFront text (ps, r) → IsTrue (nat_eq (length r) 0) → AreParams text
+    to : (r : List ℕ) → ParamsFront text ps r → IsTrue (nat_eq (length r) 0) → GenericParams text
     -- nothing is left; else the length of what is left would not be 0
-    to [] ps is none = (ps, (opens-semicolon text inner found, params-yes text ps is.0))
-    to (b ∷ r) ps is none = absurd (omega (arith, eqb-true (length (b ∷ r)) 0 none))
+    to [] is none = says-many _ _ text-generic ps text (params-yes text ps is)
+    to (b ∷ r) is none = absurd (omega (arith, eqb-true (length (b ∷ r)) 0 none))
 
     -- where the text is parameters, nothing is left after them
-    from : AreParams text → IsTrue (nat_eq (length rest) 0)
-    from are = ap (λ t. nat_eq (length t) 0) (params-is text all.0 are.0 rest all.1 are.1.1)
-
--- a text that does not begin with ";" is parameters exactly if it is empty
-pub params-none : (text : List ℕ) → past semicolon text ≡ None → IsTrue (nat_eq (length text) 0) ↔ AreParams text
-params-none text none = (to text, (λ are. ap (λ t. nat_eq (length t) 0) (params-closed text are.0 none are.1)))
-  where
-    -- an empty text is no parameters, which is allowed
-    to : (t : List ℕ) → IsTrue (nat_eq (length t) 0) → AreParams t
-    -- the empty text is that of no parameters; the length of another text is not 0
-    to [] is = ([], (tt, refl))
-    to (b ∷ t) is = absurd (omega (arith, eqb-true (length (b ∷ t)) 0 is))
-
--- where a part is parameters, the part with blanks before it is these parameters
-pub behind-params : (part : List ℕ) (ps : List Param) (q : List ℕ) → ParamsPart part ps → BehindBlanks part q → ParamsText q ps
--- the part is empty, and so is the text, since no blanks stand before an empty part
-behind-params [] ps q is q_is = subst (λ t. ParamsText t ps) (sym q_is) is.1
--- a part that is not empty has a parameter
-behind-params (b ∷ part) [] q is blanks = absurd (omega (arith, ap length is.1))
--- m is the ";" with its blanks, of which s are those before it and c is the rest; t is what follows
-behind-params (b ∷ part) (p ∷ ps) q (opens, (m, t, (s, c, sws, mark, m_is), more, whole)) (before, tail, before_is, tail_is, q_is) =
-    (before ++ c, t, (before, c, before_is, mark, refl), more, q_is ∙ ap (λ x. before ++ x) (tail_is ∙ flat ∙ ap (λ x. x ++ (c ++ t)) none) ∙ sym (append_assoc before c t))
-  where
-    -- the part is the blanks of its mark, the mark and what follows
-    flat : b ∷ part ≡ s ++ (c ++ t)
-    flat = whole ∙ ap (λ x. x ++ t) m_is ∙ append_assoc s c t
-
-    -- no blank stands before the part
-    empty : (u : List ℕ) → All is_lws_byte u → b ∷ part ≡ u ++ (c ++ t) → u ≡ []
-    -- a blank before the mark would be the first byte of the part, which is no blank
-    empty [] all same = refl
-    empty (a ∷ u) all same =
-        let first : b ≡ a = cc in
-        absurd (both_ways (is_lws_byte b) opens (ap is_lws_byte first ∙ all.0))
-
-    -- the mark has no blanks before it, since the part begins with none
-    none : s ≡ []
-    none = empty s (each-sws s sws) flat
+    from : GenericParams text → IsTrue (nat_eq (length rest) 0)
+    from are =
+        let qs = many-says (λ p. Mark semicolon then ParamText p) _ generic-text text are in
+        ap (λ t. nat_eq (length t) 0) (params-is text ps qs.0 rest all qs.1)

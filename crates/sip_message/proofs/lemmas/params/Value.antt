@@ -7,11 +7,10 @@ use Rattle.std.proofs.lemmas.Option.{none-some}
 use Rattle.std.proofs.lemmas.List.{append_assoc, append-nil, length-append}
 use Rattle.std.proofs.Math.Seq.{take-append_seam}
 use Rattle.sip_standard.specs.Text.{◌or◌, ◌then◌}
-use Rattle.sip_standard.specs.Profile.{Token, Sws, Quoted, Ipv6, Bracketed}
+use Rattle.sip_standard.specs.Profile.{Token, Sws, Quoted, Ipv6, Bracketed, Host}
 use Rattle.sip_text.specs.Bytes.{colon, dquote, left_bracket, right_bracket, is_token_byte}
-use Rattle.sip_text.specs.Parts.{led, HasFront, IsLongestFront, IsOnlyFront, IsOnlyValue}
-use Rattle.sip_text.specs.Host.{HostParts, HostText, name, v4, v6}
-use Rattle.sip_text.specs.inner.Cut.{past, before, behind}
+use Rattle.sip_text.specs.Front.{HasFront, IsLongestFront, IsOnlyFront}
+use Rattle.sip_text.specs.inner.Cut.{past, before, behind, led}
 use Rattle.sip_text.proofs.cuts.CutLemmas.{past-some, cut-whole, lacks-before, behind-led}
 use Rattle.sip_text.proofs.texts.ManyLemmas.{front-rest, front-whole}
 use Rattle.sip_standard.specs.Field.{is_lws_byte}
@@ -22,6 +21,7 @@ use Rattle.sip_message.proofs.lemmas.text.Each.{each-sws}
 use Rattle.sip_message.proofs.lemmas.field.OneWay.{each-token}
 use Rattle.sip_message.proofs.lemmas.front.Cuts.{ReadAs, NotRead, token-cut}
 use Rattle.sip_message.proofs.lemmas.front.OneWay.{read-one, bare-all, each-bare, each-hostname, each-v4, one-bare, one-quoted, one-bracket, one-reference, one-value, reference-bracket}
+use Rattle.sip_message.specs.inner.Only.{IsOnlyValue}
 use Rattle.sip_message.proofs.lemmas.value.Trimmed.{length-none}
 
 -- where a text is u and r, it is u without its last `length r` bytes
@@ -164,26 +164,25 @@ closed-short text inner rest found ends =
     rest-short text (left_bracket ∷ (before right_bracket inner ++ right_bracket ∷ [])) rest (closed text inner rest found ends)
 
 -- what stands in brackets, and is a host, is an IPv6 address in brackets
-pub bracket-host : (text part rest : List ℕ) (h : HostParts) → BracketFront text (part, rest) → HostText part h → Bracketed part
-bracket-host text part rest (v6 x) bracket is = is.0
+pub bracket-host : (text part rest : List ℕ) → BracketFront text (part, rest) → Host part → Bracketed part
+bracket-host text part rest bracket (inr (inr reference)) = reference
 -- a name or an IPv4 address would begin with "[", which is no byte of a token
-bracket-host text part rest (name x) (i, lacks, part_is, whole) is =
-    absurd (both_ways (is_token_byte left_bracket) refl (subst (All is_token_byte) part_is (each-hostname part is.0)).0)
-bracket-host text part rest (v4 x) (i, lacks, part_is, whole) is =
-    absurd (both_ways (is_token_byte left_bracket) refl (subst (All is_token_byte) part_is (each-v4 part is.0)).0)
+bracket-host text part rest (i, lacks, part_is, whole) (inl hostname) =
+    absurd (both_ways (is_token_byte left_bracket) refl (subst (All is_token_byte) part_is (each-hostname part hostname)).0)
+bracket-host text part rest (i, lacks, part_is, whole) (inr (inl address)) =
+    absurd (both_ways (is_token_byte left_bracket) refl (subst (All is_token_byte) part_is (each-v4 part address)).0)
 
 -- where what is read in brackets is a host, it is read as an IPv6 address in brackets
-pub one-host_reference : (text part rest : List ℕ) (h : HostParts) → ReadAs (BracketFront text) (part, rest) → HostText part h → ReadAs (ReferenceFront text) (part, rest)
-one-host_reference text part rest h bracket host =
-    read-one (ReferenceFront text) (part, rest) (one-reference text) (bracket-host text part rest h bracket.0 host, bracket.0.3)
+pub one-host_reference : (text part rest : List ℕ) → ReadAs (BracketFront text) (part, rest) → Host part → ReadAs (ReferenceFront text) (part, rest)
+one-host_reference text part rest bracket host =
+    read-one (ReferenceFront text) (part, rest) (one-reference text) (bracket-host text part rest bracket.0 host, bracket.0.3)
 
 -- where what is read in brackets is no host, no IPv6 address in brackets is read
-pub no-host_reference : (text part rest : List ℕ) → ReadAs (BracketFront text) (part, rest) → ((h : HostParts) → HostText part h → ⊥) → NotRead (ReferenceFront text)
+pub no-host_reference : (text part rest : List ℕ) → ReadAs (BracketFront text) (part, rest) → (Host part → ⊥) → NotRead (ReferenceFront text)
 no-host_reference text part rest bracket none x reference =
     -- any address in brackets that is read is what was read in brackets, and so would be a host
     let same : x ≡ (part, rest) = bracket.1 x (reference-bracket text x reference) in
-    let is : Bracketed part = subst Bracketed (ap (λ y. y.0) same) reference.0 in
-    none (v6 part) (is, refl)
+    none (inr (inr (subst Bracketed (ap (λ y. y.0) same) reference.0)))
 
 -- a quoted value at the front is blanks and a quoted string there
 quoted-string : (text : List ℕ) (x : List ℕ × List ℕ) → QuotedFront text x → HasFront (Sws then Quoted) text (length (x.0))

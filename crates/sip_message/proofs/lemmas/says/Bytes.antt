@@ -16,15 +16,13 @@ use Rattle.sip_text.specs.Bytes.{Byte}
 use Rattle.sip_message.specs.declared.name.Known.{Known}
 use Rattle.sip_message.specs.declared.name.Known.TheVariants as known_name
 use Rattle.sip_standard.specs.declared.fault.Reason.TheVariants as reason
-use Rattle.sip_message.specs.Params.{OpensSolid}
-use Rattle.sip_message.specs.inner.FieldText.{EndsSolid, Row}
+use Rattle.sip_message.specs.inner.FieldText.{EndsSolid, Row, OpensSolid}
 use Rattle.sip_standard.specs.Field.{is_lws_byte, full_name, RowSays, SaidField, all, IsTrimmed, FieldSays, FieldsSay, FirstOf, NoSecond, OneOf, NamesSay}
 use Rattle.sip_message.specs.inner.Lines.{HasNoBareEnd}
 use Rattle.sip_standard.specs.StartLine.{StartLine, request, status, StartSays}
 use Rattle.sip_message.specs.inner.StartLine.{StartText}
 use Rattle.sip_message.specs.Name.{FieldName, name_of, is_name_of}
 use Rattle.sip_message.specs.Field.{Field}
-use Rattle.sip_message.specs.Elements.{Element, ElementsText}
 use Rattle.sip_standard.specs.Body.{length_in, cut_body, MethodSays, StreamSays, BodySays}
 use Rattle.sip_message.specs.Message.{Message}
 use Rattle.sip_message.specs.inner.MessageText.{found, found_from, is_stream, IsStream, MethodFits, HasLength, IsEnough, IsNoMore, content_length}
@@ -33,9 +31,7 @@ use Rattle.sip_standard.specs.Faults.{fault_in_head, fault_in_line, fault_in_bod
 use Rattle.sip_message.specs.inner.Faults.{HasName, IsValue, FieldOf, FieldsOf, NamesOf, BodyOf, LinesOf, ReadOf}
 use Rattle.sip_standard.specs.Lines.{CutSays}
 use Rattle.sip_standard.specs.Says.{LinesTell, BytesTell}
-use Rattle.sip_message.specs.SaidOf.{said_via}
 use Rattle.sip_message.proofs.lemmas.says.Alike.{Same, Equal, same-demand, same-holds, same-gives, same-self, same-then, same-next}
-use Rattle.sip_message.proofs.lemmas.says.Via.{vias-said, said-vias, elements-first, via-elements}
 use Rattle.sip_message.proofs.lemmas.says.Values.{start-said, said-start, cseq-said, said-cseq}
 use Rattle.sip_message.proofs.lemmas.says.Names.{row-said, named-via, named-from, named-to, named-call-id, named-cseq, named-content-length}
 
@@ -218,23 +214,11 @@ kind-stream t (inr tls) = or_right (bytes_eq (folded t) (codes "tcp")) (bytes_eq
 
 -- where the top Via's transport is a stream by the readers, it is one by the definitions
 stream-said : (via : List ℕ) → IsStream via → StreamSays via
--- v and vias are the elements by the readers, and `row` is them with their texts
-stream-said via (transport, (v, vias, text, transport_is), stream) =
-    let row = via-elements via v vias text in
-    (said_via (row.0, v), map said_via row.1, vias-said ((row.0, v) ∷ row.1) via row.2, stream-kind v.transport (subst (λ t. is_stream t ≡ true) transport_is stream))
+stream-said via (transport, (v, more, says, transport_is), stream) = (v, more, says, stream-kind v.transport (subst (λ t. is_stream t ≡ true) transport_is stream))
 
 -- where the top Via's transport is a stream by the definitions, it is one by the readers
 said-stream : (via : List ℕ) → StreamSays via → IsStream via
--- es are the elements that the readers read of the value
-said-stream via (s, more, said, kind) = let es = said-vias (s ∷ more) via said in at es.0 es.1 es.2
-  where
-    -- there is an element, and its transport is the top one
-    at : (es : List Element) → ElementsText via es → s ∷ more ≡ map said_via es → IsStream via
-    at [] text are = absurd text
-    at (e ∷ es) text are =
-        let first : s ≡ said_via e = cc in
-        let row = elements-first via e es text in
-        (e.1.transport, (e.1, row.0, row.1, refl), kind-stream e.1.transport (subst (AnyCase "tcp" or AnyCase "tls") (ap (λ x. x.transport) first) kind))
+said-stream via (v, more, says, kind) = (v.transport, (v, more, says, refl), kind-stream v.transport kind)
 
 -- where the method of CSeq fits the start line by the readers, it fits by the definitions
 method-said : (start : StartLine) (cseq : List ℕ) → MethodFits start cseq → MethodSays start cseq

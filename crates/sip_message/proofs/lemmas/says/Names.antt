@@ -1,7 +1,7 @@
 -- The names of fields, and what a field of a name may hold.
 -- In the lemmas f is the text of a name, s the spelling of a known one, v a value, and k a known name.
 -- `Ways A B` says that A gives B, and B gives A; a foreign text (`IsForeign`) is no spelling of a known name.
-use Rattle.std.proofs.Common.{◌≡◌, ℕ, Bool, true, false, cond, ◌||◌, List, [], ◌∷◌, map, refl, sym, ap, ◌∙◌, subst}
+use Rattle.std.proofs.Common.{◌≡◌, ℕ, Bool, true, false, cond, ◌||◌, List, [], ◌∷◌, refl, sym, ap, ◌∙◌, subst}
 use Rattle.std.specs.Bool.{Decides}
 use Rattle.std.specs.Prelude.{bytes_eq, codes}
 use Rattle.std.specs.List.{AllByRecursion}
@@ -12,12 +12,9 @@ use Rattle.sip_message.specs.declared.name.Known.{Known}
 use Rattle.sip_message.specs.declared.name.Known.TheVariants as known_name
 use Rattle.sip_message.specs.Name.{FieldName, known, other, spellings, name_by, name_of, is_name_of}
 use Rattle.sip_message.specs.inner.FieldText.{Row}
-use Rattle.sip_standard.specs.Via.{SaidVia, ViasSay}
-use Rattle.sip_standard.specs.Values.{Address, CSeqSays}
+use Rattle.sip_standard.specs.Values.{CSeqSays}
 use Rattle.sip_standard.specs.Field.{full_name, RowSays}
-use Rattle.sip_message.specs.SaidOf.{said_via}
-use Rattle.sip_message.proofs.lemmas.says.Via.{vias-said, said-vias, via-elements, elements-via}
-use Rattle.sip_message.proofs.lemmas.says.Values.{address-said, said-address, cseq-said, said-cseq}
+use Rattle.sip_message.proofs.lemmas.says.Values.{cseq-said, said-cseq}
 
 -- what holds of each spelling and its name, and of a text that is none of them, holds of the name that a text spells
 by-name : (P : List ℕ → FieldName → Type 0) (list : List (List ℕ × Known)) (text : List ℕ) → AllByRecursion (λ s. P (s.0) (known (s.1))) list
@@ -78,19 +75,6 @@ foreign-row f value (via, (v, (from, (f_, (to, (t, (call_id, (i, (cseq, (content
     -- so the choice comes to what any other field may hold, which is what the row has
     ((λ is. one.1 (two.1 (three.1 (four.1 (five.1 is))))), (λ is. five.0 (four.0 (three.0 (two.0 (one.0 is))))))
 
--- a value is one of Via's row exactly if it says elements of Via by the definitions
-via-row : (v : List ℕ) → Ways (Row (known known_name.Via) v) ((vias : List SaidVia) × ViasSay vias v)
-via-row v = (
-  -- of a value of the row: its elements, with their texts, are what it says
-  (λ row. let es = via-elements v row.0 row.1 row.2 in (map said_via ((es.0, row.0) ∷ es.1), vias-said ((es.0, row.0) ∷ es.1) v es.2)),
-  -- of a value that says elements: they are its elements
-  (λ said. let es = said-vias said.0 v said.1 in elements-via v es.0 es.1),
-)
-
--- the row of From asks for an address
-address-row : (v : List ℕ) → Ways (Row (known known_name.From) v) (Address v)
-address-row v = ((λ row. address-said v row.0 row.1), said-address v)
-
 -- a value is one of CSeq's row exactly if it says a number and a method by the definitions
 cseq-row : (v : List ℕ) → Ways (Row (known known_name.CSeq) v) ((said : ℕ × List ℕ) × CSeqSays said v)
 cseq-row v = ((λ row. ((row.0, row.1), cseq-said v row.0 row.1 row.2)), at)
@@ -108,7 +92,7 @@ pub row-said : (token v : List ℕ) → Ways (Row (name_of token) v) (RowSays (f
 row-said token v =
     -- each spelling has the row of its name, in the order of the list of spellings; a text that is none of them has that of a foreign name
     by-name (λ f name. Ways (Row name v) (RowSays (full_name f) v)) spellings token
-    (via-row v, (via-row v, (address-row v, (address-row v, (address-row v, (address-row v, (same-row _, (same-row _, (cseq-row v, (same-row _, (same-row _, (same-row _, (same-row _, (same-row _, (same-row _, (same-row _, (same-row _, (same-row _, (same-row _, (same-row _, (same-row _, (same-row _, tt))))))))))))))))))))))
+    (same-row _, (same-row _, (same-row _, (same-row _, (same-row _, (same-row _, (same-row _, (same-row _, (cseq-row v, (same-row _, (same-row _, (same-row _, (same-row _, (same-row _, (same-row _, (same-row _, (same-row _, (same-row _, (same-row _, (same-row _, (same-row _, (same-row _, tt))))))))))))))))))))))
     (λ foreign. let row = foreign-row (folded token) v foreign in subst (λ f. Ways (Row (other token) v) (RowSays f v)) (sym (foreign-name (folded token) foreign)) row)
 
 -- the name that a token spells is the known name k exactly if its full form has the bytes `key`

@@ -2,7 +2,7 @@
 -- In the lemmas s and t are what bytes say, or a and b with faults among them, r is their reading, and m, gs and p are a message, its fields as they are
 -- said, and its parts.
 -- What bytes tell (`BytesTell`) is a start line, fields and a body, or a fault; what they say (`Says`) is also what the fields say.
-use Rattle.std.proofs.Common.{◌≡◌, ℕ, List, [], ◌∷◌, map, refl, sym, ap, ◌∙◌, subst}
+use Rattle.std.proofs.Common.{◌≡◌, ℕ, List, ◌∷◌, map, refl, sym, ap, ◌∙◌, subst}
 use Rattle.std.specs.Prelude.{codes, bytes_eq}
 use Rattle.std.specs.List.{join_with_byte}
 use Prim.Native.String.{String}
@@ -12,29 +12,25 @@ use Rattle.sip_message.specs.declared.name.Known.TheVariants as known_name
 use Rattle.sip_message.specs.Name.{name_of, is_name_of}
 use Rattle.sip_message.specs.inner.Marks.{comma}
 use Rattle.sip_standard.specs.StartLine.{StartLine}
-use Rattle.sip_message.specs.Address.{AddressParts}
-use Rattle.sip_message.specs.Field.{Field}
-use Rattle.sip_message.specs.Elements.{Element, AreElements, values}
+use Rattle.sip_message.specs.Field.{Field, values}
 use Rattle.sip_message.specs.Message.{Message}
 use Rattle.sip_message.specs.inner.MessageText.{MessageText}
 use Rattle.sip_message.specs.inner.Kept.{Keeps}
 use Rattle.sip_message.specs.Only.{IsOnly}
 use Rattle.sip_standard.specs.Outcome.{Outcome, gives, stops, passes, stopped}
 use Rattle.sip_message.specs.inner.Faults.{ReadOf}
-use Rattle.sip_message.specs.Reading.{Reading, Parts, HasParts, AddressValue}
+use Rattle.sip_message.specs.Reading.{Reading, Parts, HasParts}
 use Rattle.sip_message.specs.Reads.{Reads}
-use Rattle.sip_standard.specs.Via.{SaidVia}
 use Rattle.sip_standard.specs.Field.{full_name, SaidField, said_values}
 use Rattle.sip_standard.specs.Says.{Said, ViasTell, IsFirstOf, FieldsTell, BytesTell, Says}
-use Rattle.sip_message.specs.SaidOf.{said_via, said_of}
+use Rattle.sip_message.specs.SaidOf.{said_of}
 use Rattle.sip_standard.specs.Case.{folded}
-use Rattle.sip_message.proofs.lemmas.asked.Parts.{found-values, has-parts}
+use Rattle.sip_message.proofs.lemmas.asked.Parts.{found-values}
 use Rattle.sip_message.proofs.lemmas.asked.OneWay.{parts-one}
 use Rattle.sip_message.proofs.lemmas.message.Outcome.{no_value, given, fault_is}
 use Rattle.sip_message.proofs.lemmas.message.Faults.{read-text, text-read, one-read}
 use Rattle.sip_message.proofs.lemmas.message.Views.{same_reading}
 use Rattle.sip_message.proofs.lemmas.says.Alike.{Alike}
-use Rattle.sip_message.proofs.lemmas.says.Via.{are-said, said-are}
 use Rattle.sip_message.proofs.lemmas.says.Names.{named-via, named-from, named-to, named-call-id, named-cseq, named-route}
 use Rattle.sip_message.proofs.lemmas.says.Bytes.{AreFields, IsTold, all-found, same-read}
 use Rattle.sip_message.proofs.lemmas.says.Told.{text-tells, tells-text}
@@ -45,71 +41,40 @@ values-said : (k : Known) (key : String) → ((token : List ℕ) → is_name_of 
 -- both lists are the values that are found, without the numbers of their lines
 values-said k key same fs gs are = found-values 1 k fs ∙ ap (map (λ found. found.1)) (all-found k key same 1 fs gs are)
 
--- a list has one first element
-one-first : (vs : List (List ℕ)) (a b : List ℕ) → IsFirstOf vs a → IsFirstOf vs b → a ≡ b
-one-first vs a b (more, first) (later, other) = let same : a ∷ more ≡ b ∷ later = sym first ∙ other in cc
-
--- an address keeps the whole text that it is read from
-whole-of : (a : List ℕ × AddressParts) (text : List ℕ) → AddressValue text a → text ≡ a.0
-whole-of (whole, a) text (address, same) = sym same
-
 -- the parts that fields as they are kept have are what the fields as they are said tell
 parts-tell : (m : Message) (start : StartLine) (gs : List SaidField) (body : List ℕ) (p : Parts) → IsTold m (start, gs, body) → HasParts m.fields p → FieldsTell start gs (said_of (record { message = m; parts = p }))
-parts-tell m start gs body p (start_is, are, body_is) parts =
-    let via = values-said known_name.Via "via" named-via m.fields gs are in
-    let from = values-said known_name.From "from" named-from m.fields gs are in
-    let to = values-said known_name.To "to" named-to m.fields gs are in
-    let call_id = values-said known_name.CallId "call-id" named-call-id m.fields gs are in
-    let cseq = values-said known_name.CSeq "cseq" named-cseq m.fields gs are in
-    let route = values-said known_name.Route "route" named-route m.fields gs are in
-    -- each named value that is kept is the one that is said
-    record {
-      start_is = start_is;
-      vias = subst (λ vs. ViasTell vs (map said_via (p.via ∷ p.others))) via (are-said (values known_name.Via m.fields) (p.via ∷ p.others) parts.vias);
-      from = subst (IsFirstOf (said_values "from" gs)) (whole-of p.from parts.from.0 parts.from.2) (subst (λ vs. IsFirstOf vs parts.from.0) from parts.from.1);
-      to = subst (IsFirstOf (said_values "to" gs)) (whole-of p.to parts.to.0 parts.to.2) (subst (λ vs. IsFirstOf vs parts.to.0) to parts.to.1);
-      call_id = subst (λ vs. IsFirstOf vs p.call_id) call_id parts.call_id;
-      cseq = (parts.cseq.0, subst (λ vs. IsFirstOf vs parts.cseq.0) cseq parts.cseq.1, parts.cseq.2);
-      route_is = ap (join_with_byte comma) route;
-    }
+parts-tell m start gs body p (start_is, are, body_is) parts = record {
+  start_is = start_is;
+  -- each named value that is kept is the one that is said
+  vias = subst (λ vs. ViasTell vs (p.via ∷ p.others)) (values-said known_name.Via "via" named-via m.fields gs are) parts.vias;
+  from = subst (λ vs. IsFirstOf vs p.from) (values-said known_name.From "from" named-from m.fields gs are) parts.from;
+  to = subst (λ vs. IsFirstOf vs p.to) (values-said known_name.To "to" named-to m.fields gs are) parts.to;
+  call_id = subst (λ vs. IsFirstOf vs p.call_id) (values-said known_name.CallId "call-id" named-call-id m.fields gs are) parts.call_id;
+  cseq = (parts.cseq.0, subst (λ vs. IsFirstOf vs parts.cseq.0) (values-said known_name.CSeq "cseq" named-cseq m.fields gs are) parts.cseq.1, parts.cseq.2);
+  route_is = ap (join_with_byte comma) (values-said known_name.Route "route" named-route m.fields gs are);
+}
 
--- what the fields as they are said tell is what fields as they are kept have as their parts, once these are theirs
--- m is the message and p its parts; gs are the fields as they are said, and s is what they tell
-tell-parts : (m : Message) (start : StartLine) (gs : List SaidField) (body : List ℕ) (p : Parts) (s : Said) → IsTold m (start, gs, body) → HasParts m.fields p → FieldsTell start gs s
-    → (q : Parts) × HasParts m.fields q × (s ≡ said_of (record { message = m; parts = q }))
-tell-parts m start gs body p s (start_is, are, body_is) parts tells = at es.0 es.1 es.2
-  where
-    -- the elements of the Vias as they are kept, which are those as they are said
-    es : (es : List Element) × AreElements (values known_name.Via m.fields) es × (s.via ∷ s.others ≡ map said_via es)
-    es = said-are (values known_name.Via m.fields) (s.via ∷ s.others) (subst (λ vs. ViasTell vs (s.via ∷ s.others)) (sym (values-said known_name.Via "via" named-via m.fields gs are)) tells.vias)
+-- what is told of the named fields, as the parts of a message
+abbrev parts_of : Said → Parts
+parts_of s = record { via = s.via; others = s.others; from = s.from; to = s.to; call_id = s.call_id; cseq = s.cseq }
 
-    -- the elements are the first Via and the others
-    at : (es : List Element) → AreElements (values known_name.Via m.fields) es → s.via ∷ s.others ≡ map said_via es → (q : Parts) × HasParts m.fields q × (s ≡ said_of (record { message = m; parts = q }))
-    -- at least the first Via stands there
-    at [] elements vias = let none : ◌≡◌ {A = List SaidVia} (s.via ∷ s.others) [] = vias in cc
-    at (e ∷ es) elements vias =
-        let all_vias : ◌≡◌ {A = List SaidVia} (s.via ∷ s.others) (said_via e ∷ map said_via es) = vias in
-        let via : s.via ≡ said_via e = cc in
-        let others : s.others ≡ map said_via es = cc in
-        -- each part that is told is that of the message
-        let told = parts-tell m start gs body p (start_is, are, body_is) parts in
-        let from : s.from ≡ p.from.0 = one-first (said_values "from" gs) s.from p.from.0 tells.from told.from in
-        let to : s.to ≡ p.to.0 = one-first (said_values "to" gs) s.to p.to.0 tells.to told.to in
-        let start_same : s.start ≡ m.start = tells.start_is ∙ sym start_is in
-        let route : s.route ≡ join_with_byte comma (values known_name.Route m.fields) = tells.route_is ∙ sym told.route_is in
-        -- q are the parts with what is said
-        let q : Parts = record { via = e; others = es; from = p.from; to = p.to; call_id = s.call_id; cseq = s.cseq } in (
-          q,
-          -- the fields have these parts
-          record {
-            vias = elements;
-            from = parts.from;
-            to = parts.to;
-            call_id = subst (λ vs. IsFirstOf vs s.call_id) (sym (values-said known_name.CallId "call-id" named-call-id m.fields gs are)) tells.call_id;
-            cseq = (tells.cseq.0, subst (λ vs. IsFirstOf vs tells.cseq.0) (sym (values-said known_name.CSeq "cseq" named-cseq m.fields gs are)) tells.cseq.1, tells.cseq.2);
-          },
-          (λ i. record { start = start_same i; via = via i; others = others i; from = from i; to = to i; call_id = s.call_id; cseq = s.cseq; route = route i }),
-        )
+-- what the fields as they are said tell are the parts of the fields as they are kept
+-- m is the message; gs are the fields as they are said, and s is what they tell
+tell-parts : (m : Message) (start : StartLine) (gs : List SaidField) (body : List ℕ) (s : Said) → IsTold m (start, gs, body) → FieldsTell start gs s
+    → HasParts m.fields (parts_of s) × (s ≡ said_of (record { message = m; parts = parts_of s }))
+tell-parts m start gs body s (start_is, are, body_is) tells =
+    let start_same : s.start ≡ m.start = tells.start_is ∙ sym start_is in
+    let route : s.route ≡ join_with_byte comma (values known_name.Route m.fields) = tells.route_is ∙ ap (join_with_byte comma) (sym (values-said known_name.Route "route" named-route m.fields gs are)) in (
+      -- each named value that is said is the one that is kept
+      record {
+        vias = subst (λ vs. ViasTell vs (s.via ∷ s.others)) (sym (values-said known_name.Via "via" named-via m.fields gs are)) tells.vias;
+        from = subst (λ vs. IsFirstOf vs s.from) (sym (values-said known_name.From "from" named-from m.fields gs are)) tells.from;
+        to = subst (λ vs. IsFirstOf vs s.to) (sym (values-said known_name.To "to" named-to m.fields gs are)) tells.to;
+        call_id = subst (λ vs. IsFirstOf vs s.call_id) (sym (values-said known_name.CallId "call-id" named-call-id m.fields gs are)) tells.call_id;
+        cseq = (tells.cseq.0, subst (λ vs. IsFirstOf vs tells.cseq.0) (sym (values-said known_name.CSeq "cseq" named-cseq m.fields gs are)) tells.cseq.1, tells.cseq.2);
+      },
+      (λ i. record { start = start_same i; via = s.via; others = s.others; from = s.from; to = s.to; call_id = s.call_id; cseq = s.cseq; route = route i }),
+    )
 
 -- where bytes are the text of a message, they say what the message says
 pub text-says : (bytes : List ℕ) (r : Reading) → MessageText bytes r.message → HasParts r.message.fields r.parts → Says bytes (gives (said_of r))
@@ -142,13 +107,12 @@ says-reads bytes s (passes y tells (t, fields, is)) = let read = (same-read byte
     -- a fault is not alike to a value
     at (stops f) read is_told = absurd is_told
     at (gives m) read is_told =
-        -- the message has parts, and these say what was said
+        -- what was said are the parts of the message
         let text = read-text bytes m read in
-        let parts = has-parts bytes m text in
-        let q = tell-parts m y.0 y.1 y.2 parts.0 s is_told parts.1 (subst (FieldsTell y.0 y.1) (sym (given is)) fields) in (
-          record { message = m; parts = q.0 },
-          text-reads bytes (record { message = m; parts = q.0 }) text (record { is = q.1; only = λ other others. parts-one m.fields other q.0 others q.1 }),
-          q.2,
+        let told = tell-parts m y.0 y.1 y.2 s is_told (subst (FieldsTell y.0 y.1) (sym (given is)) fields) in (
+          record { message = m; parts = parts_of s },
+          text-reads bytes (record { message = m; parts = parts_of s }) text (record { is = told.0; only = λ other others. parts-one m.fields other (parts_of s) others told.0 }),
+          told.1,
         )
 
 -- the fault with which the reading of bytes stops is the one that they say

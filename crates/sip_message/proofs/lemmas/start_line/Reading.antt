@@ -12,10 +12,9 @@ use Rattle.std.proofs.lemmas.Option.{none-some}
 use Rattle.std.proofs.lemmas.List.{append_assoc, length-append, take-append-drop, length-drop, length-take, length-take-le, take-map, drop-map, map-append}
 use Rattle.sip_standard.specs.Text.{One, Many}
 use Rattle.sip_standard.specs.Case.{folded}
-use Rattle.sip_standard.specs.Profile.{Token}
+use Rattle.sip_standard.specs.Profile.{Token, Uri}
 use Rattle.sip_text.specs.Bytes.{space}
 use Rattle.sip_text.specs.inner.Case.{SameText}
-use Rattle.sip_text.specs.Uri.{UriParts, UriText}
 use Rattle.sip_text.specs.inner.Cut.{past}
 use Rattle.sip_text.proofs.texts.ManyLemmas.{many-some, append_cancel_both}
 use Rattle.sip_message.specs.inner.Values.{Digits}
@@ -47,7 +46,7 @@ kept_is b k small is = at (nat_lt b 65) (nat_lt b 91) refl refl
 pub record RequestCut (token rest uri : List ℕ) : Type 0 where
   pub version : List ℕ
   pub is_version : Version version
-  pub is_uri : (parts : UriParts) × UriText uri parts
+  pub is_uri : Uri uri
   pub whole : rest ≡ space ∷ (uri ++ space ∷ version)
 
 -- the method of a request line is the token that is read at its front
@@ -106,12 +105,12 @@ request-no_version line token rest more at read found len none (method, uri) is 
     none (ap folded e.1 ∙ ap (λ t. space ∷ t) b.1)
 
 -- a line without a URI between token and version is no request line
-pub request-no_uri : (line token rest more : List ℕ) (at : ℕ) → ReadAs (TokenFront line) (token, rest) → past space rest ≡ Some more → at + 8 ≡ length more → NotRead (UriText (take at more)) → NotRead (RequestLine line)
+pub request-no_uri : (line token rest more : List ℕ) (at : ℕ) → ReadAs (TokenFront line) (token, rest) → past space rest ≡ Some more → at + 8 ≡ length more → (Uri (take at more) → ⊥) → NotRead (RequestLine line)
 request-no_uri line token rest more at read found len none (method, uri) is =
     let b = behind-space line token rest more method uri read found is in
     -- what stands before the last eight bytes is the URI
     let e = at-end more uri b.0 at len b.1 b.2 in
-    none is.1.0 (subst (λ t. UriText t is.1.0) (sym e.0) is.1.1)
+    none (subst Uri (sym e.0) is.1)
 
 -- eight bytes that are " SIP/2.0" without case are a SP and a version
 space-version : (t : List ℕ) → SameText t (codes " SIP/2.0") → (v : List ℕ) × (t ≡ space ∷ v) × Version v
@@ -124,8 +123,8 @@ space-version (b ∷ t) same =
     (t, ap (λ x. x ∷ t) (kept_is b space (omega arith) head), tail)
 
 -- a line with a token, a SP, a URI, and a SP and the version at its end is read as a request line of that method and that URI
-pub request-read : (line token rest more : List ℕ) (at : ℕ) (parts : UriParts) → ReadAs (TokenFront line) (token, rest) → past space rest ≡ Some more → SameText (drop at more) (codes " SIP/2.0") → UriText (take at more) parts → ReadAs (RequestLine line) (token, take at more)
-request-read line token rest more at parts read found version uri = (is, only)
+pub request-read : (line token rest more : List ℕ) (at : ℕ) → ReadAs (TokenFront line) (token, rest) → past space rest ≡ Some more → SameText (drop at more) (codes " SIP/2.0") → Uri (take at more) → ReadAs (RequestLine line) (token, take at more)
+request-read line token rest more at read found version uri = (is, only)
   where
     -- at the end of the line stand SP and a version
     v : (v : List ℕ) × (drop at more ≡ space ∷ v) × Version v
@@ -139,7 +138,7 @@ request-read line token rest more at parts read found version uri = (is, only)
     is : RequestLine line (token, take at more)
     is = (
       read.0.0,
-      (parts, uri),
+      uri,
       (
         -- the method, SP, the URI, SP and the version stand in a row
         token,

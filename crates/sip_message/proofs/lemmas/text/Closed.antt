@@ -9,8 +9,7 @@ use Rattle.std.proofs.lemmas.List.{append_assoc, append-nil}
 use Rattle.sip_standard.specs.Text.{◌then◌, ◌or◌, Many, Exactly}
 use Rattle.sip_text.specs.Bytes.{space}
 use Rattle.sip_text.proofs.texts.ManyLemmas.{many-nil, many-cons}
-use Rattle.sip_message.specs.Params.{OpensSolid}
-use Rattle.sip_message.specs.inner.FieldText.{EndsSolid}
+use Rattle.sip_message.specs.inner.FieldText.{EndsSolid, OpensSolid}
 use Rattle.sip_standard.specs.Field.{is_lws_byte}
 use Rattle.sip_standard.specs.Canonical.{is_end_byte, unfolded_run, unfolded_from, unfolded}
 use Rattle.sip_message.proofs.lemmas.text.Cuts.{Cuts, first_longer, same_length, second_longer, two_cuts, All, all_left, all_right, all_both}

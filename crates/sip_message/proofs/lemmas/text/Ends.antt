@@ -3,8 +3,7 @@ use Rattle.std.proofs.Common.{ℕ, List, [], ◌∷◌, ◌++◌, sym, subst, in
 use Rattle.std.specs.List.{AllByRecursion, concat}
 use Rattle.std.proofs.lemmas.List.{append-nil}
 use Rattle.sip_standard.specs.Text.{◌then◌, Many}
-use Rattle.sip_message.specs.Params.{OpensSolid}
-use Rattle.sip_message.specs.inner.FieldText.{EndsSolid}
+use Rattle.sip_message.specs.inner.FieldText.{EndsSolid, OpensSolid}
 use Rattle.sip_message.proofs.lemmas.text.Cuts.{All}
 use Rattle.sip_message.proofs.lemmas.text.Each.{Each, is_solid}
 use Rattle.sip_message.proofs.lemmas.text.Closed.{solid_is, Seam}

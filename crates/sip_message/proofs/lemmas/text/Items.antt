@@ -12,8 +12,7 @@ use Rattle.sip_text.specs.inner.Blanks.{is_wsp}
 use Rattle.sip_text.specs.inner.Class.{is_quoted_byte}
 use Rattle.sip_text.specs.inner.Pieces.{Qdtext, QuotedPair}
 use Rattle.sip_text.proofs.texts.ManyLemmas.{many-nil, many-cons}
-use Rattle.sip_message.specs.Params.{OpensSolid}
-use Rattle.sip_message.specs.inner.FieldText.{EndsSolid}
+use Rattle.sip_message.specs.inner.FieldText.{EndsSolid, OpensSolid}
 use Rattle.sip_standard.specs.Field.{is_lws_byte}
 use Rattle.sip_message.specs.inner.Values.{is_value_byte, OtherText}
 use Rattle.sip_message.proofs.lemmas.text.Cuts.{Cuts, first_longer, same_length, second_longer, two_cuts, All, all_left, all_right}

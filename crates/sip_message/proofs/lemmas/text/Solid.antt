@@ -1,18 +1,14 @@
 -- The sets of texts without blanks: tokens, hosts, ports and URIs.
 -- `solid-one class refl refl refl refl` tries SP, HTAB, CR and LF one after another, by computing: none of them is of the class.
-use Rattle.std.proofs.Common.{◌≡◌, ℕ, Bool, true, false, List, [], ◌∷◌, ◌++◌, Option, Some, None, refl, sym, subst}
+use Rattle.std.proofs.Common.{◌≡◌, ℕ, Bool, true, false, List, [], ◌∷◌, refl, sym, subst, inl, inr}
 use Rattle.std.specs.Char.{is_ascii_alphabetic, is_ascii_alphanumeric, is_ascii_digit, is_ascii_hexdigit, to_ascii_lowercase}
-use Rattle.std.specs.Prelude.{IfSome}
 use Rattle.sip_standard.specs.Text.{One, Exactly, Many, OneOrMore}
 use Rattle.sip_standard.specs.Case.{folded}
-use Rattle.sip_standard.specs.Profile.{Token, Hostname, Ipv4, Hexseq, Ipv6, Bracketed, User, Password, Port, UriParameters, Headers}
+use Rattle.sip_standard.specs.Profile.{Token, Hostname, Ipv4, Hexseq, Ipv6, Bracketed, Host, User, Password, Userinfo, Port, UriParameters, Headers, SipScheme, Scheme, Uri}
 use Rattle.sip_text.specs.Bytes.{space, tab, carriage_return, line_feed, colon, at_sign, question, Byte, is_token_byte}
-use Rattle.sip_text.specs.Parts.{led}
-use Rattle.sip_text.specs.Host.{HostParts, HostText, host_text, name, v4, v6}
-use Rattle.sip_text.specs.Uri.{SipParts, SipFits, userinfo_text, hostport_text, sip_text, scheme_name, UriParts, UriText, sip, other}
 use Rattle.sip_text.specs.inner.Class.{is_label_byte, is_unreserved, is_user_unreserved, is_password_unreserved, is_param_unreserved, is_hnv_unreserved, is_reserved, is_scheme_byte}
 use Rattle.sip_text.specs.inner.Pieces.{DecimalGroup, Hex4, Hexpart, Escaped, ParamWord, HeaderChar, Header}
-use Rattle.sip_message.proofs.lemmas.text.Cuts.{All, all_both}
+use Rattle.sip_message.proofs.lemmas.text.Cuts.{All}
 use Rattle.sip_message.proofs.lemmas.text.Each.{Each, each-one, each-exactly, each-then, each-or, each-optional, each-many, each-some, each-between, is_solid, solid_class}
 
 -- the byte is no blank
@@ -97,11 +93,9 @@ pub solid-v6_reference : Each S Bracketed
 solid-v6_reference = each-then S _ _ (solid-byte 91 refl) (each-then S _ _ solid-v6 (solid-byte 93 refl))
 
 -- a host has no blanks
-pub solid-host : (text : List ℕ) (h : HostParts) → HostText text h → All S text
+pub solid-host : Each S Host
 -- a host is a name, an IPv4 address, or an IPv6 address in brackets
-solid-host text (name t) is = solid-hostname text is.0
-solid-host text (v4 t) is = solid-v4 text is.0
-solid-host text (v6 t) is = solid-v6_reference text is.0
+solid-host = each-or S _ _ solid-hostname (each-or S _ _ solid-v4 solid-v6_reference)
 
 -- a port has no blanks
 pub solid-port : Each S Port
@@ -150,28 +144,10 @@ solid-headers = each-then S _ _ header (each-many S _ (each-then S _ _ (solid-by
     -- 61 is "="
     header = each-then S _ _ (each-some S _ char) (each-then S _ _ (solid-byte 61 refl) (each-many S _ char))
 
--- an optional part with its mark has no blanks where neither the parts nor the mark have any
-solid-led : (mark : ℕ) (P : List ℕ → Type 0) (part : Option (List ℕ)) → is_solid mark ≡ true → Each S P → IfSome part P → All S (led mark part)
--- without the part nothing stands there; with it, the mark and the part
-solid-led mark P None is each fits = tt
-solid-led mark P (Some part) is each fits = (is, each part fits)
-
 -- a userinfo has no blanks
-solid-userinfo : (user password : Option (List ℕ)) → IfSome user User → IfSome password Password → All S (userinfo_text user password)
--- without a user nothing stands there
-solid-userinfo None password u p = tt
-solid-userinfo (Some user) password u p =
-    -- the user, perhaps ":" and a password, and "@"
-    all_both S (user ++ led colon password) (at_sign ∷ []) (all_both S user (led colon password) (solid-user user u) (solid-led colon Password password refl solid-password p)) (refl, tt)
-
--- a SIP URI has no blanks
-solid-sip : (p : SipParts) → SipFits p → All S (sip_text p)
-solid-sip p fits =
-    -- the userinfo, the host, the port, the parameters and the headers stand in a row
-    all_both S (userinfo_text p.user p.password) (hostport_text p.host p.port ++ p.params ++ led question p.headers) (solid-userinfo p.user p.password fits.user fits.password)
-    (all_both S (hostport_text p.host p.port ++ p.params) (led question p.headers)
-    (all_both S (hostport_text p.host p.port) p.params (all_both S (host_text p.host) (led colon p.port) (solid-host (host_text p.host) p.host fits.host) (solid-led colon Port p.port refl solid-port fits.port)) (solid-params p.params fits.params))
-    (solid-led question Headers p.headers refl solid-headers fits.headers))
+solid-userinfo : Each S Userinfo
+-- the user, perhaps ":" and a password, and "@"
+solid-userinfo = each-then S _ _ solid-user (each-then S _ _ (each-optional S _ (each-then S _ _ (solid-byte colon refl) solid-password)) (solid-byte at_sign refl))
 
 -- lower case leaves blanks, so that a text whose lower case has none has none
 solid-folded : (text : List ℕ) → All S (folded text) → All S text
@@ -180,19 +156,21 @@ solid-folded (b ∷ text) all =
     -- SP, HTAB, CR and LF are their own lower case, so a byte whose lower case is no blank is none of them
     (solid_class (λ c. is_solid (to_ascii_lowercase c)) refl refl refl refl b all.0, solid-folded text all.1)
 
+-- "sip" and "sips" have no blanks
+solid-sip : Each S SipScheme
+solid-sip text (inl same) = solid-folded text (subst (All S) (sym same) (refl, (refl, (refl, tt))))
+solid-sip text (inr same) = solid-folded text (subst (All S) (sym same) (refl, (refl, (refl, (refl, tt)))))
+
+-- a scheme has no blanks
+solid-scheme : Each S Scheme
+solid-scheme = each-then S _ _ solid-alpha (each-many S _ (solid-one is_scheme_byte refl refl refl refl))
+
 -- a URI has no blanks
-pub solid-uri : (text : List ℕ) (parts : UriParts) → UriText text parts → All S text
-solid-uri text (sip p) (scheme, same, fits, whole) =
-    -- a SIP or SIPS URI is its scheme, a colon and the text of its parts
-    subst (All S) (sym whole) (all_both S scheme (colon ∷ sip_text p) (solid-folded scheme (subst (All S) (sym same) (at p.secure))) (refl, solid-sip p fits))
-  where
-    -- the scheme has no blanks, whether it is sip or sips
-    at : (secure : Bool) → All S (folded (scheme_name secure))
-    at true = (refl, (refl, (refl, (refl, tt))))
-    at false = (refl, (refl, (refl, tt)))
--- this clause is of a URI of another scheme
-solid-uri text (other scheme rest) (is_scheme, none, some, whole) =
+pub solid-uri : Each S Uri
+solid-uri =
+    -- a SIP or SIPS URI is its scheme, a colon and its parts
+    each-or S _ _
+    (each-then S _ _ solid-sip (each-then S _ _ (solid-byte colon refl) (each-then S _ _ (each-optional S _ solid-userinfo) (each-then S _ _ solid-host
+    (each-then S _ _ (each-optional S _ (each-then S _ _ (solid-byte colon refl) solid-port)) (each-then S _ _ solid-params (each-optional S _ (each-then S _ _ (solid-byte question refl) solid-headers))))))))
     -- another URI is its scheme, a colon, and bytes that are reserved, unreserved or escaped
-    subst (All S) (sym whole) (all_both S scheme (colon ∷ rest)
-    (each-then S _ _ solid-alpha (each-many S _ (solid-one is_scheme_byte refl refl refl refl)) scheme is_scheme)
-    (refl, each-some S _ (each-or S _ _ (solid-one is_reserved refl refl refl refl) (each-or S _ _ solid-unreserved solid-escaped)) rest some))
+    (each-then S _ _ (λ u is. solid-scheme u is.0) (each-then S _ _ (solid-byte colon refl) (each-some S _ (each-or S _ _ (solid-one is_reserved refl refl refl refl) (each-or S _ _ solid-unreserved solid-escaped)))))

@@ -5,7 +5,7 @@ use Rattle.std.specs.Char.{is_ascii_digit}
 use Rattle.std.specs.Str.Parse.{digits_value}
 use Rattle.sip_standard.specs.Text.{Exactly, ◌then◌}
 use Rattle.sip_standard.specs.Profile.{Blanks, Token}
-use Rattle.sip_text.specs.Parts.{IsLongestFront}
+use Rattle.sip_text.specs.Front.{IsLongestFront}
 use Rattle.std.proofs.lemmas.List.{append-nil, take-append-drop, length-take-le}
 use Rattle.sip_standard.specs.Field.{is_lws_byte}
 use Rattle.sip_message.specs.inner.Values.{Digits, CSeqText, CSeqValue}

@@ -10,7 +10,7 @@ use Rattle.std.proofs.lemmas.Bool.Decides.{Decides-like}
 use Rattle.sip_standard.specs.Text.{One}
 use Rattle.sip_standard.specs.Profile.{Token}
 use Rattle.sip_text.specs.Bytes.{at_sign, is_token_byte}
-use Rattle.sip_text.specs.Parts.{IsLongestFront}
+use Rattle.sip_text.specs.Front.{IsLongestFront}
 use Rattle.sip_text.specs.inner.Cut.{before, behind}
 use Rattle.sip_text.proofs.texts.ManyLemmas.{many-some, drop-front}
 use Rattle.sip_text.proofs.texts.RunLemmas.{run-list_all}

@@ -10,7 +10,7 @@ use Rattle.sip_standard.specs.Text.{One, Exactly, ◌then◌, ◌or◌, Many}
 use Rattle.sip_standard.specs.Profile.{Lws}
 use Rattle.sip_text.specs.Bytes.{carriage_return, line_feed, crlf}
 use Rattle.sip_text.specs.inner.Blanks.{is_wsp, Blank, begins_with_fold}
-use Rattle.sip_text.specs.Parts.{HasFront}
+use Rattle.sip_text.specs.Front.{HasFront}
 use Rattle.sip_text.proofs.texts.ManyLemmas.{many-one, many-map, many-flat, many-append, IsStep, longest_many, front-rest, front-within, front-whole}
 use Rattle.sip_text.proofs.strings.BlanksLemmas.{blanks-lws, lws-blank}
 use Rattle.sip_text.proofs.texts.RunLemmas.{run-front}

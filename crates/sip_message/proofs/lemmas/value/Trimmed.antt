@@ -8,18 +8,18 @@ use Rattle.std.proofs.lemmas.List.{append-nil, append_cancel_left, take-append-d
 use Rattle.sip_standard.specs.Text.{Many}
 use Rattle.sip_standard.specs.Profile.{Blanks, Sws}
 use Rattle.sip_text.specs.Bytes.{space}
-use Rattle.sip_text.specs.Parts.{IsLongestFront, IsOnlyValue}
+use Rattle.sip_text.specs.Front.{IsLongestFront}
 use Rattle.sip_text.specs.inner.Blanks.{Blank}
 use Rattle.sip_text.proofs.texts.ManyLemmas.{many-nil, many-one, many-append, front-whole}
 use Rattle.sip_text.proofs.strings.BlanksLemmas.{units-blanks, blanks-units}
-use Rattle.sip_message.specs.Params.{OpensSolid}
-use Rattle.sip_message.specs.inner.FieldText.{EndsSolid, ValueText}
+use Rattle.sip_message.specs.inner.FieldText.{EndsSolid, ValueText, OpensSolid}
 use Rattle.sip_standard.specs.Field.{is_lws_byte}
 use Rattle.sip_message.specs.inner.Values.{is_solid}
 use Rattle.sip_message.proofs.lemmas.text.Cuts.{All, Stops, all_both, all_right, same_front}
 use Rattle.sip_message.proofs.lemmas.text.Each.{each-sws}
 use Rattle.sip_message.proofs.lemmas.field.OneWay.{same_solid}
 use Rattle.sip_message.proofs.lemmas.text.Closed.{blank_opens}
+use Rattle.sip_message.specs.inner.Only.{IsOnlyValue}
 use Rattle.sip_message.proofs.lemmas.front.Prefix.{prefix-at}
 
 -- a text of no bytes is the empty text

@@ -1,155 +1,139 @@
 -- A value of Via stays one, and keeps the transport of its first element, when a run of blanks in it becomes one SP.
 -- Of an element of Via a, b and c are its protocol, version and transport, s and r the slashes, sp the blanks, h the host, p the port and q the parameters,
--- and w1 to w7 what follows each; of further elements m is the comma with its blanks, x the first one and y the others, t both; v is the first of the
--- elements vs, and n and v a parameter's name and value.
-use Rattle.std.proofs.Common.{◌≡◌, ℕ, ◌≤◌, Bool, true, false, List, [], ◌∷◌, ◌++◌, length, Option, Some, None, refl, sym, ap, ◌∙◌, subst, inl, inr, arith}
-use Rattle.std.specs.Bool.{Decides}
-use Rattle.std.specs.Prelude.{IfSome, codes, bytes_eq}
-use Rattle.std.specs.List.{AllByRecursion, concat}
-use Rattle.std.proofs.lemmas.Bool.{both_ways}
-use Rattle.std.proofs.lemmas.Slice.Eq.{bytes_eq-Decides}
-use Rattle.std.proofs.lemmas.List.{append_assoc, length-append}
+-- and w1 to w7 what follows each; v is an element, and vs are further ones.
+use Rattle.std.proofs.Common.{◌≡◌, ℕ, ◌≤◌, List, [], length, Option, Some, None, refl, sym, ap, ◌∙◌, subst, inl, inr, arith}
+use Rattle.std.proofs.lemmas.List.{length-append}
 use Rattle.std.specs.Char.{is_ascii_alphabetic}
-use Rattle.sip_standard.specs.Text.{Exactly, ◌then◌, Many}
-use Rattle.sip_standard.specs.Case.{folded}
-use Rattle.sip_standard.specs.Profile.{Token, Blanks, Label, Port, Quoted}
-use Rattle.sip_text.specs.Bytes.{colon, dquote, Byte, is_token_byte}
-use Rattle.sip_text.specs.inner.Case.{SameText}
-use Rattle.sip_text.specs.Host.{HostParts, HostText, host_text, name, v4, v6}
-use Rattle.sip_text.specs.inner.Pieces.{DecimalGroup}
-use Rattle.sip_text.proofs.texts.ManyLemmas.{many-nil, many-cons}
-use Rattle.sip_message.specs.Params.{OpensSolid}
-use Rattle.sip_message.specs.inner.FieldText.{EndsSolid}
+use Rattle.sip_standard.specs.Text.{Exactly, ◌then◌, ◌or◌, Optional, Many}
+use Rattle.sip_standard.specs.Chars.{AnyCase}
+use Rattle.sip_standard.specs.Profile.{Token, Blanks, Label, Host, Port}
+use Rattle.sip_standard.specs.Via.{SaidVia, ParamSays, PortSays, first_some, ViaSays}
 use Rattle.sip_standard.specs.Canonical.{unfolded}
+use Rattle.sip_text.specs.Bytes.{colon, semicolon, equals, Byte, is_token_byte}
+use Rattle.sip_text.specs.inner.Pieces.{DecimalGroup}
+use Rattle.sip_message.specs.inner.FieldText.{EndsSolid, OpensSolid}
 use Rattle.sip_message.specs.inner.Marks.{slash, comma, Mark}
-use Rattle.sip_message.specs.Via.{ViaParts, IsBranch, ColonPort, ViaText}
-use Rattle.sip_message.specs.inner.ElementFronts.{MoreVias}
 use Rattle.sip_message.specs.inner.MessageText.{TopTransport}
 use Rattle.sip_message.proofs.lemmas.text.Cuts.{All}
 use Rattle.sip_message.proofs.lemmas.text.Each.{Each, is_solid}
-use Rattle.sip_message.proofs.lemmas.field.OneWay.{each-token}
+use Rattle.sip_message.proofs.lemmas.text.Says.{says-many, many-says}
 use Rattle.sip_message.proofs.lemmas.text.Solid.{solid-token, solid-host, solid-port}
-use Rattle.sip_message.proofs.lemmas.text.Closed.{Closed, closed-solid, closed-then, closed-many, closed-unfolded}
-use Rattle.sip_message.proofs.lemmas.text.Ends.{Firm, AllFirm, AllEnd, firm-then_right, firm-then_left, end-then, end-firm, end-each, opens-solid, seam-left, seam-right, opens-then}
-use Rattle.sip_message.proofs.lemmas.params.Closed.{closed-blanks, closed-mark, firm-solid, open-solid, open-token, some-between, some-left, some-run, IsDemand, ParamsSet, AllOk, closed-params, end-params, tail-set, set-tail}
+use Rattle.sip_message.proofs.lemmas.text.Closed.{Closed, closed-solid, closed-or, closed-then, closed-unfolded}
+use Rattle.sip_message.proofs.lemmas.text.Ends.{AllFirm, AllEnd, firm-then_right, firm-then_left, end-then, end-firm, end-each, opens-solid, seam-left, seam-right, opens-then}
+use Rattle.sip_message.proofs.lemmas.params.Closed.{LedValue, closed-nil, closed-blanks, closed-mark, closed-named, firm-named, closed-list, end-list, firm-token, firm-solid, open-solid, open-token, some-between, some-left, some-run}
 
--- a parameter may have this name and this value in a Via: where its name is branch, the value is a token
-abbrev pub BranchOk : List ℕ → Option (List ℕ) → Type 0
-BranchOk n value = SameText n (codes "branch") → (v : List ℕ) × Token v × (value ≡ Some v)
+-- the name of a parameter that says a branch
+abbrev BranchName : List ℕ → Type 0
+BranchName name = Token name × AnyCase "branch" name
 
--- no quoted string is a token
-no_token : (u : List ℕ) → Quoted u → Token u → ⊥
-no_token u (d, t, d_is, rest, whole) token =
-    -- its first byte would be a quote, which is no byte of a token
-    both_ways (is_token_byte dquote) refl (subst (All is_token_byte) (whole ∙ ap (λ x. x ++ t) d_is) (each-token u token)).0
+-- the name of any other parameter
+abbrev OtherName : List ℕ → Type 0
+OtherName name = Token name × ¬ (AnyCase "branch" name)
 
--- options that hold equal values hold the same value
-some_is : {x y : List ℕ} → Some x ≡ Some y → x ≡ y
-some_is {x = x} is = ap (value_or x) is
-  where
-    -- the value of an option, and d where there is none
-    value_or : List ℕ → Option (List ℕ) → List ℕ
-    value_or d None = d
-    value_or d (Some v) = v
+-- the text is a parameter of a Via
+abbrev ViaParam : List ℕ → Type 0
+ViaParam = (BranchName then Mark equals then Token) or (OtherName then LedValue)
 
--- what is asked of a parameter in a Via is of its name alone, where the value is a quoted string
-branch-demand : IsDemand BranchOk
-branch-demand = record {
-  quoted = λ n value other quoted ok same.
-      -- a branch of a quoted string would be a token, which it is not: so the name is no branch, and any value may follow
-      let token = ok same in
-      absurd (no_token value quoted (subst Token (sym (some_is token.2)) token.1));
-}
+-- a parameter that says a branch, or none, is one of a Via
+param-set : (o : Option (List ℕ)) (x : List ℕ) → (Mark semicolon then ParamSays o) x → (Mark semicolon then ViaParam) x
+param-set (Some b) x (m, t, mark, (u, w, name, (e, d, equal, (token, b_is), w_is), t_is), whole) = (m, t, mark, inl (u, w, name, (e, d, equal, token, w_is), t_is), whole)
+param-set None x (m, t, mark, other, whole) = (m, t, mark, inr other, whole)
 
--- where a branch counts in parameters, each of them may stand in a Via
-branch-ok : (ps : List (List ℕ × Option (List ℕ))) (branch : Option (List ℕ)) → IsBranch ps branch → AllOk BranchOk ps
--- of no parameters nothing is asked
-branch-ok [] branch is = tt
--- the first one is a branch with a token, or no branch: either may stand there
-branch-ok ((n, value) ∷ ps) branch (inl (same, v, token, value_is, branch_is, later, more)) = ((λ _. (v, token, value_is)), branch-ok ps later more)
-branch-ok ((n, value) ∷ ps) branch (inr (differs, more)) = ((λ same. absurd (differs same)), branch-ok ps branch more)
+-- a parameter of a Via says a branch, or none
+set-param : (x : List ℕ) → (Mark semicolon then ViaParam) x → (o : Option (List ℕ)) × (Mark semicolon then ParamSays o) x
+set-param x (m, t, mark, inl (u, w, name, (e, d, equal, token, w_is), t_is), whole) = (Some d, (m, t, mark, (u, w, name, (e, d, equal, (token, refl), w_is), t_is), whole))
+set-param x (m, t, mark, inr other, whole) = (None, (m, t, mark, other, whole))
 
--- where each of some parameters may stand in a Via, a branch counts in them, or none
-ok-branch : (ps : List (List ℕ × Option (List ℕ))) → AllOk BranchOk ps → (branch : Option (List ℕ)) × IsBranch ps branch
-ok-branch [] all = (None, refl)
-ok-branch ((n, value) ∷ ps) all = at (ok-branch ps all.1) (bytes_eq (folded n) (folded (codes "branch"))) (bytes_eq-Decides (folded n) (folded (codes "branch")))
-  where
-    -- the claim holds whether or not the first parameter is a branch
-    at : ((branch : Option (List ℕ)) × IsBranch ps branch) → (same : Bool) → Decides same (SameText n (codes "branch")) → (branch : Option (List ℕ)) × IsBranch ((n, value) ∷ ps) branch
-    -- the first one is a branch, and so the one that counts
-    at more true is = let v = all.0 (is.0 refl) in (Some v.0, inl (is.0 refl, v.0, v.1, v.2, refl, more.0, more.1))
-    -- it is none, so the one that counts is that of the others
-    at more false is = (more.0, inr ((λ same. both_ways false refl (is.1 same)), more.1))
+-- the name of a parameter has no blanks, whichever it is
+solid-branch : Each is_solid BranchName
+solid-branch u is = solid-token u is.0
+
+-- the set of parameters of a Via is closed under making one SP of a blank run
+closed-param : Closed ViaParam
+closed-param =
+    -- the name ends with no blank, and a branch begins with none
+    closed-or (BranchName then Mark equals then Token) (OtherName then LedValue)
+    (closed-then BranchName (Mark equals then Token) (seam-left BranchName (Mark equals then Token) (end-each BranchName solid-branch)) (closed-solid BranchName solid-branch)
+    (closed-then (Mark equals) Token (seam-right (Mark equals) Token (λ u is. opens-solid u (solid-token u is))) (closed-mark equals refl) (closed-solid Token solid-token)))
+    (closed-named OtherName (λ u is. is.0))
+
+-- a parameter of a Via is not empty, and does not end with a blank
+firm-param : AllFirm ViaParam
+firm-param u (inl is) = firm-then_right BranchName (Mark equals then Token) (firm-then_right (Mark equals) Token firm-token) u is
+firm-param u (inr is) = firm-named OtherName (λ t name. name.0) u is
+
+-- a parameter of a Via does not begin with a blank
+open-param : (u : List ℕ) → ViaParam u → OpensSolid u
+open-param u (inl is) = opens-then BranchName (Mark equals then Token) (λ t v name. open-token t v name.0) u is
+open-param u (inr is) = opens-then OtherName LedValue (λ t v name. open-token t v name.0) u is
+
+-- *( SEMI via-params )
+abbrev ParamsSet : List ℕ → Type 0
+ParamsSet = Many (Mark semicolon then ViaParam)
 
 -- a host is not empty
-some-host : (t : List ℕ) (h : HostParts) → HostText t h → t ≡ [] → ⊥
+some-host : (t : List ℕ) → Host t → t ≡ [] → ⊥
 -- a name has a label, an IPv4 address a group of digits, and an IPv6 address its "["
-some-host t (name x) is none = absurd (omega (arith, ap length none, ap length is.0.4, length-append is.0.0 is.0.1, ap length is.0.3.4, length-append is.0.3.0 is.0.3.1, label is.0.3.0 is.0.3.2))
+some-host t (inl is) none = absurd (omega (arith, ap length none, ap length is.4, length-append is.0 is.1, ap length is.3.4, length-append is.3.0 is.3.1, label is.3.0 is.3.2))
   where
     -- a label has at least one byte
     label : (u : List ℕ) → Label is_ascii_alphabetic u → 1 ≤ length u
     label u (inl one) = omega (arith, ap length one.2)
     label u (inr both) = omega (arith, ap length both.4, length-append both.0 both.1, ap length both.2.2)
-some-host t (v4 x) is none = some-left DecimalGroup _ (λ u group. some-between _ 1 3 u (omega arith) group) t is.0 none
-some-host t (v6 x) is none = some-left (Byte 91) _ (λ u byte empty. absurd (omega (arith, ap length byte, ap length empty))) t is.0 none
+some-host t (inr (inl is)) none = some-left DecimalGroup _ (λ u group. some-between _ 1 3 u (omega arith) group) t is none
+some-host t (inr (inr is)) none = some-left (Byte 91) _ (λ u byte empty. absurd (omega (arith, ap length byte, ap length empty))) t is none
 
--- the text is a host
-abbrev HostSet : List ℕ → Type 0
-HostSet text = (h : HostParts) × HostText (host_text h) h × (text ≡ host_text h)
-
--- the text is a colon and a port, or empty
+-- [ COLON port ]
 abbrev PortSet : List ℕ → Type 0
-PortSet text = (port : Option (List ℕ)) × IfSome port Port × ColonPort port text
+PortSet = Optional (Mark colon then Port)
+
+-- an optional port says a port, or none
+port-set : (port : Option (List ℕ)) (text : List ℕ) → PortSays port text → PortSet text
+port-set None text none = inl none
+port-set (Some port) text (m, t, mark, (fits, port_is), whole) = inr (m, t, mark, fits, whole)
+
+-- a port, or none, is said
+set-port : (text : List ℕ) → PortSet text → (port : Option (List ℕ)) × PortSays port text
+set-port text (inl none) = (None, none)
+set-port text (inr (m, t, mark, fits, whole)) = (Some t, (m, t, mark, (fits, refl), whole))
 
 -- what follows the transport of a Via: blanks, a host, an optional port and parameters
 abbrev AfterTransport : List ℕ → Type 0
-AfterTransport = Blanks then (HostSet then (PortSet then ParamsSet BranchOk))
+AfterTransport = Blanks then (Host then (PortSet then ParamsSet))
 
--- the text is an element of Via whose transport is of the set Transport
+-- the text is an element of Via whose transport is of the set T
 abbrev ViaSet : (List ℕ → Type 0) → List ℕ → Type 0
-ViaSet Transport = Token then (Mark slash then (Token then (Mark slash then (Transport then AfterTransport))))
-
--- a host has no blank
-solid-host_set : Each is_solid HostSet
-solid-host_set u is = subst (All is_solid) (sym is.2) (solid-host (host_text is.0) is.0 is.1)
-
--- a host is not empty
-some-host_set : (u : List ℕ) → HostSet u → u ≡ [] → ⊥
-some-host_set u is none = some-host (host_text is.0) is.0 is.1 (sym is.2 ∙ none)
+ViaSet T = Token then (Mark slash then (Token then (Mark slash then (T then AfterTransport))))
 
 -- an optional port with its colon does not end with a blank
 end-port : AllEnd PortSet
 -- without a port nothing stands there; else the port is last, which has one digit or more
-end-port u (None, fits, is) = subst EndsSolid (sym is) tt
-end-port u (Some port, fits, (m, t, mark, t_is, whole)) =
-    end-firm (Mark colon then Exactly port) (firm-then_right (Mark colon) (Exactly port) (λ x is. subst Firm (sym is) (firm-solid Port solid-port (λ y p. some-between _ 1 5 y (omega arith) p.0) port fits)))
-    u (m, t, mark, t_is, whole)
+end-port u (inl none) = subst EndsSolid (sym none) tt
+end-port u (inr both) = end-firm (Mark colon then Port) (firm-then_right (Mark colon) Port (firm-solid Port solid-port (λ y p. some-between _ 1 5 y (omega arith) p.0))) u both
 
 -- the set of optional ports with their colon is closed under making one SP of a blank run
 closed-port : Closed PortSet
--- without a port the text is empty, and has no blanks
-closed-port u v b w ends opens blanks (None, fits, is) =
-    (None, fits, closed-solid (Exactly []) (λ t same. subst (All is_solid) (sym same) tt) u v b w ends opens blanks is)
--- a colon with its blanks and the port: the port begins with no blank
-closed-port u v b w ends opens blanks (Some port, fits, is) =
-    (Some port, fits, closed-then (Mark colon) (Exactly port) (seam-right (Mark colon) (Exactly port) (λ t same. subst OpensSolid (sym same) (opens-solid port (solid-port port fits)))) (closed-mark colon refl) (closed-solid (Exactly port) (λ t same. subst (All is_solid) (sym same) (solid-port port fits))) u v b w ends opens blanks is)
+closed-port =
+    -- a colon with its blanks and the port: the port begins with no blank
+    closed-or (Exactly []) (Mark colon then Port) closed-nil
+    (closed-then (Mark colon) Port (seam-right (Mark colon) Port (λ u is. opens-solid u (solid-port u is))) (closed-mark colon refl) (closed-solid Port solid-port))
 
 -- the set of texts after the transport of an element is closed under making one SP of a blank run
 closed-after : Closed AfterTransport
 closed-after =
     -- blanks, a host, a port and parameters: no run of blanks crosses a seam, since a host has none, and no port ends with one
-    closed-then Blanks (HostSet then (PortSet then ParamsSet BranchOk)) (seam-right Blanks (HostSet then (PortSet then ParamsSet BranchOk)) (opens-then HostSet (PortSet then ParamsSet BranchOk) (open-solid HostSet solid-host_set some-host_set)))
+    closed-then Blanks (Host then (PortSet then ParamsSet)) (seam-right Blanks (Host then (PortSet then ParamsSet)) (opens-then Host (PortSet then ParamsSet) (open-solid Host solid-host some-host)))
     closed-blanks
-    (closed-then HostSet (PortSet then ParamsSet BranchOk) (seam-left HostSet (PortSet then ParamsSet BranchOk) (end-each HostSet solid-host_set)) (closed-solid HostSet solid-host_set)
-    (closed-then PortSet (ParamsSet BranchOk) (seam-left PortSet (ParamsSet BranchOk) end-port) closed-port (closed-params BranchOk branch-demand)))
+    (closed-then Host (PortSet then ParamsSet) (seam-left Host (PortSet then ParamsSet) (end-each Host solid-host)) (closed-solid Host solid-host)
+    (closed-then PortSet ParamsSet (seam-left PortSet ParamsSet end-port) closed-port (closed-list semicolon ViaParam refl open-param firm-param closed-param)))
 
 -- what stands after the transport of an element is not empty, and does not end with a blank
 firm-after : AllFirm AfterTransport
 firm-after =
     -- the host is not empty, and neither the port nor the parameters end with a blank
-    firm-then_right Blanks (HostSet then (PortSet then ParamsSet BranchOk))
-    (firm-then_left HostSet (PortSet then ParamsSet BranchOk) (firm-solid HostSet solid-host_set some-host_set)
-    (end-then PortSet (ParamsSet BranchOk) end-port (end-params BranchOk)))
+    firm-then_right Blanks (Host then (PortSet then ParamsSet))
+    (firm-then_left Host (PortSet then ParamsSet) (firm-solid Host solid-host some-host)
+    (end-then PortSet ParamsSet end-port (end-list semicolon ViaParam firm-param)))
 
 -- a token, SLASH and a text of Q are a closed set where Q is, and no text of Q begins with a blank
 closed-slash : (Q : List ℕ → Type 0) → ((u : List ℕ) → Q u → OpensSolid u) → Closed Q → Closed (Token then (Mark slash then Q))
@@ -173,97 +157,32 @@ firm-via_set T =
     firm-then_right Token _ (firm-then_right (Mark slash) _ (firm-then_right Token _ (firm-then_right (Mark slash) _ (firm-then_right T AfterTransport firm-after))))
 
 -- an element of Via with a transport of T is of the set of such elements
-via-set : (T : List ℕ → Type 0) (text : List ℕ) (v : ViaParts) → T v.transport → ViaText text v → ViaSet T text
-via-set T text v t (fits, (a, w1, a_is, (s, w2, slash1, (b, w3, b_is, (r, w4, slash2, (c, w5, c_is, (sp, w6, blanks, (h, w7, h_is, (p, q, port, params, w7_is), w6_is), w5_is), w4_is), w3_is), w2_is), w1_is), whole)) = (
-  -- the parts stand in the order of the text: the protocol, the version, the transport, the host, the port and the parameters
-  a,
-  w1,
-  subst Token (sym a_is) fits.protocol,
-  (
-    s,
-    w2,
-    slash1,
-    -- after the slash stand the version, a slash, and then the transport
-    (
-      b,
-      w3,
-      subst Token (sym b_is) fits.version,
-      (
-        r,
-        w4,
-        slash2,
-        (
-          -- the transport is of T
-          c,
-          w5,
-          subst T (sym c_is) t,
-          (
-            -- after the transport stand blanks, and then the host
-            sp,
-            w6,
-            blanks,
-            (
-              h,
-              w7,
-              (v.host, fits.host, h_is),
-              -- after the host stand an optional port, and the parameters
-              (
-                p,
-                q,
-                (v.port, fits.port, port),
-                tail-set BranchOk q (v.params, fits.params.0, fits.params.1, branch-ok fits.params.0 v.branch fits.params.2, params),
-                w7_is,
-              ),
-              w6_is,
-            ),
-            w5_is,
-          ),
-          w4_is,
-        ),
-        w3_is,
-      ),
-      w2_is,
-    ),
-    w1_is,
-  ),
-  whole,
-)
+via-set : (T : List ℕ → Type 0) (v : SaidVia) (text : List ℕ) → T v.transport → ViaSays v text → ViaSet T text
+via-set T v text t (os, branch_is, own, (a, w1, a_is, (s, w2, slash1, (b, w3, b_is, (r, w4, slash2, (c, w5, (c_is, t_is), (sp, w6, blanks, (h, w7, (host, h_is), (p, q, port, params, w7_is), w6_is), w5_is), w4_is), w3_is), w2_is), w1_is), whole)) =
+    -- the parameters are of the set of parameters, and the port of that of ports
+    let qs = says-many (λ o. Mark semicolon then ParamSays o) _ param-set os q params in
+    (a, w1, a_is, (s, w2, slash1, (b, w3, b_is, (r, w4, slash2, (c, w5, subst T t_is t, (sp, w6, blanks, (h, w7, host, (p, q, port-set v.port p port, qs, w7_is), w6_is), w5_is), w4_is), w3_is), w2_is), w1_is), whole)
 
--- an element whose transport is of T has parts, with a transport of T
-set-via : (T : List ℕ → Type 0) (text : List ℕ) → ((u : List ℕ) → T u → Token u) → ViaSet T text → (v : ViaParts) × ViaText text v × T v.transport
-set-via T text token (a, w1, a_is, (s, w2, slash1, (b, w3, b_is, (r, w4, slash2, (c, w5, c_is, (sp, w6, blanks, (h, w7, (host, host_fits, h_is), (p, q, (port, port_fits, port_is), params, w7_is), w6_is), w5_is), w4_is), w3_is), w2_is), w1_is), whole) =
-    -- `tail` is the parameters with their text, and `branch` the one that counts in them
-    let tail = set-tail BranchOk q params in
-    let branch = ok-branch tail.1 tail.3 in
-    -- v has the parts of the element
-    let v : ViaParts = record { protocol = a; version = b; transport = c; host = host; port = port; params = tail.0; branch = branch.0 } in (
-      v,
-      (
-        record { protocol = a_is; version = b_is; transport = token c c_is; host = host_fits; port = port_fits; params = (tail.1, tail.2, branch.1) },
-        (a, w1, refl, (s, w2, slash1, (b, w3, refl, (r, w4, slash2, (c, w5, refl, (sp, w6, blanks, (h, w7, h_is, (p, q, port_is, tail.4, w7_is), w6_is), w5_is), w4_is), w3_is), w2_is), w1_is), whole),
-      ),
+-- an element whose transport is of T says something, with a transport of T
+set-via : (T : List ℕ → Type 0) (text : List ℕ) → ((u : List ℕ) → T u → Token u) → ViaSet T text → (v : SaidVia) × ViaSays v text × T v.transport
+set-via T text token (a, w1, a_is, (s, w2, slash1, (b, w3, b_is, (r, w4, slash2, (c, w5, c_is, (sp, w6, blanks, (h, w7, host, (p, q, port, params, w7_is), w6_is), w5_is), w4_is), w3_is), w2_is), w1_is), whole) =
+    -- `said` is the branches that the parameters say, and `found` the port
+    let said = many-says (λ o. Mark semicolon then ParamSays o) _ set-param q params in
+    let found = set-port p port in (
+      record { whole = text; transport = c; host = h; port = found.0; branch = first_some said.0 },
+      (said.0, refl, refl, (a, w1, a_is, (s, w2, slash1, (b, w3, b_is, (r, w4, slash2, (c, w5, (token c c_is, refl), (sp, w6, blanks, (h, w7, (host, refl), (p, q, found.1, said.1, w7_is), w6_is), w5_is), w4_is), w3_is), w2_is), w1_is), whole)),
       c_is,
     )
 
--- further elements by their parts are elements, each after a comma
-more-set : (vs : List ViaParts) (text : List ℕ) → MoreVias vs text → Many (Mark comma then ViaSet Token) text
--- the text of no further elements is empty
-more-set [] text is = subst (Many (Mark comma then ViaSet Token)) (sym is) (many-nil (Mark comma then ViaSet Token))
-more-set (v ∷ vs) text (m, t, mark, (x, y, via, more, t_is), whole) =
-    subst (Many (Mark comma then ViaSet Token)) (sym (whole ∙ ap (λ z. m ++ z) t_is ∙ sym (append_assoc m x y)))
-    (many-cons (Mark comma then ViaSet Token) (m ++ x) y (m, x, mark, via-set Token x v via.0.transport via, refl) (more-set vs y more))
+-- an element after its comma is of the set of elements after a comma
+more-set : (v : SaidVia) (x : List ℕ) → (Mark comma then ViaSays v) x → (Mark comma then ViaSet Token) x
+more-set v x (m, t, mark, via, whole) = (m, t, mark, via-set Token v t (transport via) via, whole)
+  where
+    -- the transport is a token
+    transport : ViaSays v t → Token v.transport
+    transport (os, branch_is, own, says) = let five = says.3.3.3.3 in subst Token (sym five.2.1) five.2.0
 
--- elements, each after a comma, are further elements by their parts
-set-more : (us : List (List ℕ)) → AllByRecursion (Mark comma then ViaSet Token) us → (vs : List ViaParts) × MoreVias vs (concat us)
--- the empty text is that of no further elements
-set-more [] all = ([], refl)
-set-more (u ∷ us) ((m, x, mark, via, u_is), all) =
-    -- `more` is the elements after the first, and v the first one
-    let more = set-more us all in
-    let v = set-via Token x (λ t is. is) via in
-    (v.0 ∷ more.0, (m, x ++ concat us, mark, (x, concat us, v.1, more.1, refl), ap (λ z. z ++ concat us) u_is ∙ append_assoc m x (concat us)))
-
--- the text is elements of Via, of which the first has a transport of the set Transport
+-- the text is elements of Via, of which the first has a transport of the set T
 abbrev ViasSet : (List ℕ → Type 0) → List ℕ → Type 0
 ViasSet T = ViaSet T then Many (Mark comma then ViaSet Token)
 
@@ -272,20 +191,23 @@ closed-vias_set : (T : List ℕ → Type 0) → Each is_solid T → ((u : List �
 closed-vias_set T solid some =
     -- the first element and the others, each after its comma: no element ends with a blank, and none begins with one
     closed-then (ViaSet T) (Many (Mark comma then ViaSet Token)) (seam-left (ViaSet T) (Many (Mark comma then ViaSet Token)) (end-firm (ViaSet T) (firm-via_set T))) (closed-via_set T solid some)
-    (closed-many (Mark comma then ViaSet Token) (end-firm (Mark comma then ViaSet Token) (firm-then_right (Mark comma) (ViaSet Token) (firm-via_set Token)))
-    (closed-then (Mark comma) (ViaSet Token) (seam-right (Mark comma) (ViaSet Token) (opens-then Token (Mark slash then (Token then (Mark slash then (Token then AfterTransport)))) open-token)) (closed-mark comma refl)
-    (closed-via_set Token solid-token (some-run is_token_byte))))
+    (closed-list comma (ViaSet Token) refl (opens-then Token _ open-token) (firm-via_set Token) (closed-via_set Token solid-token (some-run is_token_byte)))
 
 -- a value of Via that is unfolded is a value of Via, and its first element has the same transport
 pub unfolded-via : (text transport : List ℕ) → TopTransport text transport → TopTransport (unfolded text) transport
 unfolded-via text transport (v, vs, (x, y, via, more, whole), is) =
-    let token : Token transport = subst Token (sym is) via.0.transport in
+    let five = via.3.3.3.3.3 in
+    let token : Token transport = subst Token (sym (is ∙ five.2.1)) five.2.0 in
     -- `set`: the value is elements of which the first has this transport; this stays so when its folds are taken out (`after`)
-    let set : ViasSet (Exactly transport) text = (x, y, via-set (Exactly transport) x v (sym is) via, more-set vs y more, whole) in
+    let set : ViasSet (Exactly transport) text = (x, y, via-set (Exactly transport) v x (sym is) via, says-many _ _ more-set vs y more, whole) in
     let after = closed-unfolded (ViasSet (Exactly transport)) (closed-vias_set (Exactly transport)
     (λ u same. subst (All is_solid) (sym same) (solid-token transport token))
     (λ u same none. some-run is_token_byte transport token (sym same ∙ none))) text set in
-    -- `first` is the parts of the first element, with this transport, and `others` those of the others
+    -- `first` is the first element, with this transport, and `others` are the others
     let first = set-via (Exactly transport) after.0 (λ u same. subst Token (sym same) token) after.2 in
-    let others = set-more after.3.0 after.3.1 in
-    (first.0, others.0, (after.0, after.1, first.1, subst (MoreVias others.0) (sym after.3.2) others.1, after.4), sym first.2)
+    let others = many-says (λ (e : SaidVia). Mark comma then ViaSays e) _ set-more after.1 after.3 in
+    (first.0, others.0, (after.0, after.1, first.1, others.1, after.4), sym first.2)
+  where
+    -- an element of the set after its comma says something
+    set-more : (u : List ℕ) → (Mark comma then ViaSet Token) u → (e : SaidVia) × (Mark comma then ViaSays e) u
+    set-more u (m, t, mark, set, u_is) = let e = set-via Token t (λ z word. word) set in (e.0, (m, t, mark, e.1, u_is))

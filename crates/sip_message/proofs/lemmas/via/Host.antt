@@ -1,23 +1,19 @@
 -- The host and the port of sent-by, at the front of a text.
--- A host is a name (`name`), an IPv4 address (`v4`) or an IPv6 address in brackets (`v6`).
 -- `HostCut` is what may be a host at the front of a text, in brackets or as a token, and `HostFront` is a host there, each with what is left.
 use Rattle.std.proofs.Common.{◌≡◌, ℕ, Bool, true, false, nat_eq, ◌||◌, List, [], ◌∷◌, ◌++◌, Option, Some, None, length, slice_index, refl, sym, ap, ◌∙◌, subst, inl, inr, arith}
-use Rattle.std.specs.Prelude.{IfSome}
 use Rattle.std.specs.Char.{is_ascii_digit}
 use Rattle.std.proofs.lemmas.Bool.{both_ways, or_cases, or_right, eqb-true}
 use Rattle.std.proofs.lemmas.List.{append_assoc}
 use Rattle.sip_standard.specs.Text.{One, Many}
-use Rattle.sip_standard.specs.Profile.{Token, Hostname, Ipv4, Port}
+use Rattle.sip_standard.specs.Profile.{Token, Hostname, Ipv4, Host, Port}
+use Rattle.sip_standard.specs.Via.{PortSays}
 use Rattle.sip_text.specs.Bytes.{colon, left_bracket, right_bracket, is_token_byte}
-use Rattle.sip_text.specs.Parts.{IsOnlyValue}
-use Rattle.sip_text.specs.Host.{HostParts, HostText, host_text, name, v4, v6}
 use Rattle.sip_text.specs.inner.HostTests.{is_v4, is_hostname}
 use Rattle.sip_text.proofs.hosts.HostnameLemmas.{hostname-is}
 use Rattle.sip_text.proofs.hosts.V4Lemmas.{v4-is}
 use Rattle.sip_text.proofs.texts.ManyLemmas.{many-nil, many-cons}
 use Rattle.sip_text.proofs.uris.UriPortLemmas.{port-length}
-use Rattle.sip_message.specs.Via.{ColonPort}
-use Rattle.sip_message.specs.inner.Fronts.{Stops, StopsBlank, TokenFront, MarkFront, both}
+use Rattle.sip_message.specs.inner.Fronts.{Stops, StopsBlank, TokenFront, MarkFront}
 use Rattle.sip_message.specs.inner.ParamFronts.{BracketFront, LedFront}
 use Rattle.sip_message.specs.inner.ViaFronts.{HostCut, HostFront, PortFront}
 use Rattle.sip_message.proofs.lemmas.text.Cuts.{All}
@@ -25,8 +21,9 @@ use Rattle.sip_message.proofs.lemmas.text.Each.{each-one, each-between}
 use Rattle.sip_message.proofs.lemmas.field.OneWay.{blank-token}
 use Rattle.sip_message.proofs.lemmas.front.Cuts.{ReadAs, NotRead, stops-byte}
 use Rattle.sip_message.proofs.lemmas.via.Protocol.{token-stops}
-use Rattle.sip_message.proofs.lemmas.front.OneWay.{AtMostOne, read-one, one-seq, one-token, one-bracket, token-digit, each-hostname, each-v4, same-host, reference-bracket, bracket-first, token-first, first-fails}
+use Rattle.sip_message.proofs.lemmas.front.OneWay.{AtMostOne, read-one, one-token, one-bracket, token-digit, each-hostname, each-v4, reference-bracket, bracket-first, token-first, first-fails}
 use Rattle.sip_message.proofs.lemmas.front.Led.{Next, next-stops, next-other}
+use Rattle.sip_message.specs.inner.Only.{IsOnlyValue}
 use Rattle.sip_message.proofs.lemmas.params.Reading.{is_separator, separator-token}
 
 -- what may be a host is cut in one way
@@ -53,19 +50,17 @@ host-token parts text None bracket none = at
     at x (inr is) = none x is
 host-token parts text (Some a) bracket read = read-one (HostCut text) (parts a) (one-host_cut text) (inr read.0)
 
--- the parts of a host, with what is left after it, are read in one way
-pub one-host_last : (part rest : List ℕ) → AtMostOne (λ (x : HostParts × List ℕ). HostText part (x.0) × (x.1 ≡ rest))
--- h and k are the hosts by the two readings, and r and s what is left
-one-host_last part rest (h, r) (k, s) (h_is, r_is) (k_is, s_is) =
-    ap (λ x. (x, r)) (same-host part h k h_is k_is) ∙ ap (λ x. (k, x)) (r_is ∙ sym s_is)
-
--- where the part that was cut is a host, it is read as that host, with what is left
-pub host-last : (part rest : List ℕ) (h : HostParts) → HostText part h → ReadAs (λ (x : HostParts × List ℕ). HostText part (x.0) × (x.1 ≡ rest)) (h, rest)
-host-last part rest h is = read-one (λ (x : HostParts × List ℕ). HostText part (x.0) × (x.1 ≡ rest)) (h, rest) (one-host_last part rest) (is, refl)
-
 -- a host at the front of a text is read in one way
 pub one-host : (text : List ℕ) → AtMostOne (HostFront text)
-one-host text = one-seq (HostCut text) _ (one-host_cut text) (λ cut. one-host_last (cut.0) (cut.1))
+one-host text x y a b = one-host_cut text x y a.1 b.1
+
+-- where what may be a host at the front of a text is one, it is read as the host
+pub host-found : (text host rest : List ℕ) → ReadAs (HostCut text) (host, rest) → Host host → ReadAs (HostFront text) (host, rest)
+host-found text host rest cut is = read-one (HostFront text) (host, rest) (one-host text) (is, cut.0)
+
+-- where what may be a host at the front of a text is none, no host is read
+pub host-missing : (text host rest : List ℕ) → ReadAs (HostCut text) (host, rest) → (Host host → ⊥) → NotRead (HostFront text)
+host-missing text host rest cut none x is = none (subst Host (ap (λ y. y.0) (cut.1 x is.1)) is.0)
 
 -- a port at the front of a text is read in one way
 pub one-port : (text : List ℕ) → AtMostOne (PortFront text)
@@ -133,63 +128,48 @@ token-front : (u rest : List ℕ) → Token u → Stops is_token_byte rest → T
 token-front u rest token stops = (token, stops, (u, rest, refl, refl, refl))
 
 -- where nothing follows a host, or after blanks a byte that may, the host is read at the front of it and what follows
-pub host-front : (h : HostParts) (rest : List ℕ) → HostText (host_text h) h → Next is_after_host rest → HostFront (host_text h ++ rest) (h, rest)
+pub host-front : (h rest : List ℕ) → Host h → Next is_after_host rest → HostFront (h ++ rest) (h, rest)
 -- a name and an IPv4 address are tokens, after which no byte of a token stands
-host-front (name x) rest is next = both (x, rest) (inr (token-front x rest (hostname-token x is.0) (next-stops is_after_host is_token_byte rest blank-token after-token next))) (is, refl)
-host-front (v4 x) rest is next = both (x, rest) (inr (token-front x rest (v4-token x is.0) (next-stops is_after_host is_token_byte rest blank-token after-token next))) (is, refl)
+host-front h rest (inl hostname) next = (inl hostname, inr (token-front h rest (hostname-token h hostname) (next-stops is_after_host is_token_byte rest blank-token after-token next)))
+host-front h rest (inr (inl address)) next = (inr (inl address), inr (token-front h rest (v4-token h address) (next-stops is_after_host is_token_byte rest blank-token after-token next)))
 -- an address in brackets ends with its "]"
-host-front (v6 x) rest is next = both (x, rest) (inl (reference-bracket (x ++ rest) (x, rest) (is.0, refl))) (is, refl)
+host-front h rest (inr (inr reference)) next = (inr (inr reference), inl (reference-bracket (h ++ rest) (h, rest) (reference, refl)))
 
 -- a host does not begin with a blank
-pub host-stops : (h : HostParts) (rest : List ℕ) → HostText (host_text h) h → StopsBlank (host_text h ++ rest)
+pub host-stops : (h rest : List ℕ) → Host h → StopsBlank (h ++ rest)
 -- a name and an IPv4 address begin with a byte of a token
-host-stops (name x) rest is = token-stops x rest (hostname-token x is.0)
-host-stops (v4 x) rest is = token-stops x rest (v4-token x is.0)
+host-stops h rest (inl hostname) = token-stops h rest (hostname-token h hostname)
+host-stops h rest (inr (inl address)) = token-stops h rest (v4-token h address)
 -- an address in brackets begins with "["
-host-stops (v6 x) rest is =
-    let bracket = reference-bracket (x ++ rest) (x, rest) (is.0, refl) in
+host-stops h rest (inr (inr reference)) =
+    let bracket = reference-bracket (h ++ rest) (h, rest) (reference, refl) in
     subst (λ t. StopsBlank (t ++ rest)) (sym bracket.2) (stops-byte left_bracket ((bracket.0 ++ right_bracket ∷ []) ++ rest) refl)
 
 -- where a host is read at the front of a text, the text is the host and what is left
-pub front-host : (text : List ℕ) (h : HostParts) (rest : List ℕ) → HostFront text (h, rest) → HostText (host_text h) h × (text ≡ host_text h ++ rest)
-front-host text h rest (both (part, left) cut (is, rest_is)) =
-    let spelled = same h is in
-    (subst (λ t. HostText t h) (sym spelled) is, whole cut ∙ ap (λ t. t ++ left) (sym spelled) ∙ ap (λ t. host_text h ++ t) (sym rest_is))
-  where
-    -- the host that was read is spelled as this part of the text
-    same : (k : HostParts) → HostText part k → host_text k ≡ part
-    -- each kind of host is written as its text
-    same (name x) fits = fits.1
-    same (v4 x) fits = fits.1
-    same (v6 x) fits = fits.1
-
-    -- the part and what is left are the text
-    whole : HostCut text (part, left) → text ≡ part ++ left
-    -- in brackets, or as a token
-    whole (inl bracket) = bracket.3
-    whole (inr token) = token.2.4 ∙ ap (λ z. z ++ token.2.1) token.2.2 ∙ ap (λ z. part ++ z) token.2.3
+pub front-host : (text h rest : List ℕ) → HostFront text (h, rest) → Host h × (text ≡ h ++ rest)
+-- in brackets, or as a token
+front-host text h rest (is, inl bracket) = (is, bracket.3)
+front-host text h rest (is, inr token) = (is, token.2.4 ∙ ap (λ z. z ++ token.2.1) token.2.2 ∙ ap (λ z. h ++ z) token.2.3)
 
 -- where nothing follows an optional port, or after blanks a separator, the port is read at the front of it and what follows
-pub port-front : (port : Option (List ℕ)) (p rest : List ℕ) → IfSome port Port → ColonPort port p → Next is_separator rest → LedFront colon PortFront (p ++ rest) (port, rest)
+pub port-front : (port : Option (List ℕ)) (p rest : List ℕ) → PortSays port p → Next is_separator rest → LedFront colon PortFront (p ++ rest) (port, rest)
 -- without a port nothing is read: what follows begins with no colon
-port-front None p rest fits p_is next =
+port-front None p rest p_is next =
     let whole : p ++ rest ≡ rest = ap (λ t. t ++ rest) p_is in
     ((λ inner mark. next-other is_separator colon rest refl refl next inner (subst (λ t. MarkFront colon t inner) whole mark)), sym whole)
--- a colon and a port are read, and the port ends where its bytes end, since no byte of a token follows them
-port-front (Some port) p rest fits (m, t, mark, t_is, p_is) next = (
-  port ++ rest,
-  (
-    token-stops port rest (port-token port fits),
-    (m, port ++ rest, mark, refl, ap (λ x. x ++ rest) (p_is ∙ ap (λ x. m ++ x) t_is) ∙ append_assoc m port rest),
-  ),
-  (fits, token-front port rest (port-token port fits) (next-stops is_separator is_token_byte rest blank-token separator-token next)),
+-- a colon and a port t are read, and the port ends where its bytes end, since no byte of a token follows them
+port-front (Some port) p rest (m, t, mark, (fits, port_is), p_is) next = (
+  t ++ rest,
+  (token-stops t rest (port-token t fits), (m, t ++ rest, mark, refl, ap (λ x. x ++ rest) p_is ∙ append_assoc m t rest)),
+  subst (λ x. PortFront (t ++ rest) (x, rest)) (sym port_is)
+      (fits, token-front t rest (port-token t fits) (next-stops is_separator is_token_byte rest blank-token separator-token next)),
 )
 
 -- where an optional port is read at the front of a text, the text is the port with its colon, and what is left
-pub front-port : (port : Option (List ℕ)) (text rest : List ℕ) → LedFront colon PortFront text (port, rest) → (p : List ℕ) × ColonPort port p × IfSome port Port × (text ≡ p ++ rest)
+pub front-port : (port : Option (List ℕ)) (text rest : List ℕ) → LedFront colon PortFront text (port, rest) → (p : List ℕ) × PortSays port p × (text ≡ p ++ rest)
 -- without a port nothing is taken off the text
-front-port None text rest (none, rest_is) = ([], refl, tt, sym rest_is)
+front-port None text rest (none, rest_is) = ([], refl, sym rest_is)
 front-port (Some port) text rest (inner, mark, (fits, token)) =
     -- after the colon and its blanks, mark.1.0, the port stands, and then what is left
     let token_whole : inner ≡ port ++ rest = token.2.4 ∙ ap (λ z. z ++ token.2.1) token.2.2 ∙ ap (λ z. port ++ z) token.2.3 in
-    (mark.1.0 ++ port, (mark.1.0, port, mark.1.2, refl, refl), fits, mark.1.4 ∙ ap (λ z. mark.1.0 ++ z) (mark.1.3 ∙ token_whole) ∙ sym (append_assoc mark.1.0 port rest))
+    (mark.1.0 ++ port, (mark.1.0, port, mark.1.2, (fits, refl), refl), mark.1.4 ∙ ap (λ z. mark.1.0 ++ z) (mark.1.3 ∙ token_whole) ∙ sym (append_assoc mark.1.0 port rest))

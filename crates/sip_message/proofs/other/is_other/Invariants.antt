@@ -1,6 +1,6 @@
 use Rattle.std.proofs.Common.{◌≤◌, ◌-◌, length}
 use Rattle.sip_standard.specs.Text.{Many}
-use Rattle.sip_text.specs.Parts.{HasFront}
+use Rattle.sip_text.specs.Front.{HasFront}
 use Rattle.sip_message.proofs.lemmas.value.Other.{OtherItem}
 use Rattle.sip_message.proofs.other.is_other.Given as goal
 

@@ -1,8 +1,8 @@
 use Rattle.std.proofs.Common.{option_copied, sym, ap, subst, ◌∙◌}
-use Rattle.sip_text.specs.Parts.{IsOnlyValue}
 use Rattle.sip_message.specs.inner.Fronts.{pair_parts}
 use Rattle.sip_message.specs.inner.ParamFronts.{BracketFront}
 use Rattle.sip_message.proofs.lemmas.params.Value.{no-close, one-closed, closed-short}
+use Rattle.sip_message.specs.inner.Only.{IsOnlyValue}
 use Rattle.sip_message.proofs.params.cut_brackets.Goals as goal
 
 -- where no "]" follows the "[", nothing in brackets is read

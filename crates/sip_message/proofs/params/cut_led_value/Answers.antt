@@ -1,9 +1,9 @@
 use Rattle.std.proofs.Common.{refl, sym, subst}
 use Rattle.sip_text.specs.Bytes.{equals}
-use Rattle.sip_text.specs.Parts.{IsOnlyValue}
 use Rattle.sip_message.specs.inner.ParamFronts.{ValueFront, LedFront, led_parts}
 use Rattle.sip_message.proofs.lemmas.front.OneWay.{one-value}
 use Rattle.sip_message.proofs.lemmas.front.Led.{no-led, led-some}
+use Rattle.sip_message.specs.inner.Only.{IsOnlyValue}
 use Rattle.sip_message.proofs.params.cut_led_value.Goals as goal
 
 -- where a "=" stands there without a value after it, no part is read

@@ -1,7 +1,7 @@
 use Rattle.std.proofs.Common.{sym, subst}
-use Rattle.sip_text.specs.Parts.{IsOnlyValue}
 use Rattle.sip_message.specs.inner.ParamFronts.{ParamFront, param_parts}
 use Rattle.sip_message.proofs.lemmas.front.Cuts.{stop, go-stop, go, last}
+use Rattle.sip_message.specs.inner.Only.{IsOnlyValue}
 use Rattle.sip_message.proofs.params.cut_param.Goals as goal
 
 -- where no name follows the ";", no parameter is read

@@ -1,6 +1,6 @@
 use Rattle.std.proofs.Common.{sym, subst}
-use Rattle.sip_text.specs.Parts.{IsOnlyValue}
-use Rattle.sip_text.specs.Host.{host_parts}
+use Rattle.std.proofs.lemmas.Bool.{both_ways}
+use Rattle.sip_message.specs.inner.Only.{IsOnlyValue}
 use Rattle.sip_message.specs.inner.Fronts.{pair_parts}
 use Rattle.sip_message.specs.inner.ParamFronts.{ReferenceFront}
 use Rattle.sip_message.proofs.lemmas.front.OneWay.{reference-bracket}
@@ -15,14 +15,14 @@ returns-in_err-part c =
     (λ x reference. c.in_err-part.ensures x (reference-bracket c.args.text.now x reference))
 
 -- where what stands in the brackets is no IPv6 address, none is read
-pub returns-in_err-read_host : goal.returns-in_err-read_host
-returns-in_err-read_host c =
+pub returns-else-is_host : goal.returns-else-is_host
+returns-else-is_host c =
     -- what stands in brackets was cut off, and is no host
-    subst (IsOnlyValue ReferenceFront pair_parts c.args.text.now) (sym c.from_residual-in_err-read_host.ensures)
-    (no-host_reference c.args.text.now c.in_ok-part.part.now c.in_ok-part.rest.now c.in_ok-part.ensures c.in_err-read_host.ensures)
+    no-host_reference c.args.text.now c.in_ok-part.part.now c.in_ok-part.rest.now c.in_ok-part.ensures
+    (λ host. both_ways c.is_host.result c.if-is_host.false (c.is_host.ensures.1 host))
 
 -- an IPv6 address in brackets stands at the front, and is read
-pub returns : goal.returns
-returns c =
+pub returns-then-is_host : goal.returns-then-is_host
+returns-then-is_host c =
     -- what stands in brackets was cut off, and is a host
-    one-host_reference c.args.text.now c.in_ok-part.part.now c.in_ok-part.rest.now (host_parts c.in_ok-read_host.field-0) c.in_ok-part.ensures c.in_ok-read_host.ensures.0
+    one-host_reference c.args.text.now c.in_ok-part.part.now c.in_ok-part.rest.now c.in_ok-part.ensures (c.is_host.ensures.0 c.if-is_host.true)

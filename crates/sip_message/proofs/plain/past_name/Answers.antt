@@ -1,7 +1,7 @@
 use Rattle.std.proofs.Common.{sym, ap, ◌∙◌, inl, arith}
-use Rattle.sip_message.specs.Address.{DisplayName}
 use Rattle.sip_message.specs.inner.Plain.{segment}
 use Rattle.sip_message.proofs.PlainLemmas.{front-stands}
+use Rattle.sip_message.specs.inner.AddressFronts.{DisplayName}
 use Rattle.sip_message.proofs.plain.past_name.Goals as goal
 
 -- where a quoted string stands there, it is a display name

@@ -1,7 +1,8 @@
 use Rattle.std.proofs.lemmas.Option.{IfSome_then}
 use Rattle.std.specs.Prelude.{codes}
 use Rattle.sip_standard.specs.Text.{Exactly, ◌then◌}
-use Rattle.sip_message.specs.inner.Plain.{HostPort, SomeUri}
+use Rattle.sip_standard.specs.Profile.{Uri}
+use Rattle.sip_message.specs.inner.Plain.{HostPort}
 use Rattle.sip_message.proofs.PlainLemmas.{stands-as, then-stands}
 use Rattle.sip_message.proofs.PlainUriLemmas.{PlainUser, uri-plain}
 use Rattle.sip_message.proofs.plain.past_uri.Goals as goal
@@ -14,6 +15,6 @@ returns c =
     let start = c.in_ok-start.start in
     let host = c.in_ok-host.host in
     IfSome_then c.past_hostport.result c.past_hostport.ensures (λ to hostport.
-    stands-as (Exactly (codes "sip:") then PlainUser then HostPort) SomeUri m c.args.at c.args.end to uri-plain
+    stands-as (Exactly (codes "sip:") then PlainUser then HostPort) Uri m c.args.at c.args.end to uri-plain
     (then-stands (Exactly (codes "sip:")) (PlainUser then HostPort) m c.args.at c.args.end start to c.in_ok-start.ensures
     (then-stands PlainUser HostPort m start c.args.end host to c.in_ok-host.ensures hostport)))

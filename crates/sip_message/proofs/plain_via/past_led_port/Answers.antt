@@ -1,7 +1,5 @@
 use Rattle.std.proofs.Common.{Some, sym, subst}
-use Rattle.std.specs.Prelude.{IfSome}
-use Rattle.sip_standard.specs.Profile.{Port}
-use Rattle.sip_message.specs.Via.{ColonPort}
+use Rattle.sip_standard.specs.Via.{PortSays}
 use Rattle.sip_message.specs.inner.Plain.{segment, LiesWithin}
 use Rattle.sip_message.proofs.PlainViaLemmas.{port-led}
 use Rattle.sip_message.proofs.plain_via.past_led_port.Goals as goal
@@ -13,5 +11,5 @@ returns c =
     let m = c.args.masks.now in
     let port = c.in-Some.port in
     let to = c.in_ok-to.to in
-    subst (λ t. LiesWithin (λ u. ColonPort (Some (segment port to t)) u × IfSome (Some (segment port to t)) Port) m c.args.at c.args.end to) (sym c.text.ensures)
+    subst (λ t. LiesWithin (PortSays (Some (segment port to t))) m c.args.at c.args.end to) (sym c.text.ensures)
     (port-led m c.args.at c.args.end port to c.in-Some.ensures c.in_ok-to.ensures)

@@ -2,7 +2,7 @@
 -- found counts before theirs.
 use Rattle.std.proofs.Common.{◌≡◌, None, option_copied, sym, ap, ◌∙◌, subst, arith}
 use Rattle.std.specs.Option.{option_or}
-use Rattle.sip_message.specs.Via.{ViaParams}
+use Rattle.sip_message.specs.inner.ViaFronts.{BranchText}
 use Rattle.sip_message.specs.inner.ParamFronts.{Param}
 use Rattle.sip_message.specs.inner.Plain.{segment}
 use Rattle.sip_message.proofs.PlainViaLemmas.{branch-behind, branch-none, or-none}
@@ -22,7 +22,7 @@ params-preserved c =
       c.in-Some.ensures.param.1,
       λ later params.
           let all = c.params.invariant.1 (option_or found later) (branch-behind p found later m c.params.from c.args.end c.in-Some.to c.in-Some.ensures.param c.in_ok-token_branch.ensures params) in
-          subst (ViaParams (segment c.args.at c.args.end m)) (or-assoc old found later ∙ ap (λ b. option_or b later) (sym new)) all,
+          subst (BranchText (segment c.args.at c.args.end m)) (or-assoc old found later ∙ ap (λ b. option_or b later) (sym new)) all,
     )
 
 -- at the end of the loop the branch is that of all parameters
@@ -32,5 +32,5 @@ returns c =
     let m = c.args.masks.now in
     let from = c.params.from in
     let end : c.args.end ≡ from = omega (arith, c.params.invariant.0, c.params-test.false) in
-    let none = subst (λ k. ViaParams (segment from k m) None) (sym end) (branch-none m from) in
-    subst (ViaParams (segment c.args.at c.args.end m)) (or-none (option_copied c.params.branch)) (c.params.invariant.1 None none)
+    let none = subst (λ k. BranchText (segment from k m) None) (sym end) (branch-none m from) in
+    subst (BranchText (segment c.args.at c.args.end m)) (or-none (option_copied c.params.branch)) (c.params.invariant.1 None none)

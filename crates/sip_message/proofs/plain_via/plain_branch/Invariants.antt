@@ -1,6 +1,6 @@
 use Rattle.std.proofs.Common.{ℕ, ◌-◌, ◌≤◌, List, Option, option_copied}
 use Rattle.std.specs.Option.{option_or}
-use Rattle.sip_message.specs.Via.{ViaParams}
+use Rattle.sip_message.specs.inner.ViaFronts.{BranchText}
 use Rattle.sip_message.specs.inner.Plain.{segment}
 use Rattle.sip_message.proofs.plain_via.plain_branch.Given as goal
 
@@ -9,7 +9,7 @@ abbrev pub invariant-params : goal.invariant-params
 invariant-params l =
     -- the place is not after the end; and `later`, the branch of what is left, counts only where none was found
     (l.from ≤ l.end)
-    × ((later : Option (List ℕ)) → ViaParams (segment l.from l.end l.masks) later → ViaParams (segment l.at l.end l.masks) (option_or (option_copied l.branch) later))
+    × ((later : Option (List ℕ)) → BranchText (segment l.from l.end l.masks) later → BranchText (segment l.at l.end l.masks) (option_or (option_copied l.branch) later))
 
 -- each turn of the loop comes nearer to `end`
 abbrev pub decreases-params : goal.decreases-params

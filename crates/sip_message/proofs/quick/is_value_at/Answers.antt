@@ -1,12 +1,22 @@
-use Rattle.std.proofs.Common.{rules, ◌≡◌, false, ap, ◌∙◌}
+use Rattle.std.proofs.Common.{rules, ◌≡◌, false, sym, ap, ◌∙◌, subst}
 use Rattle.sip_message.specs.declared.name.Known.TheVariants as known_name
 use Rattle.sip_message.specs.Name.{known, is_name_of}
 use Rattle.sip_message.specs.inner.Values.{OtherText}
 use Rattle.sip_message.specs.inner.Views.{name_parts}
 use Rattle.sip_message.specs.inner.Plain.{segment}
+use Rattle.sip_message.specs.inner.FieldText.{Row}
 use Rattle.sip_message.proofs.QuickLemmas.{open-other}
+use Rattle.sip_message.proofs.lemmas.asked.Kept.{via-row}
 use Rattle.sip_message.proofs.lemmas.asked.Asked.{asks-via, asks-from, asks-to, asks-call_id, asks-cseq, asks-content_length, asks-other}
 use Rattle.sip_message.proofs.quick.is_value_at.Goals as goal
+
+-- a value of which a first Via is kept, or was read, is one of its row
+pub returns-in-Known-Via-clause-row : goal.returns-in-Known-Via-clause-row
+returns-in-Known-Via-clause-row c = λ so.
+    -- `named`: the field is a Via; `kept` is what the call that keeps it says
+    let named : name_parts c.args.name ≡ known known_name.Via = ap name_parts c.in-Known-Via.is ∙ ap known (rw c.in-Known-Via.is at c.in-Known-Via.field-0-is) in
+    let kept = c.keep_via.ensures in
+    subst (λ n. Row n (segment c.args.at c.args.end c.args.masks.now)) (sym named) ((via-row (segment c.args.at c.args.end c.args.masks.now) kept.0 c.keep_via.result kept.2 kept.1).0 so)
 
 -- the first Via is kept
 pub returns-in-Known-Via-clause-asked : goal.returns-in-Known-Via-clause-asked

@@ -4,8 +4,7 @@ use Rattle.std.specs.Option.{option_map}
 use Rattle.std.specs.Str.Parse.{digits_value}
 use Rattle.std.proofs.lemmas.Bool.{both_ways}
 use Rattle.sip_message.specs.inner.Values.{Digits}
-use Rattle.sip_message.specs.ValueParts.{start_parts}
-use Rattle.sip_message.specs.ViaParts.{element}
+use Rattle.sip_message.specs.ValueParts.{start_parts, element}
 use Rattle.sip_message.proofs.lemmas.message.Body.{stream-first, body-method, body-no_length, body-all, body-short, body-long, body-cut, body-whole}
 use Rattle.sip_message.proofs.stages.body_by_length.Goals as goal
 

@@ -5,8 +5,7 @@ use Rattle.std.proofs.lemmas.Bool.{both_ways}
 use Rattle.std.proofs.Math.Seq.{take-length}
 use Rattle.sip_standard.specs.Outcome.{gives}
 use Rattle.sip_message.specs.inner.Faults.{BodyOf}
-use Rattle.sip_message.specs.ValueParts.{start_parts}
-use Rattle.sip_message.specs.ViaParts.{element}
+use Rattle.sip_message.specs.ValueParts.{start_parts, element}
 use Rattle.sip_message.proofs.lemmas.message.Body.{stream-first, body-all, body-cut, body-whole}
 use Rattle.sip_message.proofs.stages.body_len.Goals as goal
 

@@ -1,10 +1,10 @@
 use Rattle.std.proofs.Common.{◌+◌, take, sym, subst}
 use Rattle.std.proofs.lemmas.List.{take_rest}
-use Rattle.sip_text.specs.Parts.{IsOnlyValue}
 use Rattle.sip_standard.specs.Lines.{CutSays}
 use Rattle.sip_message.specs.inner.Fronts.{pair_parts}
 use Rattle.sip_message.proofs.lemmas.front.Cuts.{ReadAs}
 use Rattle.sip_message.proofs.lemmas.lines.HeadEnd.{no-head, one-head}
+use Rattle.sip_message.specs.inner.Only.{IsOnlyValue}
 use Rattle.sip_message.proofs.stages.cut_head.Goals as goal
 
 -- where no empty line stands in the bytes, they have no head

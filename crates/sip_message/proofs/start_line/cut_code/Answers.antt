@@ -2,11 +2,11 @@ use Rattle.std.proofs.Common.{◌≡◌, false, refl, ◌<◌, sym, ap, ◌∙�
 use Rattle.std.specs.Str.Parse.{digits_value}
 use Rattle.std.proofs.lemmas.Bool.{both_ways}
 use Rattle.sip_text.specs.Bytes.{space}
-use Rattle.sip_text.specs.Parts.{IsOnlyValue}
 use Rattle.sip_text.specs.inner.Cut.{past}
 use Rattle.sip_message.specs.inner.Values.{Digits}
 use Rattle.sip_message.specs.inner.StartLine.{CodeFront, status_parts}
 use Rattle.sip_message.proofs.lemmas.start_line.Reading.{code-short, code-no_space, code-no_digits, code-high, code-low, code-read}
+use Rattle.sip_message.specs.inner.Only.{IsOnlyValue}
 use Rattle.sip_message.proofs.start_line.cut_code.Goals as goal
 
 -- a text of less than three bytes has no code

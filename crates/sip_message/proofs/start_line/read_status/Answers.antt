@@ -1,11 +1,11 @@
 use Rattle.std.proofs.Common.{false, refl, sym, ◌∙◌, subst}
 use Rattle.std.specs.Prelude.{codes}
 use Rattle.std.proofs.lemmas.Bool.{both_ways}
-use Rattle.sip_text.specs.Parts.{IsOnlyValue}
 use Rattle.sip_text.specs.inner.Case.{SameText}
 use Rattle.sip_message.specs.inner.StartLine.{StatusLine, CodeFront, status_parts}
 use Rattle.sip_message.proofs.lemmas.front.Cuts.{ReadAs, NotRead}
 use Rattle.sip_message.proofs.lemmas.start_line.Reading.{status-no_version, status-no_code, status-no_reason, status-read}
+use Rattle.sip_message.specs.inner.Only.{IsOnlyValue}
 use Rattle.sip_message.proofs.start_line.read_status.Goals as goal
 
 -- where the line does not begin with SIP/2.0 and SP, it is no status line

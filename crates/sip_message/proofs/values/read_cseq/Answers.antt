@@ -1,11 +1,11 @@
 use Rattle.std.proofs.Common.{sym, subst}
 use Rattle.std.proofs.lemmas.Bool.{both_ways}
 use Rattle.std.proofs.lemmas.List.{take_rest}
-use Rattle.sip_text.specs.Parts.{IsOnlyValue}
 use Rattle.sip_message.specs.inner.Values.{CSeqValue}
 use Rattle.sip_message.specs.ValueParts.{cseq_parts}
 use Rattle.sip_message.proofs.lemmas.value.CSeq.{same-cseq, cseq-large, cseq-no_digit, cseq-no_blank, cseq-method, cseq-is}
 use Rattle.sip_message.proofs.values.read_cseq.Goals as goal
+use Rattle.sip_message.specs.inner.Only.{IsOnlyValue}
 use Rattle.sip_message.proofs.values.read_cseq.Goals.{then-len-eq0-via-then-len-eq0, then-len-eq0-via-else-len-eq0+then-blanks-eq0, then-len-eq0-via-else-len-eq0+else-blanks-eq0+then-not-is_token}
 
 -- where the number is too great, the text is no CSeq

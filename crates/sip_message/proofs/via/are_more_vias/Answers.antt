@@ -2,8 +2,8 @@
 use Rattle.std.proofs.Common.{length, sym, ap, ◌∙◌}
 use Rattle.std.proofs.lemmas.Bool.{false≢true, eqb-true, eq-eqb}
 use Rattle.std.proofs.lemmas.List.{nil_from_length}
-use Rattle.sip_message.specs.ViaParts.{element}
 use Rattle.sip_message.proofs.lemmas.via.Value.{vias-none, vias-behind, more-behind, more-none}
+use Rattle.sip_message.specs.ValueParts.{element}
 use Rattle.sip_message.proofs.via.are_more_vias.Goals as goal
 
 -- where no element follows a comma, the text is not further elements

@@ -1,9 +1,9 @@
 use Rattle.std.proofs.Common.{sym, ap, ◌∙◌, subst, option_copied}
-use Rattle.sip_text.specs.Parts.{IsOnlyValue}
 use Rattle.sip_message.specs.inner.ParamFronts.{Param, led_parts}
 use Rattle.sip_message.specs.inner.ViaFronts.{BranchFront}
 use Rattle.sip_message.proofs.lemmas.params.Reading.{param-shorter}
 use Rattle.sip_message.proofs.lemmas.params.Branch.{Decides, copied-or, decides-more, decides-not, decides-all}
+use Rattle.sip_message.specs.inner.Only.{IsOnlyValue}
 use Rattle.sip_message.proofs.via.cut_branch.Goals as goal
 
 -- with one parameter more the first branch is still the one that was found

@@ -1,10 +1,10 @@
 use Rattle.std.proofs.Common.{refl, sym, subst}
 use Rattle.sip_text.specs.Bytes.{colon}
-use Rattle.sip_text.specs.Parts.{IsOnlyValue}
 use Rattle.sip_message.specs.inner.ParamFronts.{LedFront, led_parts}
 use Rattle.sip_message.specs.inner.ViaFronts.{PortFront}
 use Rattle.sip_message.proofs.lemmas.via.Host.{one-port}
 use Rattle.sip_message.proofs.lemmas.front.Led.{no-led, led-some}
+use Rattle.sip_message.specs.inner.Only.{IsOnlyValue}
 use Rattle.sip_message.proofs.via.cut_led_port.Goals as goal
 
 -- where a colon stands there without a port after it, no part is read

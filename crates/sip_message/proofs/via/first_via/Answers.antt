@@ -1,15 +1,15 @@
-use Rattle.std.proofs.Common.{sym, subst}
+use Rattle.std.proofs.Common.{◌∷◌, sym, subst}
 use Rattle.std.proofs.lemmas.Bool.{both_ways}
-use Rattle.sip_text.specs.Parts.{IsOnlyValue}
-use Rattle.sip_message.specs.ViaParts.{element}
 use Rattle.sip_message.specs.inner.ElementFronts.{FirstVia}
-use Rattle.sip_message.proofs.lemmas.via.Value.{vias-behind, first-is}
+use Rattle.sip_message.proofs.lemmas.via.Value.{first-stands, vias-behind, first-is}
+use Rattle.sip_message.specs.ValueParts.{element}
+use Rattle.sip_message.specs.inner.Only.{IsOnlyValue}
 use Rattle.sip_message.proofs.via.first_via.Goals as goal
 
 -- where no element stands at the front, the text is no elements of Via
 pub returns-in_err-first : goal.returns-in_err-first
 returns-in_err-first c =
-    subst (IsOnlyValue FirstVia element c.args.text.now) (sym c.from_residual.ensures) (λ e is. c.in_err-first.ensures (e, is.1.0) is.1.1)
+    subst (IsOnlyValue FirstVia element c.args.text.now) (sym c.from_residual.ensures) (λ e is. c.in_err-first.ensures (e, is.1.1) (first-stands c.args.text.now e is))
 
 -- where further elements follow, the first one is the top Via
 pub returns-then-are_more_vias : goal.returns-then-are_more_vias
@@ -25,4 +25,4 @@ pub returns-else-are_more_vias : goal.returns-else-are_more_vias
 returns-else-are_more_vias c = λ e is.
     -- the test says that what is left is no further elements, though the text would be elements
     both_ways c.are_more_vias.result c.if-are_more_vias.false
-    (c.are_more_vias.ensures.1 ((vias-behind c.args.text.now c.in_ok-first.rest.now (element c.in_ok-first.first) c.in_ok-first.ensures).0 is.0))
+    (c.are_more_vias.ensures.1 ((vias-behind c.args.text.now c.in_ok-first.rest.now (element c.in_ok-first.first) c.in_ok-first.ensures).0 (e ∷ is.0, is.1)))

@@ -1,8 +1,8 @@
 use Rattle.std.proofs.Common.{drop}
 use Rattle.sip_message.specs.declared.name.Known.TheVariants as known_name
-use Rattle.sip_message.specs.Elements.{values}
 use Rattle.sip_message.specs.inner.Views.{slice_fields}
 use Rattle.sip_message.proofs.lemmas.via.Elements.{next-behind, next-cut}
+use Rattle.sip_message.specs.Field.{values}
 use Rattle.sip_message.proofs.vias.next_text.Goals as goal
 
 -- where a comma follows, what stands after it is the next text

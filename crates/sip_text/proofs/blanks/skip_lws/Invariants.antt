@@ -1,6 +1,6 @@
 use Rattle.std.proofs.Common.{◌≤◌, ◌-◌, length}
 use Rattle.sip_standard.specs.Text.{Many}
-use Rattle.sip_text.specs.Parts.{HasFront}
+use Rattle.sip_text.specs.Front.{HasFront}
 use Rattle.sip_text.specs.inner.Blanks.{Blank}
 use Rattle.sip_text.proofs.blanks.skip_lws.Given as goal
 

@@ -3,7 +3,7 @@ use Rattle.std.proofs.lemmas.List.{take_rest}
 use Rattle.sip_standard.specs.Text.{◌then◌}
 use Rattle.sip_standard.specs.Profile.{Sws, Quoted}
 use Rattle.sip_text.specs.Bytes.{dquote}
-use Rattle.sip_text.specs.Parts.{IsOnlyFront}
+use Rattle.sip_text.specs.Front.{IsOnlyFront}
 use Rattle.sip_text.specs.inner.Cut.{past}
 use Rattle.sip_text.proofs.strings.BlanksLemmas.{blanks-longest}
 use Rattle.sip_text.proofs.strings.QuotedLemmas.{none-opens, none-closes, only-quoted}

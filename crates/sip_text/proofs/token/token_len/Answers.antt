@@ -3,7 +3,7 @@ use Rattle.std.proofs.Common.{◌+◌, ◌-◌, ◌≤◌, length, sym, subst, a
 use Rattle.std.proofs.lemmas.List.Sums.{prefix_len_is}
 use Rattle.sip_standard.specs.Profile.{Token}
 use Rattle.sip_text.specs.Bytes.{is_token_byte}
-use Rattle.sip_text.specs.Parts.{IsLongestFront}
+use Rattle.sip_text.specs.Front.{IsLongestFront}
 use Rattle.sip_text.proofs.texts.RunLemmas.{longest-run}
 use Rattle.sip_text.proofs.texts.BlockLemmas.{block-passes, block-stops}
 use Rattle.sip_text.proofs.token.token_len.Goals as goal

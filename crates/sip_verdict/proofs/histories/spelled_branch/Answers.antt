@@ -1,7 +1,7 @@
 -- The branch is copied: a copied byte is equal to its byte, and so the copy is the branch.
 use Rattle.std.proofs.Common.{◌∙◌, None, Some, sym, ap, subst}
 use Rattle.std.specs.Option.{option_copied}
-use Rattle.sip_message.specs.Elements.{Element}
+use Rattle.sip_standard.specs.Via.{SaidVia}
 use Rattle.sip_message.specs.SaidOf.{said_of}
 use Rattle.sip_verdict.specs.inner.Histories.{SpellsBranch}
 use Rattle.sip_verdict.proofs.surveys.kept.Histories.{led_spells, read_spells, fault_spells}
@@ -17,13 +17,13 @@ returns-in-Some c =
 pub returns-in-Some-branch : goal.returns-in-Some-branch
 returns-in-Some-branch c =
     read_spells c.args.bytes.now (said_of c.in-Ok.message) (Some c.in-Some-branch.branch.now) c.in_ok-to_vec-in-Some-branch.field-0.items c.in-Ok.ensures.says
-    (sym (ap (λ (e : Element). e.1.branch) c.top_via.ensures) ∙ ap option_copied c.in-Some-branch.is) (c.in_ok-to_vec-in-Some-branch.ensures.items_if_clones_equal (λ x y same. same))
+    (sym (ap (λ (v : SaidVia). v.branch) c.top_via.ensures) ∙ ap option_copied c.in-Some-branch.is) (c.in_ok-to_vec-in-Some-branch.ensures.items_if_clones_equal (λ x y same. same))
 
 -- a message without a branch spells none
 pub returns-in-Ok : goal.returns-in-Ok
 returns-in-Ok c =
     read_spells c.args.bytes.now (said_of c.in-Ok.message) None c.new.result.items c.in-Ok.ensures.says
-    (sym (ap (λ (e : Element). e.1.branch) c.top_via.ensures) ∙ ap option_copied c.in-None.is) tt
+    (sym (ap (λ (v : SaidVia). v.branch) c.top_via.ensures) ∙ ap option_copied c.in-None.is) tt
 
 -- bytes that are no message spell no branch
 pub returns-in-Err-Fault : goal.returns-in-Err-Fault

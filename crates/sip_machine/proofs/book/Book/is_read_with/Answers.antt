@@ -13,7 +13,7 @@ returns-in_ok-solid_of-in-Some c =
     let bytes = text_of c.args.self.now c.args.number in
     let reads : Reads bytes c.in-Some.message = rw c.in-Some.is at c.in_ok-message.ensures in
     let its : IsToOf bytes c.as_slice.result.now =
-    record { message = c.in-Some.message; reads = reads; is = c.as_slice.ensures.value ∙ c.in_ok-solid_of-in-Some.ensures ∙ ap (λ a. solid a.0) c.to.ensures } in
+    record { message = c.in-Some.message; reads = reads; is = c.as_slice.ensures.value ∙ c.in_ok-solid_of-in-Some.ensures ∙ ap solid c.to.ensures } in
     rw (c.eq.ensures, c.text.ensures) (IsToOf-same bytes c.args.to.now c.as_slice.result.now its)
 
 -- bytes that are no message have no To

@@ -37,7 +37,7 @@ returns-clause-finds c =
     let ack = text_of texts c.args.event.now.number in
     let invite = text_of texts c.args.request in
     -- `to` says that the To that is looked for is that of the ACK, without its blanks
-    let to = c.of-to.ensures ∙ c.in_ok-to.ensures ∙ ap (λ a. solid a.0) c.to.ensures in
+    let to = c.of-to.ensures ∙ c.in_ok-to.ensures ∙ ap solid c.to.ensures in
     IfOk-weaker c.first_with_to.result _ _ (λ index finds.
     FindsFirst-same (HasTo texts c.of-to.result t) (PaysDebt texts ack invite t) t (owed_in c.args.dues.now c.args.row) index (λ k d low.
     -- an ACK with the To of the response belongs to it exactly if it is one for the INVITE

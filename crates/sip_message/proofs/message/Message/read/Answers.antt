@@ -1,7 +1,6 @@
 use Rattle.std.proofs.Common.{option_copied}
 use Rattle.sip_message.specs.inner.Views.{fields_parts}
-use Rattle.sip_message.specs.ValueParts.{cseq_parts}
-use Rattle.sip_message.specs.ViaParts.{element}
+use Rattle.sip_message.specs.ValueParts.{cseq_parts, element}
 use Rattle.sip_message.proofs.lemmas.canon.Law.{fields-rows}
 use Rattle.sip_message.proofs.lemmas.asked.Asked.{said-digits}
 use Rattle.sip_message.proofs.lemmas.message.Ordinary.{ordinary-whole}

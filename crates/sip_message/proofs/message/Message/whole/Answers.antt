@@ -6,12 +6,10 @@ use Rattle.sip_message.proofs.lemmas.canon.Law.{fields-rows}
 use Rattle.sip_message.proofs.lemmas.message.Faults.{read-fields}
 use Rattle.sip_standard.specs.Outcome.{stops, gives, passes, stopped}
 use Rattle.sip_standard.specs.Says.{IsFirstOf}
-use Rattle.sip_message.specs.Elements.{values}
 use Rattle.sip_message.specs.inner.Faults.{FieldsOf, NamesOf, BodyOf}
 use Rattle.sip_message.specs.inner.MessageText.{content_length}
 use Rattle.sip_message.specs.inner.Views.{field_parts, fields_parts}
-use Rattle.sip_message.specs.ValueParts.{start_parts, cseq_parts}
-use Rattle.sip_message.specs.ViaParts.{element}
+use Rattle.sip_message.specs.ValueParts.{start_parts, cseq_parts, element}
 use Rattle.std.specs.Global.{Vec}
 use Rattle.sip_message.specs.declared.field.Field.{Field as Code}
 use Rattle.sip_message.specs.declared.kept.Kept.{Kept}
@@ -19,6 +17,7 @@ use Rattle.sip_message.specs.inner.Stages.{names_parts, names_of, Stand}
 use Rattle.sip_message.proofs.lemmas.asked.Kept.{via-some, via-is, cseq-some, cseq-is}
 use Rattle.sip_message.proofs.lemmas.message.Stages.{begun, begins, settled, faulted, Found, found-keeps, found-reads}
 use Rattle.sip_message.proofs.lemmas.says.Reading.{fault-says}
+use Rattle.sip_message.specs.Field.{values}
 use Rattle.sip_message.proofs.message.Message.whole.Goals as goal
 
 -- without an empty line the bytes have no head, and this is their fault

@@ -1,6 +1,6 @@
 use Rattle.std.proofs.Common.{sym, ◌∙◌}
-use Rattle.sip_message.specs.ViaParts.{element}
 use Rattle.sip_message.proofs.lemmas.via.Elements.{One-none, One-read, One-next, One-first, yields-none, yields-nearer}
+use Rattle.sip_message.specs.ValueParts.{element}
 use Rattle.sip_message.proofs.vias.ViasIterator.next.Goals as goal
 
 -- where no text is left, no element is left

@@ -1,6 +1,6 @@
 use Rattle.std.proofs.Common.{[], sym, ap, subst}
 use Rattle.std.specs.Option.{option_copied}
-use Rattle.sip_message.specs.Elements.{Element}
+use Rattle.sip_standard.specs.Via.{SaidVia}
 use Rattle.sip_part.specs.Part.{TellsBranch, compared}
 use Rattle.sip_part.proofs.Told.{read_told, fault_told}
 use Rattle.sip_part.proofs.part.Part.has_read.Goals as goal
@@ -11,7 +11,7 @@ returns-in-Ok c =
     let text = c.args.bytes.now in
     let branch = option_copied c.top_via.result.branch in
     -- the message falls by the branch of its top Via, and the answer says so of this branch
-    (compared branch, subst (TellsBranch text) (sym (ap (λ (e : Element). compared e.1.branch) c.top_via.ensures)) (read_told text c.in-Ok.message c.in-Ok.ensures), c.has_compared.ensures)
+    (compared branch, subst (TellsBranch text) (sym (ap (λ (v : SaidVia). compared v.branch) c.top_via.ensures)) (read_told text c.in-Ok.message c.in-Ok.ensures), c.has_compared.ensures)
 
 -- what is no message counts as one without a branch
 pub returns-in-Err-Fault : goal.returns-in-Err-Fault

@@ -10,15 +10,15 @@ use Rattle.std.proofs.lemmas.List.Elements.{All-nil, All-cons, All-append, All-w
 use Rattle.sip_standard.specs.Profile.{Token}
 use Rattle.sip_standard.specs.Chars.{is_among}
 use Rattle.sip_text.specs.Bytes.{is_token_byte}
-use Rattle.sip_standard.specs.StartLine.{StartLine, request, status}
-use Rattle.sip_message.specs.inner.StartLine.{StartText}
+use Rattle.sip_standard.specs.StartLine.{StartLine, request, status, StartSays}
+use Rattle.sip_message.proofs.lemmas.start_line.OneWay.{request_parts}
 use Rattle.sip_message.specs.inner.MessageText.{MessageText}
 use Rattle.sip_message.specs.Reading.{Reading}
 use Rattle.sip_message.specs.Reads.{Reads}
 use Rattle.sip_message.specs.SaidOf.{said_of}
 use Rattle.sip_message.proofs.lemmas.text.Cuts as each
 use Rattle.sip_message.proofs.lemmas.field.OneWay.{each-token}
-use Rattle.sip_message.proofs.lemmas.says.Values.{said-value}
+use Rattle.sip_message.proofs.lemmas.value.CSeq.{cseq-token}
 use Rattle.sip_message.proofs.lemmas.says.Told.{tells-text}
 use Rattle.sip_standard.specs.declared.role.Role.TheVariants.{Client}
 use Rattle.sip_standard.specs.declared.role.Direction.{Direction}
@@ -84,8 +84,8 @@ invite_ascii : IsAscii (codes "INVITE")
 invite_ascii = bytes_ascii (codes "INVITE") (refl, (refl, (refl, (refl, (refl, (refl, tt))))))
 
 -- the method of a message is ASCII
-method_ascii : (line cseq : List ℕ) (start : StartLine) → StartText line start → Token cseq → IsAscii (method_of start cseq)
-method_ascii line cseq (request method uri) is token = either IsAscii (bytes_eq method (codes "ACK")) (codes "INVITE") method invite_ascii (token_ascii method is.0)
+method_ascii : (line cseq : List ℕ) (start : StartLine) → StartSays line start → Token cseq → IsAscii (method_of start cseq)
+method_ascii line cseq (request method uri) is token = either IsAscii (bytes_eq method (codes "ACK")) (codes "INVITE") method invite_ascii (token_ascii method (request_parts line method uri is).is_token)
 method_ascii line cseq (status code reason) is token = token_ascii cseq token
 
 -- where P holds of the key that f makes of each branch, it holds of the key that f makes of an optional branch, if there is one
@@ -105,7 +105,7 @@ keys_ascii bytes r d keys reads is = subst (All (λ k. IsAscii k.method)) (sym i
     own : All (λ k. IsAscii k.method) (option_to_list (own_key (said_of r) d))
     own = made_key (λ k. IsAscii k.method)
         (λ branch. record { role = role_of r.message.start d; branch = branch; sent_by = sent_by_of (role_of r.message.start d) r.parts.via; method = method_of r.message.start r.parts.cseq.1 })
-        (λ branch. method_ascii text.first r.parts.cseq.1 r.message.start text.is_start (said-value reads.parts.is.cseq.0 r.parts.cseq reads.parts.is.cseq.2).is_method) (cookie_branch (said_of r).via.branch)
+        (λ branch. method_ascii text.first r.parts.cseq.1 r.message.start text.is_start (cseq-token reads.parts.is.cseq.0 r.parts.cseq reads.parts.is.cseq.2)) (cookie_branch (said_of r).via.branch)
 
     -- the method of the key that the message cancels is ASCII
     cancelled : All (λ k. IsAscii k.method) (option_to_list (cancelled_key (said_of r) d))

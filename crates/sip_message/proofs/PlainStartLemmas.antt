@@ -5,11 +5,11 @@ use Rattle.std.specs.List.{list_all}
 use Rattle.std.specs.Int.{is_in_range}
 use Rattle.std.proofs.lemmas.Bool.{agree_below_at, and_parts, and_from, cases_lt, le-leb}
 use Rattle.std.proofs.lemmas.List.{take-append-drop}
-use Rattle.sip_standard.specs.Text.{Exactly, ◌then◌}
-use Rattle.sip_standard.specs.Profile.{Uri}
+use Rattle.sip_standard.specs.Text.{◌then◌}
+use Rattle.sip_standard.specs.Profile.{Uri, Token}
 use Rattle.sip_text.specs.Bytes.{space, tab, Byte}
-use Rattle.sip_standard.specs.StartLine.{request}
-use Rattle.sip_message.specs.inner.StartLine.{Version, is_reason_byte, StartText, CodeFront}
+use Rattle.sip_standard.specs.StartLine.{request, StartSays}
+use Rattle.sip_message.specs.inner.StartLine.{Version, is_reason_byte, CodeFront}
 use Rattle.sip_message.specs.inner.Plain.{segment, LiesWithin, PlainRun}
 use Rattle.sip_message.specs.inner.Quick.{is_open, IsOpen}
 use Rattle.sip_message.proofs.PlainLemmas.{then-stands, whole-stands, run-token}
@@ -53,7 +53,7 @@ reason-open line reason code clear front =
 
 -- where a run of plain bytes, a SP, a URI and " SIP/2.0" lie one after the other up to the end, the front of the text is a request line
 pub request-plain : (text : List ℕ) (end method uri to : ℕ) → LiesWithin PlainRun text 0 end method → LiesWithin (Byte space) text method end uri → LiesWithin Uri text uri end to
-    → segment to end text ≡ codes " SIP/2.0" → StartText (segment 0 end text) (request (segment 0 method text) (segment uri to text))
+    → segment to end text ≡ codes " SIP/2.0" → StartSays (segment 0 end text) (request (segment 0 method text) (segment uri to text))
 request-plain text end method uri to run mark is version =
     -- m is the method, u the URI, and `last` says that the SP and the version stand at the end
     let m = segment 0 method text in
@@ -61,7 +61,8 @@ request-plain text end method uri to run mark is version =
     let last : (Byte space then Version) (segment to end text) = (space ∷ [], codes "SIP/2.0", refl, refl, version) in
     -- the parts are put together from the version, at the end, back to the method, each before those that were put together already
     let s1 = whole-stands (Byte space then Version) text to end is.1 last in
-    let s2 = then-stands (Exactly u) (Byte space then Version) text uri end to end (is.0, is.1, refl) s1 in
-    let s3 = then-stands (Byte space) (Exactly u then Byte space then Version) text method end uri end mark s2 in
-    let s4 = then-stands (Exactly m) (Byte space then Exactly u then Byte space then Version) text 0 end method end (run.0, run.1, refl) s3 in
-    (run-token m run.2, is.2, s4.2)
+    let U : List ℕ → Type 0 = λ t. Uri t × (u ≡ t) in
+    let s2 = then-stands U (Byte space then Version) text uri end to end (is.0, is.1, (is.2, refl)) s1 in
+    let s3 = then-stands (Byte space) (U then Byte space then Version) text method end uri end mark s2 in
+    let s4 = then-stands (λ t. Token t × (m ≡ t)) (Byte space then U then Byte space then Version) text 0 end method end (run.0, run.1, (run-token m run.2, refl)) s3 in
+    s4.2

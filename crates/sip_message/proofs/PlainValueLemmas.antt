@@ -10,7 +10,7 @@ use Rattle.std.proofs.lemmas.Bool.{agree_below_at, and_parts, and_from, or_cases
 use Rattle.std.proofs.lemmas.Int.Digits.{digits_value_more}
 use Rattle.std.proofs.lemmas.List.{append-nil, take_all}
 use Rattle.std.proofs.lemmas.List.Folds.{list_all_more}
-use Rattle.sip_standard.specs.Text.{One, Exactly, Many, ◌then◌, ◌or◌}
+use Rattle.sip_standard.specs.Text.{One, Many, ◌then◌, ◌or◌}
 use Rattle.sip_standard.specs.Profile.{Token, Lws, Blanks, Quoted}
 use Rattle.sip_text.specs.Bytes.{at_sign, space, backslash, dquote, Byte, is_token_byte}
 use Rattle.sip_standard.specs.Chars.{is_among}
@@ -21,8 +21,8 @@ use Rattle.sip_text.proofs.texts.RunLemmas.{list_all-run}
 use Rattle.sip_text.proofs.uris.UriCharLemmas.{some-map}
 use Rattle.sip_text.proofs.uris.UriPortLemmas.{digit-above}
 use Rattle.sip_masks.specs.Marks.{is_plain}
-use Rattle.sip_standard.specs.Values.{CallId}
-use Rattle.sip_message.specs.inner.Values.{is_word_byte, Word, Digits, CSeqText}
+use Rattle.sip_standard.specs.Values.{CallId, CSeqSays}
+use Rattle.sip_message.specs.inner.Values.{is_word_byte, Word, Digits}
 use Rattle.sip_message.specs.inner.AddressFronts.{Words}
 use Rattle.sip_message.specs.inner.Plain.{segment, LiesWithin, PlainRun}
 use Rattle.sip_message.proofs.QuickLemmas.{low-one}
@@ -125,18 +125,11 @@ short-end text at number some end reads =
 
 -- where digits, a SP and a run of plain bytes lie one after the other, the segment is a CSeq of that number and that method
 pub cseq-plain : (text : List ℕ) (at end digits method number : ℕ) → LiesWithin PlainRun text at end digits → LiesWithin (Byte space) text digits end method → LiesWithin PlainRun text method end end
-    → Digits (segment at digits text) → number ≡ digits_value 10 (segment at digits text) → number < 2 ^ 31 → CSeqText (segment at end text) number (segment method end text)
+    → Digits (segment at digits text) → number ≡ digits_value 10 (segment at digits text) → number < 2 ^ 31 → CSeqSays (number, segment method end text) (segment at end text)
 cseq-plain text at end digits method number run mark is are value low =
-    -- d is the digits and m the method
-    let d = segment at digits text in
-    let m = segment method end text in
+    -- D is the digits and M the method
+    let D : List ℕ → Type 0 = λ u. Digits u × (number ≡ digits_value 10 u) in
+    let M : List ℕ → Type 0 = λ u. Token u × (segment method end text ≡ u) in
     -- the SP and the method stand after the digits
-    let behind : LiesWithin (Blanks then Exactly m) text digits end end = then-stands Blanks (Exactly m) text digits end method end (mark.0, mark.1, subst Blanks (sym mark.2) blanks-space) (is.0, is.1, refl) in
-    record {
-      digits = d;
-      are_digits = are;
-      number_is = value;
-      low = low;
-      is_method = run-token m is.2;
-      whole = (then-stands (Exactly d) (Blanks then Exactly m) text at end digits end (run.0, run.1, refl) behind).2;
-    }
+    let behind : LiesWithin (Blanks then M) text digits end end = then-stands Blanks M text digits end method end (mark.0, mark.1, subst Blanks (sym mark.2) blanks-space) (is.0, is.1, (run-token (segment method end text) is.2, refl)) in
+    (low, (then-stands D (Blanks then M) text at end digits end (run.0, run.1, (are, value)) behind).2)

@@ -30,8 +30,7 @@ use Rattle.sip_message.specs.inner.Lines.{is_inner_byte, with_end}
 use Rattle.sip_message.specs.inner.Values.{is_value_byte, OtherText}
 use Rattle.sip_message.specs.declared.name.Known.{Known}
 use Rattle.sip_message.specs.Name.{FieldName, known, other, spellings, name_by, name_of}
-use Rattle.sip_standard.specs.StartLine.{StartLine, request, status}
-use Rattle.sip_message.specs.inner.StartLine.{StartText}
+use Rattle.sip_standard.specs.StartLine.{StartLine, request, status, StartSays}
 use Rattle.sip_message.specs.Field.{Field}
 use Rattle.sip_message.specs.inner.FieldText.{NameText, ValueText, FieldText, FieldsText}
 use Rattle.sip_standard.specs.Canonical.{unfolded}
@@ -237,14 +236,12 @@ fields-unfolded (line ∷ lines) fields (f, fs, is, are, whole) clear =
     subst AreUnfolded (sym whole) (field-unfolded line f is clear.0, fields-unfolded lines fs are clear.1)
 
 -- a start line is not empty
-start-some : (line : List ℕ) (start : StartLine) → StartText line start → line ≡ [] → ⊥
+start-some : (line : List ℕ) (start : StartLine) → StartSays line start → line ≡ [] → ⊥
 -- a request line has its method and a SP
-start-some line (request method uri) is none =
-    let w = is.2 in
+start-some line (request method uri) w none =
     absurd (omega (arith, ap length (sym none ∙ w.4), length-append w.0 w.1, ap length w.3.4, length-append w.3.0 w.3.1, ap length w.3.2))
 -- a status line has its version and a SP
-start-some line (status code reason) is none =
-    let w = is.1 in
+start-some line (status code reason) w none =
     absurd (omega (arith, ap length (sym none ∙ w.4), length-append w.0 w.1, ap length w.3.4, length-append w.3.0 w.3.1, ap length w.3.2))
 
 -- the text from the place `from` up to the place `at` is whole lines without controls, and they are these fields
@@ -280,7 +277,7 @@ front-rest text front is = sym (take-append-drop (length front) text) ∙ ap (λ
 -- a start line without controls, lines that are fields, and an empty line are an ordinary head
 pub ordinary-head : (bytes text more rest : List ℕ) (start : StartLine) (fields : List Field) (end at : ℕ) → bytes ≡ text ++ more
     → IsOpen (take (end - 0) (drop 0 text)) → drop 0 text ≡ with_end (take (end - 0) (drop 0 text)) ++ drop (end + 2) text
-    → StartText (take (end - 0) (drop 0 text)) start → AreOrdinary text (end + 2) at fields → rest ≡ drop (at + 2) text ++ more → IsOrdinary bytes start fields rest
+    → StartSays (take (end - 0) (drop 0 text)) start → AreOrdinary text (end + 2) at fields → rest ≡ drop (at + 2) text ++ more → IsOrdinary bytes start fields rest
 ordinary-head bytes text more rest start fields end at bytes_is clear is is_start are rest_is =
     -- `first` is the start line, ls the text of the field lines, and `behind` what follows the empty line
     let first = take (end - 0) (drop 0 text) in

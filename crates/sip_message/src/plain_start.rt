@@ -1,6 +1,6 @@
 //! Start lines of ordinary heads.
 ghost use Rattle.std.specs.Prelude.{◌≡◌, IfSome, IsTrue, codes};
-ghost use Rattle.sip_message.specs.inner.StartLine.{StartText};
+ghost use Rattle.sip_standard.specs.StartLine.{StartSays};
 ghost use Rattle.sip_message.specs.ValueParts.{start_parts};
 ghost use Rattle.sip_message.specs.inner.Plain.{segment, EndsAt};
 ghost use Rattle.sip_message.specs.inner.Quick.{IsOpen};
@@ -14,7 +14,7 @@ use sip_text::same_text;
 pub(crate) fn start_up_to<'a>(masks: &Masks<'a, '_>, end: usize) -> Option<StartLine<'a>>
     requires within { EndsAt masks.now end }
     requires clear { IsOpen (segment 0 end masks.now) }
-    ensures { IfSome result (λ start. StartText (segment 0 end masks.now) (start_parts start)) }
+    ensures { IfSome result (λ start. StartSays (segment 0 end masks.now) (start_parts start)) }
 {
     let line = &masks.text()[0..end];
     if let Some(start) = open_status(line) {
@@ -29,7 +29,7 @@ pub(crate) fn start_up_to<'a>(masks: &Masks<'a, '_>, end: usize) -> Option<Start
 // The Status-Line that a line without controls is. The bytes of its reason need not be looked at.
 fn open_status(line: &[u8]) -> Option<StartLine<'_>>
     requires { IsOpen line.now }
-    ensures { IfSome result (λ start. StartText line.now (start_parts start)) }
+    ensures { IfSome result (λ start. StartSays line.now (start_parts start)) }
 {
     // The version and a SP at the front have eight bytes.
     if line.len() < 8 {
@@ -46,7 +46,7 @@ fn open_status(line: &[u8]) -> Option<StartLine<'_>>
 // The Request-Line that the text up to `end` is, if its method is plain and its URI is a SIP URI of plain parts.
 fn plain_request<'a>(masks: &Masks<'a, '_>, end: usize) -> Option<StartLine<'a>>
     requires { EndsAt masks.now end }
-    ensures { IfSome result (λ start. StartText (segment 0 end masks.now) (start_parts start)) }
+    ensures { IfSome result (λ start. StartSays (segment 0 end masks.now) (start_parts start)) }
 {
     let text = masks.text();
     let method = past_run(masks, 0, end)?;

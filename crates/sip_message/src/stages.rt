@@ -4,15 +4,16 @@ ghost use Rattle.std.specs.Option.{option_map};
 ghost use Rattle.std.specs.Str.Parse.{digits_value};
 ghost use Rattle.memchr.specs.Find.{FindsNeedle};
 ghost use Rattle.sip_text.specs.Bytes.{crlf, carriage_return};
+ghost use Rattle.sip_standard.specs.Body.{MethodSays, BodySays};
 ghost use Rattle.sip_message.specs.inner.Only.{IsOnlyValue};
 ghost use Rattle.sip_message.specs.inner.Lines.{AreLines};
 ghost use Rattle.std.specs.List.{AllByRecursion};
 ghost use Rattle.sip_message.specs.inner.FieldText.{Row};
 ghost use Rattle.sip_message.specs.inner.Values.{Digits, CSeqValue};
-ghost use Rattle.sip_message.specs.inner.MessageText.{content_length, is_stream, MethodFits, found};
+ghost use Rattle.sip_message.specs.inner.MessageText.{content_length, is_stream, found};
 ghost use Rattle.sip_standard.specs.Field.{FirstOf, NoSecond, OneOf};
 ghost use Rattle.sip_standard.specs.Lines.{CutSays, LinesSay};
-ghost use Rattle.sip_message.specs.inner.Faults.{NamesOf, BodyOf};
+ghost use Rattle.sip_message.specs.inner.Faults.{NamesOf};
 ghost use Rattle.sip_message.specs.inner.Finds.{IsFound, found_parts, nothing_parts};
 ghost use Rattle.sip_message.specs.inner.Fronts.{pair_parts, text_parts};
 ghost use Rattle.sip_message.specs.inner.Views.{slice_fields};
@@ -165,7 +166,7 @@ pub(crate) fn read_body<'a>(
     requires rows { AllByRecursion (λ f. Row f.name f.value) (slice_fields fields) }
     requires via { FirstVia named.via.now (element via.now) }
     requires cseq { CSeqValue named.cseq.now (cseq_parts cseq) }
-    ensures { BodyOf (start_parts start.entry) ((names_parts named.entry).1) ((names_parts named.entry).0.1) (content_length (slice_fields fields.entry)) rest.entry.now (outcome_of text_parts result) }
+    ensures { BodySays (start_parts start.entry) ((names_parts named.entry).1) ((names_parts named.entry).0.1) (content_length (slice_fields fields.entry)) rest.entry.now (outcome_of text_parts result) }
 {
     // The value is handed on without the number of its line.
     match cut_value(fields, 0, Known::ContentLength) {
@@ -186,7 +187,7 @@ pub(crate) fn body_by_length<'a>(
     requires digits { IfSome (option_copied length) Digits }
     requires via { FirstVia named.via.now (element via.now) }
     requires cseq { CSeqValue named.cseq.now (cseq_parts cseq) }
-    ensures { BodyOf (start_parts start.entry) ((names_parts named.entry).1) ((names_parts named.entry).0.1) (option_map (digits_value 10) (option_copied length.entry)) rest.entry.now (outcome_of text_parts result) }
+    ensures { BodySays (start_parts start.entry) ((names_parts named.entry).1) ((names_parts named.entry).0.1) (option_map (digits_value 10) (option_copied length.entry)) rest.entry.now (outcome_of text_parts result) }
 {
     // The method of a request stands in its CSeq too.
     if !fits_method(start, cseq) {
@@ -262,7 +263,7 @@ pub(crate) fn body_len(
 
 // Whether the method of CSeq is that of the request. It is true of a response.
 fn fits_method(start: StartLine<'_>, cseq: CSeq<'_>) -> bool
-    ensures { (text : List ℕ) → CSeqValue text (cseq_parts cseq.entry) → IsTrue result ↔ MethodFits (start_parts start.entry) text }
+    ensures { (text : List ℕ) → CSeqValue text (cseq_parts cseq.entry) → IsTrue result ↔ MethodSays (start_parts start.entry) text }
 {
     match start {
         StartLine::Request { method, .. } => cseq.method == method,

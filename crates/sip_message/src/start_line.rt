@@ -1,8 +1,9 @@
 //! Start lines.
 ghost use Rattle.std.specs.Prelude.{◌≡◌};
 ghost use Rattle.std.specs.List.{list_all};
+ghost use Rattle.sip_standard.specs.StartLine.{StartSays};
 ghost use Rattle.sip_message.specs.inner.Only.{IsOnlyValue};
-ghost use Rattle.sip_message.specs.inner.StartLine.{StartText, is_reason_byte, RequestLine, StatusLine, CodeFront, status_parts};
+ghost use Rattle.sip_message.specs.inner.StartLine.{is_reason_byte, RequestLine, StatusLine, CodeFront, status_parts};
 ghost use Rattle.sip_message.specs.inner.Fronts.{pair_parts};
 ghost use Rattle.sip_message.specs.ValueParts.{start_parts};
 
@@ -31,7 +32,7 @@ pub enum StartLine<'a> {
 
 /// The start line that the whole line is.
 pub(crate) fn read_start(line: &[u8]) -> Option<StartLine<'_>>
-    ensures { IsOnlyValue StartText start_parts line.now result }
+    ensures { IsOnlyValue StartSays start_parts line.now result }
 {
     if let Some((method, uri)) = read_request(line) {
         return Some(StartLine::Request { method, uri });

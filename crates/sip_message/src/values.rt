@@ -5,7 +5,7 @@ ghost use Rattle.std.specs.Char.{is_ascii_digit};
 ghost use Rattle.std.specs.Str.Parse.{digits_value};
 ghost use Rattle.sip_message.specs.inner.Only.{IsOnlyValue};
 ghost use Rattle.sip_standard.specs.Values.{CallId};
-ghost use Rattle.sip_message.specs.inner.Values.{is_word_byte, Word, Digits, CSeqText, CSeqValue};
+ghost use Rattle.sip_message.specs.inner.Values.{is_word_byte, Word, Digits, CSeqValue};
 ghost use Rattle.sip_message.specs.ValueParts.{cseq_parts};
 
 use crate::cursor::cut;

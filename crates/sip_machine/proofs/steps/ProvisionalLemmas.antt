@@ -4,8 +4,8 @@ use Rattle.std.proofs.Common.{sym, ap, ◌∙◌, append_assoc, arith, eq-eqb, s
 use Rattle.std.specs.Fmt.{digits}
 use Rattle.std.proofs.Math.Seq.{drop-append-add}
 use Rattle.std.proofs.lemmas.Bool.Decides.{nat_tests}
-use Rattle.sip_standard.specs.StartLine.{StartLine, status}
-use Rattle.sip_message.specs.inner.StartLine.{StartText, CodeText}
+use Rattle.sip_standard.specs.StartLine.{StartLine, status, StartSays}
+use Rattle.sip_message.specs.inner.StartLine.{CodeText}
 use Rattle.sip_message.specs.inner.Lines.{with_end}
 use Rattle.sip_message.specs.Message.{Message}
 use Rattle.sip_message.specs.inner.MessageText.{MessageText}
@@ -43,7 +43,7 @@ code-100 : (bytes : List ℕ) (m : Message) (reason : List ℕ) → MessageText 
 code-100 bytes m reason text start =
     let first = text.first in
     let crlf = codes "\r\n" in
-    let parts = status_parts first 100 reason (subst (StartText first) start text.is_start) in
+    let parts = status_parts first 100 reason (subst (StartSays first) start text.is_start) in
     let more = crlf ++ (flat_map with_end text.others ++ (crlf ++ text.rest)) in
     -- the bytes are the first line and what follows it
     let behind_first : bytes ≡ first ++ more =

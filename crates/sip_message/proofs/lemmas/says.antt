@@ -1,5 +1,4 @@
 pub mod Alike
-pub mod Values
 pub mod Names
 pub mod Bytes
 pub mod Told

@@ -1,20 +1,19 @@
 -- The reading of bytes as a message or a first fault. Each demand stands beside its fault, in the order of the faults, whose
 -- numbers are those of `docs/standard/MESSAGE.md`.
-use Rattle.std.specs.Prelude.{ℕ, ◌+◌, List, [], ◌∷◌, Option}
+use Rattle.std.specs.Prelude.{ℕ, ◌+◌, List, [], ◌∷◌}
 use Rattle.sip_message.specs.declared.name.Known.TheVariants as known_name
 use Rattle.sip_standard.specs.declared.fault.Reason.TheVariants as reason
 use Rattle.sip_standard.specs.Outcome.{Outcome, Gives, Demand, Holds, Then}
 use Rattle.sip_standard.specs.Lines.{CutSays, LinesSay}
 use Rattle.sip_message.specs.inner.Lines.{HasNoBareEnd}
 use Rattle.sip_message.specs.Name.{FieldName}
-use Rattle.sip_standard.specs.StartLine.{StartLine}
-use Rattle.sip_message.specs.inner.StartLine.{StartText}
+use Rattle.sip_standard.specs.StartLine.{StartLine, StartSays}
 use Rattle.sip_message.specs.Field.{Field}
 use Rattle.sip_message.specs.inner.FieldText.{NameText, ValueText, Row}
 use Rattle.sip_message.specs.Message.{Message}
-use Rattle.sip_message.specs.inner.MessageText.{found, MethodFits, content_length, HasLength, IsEnough, IsNoMore}
-use Rattle.sip_standard.specs.Body.{cut_body}
-use Rattle.sip_standard.specs.Faults.{fault_in_head, fault_in_line, fault_in_body}
+use Rattle.sip_message.specs.inner.MessageText.{found, content_length}
+use Rattle.sip_standard.specs.Body.{BodySays}
+use Rattle.sip_standard.specs.Faults.{fault_in_head, fault_in_line}
 use Rattle.sip_standard.specs.Field.{FirstOf, NoSecond, OneOf}
 
 -- the line begins with this name and a colon, and this follows the colon
@@ -47,23 +46,13 @@ NamesOf fields =
     Then (OneOf (found known_name.CSeq fields)) (λ cseq.
     Then (NoSecond (found known_name.ContentLength fields)) (λ _. Gives (via, cseq)))))))
 
--- faults 8 to 11: the CSeq names the method of the request, a stream's message says how long its body is, the bytes after the
--- head are as many as that, and in a stream they are no more; it gives the body
-abbrev pub BodyOf : StartLine → ℕ × List ℕ → List ℕ → Option ℕ → List ℕ → Outcome (List ℕ) → Type 0
-BodyOf start cseq via len rest =
-    Then (Holds (MethodFits start (cseq.1)) (fault_in_line (cseq.0) reason.MethodMismatch)) (λ _.
-    Then (Holds (HasLength via len) (fault_in_body reason.NoLength)) (λ _.
-    Then (Holds (IsEnough len rest) (fault_in_body reason.ShortBody)) (λ _.
-    Then (Holds (IsNoMore via len rest) (fault_in_body reason.LongBody)) (λ _.
-    Gives (cut_body len rest)))))
-
 -- faults 3 to 11: the reading of the lines of a head, and of what follows it
 abbrev pub LinesOf : List ℕ → List ℕ → List (List ℕ) → Outcome Message → Type 0
 LinesOf rest first others =
-    Then (Demand (StartText first) (fault_in_line 0 reason.StartLine)) (λ start.
+    Then (Demand (StartSays first) (fault_in_line 0 reason.StartLine)) (λ start.
     Then (FieldsOf 1 others) (λ fields.
     Then (NamesOf fields) (λ names.
-    Then (BodyOf start (names.1) (names.0.1) (content_length fields) rest) (λ body.
+    Then (BodySays start (names.1) (names.0.1) (content_length fields) rest) (λ body.
     Gives (record { start = start; fields = fields; body = body })))))
 
 -- faults 3 to 11: the reading of a head by its logical lines, and of what follows it

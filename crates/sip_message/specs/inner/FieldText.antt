@@ -9,8 +9,8 @@ use Rattle.sip_message.specs.declared.name.Known.TheVariants as known_name
 use Rattle.sip_message.specs.Name.{FieldName, known, name_of}
 use Rattle.sip_message.specs.Field.{Field}
 use Rattle.sip_standard.specs.Via.{SaidVia, ViasSay}
-use Rattle.sip_standard.specs.Values.{Address, CallId}
-use Rattle.sip_message.specs.inner.Values.{CSeqText, Digits, OtherText}
+use Rattle.sip_standard.specs.Values.{Address, CallId, CSeqSays}
+use Rattle.sip_message.specs.inner.Values.{Digits, OtherText}
 
 -- the text does not begin with a byte of a blank run
 abbrev pub OpensSolid : List ℕ → Type 0
@@ -29,7 +29,7 @@ Row (known known_name.Via) value = (vias : List SaidVia) × ViasSay vias value
 Row (known known_name.From) value = Address value
 Row (known known_name.To) value = Address value
 Row (known known_name.CallId) value = CallId value
-Row (known known_name.CSeq) value = (number : ℕ) × (method : List ℕ) × CSeqText value number method
+Row (known known_name.CSeq) value = (said : ℕ × List ℕ) × CSeqSays said value
 Row (known known_name.ContentLength) value = Digits value
 Row _ value = OtherText value
 

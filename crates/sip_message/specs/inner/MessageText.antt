@@ -1,5 +1,5 @@
 -- The bytes of a message, as its readers read them (RFC 3261, section 7), and the message with its values unfolded.
-use Rattle.std.specs.Prelude.{◌≡◌, ◌||◌, ℕ, ◌+◌, ◌≤◌, Bool, true, IsTrue, List, [], ◌∷◌, length, map, codes, bytes_eq, Option, is_some, IfSome, if◌then◌else◌, ⊤}
+use Rattle.std.specs.Prelude.{◌≡◌, ◌||◌, ℕ, ◌+◌, ◌≤◌, Bool, true, List, [], ◌∷◌, length, map, codes, bytes_eq, Option, is_some, IfSome, if◌then◌else◌}
 use Rattle.std.specs.List.{AllByRecursion}
 use Rattle.sip_standard.specs.Case.{folded}
 use Rattle.sip_message.specs.declared.name.Known.{Known}
@@ -7,15 +7,12 @@ use Rattle.sip_message.specs.declared.name.Known.TheVariants as known_name
 use Rattle.sip_standard.specs.Lines.{CutSays, LinesSay}
 use Rattle.sip_message.specs.inner.Lines.{HasNoBareEnd}
 use Rattle.sip_message.specs.Name.{is_name_of}
-use Rattle.sip_standard.specs.StartLine.{StartLine, request, status}
-use Rattle.sip_message.specs.inner.StartLine.{StartText}
-use Rattle.sip_standard.specs.Via.{SaidVia, ViasSay}
-use Rattle.sip_message.specs.inner.Values.{CSeqText}
+use Rattle.sip_standard.specs.StartLine.{StartLine, StartSays}
 use Rattle.sip_message.specs.Field.{Field}
 use Rattle.sip_message.specs.Message.{Message}
 use Rattle.sip_message.specs.inner.FieldText.{FieldsText}
 use Rattle.sip_standard.specs.Canonical.{unfolded}
-use Rattle.sip_standard.specs.Body.{length_in, cut_body}
+use Rattle.sip_standard.specs.Body.{length_in, cut_body, MethodSays, StreamSays}
 
 -- the values of the fields of the name, each with the number of its line, where the lines are numbered from n
 abbrev pub found_from : ℕ → Known → List Field → List (ℕ × List ℕ)
@@ -39,27 +36,13 @@ HasField name fields = (one : ℕ × List ℕ) × IsFirstFound name fields one
 abbrev pub IsNotTwice : Known → List Field → Type 0
 IsNotTwice name fields = length (found name fields) ≤ 1
 
--- the transport of the first element of this value of Via
-abbrev pub TopTransport : List ℕ → List ℕ → Type 0
-TopTransport value transport =
-    (v : SaidVia) × (more : List SaidVia) × ViasSay (v ∷ more) value × (transport ≡ v.transport)
-
 -- a transport is a stream where it is TCP or TLS
 abbrev pub is_stream : List ℕ → Bool
 is_stream transport = bytes_eq (folded transport) (codes "tcp") || bytes_eq (folded transport) (codes "tls")
 
--- the method of CSeq is that of the request (section 8.1.1.5)
-abbrev pub MethodFits : StartLine → List ℕ → Type 0
-MethodFits (request method uri) cseq = (number : ℕ) × CSeqText cseq number method
-MethodFits (status code reason) cseq = ⊤
-
--- the top Via's transport is a stream
-abbrev pub IsStream : List ℕ → Type 0
-IsStream via = (transport : List ℕ) × TopTransport via transport × IsTrue (is_stream transport)
-
 -- where the transport is a stream, there is a Content-Length (section 18.3)
 abbrev pub HasLength : List ℕ → Option ℕ → Type 0
-HasLength via len = IsStream via → is_some len ≡ true
+HasLength via len = StreamSays via → is_some len ≡ true
 
 -- the bytes after the head are at least as many as Content-Length says
 abbrev pub IsEnough : Option ℕ → List ℕ → Type 0
@@ -67,7 +50,7 @@ IsEnough len rest = IfSome len (λ n. n ≤ length rest)
 
 -- where the transport is a stream, the bytes after the head are not more than Content-Length says
 abbrev pub IsNoMore : List ℕ → Option ℕ → List ℕ → Type 0
-IsNoMore via len rest = IsStream via → IfSome len (λ n. length rest ≤ n)
+IsNoMore via len rest = StreamSays via → IfSome len (λ n. length rest ≤ n)
 
 -- the number of the one Content-Length, if there is one
 abbrev pub content_length : List Field → Option ℕ
@@ -87,7 +70,7 @@ pub record MessageFits (start : StartLine) (fields : List Field) (rest : List �
   pub cseq : HasField known_name.CSeq fields
   pub length_once : IsNotTwice known_name.ContentLength fields
   -- the method and the body fit the start line, the Via and the length
-  pub method : MethodFits start (cseq.0.1)
+  pub method : MethodSays start (cseq.0.1)
   pub has_length : HasLength (via.0.1) (content_length fields)
   pub enough : IsEnough (content_length fields) rest
   pub no_more : IsNoMore (via.0.1) (content_length fields) rest
@@ -102,7 +85,7 @@ pub record MessageText (bytes : List ℕ) (m : Message) : Type 0 where
   pub no_bare : HasNoBareEnd head
   pub are_lines : LinesSay head first others
   -- the start line and the fields are what the lines say, and the body has its length
-  pub is_start : StartText first m.start
+  pub is_start : StartSays first m.start
   pub are_fields : FieldsText others m.fields
   pub fits : MessageFits m.start m.fields rest
   pub body_is : m.body ≡ cut_body (content_length m.fields) rest

@@ -4,8 +4,7 @@ use Rattle.std.specs.List.{AllByRecursion, flat_map}
 use Rattle.sip_masks.specs.Marks.{is_control}
 use Rattle.sip_standard.specs.Lines.{CutSays, LinesSay}
 use Rattle.sip_message.specs.inner.Lines.{HasNoBareEnd, with_end}
-use Rattle.sip_standard.specs.StartLine.{StartLine}
-use Rattle.sip_message.specs.inner.StartLine.{StartText}
+use Rattle.sip_standard.specs.StartLine.{StartLine, StartSays}
 use Rattle.sip_message.specs.Field.{Field}
 use Rattle.sip_message.specs.inner.FieldText.{FieldText, FieldsText}
 use Rattle.sip_message.specs.inner.MessageText.{AreUnfolded}
@@ -37,7 +36,7 @@ pub record IsOrdinary (bytes : List ℕ) (start : StartLine) (fields : List Fiel
   pub is_head : CutSays bytes (head, rest)
   pub no_bare : HasNoBareEnd head
   pub are_lines : LinesSay head first others
-  pub is_start : StartText first start
+  pub is_start : StartSays first start
   pub are_fields : FieldsText others fields
   pub no_folds : AreUnfolded fields
 

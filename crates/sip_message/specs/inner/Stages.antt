@@ -2,13 +2,13 @@
 use Rattle.std.specs.Prelude.{ℕ, List, Option}
 use Rattle.std.specs.Option.{option_map}
 use Rattle.std.specs.Str.Parse.{digits_value}
+use Rattle.sip_standard.specs.Body.{BodySays}
 use Rattle.sip_message.specs.declared.name.Known.TheVariants as known_name
 use Rattle.sip_message.specs.declared.start_line.StartLine.{StartLine}
 use Rattle.sip_message.specs.declared.stages.Named.{Named}
 use Rattle.sip_message.specs.declared.values.CSeq.{CSeq}
 use Rattle.sip_message.specs.declared.via.Via.{Via}
 use Rattle.sip_message.specs.Field.{Field, values}
-use Rattle.sip_message.specs.inner.Faults.{BodyOf}
 use Rattle.sip_standard.specs.Outcome.{gives}
 use Rattle.sip_standard.specs.Says.{IsFirstOf}
 use Rattle.sip_message.specs.inner.Values.{CSeqValue}
@@ -49,4 +49,4 @@ pub record Stand (fields : List Field) (n : Names) : Type 0 where
 abbrev pub HasBody : StartLine → Via → CSeq → Option (List ℕ) → List ℕ → List ℕ → Type 0
 HasBody start via cseq len rest body =
     (v c : ℕ × List ℕ) → FirstVia (v.1) (element via) → CSeqValue (c.1) (cseq_parts cseq)
-    → BodyOf (start_parts start) c (v.1) (option_map (digits_value 10) len) rest (gives body)
+    → BodySays (start_parts start) c (v.1) (option_map (digits_value 10) len) rest (gives body)

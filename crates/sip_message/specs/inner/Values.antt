@@ -1,10 +1,10 @@
 -- The values of the other fields and their pieces, as their readers test them (RFC 3261, sections 7.3.1 and 25.1).
-use Rattle.std.specs.Prelude.{◌≡◌, ◌||◌, ℕ, ◌<◌, ◌^◌, Bool, List, nat_le, ◌-◌, ◌≤◌, ◌&&◌, not, nat_lt, true, length, slice_index, ◌==◌}
+use Rattle.std.specs.Prelude.{◌≡◌, ◌||◌, ℕ, ◌<◌, Bool, List, nat_le, ◌-◌, ◌≤◌, ◌&&◌, not, nat_lt, true, length, slice_index, ◌==◌}
 use Rattle.std.specs.Char.{is_ascii_digit, is_ascii_alphanumeric}
 use Rattle.std.specs.Int.{is_in_range}
-use Rattle.std.specs.Str.Parse.{digits_value}
-use Rattle.sip_standard.specs.Text.{One, Exactly, ◌then◌, ◌or◌, Many, OneOrMore}
-use Rattle.sip_standard.specs.Profile.{Token, Blanks, Lws}
+use Rattle.sip_standard.specs.Values.{CSeqSays}
+use Rattle.sip_standard.specs.Text.{One, ◌or◌, Many, OneOrMore}
+use Rattle.sip_standard.specs.Profile.{Lws}
 use Rattle.sip_text.specs.inner.Blanks.{is_wsp}
 use Rattle.sip_standard.specs.Field.{is_lws_byte}
 use Rattle.sip_standard.specs.Chars.{is_among}
@@ -14,18 +14,9 @@ use Rattle.sip_text.specs.Bytes.{dquote, backslash}
 abbrev pub Digits : List ℕ → Type 0
 Digits = OneOrMore (One is_ascii_digit)
 
--- CSeq = 1*DIGIT LWS Method, the number below 2**31 (section 8.1.1.5)
-pub record CSeqText (text : List ℕ) (number : ℕ) (method : List ℕ) : Type 0 where
-  pub digits : List ℕ
-  pub are_digits : Digits digits
-  pub number_is : number ≡ digits_value 10 digits
-  pub low : number < 2 ^ 31
-  pub is_method : Token method
-  pub whole : (Exactly digits then Blanks then Exactly method) text
-
--- a CSeq value with its number and its method as a pair
+-- CSeq = 1*DIGIT LWS Method, with its number and its method
 abbrev pub CSeqValue : List ℕ → ℕ × List ℕ → Type 0
-CSeqValue text (number, method) = CSeqText text number method
+CSeqValue text said = CSeqSays said text
 
 -- a byte of a value that the reader doesn't look into
 abbrev pub is_value_byte : ℕ → Bool

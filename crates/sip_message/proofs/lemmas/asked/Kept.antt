@@ -81,8 +81,8 @@ via-keeps f (Some v) b old new named is read via cseq so fields kept = record {
 -- a text is a value of CSeq exactly if a number and a method are read of it
 pub cseq-row : (text : List ℕ) (r : Option CSeq) (b : Bool) → b ≡ is_some r → IsOnlyValue CSeqValue cseq_parts text r → IsTrue b ↔ Row (known known_name.CSeq) text
 -- nothing is read, so it is no value of CSeq
-cseq-row text None b is none = (λ so. absurd (false≢true (sym is ∙ so)), λ row. absurd (none (row.0, row.1) row.2))
-cseq-row text (Some c) b is read = (λ _. (c.number, c.method.now, read.0), λ _. is)
+cseq-row text None b is none = (λ so. absurd (false≢true (sym is ∙ so)), λ row. absurd (none row.0 row.1))
+cseq-row text (Some c) b is read = (λ _. (cseq_parts c, read.0), λ _. is)
 
 -- with a further CSeq, what the first one says is kept
 pub cseq-keeps : (f : Field) (r : Option CSeq) (b : Bool) (old new : Kept) → f.name ≡ known known_name.CSeq → b ≡ is_some r → IsOnlyValue CSeqValue cseq_parts f.value r → new.cseq ≡ option_or old.cseq r → new.via ≡ old.via → IsTrue b → KeepsMore f old new

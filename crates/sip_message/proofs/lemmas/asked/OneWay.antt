@@ -14,7 +14,6 @@ use Rattle.sip_message.proofs.lemmas.front.OneWay.{one-mark}
 use Rattle.sip_message.proofs.lemmas.via.Elements.{more-mark, no_mark-nil, says-front}
 use Rattle.sip_message.proofs.lemmas.message.Views.{same-value}
 use Rattle.sip_message.proofs.lemmas.value.CSeq.{same-cseq}
-use Rattle.sip_message.proofs.lemmas.says.Values.{said-value}
 use Rattle.sip_message.proofs.lemmas.via.Steps.{one-via}
 
 -- the parts of a message, made of what is read of its named fields
@@ -75,7 +74,7 @@ parts-one fields p q a b =
     let to = same-value known_name.To fields a.to b.to in
     let call_id = same-value known_name.CallId fields a.call_id b.call_id in
     let text : b.cseq.0 ≡ a.cseq.0 = same-value known_name.CSeq fields b.cseq.1 a.cseq.1 in
-    let cseq : p.cseq ≡ q.cseq = same-cseq a.cseq.0 p.cseq q.cseq (said-value a.cseq.0 p.cseq a.cseq.2) (said-value a.cseq.0 q.cseq (subst (λ t. CSeqSays q.cseq t) text b.cseq.2)) in
+    let cseq : p.cseq ≡ q.cseq = same-cseq a.cseq.0 p.cseq q.cseq a.cseq.2 (subst (λ t. CSeqSays q.cseq t) text b.cseq.2) in
     -- all parts are the same, one after another, since each is read in one way
     ap (λ v. make v p.others p.from p.to p.call_id p.cseq) via ∙ ap (λ o. make q.via o p.from p.to p.call_id p.cseq) others
     ∙ ap (λ f. make q.via q.others f p.to p.call_id p.cseq) from ∙ ap (λ t. make q.via q.others q.from t p.call_id p.cseq) to

@@ -13,7 +13,6 @@ use Rattle.sip_message.specs.Message.{Message}
 use Rattle.sip_message.specs.inner.MessageText.{found_from, IsFirstFound, MessageText}
 use Rattle.sip_message.specs.Reading.{Parts, HasParts}
 use Rattle.sip_message.proofs.lemmas.canon.Law.{fields-rows, name-known}
-use Rattle.sip_message.proofs.lemmas.says.Values.{cseq-said}
 use Rattle.sip_standard.specs.Via.{SaidVia}
 use Rattle.sip_standard.specs.Says.{ViasTell, IsFirstOf}
 
@@ -92,12 +91,12 @@ has-parts bytes m text =
     let vias = first-elements _ via.0 (subst (AllByRecursion (Row (known known_name.Via))) via.1 (row-values known_name.Via m.fields rows)) in
     let cseq_row = row-of known_name.CSeq m.fields _ rows cseq in (
       -- the parts are those that the values say
-      record { via = vias.0; others = vias.1; from = text.fits.from.0.1; to = text.fits.to.0.1; call_id = text.fits.call_id.0.1; cseq = (cseq_row.0, cseq_row.1) },
+      record { via = vias.0; others = vias.1; from = text.fits.from.0.1; to = text.fits.to.0.1; call_id = text.fits.call_id.0.1; cseq = cseq_row.0 },
       record {
         vias = subst (λ t. ViasTell t (vias.0 ∷ vias.1)) (sym via.1) vias.2;
         from = from;
         to = to;
         call_id = call_id;
-        cseq = (text.fits.cseq.0.1, cseq, cseq-said text.fits.cseq.0.1 cseq_row.0 cseq_row.1 cseq_row.2);
+        cseq = (text.fits.cseq.0.1, cseq, cseq_row.1);
       },
     )

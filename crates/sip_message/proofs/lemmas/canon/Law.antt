@@ -2,7 +2,7 @@
 -- In the lemmas fs are fields, and n is the number of the first of them; as Bools, x and y are what two tests of a byte say.
 -- A text is inner (`Inner`) where it has neither CR nor LF. `unfolded_field` is a field with its value unfolded, and `message_of` a message with such fields.
 use Rattle.std.proofs.Common.{◌≡◌, ℕ, ◌+◌, ◌≤◌, ◌<◌, Bool, true, false, not, ◌&&◌, List, [], ◌∷◌, ◌++◌, length, take, map, cond, nat_eq, Option, Some, None, refl, sym, ap, ◌∙◌, subst, inl, inr, arith}
-use Rattle.std.specs.Prelude.{is_some, get_or, ◌^◌, codes, decimal, IsTrue, bytes_eq}
+use Rattle.std.specs.Prelude.{is_some, get_or, ◌^◌, codes, decimal, bytes_eq}
 use Rattle.std.specs.Char.{is_ascii_digit}
 use Rattle.std.specs.Str.Parse.{digits_value}
 use Rattle.std.specs.List.{AllByRecursion, concat, flat_map, list_all}
@@ -13,9 +13,10 @@ use Rattle.std.proofs.lemmas.Int.Digits.{digits_value-lt}
 use Rattle.std.specs.Str.{all_ascii_digits}
 use Rattle.std.proofs.Math.Seq.{take-length}
 use Rattle.sip_text.proofs.texts.RunLemmas.{list_all-run}
-use Rattle.sip_message.proofs.lemmas.start_line.OneWay.{length-code, status_parts}
+use Rattle.sip_standard.specs.Chars.{AnyCase}
+use Rattle.sip_message.proofs.lemmas.start_line.OneWay.{length-code, status_parts, request_parts, request-line, status-line}
 use Rattle.std.proofs.lemmas.List.{append_assoc, append-nil, length-append, length-take-le, length-map}
-use Rattle.sip_standard.specs.Text.{One}
+use Rattle.sip_standard.specs.Text.{One, ◌or◌}
 use Rattle.sip_standard.specs.Case.{folded}
 use Rattle.sip_standard.specs.Profile.{Token}
 use Rattle.sip_text.specs.Bytes.{carriage_return, line_feed, space, colon, is_token_byte}
@@ -31,20 +32,20 @@ use Rattle.sip_standard.specs.Via.{SaidVia, ViasSay}
 use Rattle.sip_standard.specs.Canonical.{unfolded, start_text}
 use Rattle.sip_message.specs.Name.{FieldName, known, other, spellings, name_by, name_of, long_name, is_name_of}
 use Rattle.sip_message.specs.inner.Canon.{name_text, field_text, canon}
-use Rattle.sip_standard.specs.StartLine.{StartLine, request, status}
-use Rattle.sip_message.specs.inner.StartLine.{StartText, CodeText, is_reason_byte}
+use Rattle.sip_standard.specs.StartLine.{StartLine, request, status, StartSays}
+use Rattle.sip_message.specs.inner.StartLine.{CodeText, is_reason_byte}
 use Rattle.sip_message.specs.inner.Values.{Digits}
 use Rattle.sip_message.specs.Field.{Field}
-use Rattle.sip_standard.specs.Body.{length_in, cut_body}
+use Rattle.sip_standard.specs.Body.{length_in, cut_body, MethodSays, StreamSays}
 use Rattle.sip_message.specs.Message.{Message}
-use Rattle.sip_message.specs.inner.MessageText.{found_from, found, HasField, IsNotTwice, TopTransport, IsStream, MethodFits, is_stream, content_length, IsEnough, IsNoMore, MessageFits, MessageText, unfolded_field, message_of, Spells}
+use Rattle.sip_message.specs.inner.MessageText.{found_from, found, HasField, IsNotTwice, content_length, IsEnough, IsNoMore, MessageFits, MessageText, unfolded_field, message_of, Spells}
 use Rattle.sip_message.proofs.lemmas.text.Cuts.{All, all_both}
 use Rattle.sip_message.proofs.lemmas.text.Each.{each-many, each-one, each-between, is_solid, solid_class, wsp-blank}
 use Rattle.sip_message.proofs.lemmas.field.OneWay.{each-token, blank-token, ends_blank}
 use Rattle.sip_message.proofs.lemmas.text.Solid.{solid-token, solid-uri, solid-digits}
 use Rattle.sip_message.proofs.lemmas.text.Closed.{Closed, closed-unfolded, solid_is, ends-right}
 use Rattle.sip_message.proofs.lemmas.params.Closed.{blanks-space, some-run}
-use Rattle.sip_message.proofs.lemmas.via.Value.{same_transport}
+use Rattle.sip_message.proofs.lemmas.via.Value.{same_transport, TopTransport}
 use Rattle.sip_message.proofs.lemmas.via.Closed.{unfolded-via}
 use Rattle.sip_message.proofs.RowLemmas.{unfolded-solid, unfolded-cseq, unfolded-row}
 use Rattle.sip_message.proofs.lemmas.canon.Spelling.{Inner, AreInner, unfolded-inner, unfolded-twice, solid-inner, lines-head, inner-folds, inner-no_bare}
@@ -146,9 +147,9 @@ name-text (other t) spelled token is =
 pub code-decimal : (text : List ℕ) (code : ℕ) → CodeText text code → decimal code ≡ text
 -- the decimal of the number that digits write is those digits, since the number is small, and they do not begin with 0
 code-decimal text code is =
-    ap decimal is.code_is
+    ap decimal is.1
     ∙ decimal-digits_value (numerals_by_value (λ ds. all_ascii_digits ds ≡ true) tells_all_ascii_digits) text digits
-    (omega (arith, len)) (λ zero_first. absurd (first text digits len zero_first (omega (arith, is.low, is.code_is)))) (omega (arith, is.high, is.code_is))
+    (omega (arith, len)) (λ zero_first. absurd (first text digits len zero_first (omega (arith, is.2, is.1)))) (omega (arith, is.3, is.1))
   where
     -- a status code has three bytes
     len : length text ≡ 3
@@ -162,7 +163,7 @@ code-decimal text code is =
 
     -- each byte of a status code is a digit
     digits : all_ascii_digits text ≡ true
-    digits = ap all_ascii_digits is.digits.2 ∙ each is.digits.0 is.digits.1
+    digits = ap all_ascii_digits is.0.2 ∙ each is.0.0 is.0.1
 
     -- a number from 100 on in three digits does not begin with 0
     first : (ds : List ℕ) → all_ascii_digits ds ≡ true → length ds ≡ 3 → get_or ds 0 0 ≡ 48 → 100 ≤ digits_value 10 ds → ⊥
@@ -179,30 +180,14 @@ code-decimal text code is =
         omega (arith, small, same, low)
 
 -- the canonical form of a start line is a start line of the same parts
-start-canon : (line : List ℕ) (s : StartLine) → StartText line s → StartText (start_text s) s
--- a request: the method, SP, the URI, SP and the version, cut one after another
-start-canon line (request method uri) (token, is_uri, whole) =
-    (token, is_uri, (method, space ∷ (uri ++ space ∷ codes "SIP/2.0"), refl, (space ∷ [], uri ++ space ∷ codes "SIP/2.0", refl, (uri, space ∷ codes "SIP/2.0", refl, (space ∷ [], codes "SIP/2.0", refl, refl, refl), refl), refl), refl))
--- a response: the version, SP, the code, SP and the reason, cut one after another
-start-canon line (status code reason) (bytes, whole) =
-    -- the version, the code as it was spelled, and the reason stand in the line
-    let parts = status_parts line code reason (bytes, whole) in (
-      bytes,
-      (
-        codes "SIP/2.0",
-        space ∷ (decimal code ++ space ∷ reason),
-        refl,
-        (
-          space ∷ [],
-          decimal code ++ space ∷ reason,
-          refl,
-          -- the code in decimal is the three digits
-          (decimal code, space ∷ reason, subst (λ t. CodeText t code) (sym (code-decimal parts.digits code parts.is_code)) parts.is_code, (space ∷ [], reason, refl, refl, refl), refl),
-          refl,
-        ),
-        refl,
-      ),
-    )
+start-canon : (line : List ℕ) (s : StartLine) → StartSays line s → StartSays (start_text s) s
+-- the method and the URI stand in the line
+start-canon line (request method uri) says =
+    let parts = request_parts line method uri says in request-line method uri (codes "SIP/2.0") parts.is_token parts.is_uri refl
+-- the code, as it was spelled, and the reason stand in the line; the code in decimal is the three digits
+start-canon line (status code reason) says =
+    let parts = status_parts line code reason says in
+    status-line (codes "SIP/2.0") (decimal code) reason code refl (subst (λ t. CodeText t code) (sym (code-decimal parts.digits code parts.is_code)) parts.is_code) parts.are_bytes
 
 -- a byte of a class without CR and LF is neither
 inner_class : (class : ℕ → Bool) → class carriage_return ≡ false → class line_feed ≡ false → (b : ℕ) → class b ≡ true → is_inner_byte b ≡ true
@@ -219,19 +204,19 @@ version-inner : Inner (codes "SIP/2.0")
 version-inner = (refl, (refl, (refl, (refl, (refl, (refl, (refl, tt)))))))
 
 -- the canonical form of a start line has no CR and no LF, and is not empty
-start-inner : (line : List ℕ) (s : StartLine) → StartText line s → Inner (start_text s) × (start_text s ≡ [] → ⊥)
+start-inner : (line : List ℕ) (s : StartLine) → StartSays line s → Inner (start_text s) × (start_text s ≡ [] → ⊥)
 -- the method and the URI have no blanks, and so neither CR nor LF; and the line has at least its SP
-start-inner line (request method uri) (token, is_uri, whole) = (
-  all_both is_inner_byte method (space ∷ (uri ++ space ∷ codes "SIP/2.0")) (solid-inners method (solid-token method token))
-      (refl, all_both is_inner_byte uri (space ∷ codes "SIP/2.0") (solid-inners uri (solid-uri uri is_uri)) (refl, version-inner)),
+start-inner line (request method uri) says = (
+  all_both is_inner_byte method (space ∷ (uri ++ space ∷ codes "SIP/2.0")) (solid-inners method (solid-token method (request_parts line method uri says).is_token))
+      (refl, all_both is_inner_byte uri (space ∷ codes "SIP/2.0") (solid-inners uri (solid-uri uri (request_parts line method uri says).is_uri)) (refl, version-inner)),
   (λ none. absurd (omega (arith, ap length none, length-append method (space ∷ (uri ++ space ∷ codes "SIP/2.0"))))),
 )
-start-inner line (status code reason) (bytes, whole) =
-    let parts = status_parts line code reason (bytes, whole) in
-    let digits = subst Inner (sym (code-decimal parts.digits code parts.is_code)) (solid-inners parts.digits (each-between is_solid 3 3 (One is_ascii_digit) (each-one is_solid is_ascii_digit (solid_class is_ascii_digit refl refl refl refl)) parts.digits parts.is_code.digits)) in (
+start-inner line (status code reason) says =
+    let parts = status_parts line code reason says in
+    let digits = subst Inner (sym (code-decimal parts.digits code parts.is_code)) (solid-inners parts.digits (each-between is_solid 3 3 (One is_ascii_digit) (each-one is_solid is_ascii_digit (solid_class is_ascii_digit refl refl refl refl)) parts.digits parts.is_code.0)) in (
       -- neither the version nor the digits nor the reason has CR or LF
       all_both is_inner_byte (codes "SIP/2.0") (space ∷ (decimal code ++ space ∷ reason)) version-inner
-          (refl, all_both is_inner_byte (decimal code) (space ∷ reason) digits (refl, each-many is_inner_byte (One is_reason_byte) (each-one is_inner_byte is_reason_byte (inner_class is_reason_byte refl refl)) reason bytes)),
+          (refl, all_both is_inner_byte (decimal code) (space ∷ reason) digits (refl, each-many is_inner_byte (One is_reason_byte) (each-one is_inner_byte is_reason_byte (inner_class is_reason_byte refl refl)) reason parts.are_bytes)),
       (λ none. absurd (omega (arith, ap length none))),
     )
 
@@ -447,18 +432,18 @@ fits-unfolded start fs rest rows fits = record {
     via_row = first-via 1 fs rows fits.via.0 fits.via.1.0 fits.via.1.1
 
     -- the transport of the folded value is the same, since its first element keeps it
-    top : (value : List ℕ) (vias : List SaidVia) → ViasSay vias value → IsStream (unfolded value) → IsStream value
+    top : (value : List ℕ) (vias : List SaidVia) → ViasSay vias value → StreamSays (unfolded value) → StreamSays value
     top value [] none streams = absurd none
-    top value (v ∷ vias) says (t, is, so) =
+    top value (v ∷ vias) says (w, more, is, kind) =
         let before : TopTransport value v.transport = (v, vias, says, refl) in
-        (v.transport, before, subst (λ x. IsTrue (is_stream x)) (same_transport (unfolded value) t v.transport is (unfolded-via value v.transport before)) so)
+        (v, vias, says, subst (AnyCase "tcp" or AnyCase "tls") (same_transport (unfolded value) w.transport v.transport (w, more, is, refl) (unfolded-via value v.transport before)) kind)
 
     -- the transport is the same without its folds
-    stream : IsStream (unfolded fits.via.0.1) → IsStream fits.via.0.1
+    stream : StreamSays (unfolded fits.via.0.1) → StreamSays fits.via.0.1
     stream streams = top fits.via.0.1 via_row.0 via_row.1 streams
 
     -- the method is the same without its folds
-    method : (s : StartLine) → MethodFits s (fits.cseq.0.1) → MethodFits s (unfolded fits.cseq.0.1)
+    method : (s : StartLine) → MethodSays s (fits.cseq.0.1) → MethodSays s (unfolded fits.cseq.0.1)
     method (request m uri) is = (is.0, unfolded-cseq fits.cseq.0.1 is.0 m is.1)
     method (status code reason) is = tt
 

@@ -113,11 +113,11 @@ three-digits code low high = sym (code-decimal ((48 + code / 100) ∷ (48 + code
 
     -- the three digits are the text of the code
     is : CodeText ((48 + code / 100) ∷ (48 + code / 10 % 10) ∷ (48 + code % 10) ∷ []) code
-    is = record {
+    is = (
       -- each digit is one byte, from "0" to "9"
-      digits = (((48 + code / 100) ∷ []) ∷ ((48 + code / 10 % 10) ∷ []) ∷ ((48 + code % 10) ∷ []) ∷ [], ((48 + code / 100, digit-is (code / 100) x, refl), ((48 + code / 10 % 10, digit-is (code / 10 % 10) y, refl), ((48 + code % 10, digit-is (code % 10) z, refl), tt))), refl, omega arith, omega arith);
+      (((48 + code / 100) ∷ []) ∷ ((48 + code / 10 % 10) ∷ []) ∷ ((48 + code % 10) ∷ []) ∷ [], ((48 + code / 100, digit-is (code / 100) x, refl), ((48 + code / 10 % 10, digit-is (code / 10 % 10) y, refl), ((48 + code % 10, digit-is (code % 10) z, refl), tt))), refl, omega arith, omega arith),
       -- the number that the three digits write is the code
-      code_is = omega (arith, digit_value_digit (48 + code / 100) (omega arith, omega (arith, x)), digit_value_digit (48 + code / 10 % 10) (omega arith, omega (arith, y)), digit_value_digit (48 + code % 10) (omega arith, omega (arith, z)));
-      low = low;
-      high = high;
-    }
+      omega (arith, digit_value_digit (48 + code / 100) (omega arith, omega (arith, x)), digit_value_digit (48 + code / 10 % 10) (omega arith, omega (arith, y)), digit_value_digit (48 + code % 10) (omega arith, omega (arith, z))),
+      low,
+      high,
+    )

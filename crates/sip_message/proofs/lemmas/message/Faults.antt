@@ -1,21 +1,20 @@
 -- Bytes are read as a message exactly if they are one, and as at most one message or one fault.
 -- In the lemmas f and fs are the first field and the others, z and zs the first element of a list and the others, and n is the number of a line.
--- `IsOne` says that a reading has one outcome at most. `NamesOf` is the demands on the named fields, `BodyOf` those on the method and the body, and `LinesOf`
+-- `IsOne` says that a reading has one outcome at most. `NamesOf` is the demands on the named fields, `BodySays` those on the method and the body, and `LinesOf`
 -- and `HeadOf` are the reading of the lines of a head, and of a head, each with the body after it.
 use Rattle.std.proofs.Common.{◌≡◌, ℕ, ◌+◌, List, [], ◌∷◌, Option, refl, sym, ap, ◌∙◌, subst}
 use Rattle.sip_message.specs.declared.name.Known.{Known}
 use Rattle.sip_message.specs.declared.name.Known.TheVariants as known_name
 use Rattle.sip_standard.specs.Outcome.{gives, passes}
-use Rattle.sip_standard.specs.StartLine.{StartLine}
-use Rattle.sip_message.specs.inner.StartLine.{StartText}
+use Rattle.sip_standard.specs.StartLine.{StartLine, StartSays}
 use Rattle.sip_message.specs.Field.{Field}
 use Rattle.sip_message.specs.inner.FieldText.{Row, NameText, ValueText, FieldsText}
 use Rattle.sip_message.specs.Message.{Message}
-use Rattle.sip_message.specs.inner.MessageText.{IsFirstFound, MethodFits, HasLength, IsNoMore, MessageFits, MessageText, message_of, Spells, content_length, found}
-use Rattle.sip_standard.specs.Body.{cut_body}
+use Rattle.sip_message.specs.inner.MessageText.{IsFirstFound, HasLength, IsNoMore, MessageFits, MessageText, message_of, Spells, content_length, found}
+use Rattle.sip_standard.specs.Body.{cut_body, MethodSays, BodySays}
 use Rattle.sip_standard.specs.Field.{FirstOf, OneOf}
 use Rattle.sip_standard.specs.Lines.{CutSays}
-use Rattle.sip_message.specs.inner.Faults.{HasName, IsValue, FieldOf, FieldsOf, NamesOf, BodyOf, LinesOf, HeadOf, ReadOf}
+use Rattle.sip_message.specs.inner.Faults.{HasName, IsValue, FieldOf, FieldsOf, NamesOf, LinesOf, HeadOf, ReadOf}
 use Rattle.sip_message.proofs.lemmas.lines.OneWay.{same_head, same_lines}
 use Rattle.sip_message.proofs.lemmas.start_line.OneWay.{same_start}
 use Rattle.sip_message.proofs.lemmas.field.OneWay.{same_name, same_value}
@@ -64,7 +63,7 @@ one-names fields =
     one-then (one-once known_name.CallId fields) (λ _. one-then (one-once known_name.CSeq fields) (λ cseq. one-then (one-holds _ _) (λ _. one-gives (via, cseq)))))))
 
 -- the reading of the body has one outcome
-one-body : (start : StartLine) (cseq : ℕ × List ℕ) (via : List ℕ) (len : Option ℕ) (rest : List ℕ) → IsOne (BodyOf start cseq via len rest)
+one-body : (start : StartLine) (cseq : ℕ × List ℕ) (via : List ℕ) (len : Option ℕ) (rest : List ℕ) → IsOne (BodySays start cseq via len rest)
 one-body start cseq via len rest =
     -- four demands come first: on the method, the length, that the body is long enough, and that in a stream nothing follows it; then the body is cut
     one-then (one-holds _ _) (λ _. one-then (one-holds _ _) (λ _. one-then (one-holds _ _) (λ _. one-then (one-holds _ _) (λ _. one-gives (cut_body len rest)))))
@@ -73,7 +72,7 @@ one-body start cseq via len rest =
 one-lines : (rest first : List ℕ) (others : List (List ℕ)) → IsOne (LinesOf rest first others)
 one-lines rest first others =
     -- the start line, the fields, the demands on the names, and those on the method and the body, each have one outcome
-    one-then (one-demand (StartText first) _ (same_start first)) (λ start. one-then (one-fields 1 others) (λ fields. one-then (one-names fields) (λ names.
+    one-then (one-demand (StartSays first) _ (same_start first)) (λ start. one-then (one-fields 1 others) (λ fields. one-then (one-names fields) (λ names.
     one-then (one-body start names.1 names.0.1 (content_length fields) rest) (λ body. one-gives _))))
 
 -- the reading of a head has one outcome
@@ -118,7 +117,7 @@ fields-read n (line ∷ lines) fields (f, fs, is, are, whole) =
     passes f (passes (f.name, is.rest) is.named (passes f.value (is.valued, is.row) refl)) (passes fs (fields-read (n + 1) lines fs are) (ap (λ gs. gives gs) whole))
 
 -- where the names and the body are read, what a message demands of its fields and its body holds
-read-fits : (start : StartLine) (fields : List Field) (rest body : List ℕ) (names : (ℕ × List ℕ) × (ℕ × List ℕ)) → NamesOf fields (gives names) → BodyOf start (names.1) (names.0.1) (content_length fields) rest (gives body) → MessageFits start fields rest × (body ≡ cut_body (content_length fields) rest)
+read-fits : (start : StartLine) (fields : List Field) (rest body : List ℕ) (names : (ℕ × List ℕ) × (ℕ × List ℕ)) → NamesOf fields (gives names) → BodySays start (names.1) (names.0.1) (content_length fields) rest (gives body) → MessageFits start fields rest × (body ≡ cut_body (content_length fields) rest)
 read-fits start fields rest body names is read =
     -- each stage of the reading gave something: the fields of each name, and then the demands on the body hold
     let via = given-then is in
@@ -152,7 +151,7 @@ read-fits start fields rest body names is read =
         cseq = (cseq.0, cseq_once.2);
         length_once = len.1;
         -- the method and the length are those that were found
-        method = subst (λ m. MethodFits start (m.1.1)) same method.1;
+        method = subst (λ m. MethodSays start (m.1.1)) same method.1;
         has_length = subst (λ m. HasLength (m.0.1) (content_length fields)) same has.1;
         enough = enough.1;
         no_more = subst (λ m. IsNoMore (m.0.1) (content_length fields) rest) same no_more.1;

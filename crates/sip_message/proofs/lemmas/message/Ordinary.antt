@@ -2,6 +2,7 @@
 -- `AskedOf` says that what is kept is what the fields say that are asked for, and `HasBody` that the demands on the method and the body give this body.
 use Rattle.std.proofs.Common.{◌≡◌, ℕ, List, [], ◌∷◌, length, Option, Some, None, option_copied, refl, sym, ap, subst, arith}
 use Rattle.std.specs.Borrow.{Bor}
+use Rattle.sip_standard.specs.Body.{BodySays}
 use Rattle.sip_message.specs.declared.asked.Asked.{Asked}
 use Rattle.sip_message.specs.declared.name.Known.{Known}
 use Rattle.sip_message.specs.declared.name.Known.TheVariants as known_name
@@ -13,7 +14,6 @@ use Rattle.sip_message.specs.Field.{Field, values}
 use Rattle.sip_message.specs.inner.MessageText.{found, IsNotTwice}
 use Rattle.sip_standard.specs.Outcome.{gives, passes}
 use Rattle.sip_standard.specs.Field.{OneOf}
-use Rattle.sip_message.specs.inner.Faults.{BodyOf}
 use Rattle.sip_message.specs.inner.Values.{CSeqValue}
 use Rattle.sip_standard.specs.StartLine.{StartLine}
 use Rattle.sip_standard.specs.Says.{IsFirstOf}
@@ -83,7 +83,7 @@ ordinary-whole {rest = rest} {body = body} {fields = fields} start a via from to
             passes v.0 v.1 (passes f.0 (once-is known_name.From fields f.0 f.1) (passes t.0 (once-is known_name.To fields t.0 t.1) (passes i.0 (once-is known_name.CallId fields i.0 i.1) (passes c.0 (once-is known_name.CSeq fields c.0 c.1)
             (passes tt (not-twice known_name.ContentLength fields (option_copied a.content_length) of.content_length) refl)))));
         -- the body has the length that is said, and the named fields stand where they were found
-        is_body = subst (λ len. BodyOf (start_parts start) c.0 (v.0.1) len rest (gives body)) (said-length fields (option_copied a.content_length) of.content_length) (has v.0 c.0 v.2 c.2);
+        is_body = subst (λ len. BodySays (start_parts start) c.0 (v.0.1) len rest (gives body)) (said-length fields (option_copied a.content_length) of.content_length) (has v.0 c.0 v.2 c.2);
         stand = record {
           via = first-value known_name.Via fields v.0 v.1;
           from = value-is known_name.From fields from.now f.0 f.1 f.2;

@@ -1,22 +1,22 @@
 -- The stages of reading, one after another.
 -- In the lemmas n is the named fields that were found, e the first element of Via, and s the CSeq by its number and method.
--- `LinesOf` is the reading of a head's lines and of the body after them, `NamesOf` that of the named fields, and `BodyOf` that of the body; `KeepsRead` says
+-- `LinesOf` is the reading of a head's lines and of the body after them, `NamesOf` that of the named fields, and `BodySays` that of the body; `KeepsRead` says
 -- what a message keeps of them.
 use Rattle.std.proofs.Common.{◌≡◌, ℕ, List, false, refl, sym, subst}
 use Rattle.std.specs.Prelude.{Result, Ok, Err, IsErr, IsErrAnd}
 use Rattle.std.proofs.lemmas.Bool.{both_ways}
 use Rattle.sip_standard.specs.declared.fault.Fault.{Fault}
+use Rattle.sip_standard.specs.Body.{BodySays}
 use Rattle.sip_message.specs.declared.fault.ReadError.{ReadError}
 use Rattle.sip_message.specs.declared.fault.ReadError.TheVariants as error
 use Rattle.sip_standard.specs.Lines.{CutSays, LinesSay}
 use Rattle.sip_message.specs.inner.Lines.{HasNoBareEnd, AreLines}
-use Rattle.sip_standard.specs.StartLine.{StartLine}
-use Rattle.sip_message.specs.inner.StartLine.{StartText}
+use Rattle.sip_standard.specs.StartLine.{StartLine, StartSays}
 use Rattle.sip_message.specs.Field.{Field}
 use Rattle.sip_message.specs.Message.{Message}
 use Rattle.sip_message.specs.inner.MessageText.{MessageText, content_length}
 use Rattle.sip_standard.specs.Outcome.{Outcome, gives, stops, passes}
-use Rattle.sip_message.specs.inner.Faults.{FieldsOf, NamesOf, BodyOf, LinesOf, ReadOf}
+use Rattle.sip_message.specs.inner.Faults.{FieldsOf, NamesOf, LinesOf, ReadOf}
 use Rattle.sip_message.specs.inner.Settles.{Settles}
 use Rattle.sip_message.specs.Only.{IsOnly}
 use Rattle.sip_message.specs.Reading.{Reading, Parts, HasParts}
@@ -78,10 +78,10 @@ pub record Found (bytes rest first : List ℕ) (start : StartLine) (fields : Lis
   pub head : List ℕ
   pub others : List (List ℕ)
   pub is_begun : IsBegun bytes head rest first others
-  pub is_start : StartText first start
+  pub is_start : StartSays first start
   pub are_fields : FieldsOf 1 others (gives fields)
   pub are_names : NamesOf fields (gives (n.via, n.cseq))
-  pub is_body : BodyOf start n.cseq (n.via.1) (content_length fields) rest (gives body)
+  pub is_body : BodySays start n.cseq (n.via.1) (content_length fields) rest (gives body)
   pub stand : Stand fields n
 
 -- where each stage gives something, the bytes are the message that is made of it

@@ -22,7 +22,6 @@ use Rattle.sip_message.specs.inner.Codes.{parts_code}
 use Rattle.sip_message.specs.Reads.{Reads}
 use Rattle.sip_message.proofs.lemmas.message.Faults.{text-read, one-read}
 use Rattle.sip_message.proofs.lemmas.via.Elements.{One-is}
-use Rattle.sip_message.proofs.lemmas.says.Values.{said-value}
 use Rattle.sip_message.proofs.lemmas.says.Told.{tells-text}
 
 -- a name has one first value in some fields
@@ -43,8 +42,8 @@ keeps-to {m = m} k = same-value known_name.To m.fields k.to k.parts.is.to
 
 -- the value of the first CSeq is a CSeq, with the number and the method that the message has
 pub keeps-cseq : {m : Message} {p : Parts} {v f t i c : List ℕ} → Keeps m p v f t i c → CSeqValue c p.cseq
--- the first CSeq of the parts is that value, and what the definitions say of it the readers read
-keeps-cseq {m = m} {p = p} {c = c} k = said-value c p.cseq (subst (λ x. CSeqSays p.cseq x) (same-value known_name.CSeq m.fields k.parts.is.cseq.1 k.cseq) k.parts.is.cseq.2)
+-- the first CSeq of the parts is that value
+keeps-cseq {m = m} {p = p} {c = c} k = subst (λ x. CSeqSays p.cseq x) (same-value known_name.CSeq m.fields k.parts.is.cseq.1 k.cseq) k.parts.is.cseq.2
 
 -- the first element of some values of Via is the first of the first value
 first-told : (text : List ℕ) (more : List (List ℕ)) (e : SaidVia) (es : List SaidVia) → ViasTell (text ∷ more) (e ∷ es) → FirstVia text e

@@ -2,15 +2,13 @@
 -- In the lemmas v, f and fs are a value, a field and fields as the readers read them, and w, g and gs as the definitions say them; n is the number of a line.
 -- In the lemmas of one field line x and y are two pairs: a name, by the readers and as it is spelled, and what stands after the colon, blanks included.
 -- What ends with `Of` is read by the readers, and what ends with `Says`, `Say` or `Tell` is said by the definitions, as `FieldOf` and `FieldSays`.
-use Rattle.std.proofs.Common.{◌≡◌, ℕ, ◌+◌, ◌≤◌, Bool, true, false, cond, ◌||◌, List, [], ◌∷◌, ◌++◌, length, map, Option, inl, inr, refl, sym, ap, ◌∙◌, subst, arith}
-use Rattle.std.specs.Prelude.{⊤, ◌==◌, codes, bytes_eq, filter, IfSome, is_some}
+use Rattle.std.proofs.Common.{◌≡◌, ℕ, ◌+◌, Bool, true, false, cond, ◌||◌, List, [], ◌∷◌, ◌++◌, length, map, refl, sym, ap, ◌∙◌, subst, arith}
+use Rattle.std.specs.Prelude.{⊤, ◌==◌, codes, bytes_eq, filter}
 use Prim.Native.String.{String}
-use Rattle.std.proofs.lemmas.Bool.{both_ways, or_cases, or_left, or_right}
-use Rattle.std.proofs.lemmas.Slice.Eq.{bytes_eq-Decides}
+use Rattle.std.proofs.lemmas.Bool.{both_ways}
 use Rattle.std.proofs.lemmas.List.{length-append}
-use Rattle.sip_standard.specs.Text.{One, Exactly, ◌then◌, ◌or◌, Many}
+use Rattle.sip_standard.specs.Text.{One, Exactly, ◌then◌, Many}
 use Rattle.sip_standard.specs.Case.{folded}
-use Rattle.sip_standard.specs.Chars.{AnyCase}
 use Rattle.sip_standard.specs.Profile.{Token, Sws}
 use Rattle.sip_text.specs.Bytes.{Byte}
 use Rattle.sip_message.specs.declared.name.Known.{Known}
@@ -19,20 +17,18 @@ use Rattle.sip_standard.specs.declared.fault.Reason.TheVariants as reason
 use Rattle.sip_message.specs.inner.FieldText.{EndsSolid, Row, OpensSolid}
 use Rattle.sip_standard.specs.Field.{is_lws_byte, full_name, RowSays, SaidField, all, IsTrimmed, FieldSays, FieldsSay, FirstOf, NoSecond, OneOf, NamesSay}
 use Rattle.sip_message.specs.inner.Lines.{HasNoBareEnd}
-use Rattle.sip_standard.specs.StartLine.{StartLine, request, status, StartSays}
-use Rattle.sip_message.specs.inner.StartLine.{StartText}
+use Rattle.sip_standard.specs.StartLine.{StartLine, StartSays}
 use Rattle.sip_message.specs.Name.{FieldName, name_of, is_name_of}
 use Rattle.sip_message.specs.Field.{Field}
-use Rattle.sip_standard.specs.Body.{length_in, cut_body, MethodSays, StreamSays, BodySays}
+use Rattle.sip_standard.specs.Body.{length_in, BodySays}
 use Rattle.sip_message.specs.Message.{Message}
-use Rattle.sip_message.specs.inner.MessageText.{found, found_from, is_stream, IsStream, MethodFits, HasLength, IsEnough, IsNoMore, content_length}
+use Rattle.sip_message.specs.inner.MessageText.{found, found_from, content_length}
 use Rattle.sip_standard.specs.Outcome.{Outcome, Gives, Demand, Holds, Then}
-use Rattle.sip_standard.specs.Faults.{fault_in_head, fault_in_line, fault_in_body}
-use Rattle.sip_message.specs.inner.Faults.{HasName, IsValue, FieldOf, FieldsOf, NamesOf, BodyOf, LinesOf, ReadOf}
+use Rattle.sip_standard.specs.Faults.{fault_in_head, fault_in_line}
+use Rattle.sip_message.specs.inner.Faults.{HasName, IsValue, FieldOf, FieldsOf, NamesOf, LinesOf, ReadOf}
 use Rattle.sip_standard.specs.Lines.{CutSays}
 use Rattle.sip_standard.specs.Says.{LinesTell, BytesTell}
-use Rattle.sip_message.proofs.lemmas.says.Alike.{Same, Equal, same-demand, same-holds, same-gives, same-self, same-then, same-next}
-use Rattle.sip_message.proofs.lemmas.says.Values.{start-said, said-start, cseq-said, said-cseq}
+use Rattle.sip_message.proofs.lemmas.says.Alike.{Same, Equal, same-demand, same-gives, same-self, same-then, same-next}
 use Rattle.sip_message.proofs.lemmas.says.Names.{row-said, named-via, named-from, named-to, named-call-id, named-cseq, named-content-length}
 
 -- a text whose first byte is no blank does not begin with a byte of a blank run, as the definitions say it
@@ -199,49 +195,6 @@ same-names fs gs are =
     (subst (λ x. Same Equal (NamesOf fs) (NamesIn (found known_name.Via fs) (found known_name.From fs) (found known_name.To fs) (found known_name.CallId fs) (found known_name.CSeq fs) x)) l
     (same-self (NamesOf fs)))))))
 
--- a transport that is a stream is TCP or TLS, in any case of its letters
-stream-kind : (t : List ℕ) → is_stream t ≡ true → (AnyCase "tcp" or AnyCase "tls") t
-stream-kind t is = elim (or_cases (bytes_eq (folded t) (codes "tcp")) (bytes_eq (folded t) (codes "tls")) is) [
-  -- the text without case is "tcp", or it is "tls"
-  | inl tcp ↦ inl ((bytes_eq-Decides (folded t) (codes "tcp")).0 tcp)
-  | inr tls ↦ inr ((bytes_eq-Decides (folded t) (codes "tls")).0 tls)
-]
-
--- TCP and TLS, in letters of any case, are streams
-kind-stream : (t : List ℕ) → (AnyCase "tcp" or AnyCase "tls") t → is_stream t ≡ true
-kind-stream t (inl tcp) = or_left (bytes_eq (folded t) (codes "tcp")) (bytes_eq (folded t) (codes "tls")) ((bytes_eq-Decides (folded t) (codes "tcp")).1 tcp)
-kind-stream t (inr tls) = or_right (bytes_eq (folded t) (codes "tcp")) (bytes_eq (folded t) (codes "tls")) ((bytes_eq-Decides (folded t) (codes "tls")).1 tls)
-
--- where the top Via's transport is a stream by the readers, it is one by the definitions
-stream-said : (via : List ℕ) → IsStream via → StreamSays via
-stream-said via (transport, (v, more, says, transport_is), stream) = (v, more, says, stream-kind v.transport (subst (λ t. is_stream t ≡ true) transport_is stream))
-
--- where the top Via's transport is a stream by the definitions, it is one by the readers
-said-stream : (via : List ℕ) → StreamSays via → IsStream via
-said-stream via (v, more, says, kind) = (v.transport, (v, more, says, refl), kind-stream v.transport kind)
-
--- where the method of CSeq fits the start line by the readers, it fits by the definitions
-method-said : (start : StartLine) (cseq : List ℕ) → MethodFits start cseq → MethodSays start cseq
--- of a request the CSeq has a number n and its method m; of a response nothing is asked
-method-said (request m u) cseq (n, text) = (n, cseq-said cseq n m text)
-method-said (status code why) cseq any = tt
-
--- what the definitions say of the methods is what the readers ask
-said-method : (start : StartLine) (cseq : List ℕ) → MethodSays start cseq → MethodFits start cseq
--- of a request the CSeq has a number n and its method m; of a response nothing is asked
-said-method (request m u) cseq (n, says) = (n, said-cseq cseq n m says)
-said-method (status code why) cseq any = tt
-
--- the demands on the method and the body are the same by the readers and by the definitions
-same-body : (start : StartLine) (cseq : ℕ × List ℕ) (via : List ℕ) (len : Option ℕ) (rest : List ℕ) → Same Equal (BodyOf start cseq via len rest) (BodySays start cseq via len rest)
-same-body start cseq via len rest =
-    -- the method of CSeq, the Content-Length of a stream, that the body is long enough, and that nothing follows it in a stream: each demand is the same
-    same-next Equal _ _ (same-holds (MethodFits start cseq.1) (MethodSays start cseq.1) _ (method-said start cseq.1) (said-method start cseq.1)) (λ _.
-    same-next Equal _ _ (same-holds (HasLength via len) (StreamSays via → is_some len ≡ true) _ (λ has stream. has (said-stream via stream)) (λ has stream. has (stream-said via stream))) (λ _.
-    same-next Equal _ _ (same-self (Holds (IsEnough len rest) (fault_in_body reason.ShortBody))) (λ _.
-    same-next Equal _ _ (same-holds (IsNoMore via len rest) (StreamSays via → IfSome len (λ n. length rest ≤ n)) _ (λ few stream. few (said-stream via stream)) (λ few stream. few (stream-said via stream))) (λ _.
-    same-gives Equal (cut_body len rest) (cut_body len rest) refl))))
-
 -- a message as it is kept, and its start line, fields and body as they are told, are the same
 abbrev pub IsTold : Message → StartLine × List SaidField × List ℕ → Type 0
 IsTold m told = (m.start ≡ told.0) × AreFields 1 m.fields told.1 × (m.body ≡ told.2)
@@ -250,10 +203,10 @@ IsTold m told = (m.start ≡ told.0) × AreFields 1 m.fields told.1 × (m.body �
 same-told : (rest first : List ℕ) (others : List (List ℕ)) → Same IsTold (LinesOf rest first others) (LinesTell rest first others)
 same-told rest first others =
     -- the start line, the fields, the demands on the names, and those on the method and the body: each step is the same
-    same-next IsTold _ _ (same-demand Equal (StartText first) (StartSays first) (fault_in_line 0 reason.StartLine) (λ s text. (s, start-said first s text, refl)) (λ s says. (s, said-start first s says, refl))) (λ start.
+    same-next IsTold _ _ (same-self (Demand (StartSays first) (fault_in_line 0 reason.StartLine))) (λ start.
     same-then (AreFields 1) IsTold _ _ (same-fields 1 others) (λ fs gs are.
     same-next IsTold _ _ (same-names fs gs are) (λ names.
-    same-then Equal IsTold _ _ (subst (λ x. Same Equal (BodyOf start names.1 names.0.1 (content_length fs) rest) (BodySays start names.1 names.0.1 (length_in x) rest)) (all-found known_name.ContentLength "content-length" named-content-length 1 fs gs are) (same-body start names.1 names.0.1 (content_length fs) rest)) (λ body y same.
+    same-then Equal IsTold _ _ (subst (λ x. Same Equal (BodySays start names.1 names.0.1 (content_length fs) rest) (BodySays start names.1 names.0.1 (length_in x) rest)) (all-found known_name.ContentLength "content-length" named-content-length 1 fs gs are) (same-self (BodySays start names.1 names.0.1 (content_length fs) rest))) (λ body y same.
     same-gives IsTold _ _ (refl, are, same)))))
 
 -- bytes tell the start line and the fields of the message that they are read as, or its fault

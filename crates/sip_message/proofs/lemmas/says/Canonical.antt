@@ -5,7 +5,7 @@ use Rattle.std.proofs.Common.{◌≡◌, ◌↔◌, ℕ, Bool, true, false, cond
 use Rattle.std.specs.Prelude.{bytes_eq, codes}
 use Prim.Native.String.{String}
 use Rattle.sip_standard.specs.Case.{folded}
-use Rattle.sip_standard.specs.StartLine.{StartLine, request, status}
+use Rattle.sip_standard.specs.StartLine.{StartLine, request, status, StartSays}
 use Rattle.sip_standard.specs.Outcome.{gives}
 use Rattle.sip_standard.specs.Field.{SaidField}
 use Rattle.sip_standard.specs.Says.{BytesTell}
@@ -21,7 +21,6 @@ use Rattle.sip_message.specs.Reading.{Reading}
 use Rattle.sip_message.specs.Reads.{Reads}
 use Rattle.sip_message.specs.Canon.{IsFormOf, in_full, TellsInFull, SameInFull}
 use Rattle.sip_message.specs.inner.Lines.{with_end}
-use Rattle.sip_message.specs.inner.StartLine.{StartText}
 use Rattle.sip_message.specs.inner.Canon.{name_text, field_text, canon, HasCode}
 use Rattle.sip_message.specs.inner.MessageText.{unfolded_field, message_of}
 use Rattle.sip_message.proofs.lemmas.start_line.OneWay.{status_parts}
@@ -150,10 +149,10 @@ same-canonical a b (s, gs, t) (r, hs, u) one other = (to, from)
         λ i. flat_map with_end (start_text (same.start i) ∷ lines i) ++ (crlf ++ same.body i)
 
 -- a status line has a code of three digits
-has-code : (line : List ℕ) (start : StartLine) → StartText line start → HasCode start
+has-code : (line : List ℕ) (start : StartLine) → StartSays line start → HasCode start
 -- a request line has no code
 has-code line (request method uri) is = tt
-has-code line (status code why) is = let parts = status_parts line code why is in (parts.is_code.low, parts.is_code.high)
+has-code line (status code why) is = let parts = status_parts line code why is in (parts.is_code.2, parts.is_code.3)
 
 -- the start line of what bytes are read as has its code, if it is a status line
 pub reads-code : (r : Reading) → (bytes : List ℕ) × Reads bytes r → HasCode r.message.start

@@ -12,9 +12,7 @@ use Rattle.sip_message.specs.declared.name.Known.{Known}
 use Rattle.sip_message.specs.declared.name.Known.TheVariants as known_name
 use Rattle.sip_message.specs.Name.{FieldName, known, other, spellings, name_by, name_of, is_name_of}
 use Rattle.sip_message.specs.inner.FieldText.{Row}
-use Rattle.sip_standard.specs.Values.{CSeqSays}
 use Rattle.sip_standard.specs.Field.{full_name, RowSays}
-use Rattle.sip_message.proofs.lemmas.says.Values.{cseq-said, said-cseq}
 
 -- what holds of each spelling and its name, and of a text that is none of them, holds of the name that a text spells
 by-name : (P : List ℕ → FieldName → Type 0) (list : List (List ℕ × Known)) (text : List ℕ) → AllByRecursion (λ s. P (s.0) (known (s.1))) list
@@ -75,14 +73,6 @@ foreign-row f value (via, (v, (from, (f_, (to, (t, (call_id, (i, (cseq, (content
     -- so the choice comes to what any other field may hold, which is what the row has
     ((λ is. one.1 (two.1 (three.1 (four.1 (five.1 is))))), (λ is. five.0 (four.0 (three.0 (two.0 (one.0 is))))))
 
--- a value is one of CSeq's row exactly if it says a number and a method by the definitions
-cseq-row : (v : List ℕ) → Ways (Row (known known_name.CSeq) v) ((said : ℕ × List ℕ) × CSeqSays said v)
-cseq-row v = ((λ row. ((row.0, row.1), cseq-said v row.0 row.1 row.2)), at)
-  where
-    -- a number and a method by the definitions are those of the row
-    at : (said : ℕ × List ℕ) × CSeqSays said v → Row (known known_name.CSeq) v
-    at ((n, m), says) = (n, m, said-cseq v n m says)
-
 -- each statement gives itself
 same-row : (X : Type 0) → Ways X X
 same-row X = ((λ is. is), (λ is. is))
@@ -92,7 +82,7 @@ pub row-said : (token v : List ℕ) → Ways (Row (name_of token) v) (RowSays (f
 row-said token v =
     -- each spelling has the row of its name, in the order of the list of spellings; a text that is none of them has that of a foreign name
     by-name (λ f name. Ways (Row name v) (RowSays (full_name f) v)) spellings token
-    (same-row _, (same-row _, (same-row _, (same-row _, (same-row _, (same-row _, (same-row _, (same-row _, (cseq-row v, (same-row _, (same-row _, (same-row _, (same-row _, (same-row _, (same-row _, (same-row _, (same-row _, (same-row _, (same-row _, (same-row _, (same-row _, (same-row _, tt))))))))))))))))))))))
+    (same-row _, (same-row _, (same-row _, (same-row _, (same-row _, (same-row _, (same-row _, (same-row _, (same-row _, (same-row _, (same-row _, (same-row _, (same-row _, (same-row _, (same-row _, (same-row _, (same-row _, (same-row _, (same-row _, (same-row _, (same-row _, (same-row _, tt))))))))))))))))))))))
     (λ foreign. let row = foreign-row (folded token) v foreign in subst (λ f. Ways (Row (other token) v) (RowSays f v)) (sym (foreign-name (folded token) foreign)) row)
 
 -- the name that a token spells is the known name k exactly if its full form has the bytes `key`

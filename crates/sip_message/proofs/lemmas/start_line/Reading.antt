@@ -10,18 +10,18 @@ use Rattle.std.specs.Str.Parse.{digits_value}
 use Rattle.std.proofs.lemmas.Bool.{both_ways, ltb-false}
 use Rattle.std.proofs.lemmas.Option.{none-some}
 use Rattle.std.proofs.lemmas.List.{append_assoc, length-append, take-append-drop, length-drop, length-take, length-take-le, take-map, drop-map, map-append}
-use Rattle.sip_standard.specs.Text.{One, Many}
+use Rattle.sip_standard.specs.Text.{One, Many, ◌then◌}
 use Rattle.sip_standard.specs.Case.{folded}
 use Rattle.sip_standard.specs.Profile.{Token, Uri}
-use Rattle.sip_text.specs.Bytes.{space}
+use Rattle.sip_text.specs.Bytes.{space, Byte}
 use Rattle.sip_text.specs.inner.Case.{SameText}
 use Rattle.sip_text.specs.inner.Cut.{past}
 use Rattle.sip_text.proofs.texts.ManyLemmas.{many-some, append_cancel_both}
 use Rattle.sip_message.specs.inner.Values.{Digits}
 use Rattle.sip_text.proofs.cuts.CutLemmas.{past-some}
 use Rattle.sip_text.proofs.texts.RunLemmas.{run-list_all, list_all-run}
-use Rattle.sip_standard.specs.StartLine.{StartLine, request, status}
-use Rattle.sip_message.specs.inner.StartLine.{Version, CodeText, is_reason_byte, StartText, RequestLine, StatusLine, CodeFront}
+use Rattle.sip_standard.specs.StartLine.{StartLine, request, status, StartSays}
+use Rattle.sip_message.specs.inner.StartLine.{Version, CodeText, is_reason_byte, RequestLine, StatusLine, CodeFront}
 use Rattle.sip_message.specs.inner.Fronts.{TokenFront}
 use Rattle.sip_message.proofs.lemmas.text.Cuts.{same_by_end}
 use Rattle.sip_message.proofs.lemmas.front.Cuts.{ReadAs, NotRead}
@@ -59,14 +59,14 @@ request-cut : (line token rest method uri : List ℕ) → ReadAs (TokenFront lin
 request-cut line token rest method uri read is =
     -- p is the parts of the line; its method is the token at its front, and what follows is what is left
     let p = request_parts line method uri is in
-    let same = read.1 (method, space ∷ (uri ++ space ∷ p.version)) (token-first line method uri p is.0) in
-    (ap (λ x. x.0) same, record { version = p.version; is_version = p.is_version; is_uri = is.1; whole = sym (ap (λ x. x.1) same) })
+    let same = read.1 (method, space ∷ (uri ++ space ∷ p.version)) (token-first line method uri p p.is_token) in
+    (ap (λ x. x.0) same, record { version = p.version; is_version = p.is_version; is_uri = p.is_uri; whole = sym (ap (λ x. x.1) same) })
 
 -- a line without a token at its front is no request line
 pub request-no_token : (line : List ℕ) → NotRead (TokenFront line) → NotRead (RequestLine line)
 request-no_token line none (method, uri) is =
     -- the method would be such a token
-    let p = request_parts line method uri is in none (method, space ∷ (uri ++ space ∷ p.version)) (token-first line method uri p is.0)
+    let p = request_parts line method uri is in none (method, space ∷ (uri ++ space ∷ p.version)) (token-first line method uri p p.is_token)
 
 -- a line without a SP after its token is no request line
 pub request-no_space : (line token rest : List ℕ) → ReadAs (TokenFront line) (token, rest) → past space rest ≡ None → NotRead (RequestLine line)
@@ -110,7 +110,7 @@ request-no_uri line token rest more at read found len none (method, uri) is =
     let b = behind-space line token rest more method uri read found is in
     -- what stands before the last eight bytes is the URI
     let e = at-end more uri b.0 at len b.1 b.2 in
-    none (subst Uri (sym e.0) is.1)
+    none (subst Uri (sym e.0) (request_parts line method uri is).is_uri)
 
 -- eight bytes that are " SIP/2.0" without case are a SP and a version
 space-version : (t : List ℕ) → SameText t (codes " SIP/2.0") → (v : List ℕ) × (t ≡ space ∷ v) × Version v
@@ -137,16 +137,12 @@ request-read line token rest more at read found version uri = (is, only)
     -- the line is the method, SP, the URI, SP and the version
     is : RequestLine line (token, take at more)
     is = (
-      read.0.0,
-      uri,
-      (
-        -- the method, SP, the URI, SP and the version stand in a row
-        token,
-        space ∷ more,
-        refl,
-        (space ∷ [], more, refl, (take at more, space ∷ v.0, refl, (space ∷ [], v.0, refl, v.2, refl), inner), refl),
-        read.0.2.4 ∙ ap (λ t. t ++ read.0.2.1) read.0.2.2 ∙ ap (λ t. token ++ t) (read.0.2.3 ∙ past-some space rest more found),
-      ),
+      -- the method, SP, the URI, SP and the version stand in a row
+      token,
+      space ∷ more,
+      (read.0.0, refl),
+      (space ∷ [], more, refl, (take at more, space ∷ v.0, (uri, refl), (space ∷ [], v.0, refl, v.2, refl), inner), refl),
+      read.0.2.4 ∙ ap (λ t. t ++ read.0.2.1) read.0.2.2 ∙ ap (λ t. token ++ t) (read.0.2.3 ∙ past-some space rest more found),
     )
 
     -- the line is read in one way
@@ -164,11 +160,11 @@ digits-code d n digits len value low high =
     -- the three digits are a repetition of exactly three texts of one digit each
     let many = many-some (One is_ascii_digit) d digits in
     let count : length many.0 ≡ 3 = omega (arith, length-digits many.0 many.1, ap length many.2, len) in
-    record { digits = (many.0, many.1, many.2, omega (arith, count), omega (arith, count)); code_is = value; low = low; high = omega (arith, high) }
+    ((many.0, many.1, many.2, omega (arith, count), omega (arith, count)), value, low, omega (arith, high))
 
 -- a status code is three digits
 code-digits : (d : List ℕ) (n : ℕ) → CodeText d n → Digits d
-code-digits d n is = at is.digits.0 is.digits.1 is.digits.2 is.digits.3
+code-digits d n is = at is.0.0 is.0.1 is.0.2 is.0.3
   where
     -- three texts of one digit each are three digits
     at : (us : List (List ℕ)) → AllByRecursion (One is_ascii_digit) us → d ≡ concat us → 3 ≤ length us → Digits d
@@ -201,12 +197,12 @@ code-no_digits text none (code, reason) is = none (code-digits (take 3 text) cod
 -- where the first three digits write a number above 699, they are no status code
 pub code-high : (text : List ℕ) → Digits (take 3 text) → (Digits (take 3 text) → 699 < digits_value 10 (take 3 text)) → NotRead (CodeFront text)
 code-high text digits high (code, reason) is =
-    let f = code-front text code reason is in absurd (omega (arith, high digits, f.0.high, f.0.code_is))
+    let f = code-front text code reason is in absurd (omega (arith, high digits, f.0.3, f.0.1))
 
 -- where the first three digits write a number below 100, they are no status code
 pub code-low : (text : List ℕ) (n : ℕ) → n ≡ digits_value 10 (take 3 text) → n < 100 → NotRead (CodeFront text)
 code-low text n value low (code, reason) is =
-    let f = code-front text code reason is in absurd (omega (arith, value, low, f.0.low, f.0.code_is))
+    let f = code-front text code reason is in absurd (omega (arith, value, low, f.0.2, f.0.1))
 
 -- three digits that write a number from 100 to 699, with a SP after them, are read as that status code
 pub code-read : (text rest : List ℕ) (n : ℕ) → 3 ≤ length text → past space (drop 3 text) ≡ Some rest → Digits (take 3 text) → n ≡ digits_value 10 (take 3 text) → n ≤ 699 → 100 ≤ n → ReadAs (CodeFront text) (n, rest)
@@ -230,7 +226,7 @@ code-read text rest n long found digits value high low = (is, only)
         let f = code-front text code reason other in
         let both : ◌≡◌ {A = List ℕ} (space ∷ reason) (space ∷ rest) = sym f.1 ∙ past-some space (drop 3 text) rest found in
         let reasons : reason ≡ rest = cc in
-        let codes : code ≡ n = f.0.code_is ∙ sym value in
+        let codes : code ≡ n = f.0.1 ∙ sym value in
         cc
 
 -- eight bytes that are "SIP/2.0 " without case are a version and a SP
@@ -248,8 +244,8 @@ version-space t same = (take 7 t, sym (take-map to_ascii_lowercase 7 t) ∙ ap (
         ap (λ x. x ∷ []) (kept_is b space (omega arith) head)
 
 -- a status line is "SIP/2.0 " without case, and then a status code with its SP and a reason phrase
-status-line : (line : List ℕ) (code : ℕ) (reason : List ℕ) → StatusLine line (code, reason) → SameText (take 8 line) (codes "SIP/2.0 ") × CodeFront (drop 8 line) (code, reason) × (8 ≤ length line)
-status-line line code reason is =
+status-cut : (line : List ℕ) (code : ℕ) (reason : List ℕ) → StatusLine line (code, reason) → SameText (take 8 line) (codes "SIP/2.0 ") × CodeFront (drop 8 line) (code, reason) × (8 ≤ length line)
+status-cut line code reason is =
     -- p is the parts of the line, of which the version and its SP have eight bytes
     let p = status_parts line code reason is in
     let size = length-version p.version p.is_version in
@@ -265,39 +261,43 @@ status-line line code reason is =
 
 -- a line that does not begin with the version is no status line
 pub status-no_version : (line : List ℕ) → (SameText (take 8 line) (codes "SIP/2.0 ") → ⊥) → NotRead (StatusLine line)
-status-no_version line none (code, reason) is = none (status-line line code reason is).0
+status-no_version line none (code, reason) is = none (status-cut line code reason is).0
 
 -- a line without a status code after the version is no status line
 pub status-no_code : (line : List ℕ) → NotRead (CodeFront (drop 8 line)) → NotRead (StatusLine line)
-status-no_code line none (code, reason) is = none (code, reason) (status-line line code reason is).1
+status-no_code line none (code, reason) is = none (code, reason) (status-cut line code reason is).1
 
 -- a line whose reason has a byte that no reason phrase has is no status line
 pub status-no_reason : (line : List ℕ) (n : ℕ) (rest : List ℕ) → ReadAs (CodeFront (drop 8 line)) (n, rest) → list_all is_reason_byte rest ≡ false → NotRead (StatusLine line)
 status-no_reason line n rest read none (code, reason) is =
     -- the reason of the status line is the rest that was read after the code, and all its bytes are of a reason
-    let same = read.1 (code, reason) (status-line line code reason is).1 in
-    both_ways (list_all is_reason_byte rest) none (run-list_all is_reason_byte rest (subst (Many (One is_reason_byte)) (ap (λ x. x.1) same) is.0))
+    let same = read.1 (code, reason) (status-cut line code reason is).1 in
+    both_ways (list_all is_reason_byte rest) none (run-list_all is_reason_byte rest (subst (Many (One is_reason_byte)) (ap (λ x. x.1) same) (status_parts line code reason is).are_bytes))
 
 -- a line with the version, a status code and a reason phrase is read as a status line of that code and that reason
 pub status-read : (line : List ℕ) (n : ℕ) (rest : List ℕ) → SameText (take 8 line) (codes "SIP/2.0 ") → ReadAs (CodeFront (drop 8 line)) (n, rest) → list_all is_reason_byte rest ≡ true → ReadAs (StatusLine line) (n, rest)
 status-read line n rest version read all = (
-  (list_all-run is_reason_byte rest all, (v.0, space ∷ drop 8 line, v.1, (space ∷ [], drop 8 line, refl, read.0, refl), sym (take-append-drop 8 line) ∙ ap (λ t. t ++ drop 8 line) v.2 ∙ append_assoc v.0 (space ∷ []) (drop 8 line))),
-  (λ x other. read.1 x (status-line line x.0 x.1 other).1),
+  (v.0, space ∷ drop 8 line, v.1, (space ∷ [], drop 8 line, refl, code, refl), sym (take-append-drop 8 line) ∙ ap (λ t. t ++ drop 8 line) v.2 ∙ append_assoc v.0 (space ∷ []) (drop 8 line)),
+  (λ x other. read.1 x (status-cut line x.0 x.1 other).1),
 )
   where
     -- the first eight bytes are a version and SP
     v : (v : List ℕ) × Version v × (take 8 line ≡ v ++ space ∷ [])
     v = version-space (take 8 line) version
 
+    -- after them stand the code, SP and the reason
+    code : ((λ t. CodeText t n) then Byte space then (λ t. Many (One is_reason_byte) t × (rest ≡ t))) (drop 8 line)
+    code = (read.0.0, read.0.1, read.0.2, (read.0.3.0, read.0.3.1, read.0.3.2, (subst (Many (One is_reason_byte)) (sym read.0.3.3) (list_all-run is_reason_byte rest all), sym read.0.3.3), read.0.3.4), read.0.4)
+
 -- a line that is a request line is a start line, and no other
-pub start-request : (line method uri : List ℕ) → ReadAs (RequestLine line) (method, uri) → ReadAs (StartText line) (request method uri)
+pub start-request : (line method uri : List ℕ) → ReadAs (RequestLine line) (method, uri) → ReadAs (StartSays line) (request method uri)
 start-request line method uri read = (read.0, (λ x is. same_start line x (request method uri) is read.0))
 
 -- a line that is a status line is a start line, and no other
-pub start-status : (line : List ℕ) (code : ℕ) (reason : List ℕ) → ReadAs (StatusLine line) (code, reason) → ReadAs (StartText line) (status code reason)
+pub start-status : (line : List ℕ) (code : ℕ) (reason : List ℕ) → ReadAs (StatusLine line) (code, reason) → ReadAs (StartSays line) (status code reason)
 start-status line code reason read = (read.0, (λ x is. same_start line x (status code reason) is read.0))
 
 -- a line that is neither a request line nor a status line is no start line
-pub start-none : (line : List ℕ) → NotRead (RequestLine line) → NotRead (StatusLine line) → NotRead (StartText line)
+pub start-none : (line : List ℕ) → NotRead (RequestLine line) → NotRead (StatusLine line) → NotRead (StartSays line)
 start-none line no_request no_status (request method uri) is = no_request (method, uri) is
 start-none line no_request no_status (status code reason) is = no_status (code, reason) is

@@ -8,9 +8,10 @@ use Rattle.sip_standard.specs.Profile.{Blanks, Token}
 use Rattle.sip_text.specs.Front.{IsLongestFront}
 use Rattle.std.proofs.lemmas.List.{append-nil, take-append-drop, length-take-le}
 use Rattle.sip_standard.specs.Field.{is_lws_byte}
-use Rattle.sip_message.specs.inner.Values.{Digits, CSeqText, CSeqValue}
+use Rattle.sip_standard.specs.Values.{CSeqSays}
+use Rattle.sip_message.specs.inner.Values.{Digits}
 use Rattle.sip_message.specs.inner.Fronts.{Stops, StopsBlank, Behind, BlanksFront}
-use Rattle.sip_message.proofs.lemmas.text.Cuts.{same_front}
+use Rattle.sip_message.proofs.lemmas.text.Cuts.{same_front, All}
 use Rattle.sip_message.proofs.lemmas.text.Each.{Each, each-one, each-then, each-many, blank_is}
 use Rattle.sip_message.proofs.lemmas.via.Transport.{Fails, fail-then, fail-blanks}
 use Rattle.sip_message.proofs.lemmas.via.Protocol.{token-stops}
@@ -40,72 +41,84 @@ digits-stop : (method v : List ℕ) → (Blanks then Exactly method) v → Stops
 -- a blank run begins with a blank
 digits-stop method v is = fails_stops v (fail-then is_ascii_digit Blanks (Exactly method) (fail-blanks is_ascii_digit blank-digit) v is)
 
--- the method of a CSeq is what is left after the blanks that follow its digits
-method-behind : (text v : List ℕ) (number : ℕ) (method : List ℕ) (c : CSeqText text number method) → (Blanks then Exactly method) v → Behind v method
+-- the method of a CSeq is a token
+pub cseq-token : (text : List ℕ) (x : ℕ × List ℕ) → CSeqSays x text → Token (x.1)
+cseq-token text x (low, (digits, v, number, (blanks, word, run, (token, same), v_is), whole)) = subst Token (sym same) token
+
+-- after the digits of a CSeq stand blanks and the method
+cseq-behind : (text : List ℕ) (x : ℕ × List ℕ) → (c : CSeqSays x text) → (Blanks then Exactly (x.1)) c.1.1
+cseq-behind text x (low, (digits, v, number, (blanks, word, run, (token, same), v_is), whole)) = (blanks, word, run, sym same, v_is)
+
+-- the method is what is left after the blanks that follow the digits
+method-behind : (text : List ℕ) (x : ℕ × List ℕ) → (c : CSeqSays x text) → Behind c.1.1 (x.1)
 -- the method begins with no blank, and stands after the blanks
-method-behind text v number method c is = (subst StopsBlank (append-nil method) (token-stops method [] c.is_method), (is.0, is.1, inr is.2, is.3, is.4))
+method-behind text x c =
+    let behind = cseq-behind text x c in
+    (subst StopsBlank (append-nil (x.1)) (token-stops (x.1) [] (cseq-token text x c)), (behind.0, behind.1, inr behind.2, behind.3, behind.4))
+
+-- the digits of a CSeq are only digits, and none follows them
+cseq-cut : (text : List ℕ) (x : ℕ × List ℕ) → (c : CSeqSays x text) → All is_ascii_digit c.1.0 × Stops is_ascii_digit c.1.1
+cseq-cut text x c = (each-digits c.1.0 c.1.2.0, digits-stop (x.1) c.1.1 (cseq-behind text x c))
 
 -- a CSeq has one number and one method
-pub same-cseq : (text : List ℕ) (a b : ℕ × List ℕ) → CSeqValue text a → CSeqValue text b → a ≡ b
--- m and n are the numbers, and s and t the methods, by the two readings
-same-cseq text (m, s) (n, t) a b =
+pub same-cseq : (text : List ℕ) (a b : ℕ × List ℕ) → CSeqSays a text → CSeqSays b text → a ≡ b
+same-cseq text x y a b =
     -- the digits are the longest front of digits, and so the same; the method is what follows the blanks after them
-    let split = same_front is_ascii_digit a.digits a.whole.1 b.digits b.whole.1 (each-digits a.digits a.are_digits) (each-digits b.digits b.are_digits)
-    (digits-stop s a.whole.1 a.whole.3) (digits-stop t b.whole.1 b.whole.3)
-    (ap (λ x. x ++ a.whole.1) (sym a.whole.2) ∙ sym a.whole.4 ∙ b.whole.4 ∙ ap (λ x. x ++ b.whole.1) b.whole.2) in
-    let method : s ≡ t = same-behind b.whole.1 s t (subst (λ v. Behind v s) split.1 (method-behind text a.whole.1 m s a a.whole.3)) (method-behind text b.whole.1 n t b b.whole.3) in
-    let number : m ≡ n = a.number_is ∙ ap (digits_value 10) split.0 ∙ sym b.number_is in
-    cc
+    let split = same_front is_ascii_digit a.1.0 a.1.1 b.1.0 b.1.1 (cseq-cut text x a).0 (cseq-cut text y b).0 (cseq-cut text x a).1 (cseq-cut text y b).1 (sym a.1.4 ∙ b.1.4) in
+    let method : x.1 ≡ y.1 = same-behind b.1.1 (x.1) (y.1) (subst (λ v. Behind v (x.1)) split.1 (method-behind text x a)) (method-behind text y b) in
+    let number : x.0 ≡ y.0 = a.1.2.1 ∙ ap (digits_value 10) split.0 ∙ sym b.1.2.1 in
+    ap (λ n. (n, x.1)) number ∙ ap (λ m. (y.0, m)) method
 
 -- the digits of a CSeq are the longest front of digits, and after its blanks stands the method
 -- n is how many digits the text begins with, and x the number and the method that the CSeq c says
-cseq-parts : (text rest : List ℕ) (n : ℕ) → n ≡ prefix_len is_ascii_digit text → rest ≡ drop n text → (x : ℕ × List ℕ) (c : CSeqText text x.0 x.1) → (c.digits ≡ take n text) × BlanksFront rest (x.1)
+cseq-parts : (text rest : List ℕ) (n : ℕ) → n ≡ prefix_len is_ascii_digit text → rest ≡ drop n text → (x : ℕ × List ℕ) (c : CSeqSays x text) → (c.1.0 ≡ take n text) × BlanksFront rest (x.1)
 cseq-parts text rest n n_is rest_is x c =
     -- `cut` says that the first n bytes are digits, and that none follows them
     let cut = prefix-at is_ascii_digit text n n_is in
-    let same = same_front is_ascii_digit c.digits c.whole.1 (take n text) (drop n text) (each-digits c.digits c.are_digits) cut.0
-    (digits-stop (x.1) c.whole.1 c.whole.3) cut.1
-    (ap (λ t. t ++ c.whole.1) (sym c.whole.2) ∙ sym c.whole.4 ∙ sym (take-append-drop n text)) in
+    let same = same_front is_ascii_digit c.1.0 c.1.1 (take n text) (drop n text) (cseq-cut text x c).0 cut.0 (cseq-cut text x c).1 cut.1 (sym c.1.4 ∙ sym (take-append-drop n text)) in
     -- the digits are these n bytes, so what follows them is the blanks and the method
-    (same.0, (subst StopsBlank (append-nil (x.1)) (token-stops (x.1) [] c.is_method), subst (Blanks then Exactly (x.1)) (same.1 ∙ sym rest_is) c.whole.3))
+    (same.0, (subst StopsBlank (append-nil (x.1)) (token-stops (x.1) [] (cseq-token text x c)), subst (Blanks then Exactly (x.1)) (same.1 ∙ sym rest_is) (cseq-behind text x c)))
 
 -- digits that write a number above 2147483647 are at the front of no CSeq
-pub cseq-large : (text : List ℕ) (n : ℕ) → n ≡ prefix_len is_ascii_digit text → (Digits (take n text) → 2147483647 < digits_value 10 (take n text)) → (x : ℕ × List ℕ) → CSeqValue text x → ⊥
+pub cseq-large : (text : List ℕ) (n : ℕ) → n ≡ prefix_len is_ascii_digit text → (Digits (take n text) → 2147483647 < digits_value 10 (take n text)) → (x : ℕ × List ℕ) → CSeqSays x text → ⊥
 cseq-large text n n_is large x c =
     -- `parts` says that the digits of c are the first n bytes; so their number would be too large
     let parts = cseq-parts text (drop n text) n n_is refl x c in
-    let above = large (subst Digits parts.0 c.are_digits) in
-    absurd (omega (arith, above, c.low, c.number_is, ap (digits_value 10) parts.0))
+    let above = large (subst Digits parts.0 c.1.2.0) in
+    absurd (omega (arith, above, c.0, c.1.2.1, ap (digits_value 10) parts.0))
 
 -- a text that does not begin with a digit is no CSeq
-pub cseq-no_digit : (text : List ℕ) (n : ℕ) → n ≡ prefix_len is_ascii_digit text → n ≡ 0 → (x : ℕ × List ℕ) → CSeqValue text x → ⊥
+pub cseq-no_digit : (text : List ℕ) (n : ℕ) → n ≡ prefix_len is_ascii_digit text → n ≡ 0 → (x : ℕ × List ℕ) → CSeqSays x text → ⊥
 cseq-no_digit text n n_is none x c =
     -- the digits would be the first 0 bytes, but are one at least
-    some-run is_ascii_digit c.digits c.are_digits ((cseq-parts text (drop n text) n n_is refl x c).0 ∙ ap (λ m. take m text) none)
+    some-run is_ascii_digit c.1.0 c.1.2.0 ((cseq-parts text (drop n text) n n_is refl x c).0 ∙ ap (λ m. take m text) none)
 
 -- a text without a blank after its digits is no CSeq
 -- n is how many digits the text begins with, b how many blanks follow, and x a number and a method
-pub cseq-no_blank : (text rest : List ℕ) (n b : ℕ) → n ≡ prefix_len is_ascii_digit text → rest ≡ drop n text → IsLongestFront Blanks rest b → b ≡ 0 → (x : ℕ × List ℕ) → CSeqValue text x → ⊥
+pub cseq-no_blank : (text rest : List ℕ) (n b : ℕ) → n ≡ prefix_len is_ascii_digit text → rest ≡ drop n text → IsLongestFront Blanks rest b → b ≡ 0 → (x : ℕ × List ℕ) → CSeqSays x text → ⊥
 cseq-no_blank text rest n b n_is rest_is longest none x c =
     -- after the digits a blank run would be read, but the longest one there is empty
     no-blanks rest (subst (IsLongestFront Blanks rest) none longest) (x.1) (cseq-parts text rest n n_is rest_is x c).1
 
 -- what stands after the digits and the blanks of a CSeq is a token, its method
 -- n is how many digits the text begins with, b how many blanks follow, and x the number and the method
-pub cseq-method : (text rest method : List ℕ) (n b : ℕ) → n ≡ prefix_len is_ascii_digit text → rest ≡ drop n text → method ≡ drop b rest → IsLongestFront Blanks rest b → (b ≡ 0 → ⊥) → (x : ℕ × List ℕ) → CSeqValue text x → Token method
+pub cseq-method : (text rest method : List ℕ) (n b : ℕ) → n ≡ prefix_len is_ascii_digit text → rest ≡ drop n text → method ≡ drop b rest → IsLongestFront Blanks rest b → (b ≡ 0 → ⊥) → (x : ℕ × List ℕ) → CSeqSays x text → Token method
 cseq-method text rest method n b n_is rest_is method_is longest some x c =
     -- after the longest run of blanks the method is all that is left
-    subst Token ((longest-blanks_front rest b longest some).1 (x.1) (cseq-parts text rest n n_is rest_is x c).1 ∙ sym method_is) c.is_method
+    subst Token ((longest-blanks_front rest b longest some).1 (x.1) (cseq-parts text rest n n_is rest_is x c).1 ∙ sym method_is) (cseq-token text x c)
 
 -- digits that write a number up to 2147483647, blanks and a token are a CSeq of that number and that method
-pub cseq-is : (text rest method : List ℕ) (n b number : ℕ) → n ≡ prefix_len is_ascii_digit text → n ≤ length text → rest ≡ drop n text → method ≡ drop b rest → (n ≡ 0 → ⊥) → IsLongestFront Blanks rest b → (b ≡ 0 → ⊥) → Token method → number ≡ digits_value 10 (take n text) → number ≤ 2147483647 → CSeqText text number method
-cseq-is text rest method n b number n_is within rest_is method_is some longest blanks token number_is small = record {
-  digits = take n text;
-  -- the first n bytes are digits, and there is at least one
-  are_digits = all-some is_ascii_digit (take n text) (prefix-at is_ascii_digit text n n_is).0 (λ none. some (omega (arith, ap length none, length-take-le n text within)));
-  number_is = number_is;
-  low = omega (arith, small);
-  is_method = token;
-  -- the digits, the blanks and the token stand in a row
-  whole = (take n text, rest, refl, subst (λ m. (Blanks then Exactly m) rest) (sym method_is) (longest-blanks_front rest b longest blanks).0.1, sym (take-append-drop n text) ∙ ap (λ t. take n text ++ t) (sym rest_is));
-}
+pub cseq-is : (text rest method : List ℕ) (n b number : ℕ) → n ≡ prefix_len is_ascii_digit text → n ≤ length text → rest ≡ drop n text → method ≡ drop b rest → (n ≡ 0 → ⊥) → IsLongestFront Blanks rest b → (b ≡ 0 → ⊥) → Token method → number ≡ digits_value 10 (take n text) → number ≤ 2147483647 → CSeqSays (number, method) text
+cseq-is text rest method n b number n_is within rest_is method_is some longest blanks token number_is small =
+    -- `behind`: the blanks and the method stand after the digits
+    let behind = subst (λ m. (Blanks then Exactly m) rest) (sym method_is) (longest-blanks_front rest b longest blanks).0.1 in (
+      omega (arith, small),
+      (
+        take n text,
+        rest,
+        -- the first n bytes are digits, and there is at least one
+        (all-some is_ascii_digit (take n text) (prefix-at is_ascii_digit text n n_is).0 (λ none. some (omega (arith, ap length none, length-take-le n text within))), number_is),
+        (behind.0, behind.1, behind.2, (subst Token (sym behind.3) token, sym behind.3), behind.4),
+        sym (take-append-drop n text) ∙ ap (λ t. take n text ++ t) (sym rest_is),
+      ),
+    )

@@ -11,9 +11,9 @@ use Rattle.sip_standard.specs.Via.{SaidVia, ParamSays, PortSays, first_some, Via
 use Rattle.sip_standard.specs.Canonical.{unfolded}
 use Rattle.sip_text.specs.Bytes.{colon, semicolon, equals, Byte, is_token_byte}
 use Rattle.sip_text.specs.inner.Pieces.{DecimalGroup}
+use Rattle.sip_message.proofs.lemmas.via.Value.{TopTransport}
 use Rattle.sip_message.specs.inner.FieldText.{EndsSolid, OpensSolid}
 use Rattle.sip_message.specs.inner.Marks.{slash, comma, Mark}
-use Rattle.sip_message.specs.inner.MessageText.{TopTransport}
 use Rattle.sip_message.proofs.lemmas.text.Cuts.{All}
 use Rattle.sip_message.proofs.lemmas.text.Each.{Each, is_solid}
 use Rattle.sip_message.proofs.lemmas.text.Says.{says-many, many-says}

@@ -5,7 +5,6 @@ use Rattle.sip_standard.specs.Via.{SaidVia, ViasSay}
 use Rattle.sip_message.specs.inner.Marks.{comma}
 use Rattle.sip_message.specs.inner.ElementFronts.{MoreSay, ViaFront, FirstVia}
 use Rattle.sip_message.specs.inner.Fronts.{MarkFront}
-use Rattle.sip_message.specs.inner.MessageText.{TopTransport}
 use Rattle.sip_message.proofs.lemmas.front.Cuts.{ReadAs, NotRead}
 use Rattle.sip_message.proofs.lemmas.front.OneWay.{AtMostOne}
 use Rattle.sip_message.proofs.lemmas.via.Steps.{one-via}
@@ -103,6 +102,11 @@ first-is text more e read are = (subst (FirstVia text) same first, (λ x is. one
 pub first-none : (text : List ℕ) → NotRead (FirstVia text) → AreVias text → ⊥
 -- the first of the elements would be read
 first-none text none are = let first = first-more text are in none first.0 first.1
+
+-- the transport of the first element of this value of Via
+abbrev pub TopTransport : List ℕ → List ℕ → Type 0
+TopTransport value transport =
+    (v : SaidVia) × (more : List SaidVia) × ViasSay (v ∷ more) value × (transport ≡ v.transport)
 
 -- a value of Via has one transport of its first element
 pub same_transport : (value t u : List ℕ) → TopTransport value t → TopTransport value u → t ≡ u

@@ -1,7 +1,6 @@
 use Rattle.std.proofs.Common.{◌≡◌, refl, sym, subst}
 use Rattle.std.specs.Prelude.{codes}
-use Rattle.sip_standard.specs.StartLine.{request}
-use Rattle.sip_message.specs.inner.StartLine.{StartText}
+use Rattle.sip_standard.specs.StartLine.{request, StartSays}
 use Rattle.sip_message.specs.inner.Plain.{segment}
 use Rattle.sip_message.proofs.PlainStartLemmas.{request-plain}
 use Rattle.sip_message.proofs.plain_start.plain_request.Goals as goal
@@ -16,5 +15,5 @@ returns c =
     let uri = c.in_ok-uri.uri in
     let to = c.in_ok-to.to in
     let version = subst (λ t. segment to end t ≡ codes " SIP/2.0") c.text-text.ensures (c.if-not-is_version.ensures refl) in
-    subst (λ t. StartText (segment 0 end m) (request (segment 0 method t) (segment uri to t))) (sym c.text-text.ensures)
+    subst (λ t. StartSays (segment 0 end m) (request (segment 0 method t) (segment uri to t))) (sym c.text-text.ensures)
     (request-plain m end method uri to c.in_ok-method.ensures c.in_ok-uri.ensures c.in_ok-to.ensures version)

@@ -1,6 +1,7 @@
 use Rattle.std.proofs.Common.{◌≡◌, ◌<◌, ◌^◌, sym, subst}
 use Rattle.std.specs.Str.Parse.{digits_value}
-use Rattle.sip_message.specs.inner.Values.{Digits, CSeqText}
+use Rattle.sip_standard.specs.Values.{CSeqSays}
+use Rattle.sip_message.specs.inner.Values.{Digits}
 use Rattle.sip_message.specs.inner.Plain.{segment, LiesWithin, PlainRun}
 use Rattle.sip_message.proofs.PlainValueLemmas.{cseq-plain}
 use Rattle.sip_message.proofs.plain_values.plain_cseq.Goals as goal
@@ -19,5 +20,5 @@ returns c =
     -- the method goes to the end, and the digits write the number
     let run = subst (LiesWithin PlainRun m method end) c.if-to-end.false c.in_ok-to.ensures in
     let is = subst (λ t. Digits (segment at digits t) × (number ≡ digits_value 10 (segment at digits t)) × (number < 2 ^ 31)) same c.in_ok-number.ensures in
-    subst (λ t. CSeqText (segment at end m) number (segment method end t)) (sym same)
+    subst (λ t. CSeqSays (number, segment method end t) (segment at end m)) (sym same)
     (cseq-plain m at end digits method number c.in_ok-digits.ensures c.in_ok-method.ensures run is.0 is.1 is.2)

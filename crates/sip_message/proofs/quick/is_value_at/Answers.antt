@@ -1,4 +1,5 @@
-use Rattle.std.proofs.Common.{rules, ◌≡◌, false, sym, ap, ◌∙◌, subst}
+use Rattle.std.proofs.Common.{rules, ◌≡◌, false, refl, sym, ap, ◌∙◌, subst}
+use Rattle.std.specs.Prelude.{is_some}
 use Rattle.sip_message.specs.declared.name.Known.TheVariants as known_name
 use Rattle.sip_message.specs.Name.{known, is_name_of}
 use Rattle.sip_message.specs.inner.Values.{OtherText}
@@ -6,7 +7,7 @@ use Rattle.sip_message.specs.inner.Views.{name_parts}
 use Rattle.sip_message.specs.inner.Plain.{segment}
 use Rattle.sip_message.specs.inner.FieldText.{Row}
 use Rattle.sip_message.proofs.QuickLemmas.{open-other}
-use Rattle.sip_message.proofs.lemmas.asked.Kept.{via-row}
+use Rattle.sip_message.proofs.lemmas.asked.Kept.{via-row, cseq-row}
 use Rattle.sip_message.proofs.lemmas.asked.Asked.{asks-via, asks-from, asks-to, asks-call_id, asks-cseq, asks-content_length, asks-other}
 use Rattle.sip_message.proofs.quick.is_value_at.Goals as goal
 
@@ -49,6 +50,13 @@ returns-in-Known-CallId-clause-asked c = λ so.
     let named : name_parts c.args.name ≡ known known_name.CallId = ap name_parts c.in-Known-CallId.is ∙ ap known (rw c.in-Known-CallId.is at c.in-Known-CallId.field-0-is) in
     let kept = c.keep_once-in-Known-CallId.ensures.kept so in
     asks-call_id _ _ _ _ (ap (segment c.args.at c.args.end) c.text.ensures) kept.1 named kept.0
+
+-- a value of which a CSeq is kept is one of its row
+pub returns-in-Known-CSeq-clause-row : goal.returns-in-Known-CSeq-clause-row
+returns-in-Known-CSeq-clause-row c = λ so.
+    -- `named`: the field is a CSeq
+    let named : name_parts c.args.name ≡ known known_name.CSeq = ap name_parts c.in-Known-CSeq.is ∙ ap known (rw c.in-Known-CSeq.is at c.in-Known-CSeq.field-0-is) in
+    subst (λ n. Row n (segment c.args.at c.args.end c.args.masks.now)) (sym named) ((cseq-row (segment c.args.at c.args.end c.args.masks.now) c.cseq_at.result (is_some c.cseq_at.result) refl c.cseq_at.ensures).0 (c.keep_one.ensures.says so))
 
 -- the CSeq is kept, and with it what it says
 pub returns-in-Known-CSeq-clause-asked : goal.returns-in-Known-CSeq-clause-asked

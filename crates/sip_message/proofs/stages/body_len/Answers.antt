@@ -4,7 +4,7 @@ use Rattle.std.specs.Str.Parse.{digits_value}
 use Rattle.std.proofs.lemmas.Bool.{both_ways}
 use Rattle.std.proofs.Math.Seq.{take-length}
 use Rattle.sip_standard.specs.Outcome.{gives}
-use Rattle.sip_message.specs.inner.Faults.{BodyOf}
+use Rattle.sip_standard.specs.Body.{BodySays}
 use Rattle.sip_message.specs.ValueParts.{start_parts, element}
 use Rattle.sip_message.proofs.lemmas.message.Body.{stream-first, body-all, body-cut, body-whole}
 use Rattle.sip_message.proofs.stages.body_len.Goals as goal
@@ -18,7 +18,7 @@ returns-else-is_stream c = (
       let len = option_map (digits_value 10) (option_copied c.args.content_length) in
       let all = body-all (start_parts c.args.start.now) cseq (v.1) len c.args.rest.now ((c.if-not-fits_method.ensures (cseq.1) said).0 refl) (ap (λ o. option_map (digits_value 10) (option_copied o)) c.in_default.is)
       (λ stream. both_ways false refl ((stream-first (v.1) (element c.args.via.now) _ first c.if-is_stream.ensures).1 stream)) in
-      subst (λ b. BodyOf (start_parts c.args.start.now) cseq (v.1) len c.args.rest.now (gives b)) (sym (take-length c.args.rest.now)) all,
+      subst (λ b. BodySays (start_parts c.args.start.now) cseq (v.1) len c.args.rest.now (gives b)) (sym (take-length c.args.rest.now)) all,
 )
 
 -- where Content-Length is the length of what follows, all of that is the body
@@ -29,7 +29,7 @@ returns-then-len-rest c = (
       -- len is what Content-Length says, and `all` says that the body is all that follows
       let len = option_map (digits_value 10) (option_copied c.args.content_length) in
       let all = body-whole (start_parts c.args.start.now) cseq (v.1) len c.args.rest.now c.in_ok-len.len (ap (λ o. option_map (digits_value 10) (option_copied o)) c.in-Some.is ∙ ap (λ n. Some n) (sym c.in_ok-len.ensures.0)) ((c.if-not-fits_method.ensures (cseq.1) said).0 refl) c.if-len-rest.true in
-      subst (λ b. BodyOf (start_parts c.args.start.now) cseq (v.1) len c.args.rest.now (gives b)) (sym (ap (λ n. take n c.args.rest.now) c.if-len-rest.true ∙ take-length c.args.rest.now)) all,
+      subst (λ b. BodySays (start_parts c.args.start.now) cseq (v.1) len c.args.rest.now (gives b)) (sym (ap (λ n. take n c.args.rest.now) c.if-len-rest.true ∙ take-length c.args.rest.now)) all,
 )
 
 -- where Content-Length is less than what follows, and the transport keeps messages apart, the body is as long as it says

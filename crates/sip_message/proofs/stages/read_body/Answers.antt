@@ -1,6 +1,6 @@
 use Rattle.std.proofs.Common.{sym, subst}
+use Rattle.sip_standard.specs.Body.{BodySays}
 use Rattle.sip_message.specs.declared.name.Known.TheVariants as known_name
-use Rattle.sip_message.specs.inner.Faults.{BodyOf}
 use Rattle.sip_message.specs.inner.Views.{slice_fields}
 use Rattle.sip_message.specs.ValueParts.{start_parts}
 use Rattle.sip_message.specs.inner.Fronts.{text_parts}
@@ -21,12 +21,12 @@ body_by_length-requires-clause-digits c =
 pub returns-in-Some : goal.returns-in-Some
 returns-in-Some c =
     -- the length that the fields have is the number of the field that was found
-    subst (λ len. BodyOf (start_parts c.args.start) ((names_parts c.args.named).1) ((names_parts c.args.named).0.1) len c.args.rest.now (outcome_of text_parts c.body_by_length.result))
+    subst (λ len. BodySays (start_parts c.args.start) ((names_parts c.args.named).1) ((names_parts c.args.named).0.1) len c.args.rest.now (outcome_of text_parts c.body_by_length.result))
     (sym (length-some (slice_fields c.args.fields) _ _ c.in-Some.ensures.found)) c.body_by_length.ensures
 
 -- where the message has no Content-Length, the body is what the transport leaves
 pub returns-in-None : goal.returns-in-None
 returns-in-None c =
     -- no field of that name was found, so the fields have no length
-    subst (λ len. BodyOf (start_parts c.args.start) ((names_parts c.args.named).1) ((names_parts c.args.named).0.1) len c.args.rest.now (outcome_of text_parts c.body_by_length-in-None.result))
+    subst (λ len. BodySays (start_parts c.args.start) ((names_parts c.args.named).1) ((names_parts c.args.named).0.1) len c.args.rest.now (outcome_of text_parts c.body_by_length-in-None.result))
     (sym (length-none (slice_fields c.args.fields) c.in-None.ensures.found)) c.body_by_length-in-None.ensures

@@ -1,12 +1,13 @@
 use Rattle.std.proofs.Common.{rules, map, refl, subst, sym}
 use Rattle.std.specs.List.{AllByRecursion}
+use Rattle.sip_standard.specs.Body.{BodySays}
 use Rattle.sip_message.specs.declared.name.Known.TheVariants as known_name
 use Rattle.sip_message.specs.inner.FieldText.{Row}
 use Rattle.sip_message.proofs.lemmas.canon.Law.{fields-rows}
 use Rattle.sip_message.proofs.lemmas.message.Faults.{read-fields}
 use Rattle.sip_standard.specs.Outcome.{stops, gives, passes, stopped}
 use Rattle.sip_standard.specs.Says.{IsFirstOf}
-use Rattle.sip_message.specs.inner.Faults.{FieldsOf, NamesOf, BodyOf}
+use Rattle.sip_message.specs.inner.Faults.{FieldsOf, NamesOf}
 use Rattle.sip_message.specs.inner.MessageText.{content_length}
 use Rattle.sip_message.specs.inner.Views.{field_parts, fields_parts}
 use Rattle.sip_message.specs.ValueParts.{start_parts, cseq_parts, element}
@@ -62,7 +63,7 @@ returns-in_err-body c =
     faulted c.args.bytes.now fault c.from_residual-in_err-body.result c.from_residual-in_err-body.ensures.0 c.from_residual-in_err-body.ensures.1
     (begun b.1 (passes _ c.in-Some-read_start.ensures.0 (passes _ (c.in_ok-fields.ensures.fields b.0 b.2)
     (passes (names_parts c.in_ok-named.named) (subst (λ xs. NamesOf (map field_parts xs) (gives (names_parts c.in_ok-named.named))) c.deref.ensures.value c.in_ok-named.ensures.names)
-    (stopped fault (subst (λ xs. BodyOf (start_parts c.in-Some-read_start.start) ((names_parts c.in_ok-named.named).1) ((names_parts c.in_ok-named.named).0.1) (content_length (map field_parts xs)) c.in-Some.rest.now (stops fault)) c.deref-2.ensures.value c.in_err-body.ensures) refl)))))
+    (stopped fault (subst (λ xs. BodySays (start_parts c.in-Some-read_start.start) ((names_parts c.in_ok-named.named).1) ((names_parts c.in_ok-named.named).0.1) (content_length (map field_parts xs)) c.in-Some.rest.now (stops fault)) c.deref-2.ensures.value c.in_err-body.ensures) refl)))))
 
 -- each field has a value that its row allows
 pub read_body-requires-clause-rows : goal.read_body-requires-clause-rows
@@ -89,6 +90,12 @@ read_body-requires-clause-via c =
     -- the element that was kept is the first of the first Via
     via-is (fields_parts c.in_ok-fields.fields) c.in_ok-fields.kept c.in_ok-named.named.via.now c.unwrap-via.result c.in_ok-fields.ensures.kept (subst (λ xs. IsFirstOf (values known_name.Via (map field_parts xs)) c.in_ok-named.named.via.now) c.deref.ensures.value c.in_ok-named.ensures.stand.via) c.unwrap-via.ensures
 
+-- what was kept of the CSeq is what its field says
+pub read_body-requires-clause-cseq : goal.read_body-requires-clause-cseq
+read_body-requires-clause-cseq c =
+    -- the number and the method that were kept are those of the first CSeq
+    cseq-is (fields_parts c.in_ok-fields.fields) c.in_ok-fields.kept c.in_ok-named.named.cseq.now c.unwrap-cseq.result c.in_ok-fields.ensures.kept (subst (λ xs. IsFirstOf (values known_name.CSeq (map field_parts xs)) c.in_ok-named.named.cseq.now) c.deref.ensures.value c.in_ok-named.ensures.stand.cseq) c.unwrap-cseq.ensures
+
 -- what was found are the parts of the bytes, so a message can be made of them
 pub new-requires-clause-keeps : goal.new-requires-clause-keeps
 new-requires-clause-keeps c =
@@ -102,7 +109,7 @@ new-requires-clause-keeps c =
       are_fields = c.in_ok-fields.ensures.fields b.0 b.2;
       -- the named fields and the body are those of the bytes
       are_names = subst (λ xs. NamesOf (map field_parts xs) (gives (names_parts c.in_ok-named.named))) c.deref.ensures.value c.in_ok-named.ensures.names;
-      is_body = subst (λ xs. BodyOf (start_parts c.in-Some-read_start.start) ((names_parts c.in_ok-named.named).1) ((names_parts c.in_ok-named.named).0.1) (content_length (map field_parts xs)) c.in-Some.rest.now (gives c.in_ok-body.body.now)) c.deref-2.ensures.value c.in_ok-body.ensures;
+      is_body = subst (λ xs. BodySays (start_parts c.in-Some-read_start.start) ((names_parts c.in_ok-named.named).1) ((names_parts c.in_ok-named.named).0.1) (content_length (map field_parts xs)) c.in-Some.rest.now (gives c.in_ok-body.body.now)) c.deref-2.ensures.value c.in_ok-body.ensures;
       stand = subst (λ xs. Stand (map field_parts xs) (names_of c.in_ok-named.named)) c.deref.ensures.value c.in_ok-named.ensures.stand;
     } in
     found-keeps (element c.unwrap-via.result) (cseq_parts c.unwrap-cseq.result) found
@@ -123,7 +130,7 @@ returns c =
       are_fields = c.in_ok-fields.ensures.fields b.0 b.2;
       -- the named fields and the body are those of the bytes
       are_names = subst (λ xs. NamesOf (map field_parts xs) (gives (names_parts c.in_ok-named.named))) c.deref.ensures.value c.in_ok-named.ensures.names;
-      is_body = subst (λ xs. BodyOf (start_parts c.in-Some-read_start.start) ((names_parts c.in_ok-named.named).1) ((names_parts c.in_ok-named.named).0.1) (content_length (map field_parts xs)) c.in-Some.rest.now (gives c.in_ok-body.body.now)) c.deref-2.ensures.value c.in_ok-body.ensures;
+      is_body = subst (λ xs. BodySays (start_parts c.in-Some-read_start.start) ((names_parts c.in_ok-named.named).1) ((names_parts c.in_ok-named.named).0.1) (content_length (map field_parts xs)) c.in-Some.rest.now (gives c.in_ok-body.body.now)) c.deref-2.ensures.value c.in_ok-body.ensures;
       stand = subst (λ xs. Stand (map field_parts xs) (names_of c.in_ok-named.named)) c.deref.ensures.value c.in_ok-named.ensures.stand;
     } in
     found-reads c.new.result found c.new.ensures.message c.new.ensures.parts

@@ -29,7 +29,7 @@ use Rattle.sip_standard.specs.Lines.{CutSays, OpensBlank}
 use Rattle.sip_message.specs.inner.Lines.{is_inner_byte, with_end}
 use Rattle.sip_message.specs.inner.Values.{is_value_byte, OtherText}
 use Rattle.sip_message.specs.declared.name.Known.{Known}
-use Rattle.sip_message.specs.Name.{FieldName, known, other, spellings, name_by, name_of}
+use Rattle.sip_message.specs.Name.{FieldName, known, other, name_of}
 use Rattle.sip_standard.specs.StartLine.{StartLine, request, status, StartSays}
 use Rattle.sip_message.specs.Field.{Field}
 use Rattle.sip_message.specs.inner.FieldText.{NameText, ValueText, FieldText, FieldsText}
@@ -37,6 +37,7 @@ use Rattle.sip_standard.specs.Canonical.{unfolded}
 use Rattle.sip_message.specs.inner.MessageText.{AreUnfolded}
 use Rattle.sip_message.specs.inner.Quick.{is_open, IsOpen, AreOrdinary, IsOrdinary}
 use Rattle.sip_message.specs.inner.Numbers.{small, filled, number_of}
+use Rattle.sip_message.proofs.lemmas.field.Spelled.{spellings, name_by, named-by}
 use Rattle.sip_message.proofs.lemmas.text.Cuts.{All, all_left, all_right}
 use Rattle.sip_message.proofs.lemmas.text.Each.{each-one, each-many, wsp-blank}
 use Rattle.sip_message.proofs.lemmas.field.OneWay.{each-token, blank-token, name_whole}
@@ -400,7 +401,7 @@ known-by : (text s : List ℕ) (k : Known) → Bytes text → Token text → map
 known-by text s k fits token is name found =
     -- the lower case of the text is the spelling s, by which the list has the name k
     let lower = small-folded text fits (each-token text token) (ap (list_all is_name_byte) is ∙ name) ∙ is in
-    sym (ap (λ t. spelled_by spellings t text) lower ∙ found)
+    sym (ap (λ t. spelled_by spellings t text) lower ∙ found) ∙ named-by text
 
 -- a token of at most eight bytes whose number is that of a spelling of a known name has that name
 -- n is the number of the token and k the known name; i is a place in the token
@@ -460,7 +461,7 @@ pub short-other : (text : List ℕ) → ((i : ℕ) → Fits w8 (get_or text i 0)
     → other text ≡ name_of text
 short-other text fits some few (via, (from, (to, (call_id, (cseq, (contact, (subject, (route, end)))))))) =
     -- the number differs from those of all names of 2 to 8 bytes; a spelling of one byte is too short, and one of more than 8 too long
-    sym (unlisted spellings text (name refl via, (one refl, (name refl from, (one refl, (name refl to, (one refl, (name refl call_id, (one refl, (name refl cseq, (long refl, (one refl, (name refl contact, (one refl, (long refl, (one refl, (long refl, (one refl, (name refl subject, (one refl, (long refl, (one refl, (name refl route, tt)))))))))))))))))))))))
+    sym (unlisted spellings text (name refl via, (one refl, (name refl from, (one refl, (name refl to, (one refl, (name refl call_id, (one refl, (name refl cseq, (long refl, (one refl, (name refl contact, (one refl, (long refl, (one refl, (long refl, (one refl, (name refl subject, (one refl, (long refl, (one refl, (name refl route, tt))))))))))))))))))))))) ∙ named-by text
   where
     -- a text that spells a name has the number of that name
     name : {s : List ℕ} → list_all is_name_byte s ≡ true → (number_of text ≡ from_le_bytes w64 (filled s) → ⊥) → folded text ≡ s → ⊥
@@ -480,7 +481,7 @@ pub halved-other : (text : List ℕ) → ((i : ℕ) → Fits w8 (get_or text i 0
     (codes "content-length" ∷ codes "content-encoding" ∷ codes "content-type" ∷ codes "supported" ∷ [])
     → other text ≡ name_of text
 halved-other text fits some (content_length, (content_encoding, (content_type, (supported, end)))) =
-    sym (unlisted spellings text (short refl, (short refl, (short refl, (short refl, (short refl, (short refl, (short refl, (short refl, (short refl, (name refl content_length, (short refl, (short refl, (short refl, (name refl content_encoding, (short refl, (name refl content_type, (short refl, (short refl, (short refl, (name refl supported, (short refl, (short refl, tt)))))))))))))))))))))))
+    sym (unlisted spellings text (short refl, (short refl, (short refl, (short refl, (short refl, (short refl, (short refl, (short refl, (short refl, (name refl content_length, (short refl, (short refl, (short refl, (name refl content_encoding, (short refl, (name refl content_type, (short refl, (short refl, (short refl, (name refl supported, (short refl, (short refl, tt))))))))))))))))))))))) ∙ named-by text
   where
     -- the text is not this spelling, since one of its halves has another number
     name : {s : List ℕ} → list_all is_name_byte s ≡ true

@@ -1,4 +1,5 @@
 pub mod OneWay
 pub mod Name
+pub mod Spelled
 pub mod FullName
 pub mod Named

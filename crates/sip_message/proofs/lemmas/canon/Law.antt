@@ -2,7 +2,7 @@
 -- In the lemmas fs are fields, and n is the number of the first of them; as Bools, x and y are what two tests of a byte say.
 -- A text is inner (`Inner`) where it has neither CR nor LF. `unfolded_field` is a field with its value unfolded, and `message_of` a message with such fields.
 use Rattle.std.proofs.Common.{◌≡◌, ℕ, ◌+◌, ◌≤◌, ◌<◌, Bool, true, false, not, ◌&&◌, List, [], ◌∷◌, ◌++◌, length, take, map, cond, nat_eq, Option, Some, None, refl, sym, ap, ◌∙◌, subst, inl, inr, arith}
-use Rattle.std.specs.Prelude.{is_some, get_or, ◌^◌, codes, decimal, bytes_eq}
+use Rattle.std.specs.Prelude.{is_some, get_or, ◌^◌, codes, decimal}
 use Rattle.std.specs.Char.{is_ascii_digit}
 use Rattle.std.specs.Str.Parse.{digits_value}
 use Rattle.std.specs.List.{AllByRecursion, concat, flat_map, list_all}
@@ -30,7 +30,7 @@ use Rattle.sip_message.specs.inner.FieldText.{EndsSolid, Row, FieldText, FieldsT
 use Rattle.sip_standard.specs.Field.{is_lws_byte}
 use Rattle.sip_standard.specs.Via.{SaidVia, ViasSay}
 use Rattle.sip_standard.specs.Canonical.{unfolded, start_text}
-use Rattle.sip_message.specs.Name.{FieldName, known, other, spellings, name_by, name_of, long_name, is_name_of}
+use Rattle.sip_message.specs.Name.{FieldName, known, other, name_of, long_name, is_name_of}
 use Rattle.sip_message.specs.inner.Canon.{name_text, field_text, canon}
 use Rattle.sip_standard.specs.StartLine.{StartLine, request, status, StartSays}
 use Rattle.sip_message.specs.inner.StartLine.{CodeText, is_reason_byte}
@@ -41,6 +41,7 @@ use Rattle.sip_message.specs.Message.{Message}
 use Rattle.sip_message.specs.inner.MessageText.{found_from, found, HasField, IsNotTwice, content_length, IsEnough, IsNoMore, MessageFits, MessageText, unfolded_field, message_of, Spells}
 use Rattle.sip_message.proofs.lemmas.text.Cuts.{All, all_both}
 use Rattle.sip_message.proofs.lemmas.text.Each.{each-many, each-one, each-between, is_solid, solid_class, wsp-blank}
+use Rattle.sip_message.proofs.lemmas.field.Spelled.{spellings, name-other, named-by}
 use Rattle.sip_message.proofs.lemmas.field.OneWay.{each-token, blank-token, ends_blank}
 use Rattle.sip_message.proofs.lemmas.text.Solid.{solid-token, solid-uri, solid-digits}
 use Rattle.sip_message.proofs.lemmas.text.Closed.{Closed, closed-unfolded, solid_is, ends-right}
@@ -90,28 +91,6 @@ name-known known_name.Subject = refl
 name-known known_name.Supported = refl
 name-known known_name.Route = refl
 
--- a text that spells no known name by a list is kept as it is spelled
-name-other : (xs : List (List ℕ × Known)) (text t : List ℕ) → name_by xs text ≡ other t → text ≡ t
--- by an empty list each text is kept as it is spelled
-name-other [] text t is = ap text_in is
-  where
-    -- the text of a name that is no known one
-    text_in : FieldName → List ℕ
-    text_in (known k) = []
-    text_in (other u) = u
-name-other (x ∷ xs) text t is = at (name-other xs text t) (bytes_eq (folded text) x.0) is
-  where
-    -- whether the name is no known one
-    is_other : FieldName → Bool
-    is_other (known k) = false
-    is_other (other u) = true
-
-    -- the claim holds whether or not the text is the first spelling
-    at : (name_by xs text ≡ other t → text ≡ t) → (same : Bool) → cond same (known x.1) (name_by xs text) ≡ other t → text ≡ t
-    -- a known name is not one that is kept as it is spelled; where the first spelling is another, the claim is that of the others
-    at later true e = absurd (both_ways false refl (ap is_other e))
-    at later false e = later e
-
 -- one byte of a token or more are a token
 token_text : (b : ℕ) (text : List ℕ) → list_all is_token_byte (b ∷ text) ≡ true → Token (b ∷ text)
 token_text b text all =
@@ -140,7 +119,7 @@ name-text : (n : FieldName) (spelled : List ℕ) → Token spelled → n ≡ nam
 -- a known name is written in its long form; any other as it is spelled
 name-text (known k) spelled token is = (long-token k, sym (name-known k))
 name-text (other t) spelled token is =
-    let same = name-other spellings spelled t (sym is) in
+    let same = name-other spellings spelled t (named-by spelled ∙ sym is) in
     (subst Token same token, is ∙ ap name_of same)
 
 -- a code of three digits is written as it was spelled

@@ -6,7 +6,8 @@ use Rattle.std.proofs.lemmas.Slice.Eq.{bytes_eq-Decides}
 use Rattle.std.proofs.lemmas.Bool.{both_ways, eq-eqb}
 use Rattle.sip_standard.specs.Case.{folded}
 use Rattle.sip_message.specs.declared.name.Known.{Known}
-use Rattle.sip_message.specs.Name.{known, other, spellings, name_by, name_of}
+use Rattle.sip_message.specs.Name.{known, other, name_of}
+use Rattle.sip_message.proofs.lemmas.field.Spelled.{spellings, name_by, named-by}
 use Rattle.sip_message.proofs.lemmas.start_line.OneWay.{length-folded}
 
 -- the spellings of a list that have n bytes
@@ -35,4 +36,4 @@ other-by ((s, k) ∷ more) text n len none = at (nat_eq (length s) n) (bytes_eq 
 
 -- a text of n bytes whose lower case is no spelling of n bytes has no known name
 pub unknown : (text : List ℕ) (n : ℕ) → length text ≡ n → AllByRecursion (λ s. folded text ≡ s.0 → ⊥) (of_length n spellings) → other text ≡ name_of text
-unknown text n len none = sym (other-by spellings text n len none)
+unknown text n len none = sym (other-by spellings text n len none) ∙ named-by text

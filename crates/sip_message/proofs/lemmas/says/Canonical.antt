@@ -1,10 +1,8 @@
 -- The canonical form of what bytes tell, and of the message that is kept of them.
 -- A message is kept with the names of its fields as they are known, and told with the names as they are spelled; `canon` is the canonical form of the one,
 -- and `canonical` that of the other.
-use Rattle.std.proofs.Common.{◌≡◌, ◌↔◌, ℕ, Bool, true, false, cond, ◌||◌, List, [], ◌∷◌, ◌++◌, map, flat_map, refl, sym, ap, ap₂, ◌∙◌, subst}
-use Rattle.std.specs.Prelude.{bytes_eq, codes}
-use Prim.Native.String.{String}
-use Rattle.sip_standard.specs.Case.{folded}
+use Rattle.std.proofs.Common.{◌≡◌, ◌↔◌, ℕ, List, [], ◌∷◌, ◌++◌, map, flat_map, refl, sym, ap, ap₂, ◌∙◌, subst}
+use Rattle.std.specs.Prelude.{codes}
 use Rattle.sip_standard.specs.StartLine.{StartLine, request, status, StartSays}
 use Rattle.sip_standard.specs.Outcome.{gives}
 use Rattle.sip_standard.specs.Field.{SaidField}
@@ -12,9 +10,8 @@ use Rattle.sip_standard.specs.Says.{BytesTell}
 use Rattle.sip_standard.specs.Canonical.{unfolded, start_text, canonical}
 use Rattle.sip_standard.specs.Canonical as form
 use Rattle.sip_text.specs.Bytes.{crlf, colon, space}
-use Rattle.sip_message.specs.declared.name.Known.{Known}
 use Rattle.sip_message.specs.declared.name.Known.TheVariants as known_name
-use Rattle.sip_message.specs.Name.{FieldName, known, name_of, long_name}
+use Rattle.sip_message.specs.Name.{name_of, long_name}
 use Rattle.sip_message.specs.Field.{Field, field_of}
 use Rattle.sip_message.specs.Message.{Message}
 use Rattle.sip_message.specs.Reading.{Reading}
@@ -24,42 +21,13 @@ use Rattle.sip_message.specs.inner.Lines.{with_end}
 use Rattle.sip_message.specs.inner.Canon.{name_text, field_text, canon, HasCode}
 use Rattle.sip_message.specs.inner.MessageText.{unfolded_field, message_of}
 use Rattle.sip_message.proofs.lemmas.start_line.OneWay.{status_parts}
+use Rattle.sip_message.proofs.lemmas.field.Spelled.{by-long, named-by}
 use Rattle.sip_message.proofs.lemmas.canon.Law.{canon-text, same_canon}
 use Rattle.sip_message.proofs.lemmas.says.Told.{text-tells, tells-text}
 
--- where a name is written as a text, the choice of a known name or of it is written as the long form of the known one or as the text
-one : (b : Bool) (k : Known) (name : FieldName) {text : List ℕ} → name_text name ≡ text → name_text (cond b (known k) name) ≡ cond b (long_name k) text
--- the test passes, so the known name is written
-one true k name same = refl
--- the test fails, so the other name is written
-one false k name same = same
-
--- a choice of a known name by one of two tests is written as the choice by both together
--- b and c are the two tests, and k is the known name
-two : (b c : Bool) (k : Known) (name : FieldName) {text : List ℕ} → name_text name ≡ text → name_text (cond b (known k) (cond c (known k) name)) ≡ cond (b || c) (long_name k) text
-two true c k name same = refl
-two false true k name same = refl
--- neither passes, so the other name is written
-two false false k name same = same
-
 -- the name that a token spells is written as the definitions write it
 long-name : (token : List ℕ) → name_text (name_of token) ≡ form.long_name token
-long-name token =
-    -- `has` says whether the token is this text, in any case of its letters
-    let has = λ (text : String). bytes_eq (folded token) (codes text) in
-    two (has "via") (has "v") known_name.Via _
-    (two (has "from") (has "f") known_name.From _
-    (two (has "to") (has "t") known_name.To _
-    (two (has "call-id") (has "i") known_name.CallId _
-    -- the names are told apart one after the other, as the definitions do
-    (one (has "cseq") known_name.CSeq _
-    (two (has "content-length") (has "l") known_name.ContentLength _
-    (two (has "contact") (has "m") known_name.Contact _
-    (two (has "content-encoding") (has "e") known_name.ContentEncoding _
-    (two (has "content-type") (has "c") known_name.ContentType _
-    (two (has "subject") (has "s") known_name.Subject _
-    (two (has "supported") (has "k") known_name.Supported _
-    (one (has "route") known_name.Route _ refl)))))))))))
+long-name token = ap name_text (sym (named-by token)) ∙ by-long token
 
 -- the canonical text of fields as they are kept is that of the fields as they are told
 same-texts : (gs : List SaidField) → map field_text (map unfolded_field (map field_of gs)) ≡ map form.field_text gs

@@ -10,9 +10,10 @@ use Rattle.std.proofs.lemmas.Slice.Eq.{bytes_eq-Decides}
 use Rattle.sip_standard.specs.Case.{folded}
 use Rattle.sip_message.specs.declared.name.Known.{Known}
 use Rattle.sip_message.specs.declared.name.Known.TheVariants as known_name
-use Rattle.sip_message.specs.Name.{FieldName, known, other, spellings, name_by, name_of, is_name_of}
+use Rattle.sip_message.specs.Name.{FieldName, known, other, name_of, is_name_of}
 use Rattle.sip_message.specs.inner.FieldText.{Row}
 use Rattle.sip_standard.specs.Field.{full_name, RowSays}
+use Rattle.sip_message.proofs.lemmas.field.Spelled.{spellings, name_by, named-by, miss}
 
 -- what holds of each spelling and its name, and of a text that is none of them, holds of the name that a text spells
 by-name : (P : List ℕ → FieldName → Type 0) (list : List (List ℕ × Known)) (text : List ℕ) → AllByRecursion (λ s. P (s.0) (known (s.1))) list
@@ -27,15 +28,6 @@ by-name P ((s, k) ∷ more) text each none =
     -- the text is this spelling, of which the claim is given; or it is another text
     at true is later = subst (λ f. P f (known k)) (sym (is.0 refl)) each.0
     at false is later = later (λ same. both_ways false refl (is.1 same))
-
--- where two texts differ, the test of equal bytes fails
-miss : (f s : List ℕ) → (f ≡ s → ⊥) → bytes_eq f s ≡ false
-miss f s differs = at (bytes_eq f s) (bytes_eq-Decides f s)
-  where
-    -- the test cannot pass, since the texts differ
-    at : (b : Bool) → Decides b (f ≡ s) → b ≡ false
-    at true is = absurd (differs (is.0 refl))
-    at false is = refl
 
 -- A gives B, and B gives A
 abbrev Ways : Type 0 → Type 0 → Type 0
@@ -81,16 +73,18 @@ same-row X = ((λ is. is), (λ is. is))
 pub row-said : (token v : List ℕ) → Ways (Row (name_of token) v) (RowSays (full_name (folded token)) v)
 row-said token v =
     -- each spelling has the row of its name, in the order of the list of spellings; a text that is none of them has that of a foreign name
-    by-name (λ f name. Ways (Row name v) (RowSays (full_name f) v)) spellings token
+    subst (λ name. Ways (Row name v) (RowSays (full_name (folded token)) v)) (named-by token)
+    (by-name (λ f name. Ways (Row name v) (RowSays (full_name f) v)) spellings token
     (same-row _, (same-row _, (same-row _, (same-row _, (same-row _, (same-row _, (same-row _, (same-row _, (same-row _, (same-row _, (same-row _, (same-row _, (same-row _, (same-row _, (same-row _, (same-row _, (same-row _, (same-row _, (same-row _, (same-row _, (same-row _, (same-row _, tt))))))))))))))))))))))
-    (λ foreign. let row = foreign-row (folded token) v foreign in subst (λ f. Ways (Row (other token) v) (RowSays f v)) (sym (foreign-name (folded token) foreign)) row)
+    (λ foreign. let row = foreign-row (folded token) v foreign in subst (λ f. Ways (Row (other token) v) (RowSays f v)) (sym (foreign-name (folded token) foreign)) row))
 
 -- the name that a token spells is the known name k exactly if its full form has the bytes `key`
 named : (k : Known) (key : List ℕ) → AllByRecursion (λ s. is_name_of k (known (s.1)) ≡ bytes_eq (full_name (s.0)) key) spellings → ((f : List ℕ) → IsForeign f → f ≡ key → ⊥)
     → (token : List ℕ) → is_name_of k (name_of token) ≡ bytes_eq (full_name (folded token)) key
 named k key each differs token =
     -- of each spelling both tests say the same, by `each`; a text that is none of them is not `key`
-    by-name (λ f name. is_name_of k name ≡ bytes_eq (full_name f) key) spellings token each
+    ap (is_name_of k) (sym (named-by token))
+    ∙ by-name (λ f name. is_name_of k name ≡ bytes_eq (full_name f) key) spellings token each
     (λ foreign. sym (ap (λ f. bytes_eq f key) (foreign-name (folded token) foreign) ∙ miss (folded token) key (differs (folded token) foreign)))
 
 -- a token names Via where it is spelled so, in full or by its short form

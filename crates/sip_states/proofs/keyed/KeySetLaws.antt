@@ -2,7 +2,9 @@
 use Rattle.std.specs.Prelude.{◌≡◌}
 use Rattle.std.proofs.Common.{refl, subst, sym}
 use Rattle.sip_standard.specs.Times.{Times}
-use Rattle.sip_standard.specs.KeyMachine.{MachineKind, OfInviteClient, transaction_of}
+use Rattle.sip_standard.specs.KeyMachine.{MachineKind, OfInvite, OfPlain, transaction_of}
+use Rattle.sip_standard.specs.declared.role.Role.TheVariants.{Client}
+use Rattle.sip_standard.specs.declared.rules.Rules.TheVariants.{R3261, R6026}
 use Rattle.sip_standard.specs.PhaseWords.{words_of}
 use Rattle.sip_machine.specs.inner.Coded.{IsCoded}
 use Rattle.sip_states.specs.Held.{Held}
@@ -14,8 +16,10 @@ coded_holds machine = (code_of machine).are_coded
 
 -- `of`, asked by the machine of a set, is `of` of this machine where the set is made for it
 pub by_machine_is {ℓ} : {A : Type ℓ} (of : (machine : MachineKind) → Held Times (StateOf machine) → A) (machine : MachineKind) (s : Held Times (StateOf machine)) → by_machine of (set_of machine s) ≡ of machine s
--- The second line is of every other machine: each of them computes as the first does.
-by_machine_is of OfInviteClient s = refl
+-- The last line is of every other machine: each of them computes as the three clients do.
+by_machine_is of (OfInvite R6026 Client) s = refl
+by_machine_is of (OfInvite R3261 Client) s = refl
+by_machine_is of (OfPlain Client) s = refl
 by_machine_is of machine s = refl
 
 -- What follows is of a property P of a machine and of what its set holds.

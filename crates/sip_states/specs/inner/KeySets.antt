@@ -21,7 +21,9 @@ use Rattle.sip_states.specs.KeyRules.{PhaseOf}
 use Rattle.sip_states.specs.Meaning.{Meaning}
 use Rattle.sip_states.specs.declared.any_set.AnySet.{AnySet}
 use Rattle.sip_states.specs.declared.any_set.AnySet.TheVariants.{InviteClient, PlainClient, InviteServer, PlainServer, InviteClient3261, InviteServer3261}
-use Rattle.sip_standard.specs.KeyMachine.{MachineKind, OfInviteClient, OfPlainClient, OfInviteServer, OfPlainServer, OfInviteClient3261, OfInviteServer3261, transaction_of}
+use Rattle.sip_standard.specs.KeyMachine.{MachineKind, OfInvite, OfPlain, transaction_of}
+use Rattle.sip_standard.specs.declared.role.Role.TheVariants.{Client, Server}
+use Rattle.sip_standard.specs.declared.rules.Rules.TheVariants.{R3261, R6026}
 use Rattle.sip_standard.specs.PhaseWords.{words_of}
 
 -- a machine as the code has it: its phases, that they are those of its figure, and the set of its states
@@ -32,12 +34,12 @@ pub record MachineCode (machine : MachineKind) : Type 1 where
 
 -- each machine as the code has it
 abbrev pub code_of : (machine : MachineKind) → MachineCode machine
-code_of OfInviteClient = record { phases = invite_client_coded; are_coded = invite_client_is_coded; set = λ s. InviteClient s }
-code_of OfPlainClient = record { phases = plain_client_coded; are_coded = plain_client_is_coded; set = λ s. PlainClient s }
-code_of OfInviteServer = record { phases = invite_server_coded; are_coded = invite_server_is_coded; set = λ s. InviteServer s }
-code_of OfPlainServer = record { phases = plain_server_coded; are_coded = plain_server_is_coded; set = λ s. PlainServer s }
-code_of OfInviteClient3261 = record { phases = invite_client_3261_coded; are_coded = invite_client_3261_is_coded; set = λ s. InviteClient3261 s }
-code_of OfInviteServer3261 = record { phases = invite_server_3261_coded; are_coded = invite_server_3261_is_coded; set = λ s. InviteServer3261 s }
+code_of (OfInvite R6026 Client) = record { phases = invite_client_coded; are_coded = invite_client_is_coded; set = λ s. InviteClient s }
+code_of (OfInvite R6026 Server) = record { phases = invite_server_coded; are_coded = invite_server_is_coded; set = λ s. InviteServer s }
+code_of (OfInvite R3261 Client) = record { phases = invite_client_3261_coded; are_coded = invite_client_3261_is_coded; set = λ s. InviteClient3261 s }
+code_of (OfInvite R3261 Server) = record { phases = invite_server_3261_coded; are_coded = invite_server_3261_is_coded; set = λ s. InviteServer3261 s }
+code_of (OfPlain Client) = record { phases = plain_client_coded; are_coded = plain_client_is_coded; set = λ s. PlainClient s }
+code_of (OfPlain Server) = record { phases = plain_server_coded; are_coded = plain_server_is_coded; set = λ s. PlainServer s }
 
 -- how the code represents the machine
 abbrev pub coded_of : (machine : MachineKind) → Coded (transaction_of machine).Phase
@@ -70,12 +72,12 @@ meaning_of machine =
 module _ {ℓ} (P : AnySet → Type ℓ) (of : (machine : MachineKind) (s : Held Times (StateOf machine)) → P (set_of machine s)) where
   -- what is given of the set of each machine, given of any set
   abbrev pub each_set : (set : AnySet) → P set
-  each_set (InviteClient s) = of OfInviteClient s
-  each_set (PlainClient s) = of OfPlainClient s
-  each_set (InviteServer s) = of OfInviteServer s
-  each_set (PlainServer s) = of OfPlainServer s
-  each_set (InviteClient3261 s) = of OfInviteClient3261 s
-  each_set (InviteServer3261 s) = of OfInviteServer3261 s
+  each_set (InviteClient s) = of (OfInvite R6026 Client) s
+  each_set (InviteServer s) = of (OfInvite R6026 Server) s
+  each_set (InviteClient3261 s) = of (OfInvite R3261 Client) s
+  each_set (InviteServer3261 s) = of (OfInvite R3261 Server) s
+  each_set (PlainClient s) = of (OfPlain Client) s
+  each_set (PlainServer s) = of (OfPlain Server) s
 
 -- what is given of the machine of the set and of what the set holds
 abbrev pub by_machine {ℓ} : {A : Type ℓ} → ((machine : MachineKind) → Held Times (StateOf machine) → A) → AnySet → A

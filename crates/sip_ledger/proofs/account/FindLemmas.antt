@@ -140,12 +140,12 @@ module _ (gains : Gains) (strikes : List Strike) (a : Account) (pairs : List (�
     -- What follows is of `message`, the next message under the key from the number `from` on.
     module _ (message : ℕ) (next : IsNextUnder pairs key from message) where
       -- nothing is left from the next message on
-      pub none-left : NoneFrom gains.messages message 0 → IsFirst (holds pairs key) first
+      pub none-left : ((m k : ℕ) → message ≤ m → holds gains.messages m k ≡ false) → IsFirst (holds pairs key) first
       none-left none = grind (arith, nat_tests, goes-to, below-parts, cases_lt, true≢false)
 
       -- nothing is left from the next message up to another one
-      pub left-next : (found place : ℕ) → IsFirstFrom gains.messages message 0 (found, place) → IsFirst (below pairs key found) first
-      left-next found place at = grind (arith, nat_tests, goes-to, below-parts, below-is, cases_lt, true≢false)
+      pub left-next : (found : ℕ) → message ≤ found → ((m k : ℕ) → message ≤ m → m < found → holds gains.messages m k ≡ false) → IsFirst (below pairs key found) first
+      left-next found low before = grind (arith, nat_tests, goes-to, below-parts, below-is, cases_lt, true≢false)
 
   -- What follows is of one more message under the key, and of `place`, its first place that a send at t pays: `first` is the first place so far.
   module _ (message : ℕ) (first place : Option ℕ) (held : holds pairs key message ≡ true) (is : IsFirst (below pairs key message) first)
@@ -155,12 +155,11 @@ module _ (gains : Gains) (strikes : List Strike) (a : Account) (pairs : List (�
     pub one-more : IsFirst (below pairs key (message + 1)) (sooner first place)
     one-more = grind (arith, nat_tests, first-more, below-parts, below-is, cases_lt)
 
-  -- where the next message under the key is the next one that is left, it is gone through too with the place that is found for it
-  pub one-found : (from message left at : ℕ) (first place : Option ℕ) → IsFirst (below pairs key from) first → IsNextUnder pairs key from message → IsFirstFrom gains.messages message 0 (left, at) →
-      left ≡ message → IfSome place (IsFirstPayable (entries_of gains) (owes_at gains strikes a) message t) →
+  -- the next message under the key is gone through too with the place that is found for it
+  pub one-found : (from message : ℕ) (first place : Option ℕ) → IsFirst (below pairs key from) first → IsNextUnder pairs key from message → IfSome place (IsFirstPayable (entries_of gains) (owes_at gains strikes a) message t) →
       IfNone place ((k : ℕ) → owes_at gains strikes a k ≡ true → pays_at (entries_of gains) message t k ≡ false) → IsFirst (below pairs key (message + 1)) (sooner first place)
-  one-found from message left at first place is next found here some none =
-      one-more message first place next.is (subst (λ n. IsFirst (below pairs key n) first) here (left-next from first is message next left at found)) some none
+  one-found from message first place is next some none =
+      one-more message first place next.is (left-next from first is message next message (omega arith) (λ m k from low. absurd (omega (arith, from, low)))) some none
 
 -- What follows is of one message under the key of the pairs of an index, and what a send of it at the moment t pays of the account.
 module _ (gains : Gains) (strikes : List Strike) (a : Account) (pairs : List (ℕ × ℕ)) (key t message : ℕ) (gained : AreGains gains) where

@@ -8,6 +8,7 @@ use crate::accounts::strikes::{Strike, Strikes, are_same, end_by, put, struck_to
 use crate::debt::Debt;
 use crate::index::Index;
 use std::alloc::{AllocError, Global};
+use std::ops::Bound;
 
 /// What a row owes: what was gained at the places from `start` up to `end`, but for what its strikes say. What was gained below
 /// `soft` has not to be sent.
@@ -201,13 +202,12 @@ pub(crate) fn find_under(
         let Some(message) = index.next(key, from) else {
             return Some(first);
         };
-        let Some(left) = gains.message_from(message, 0) else {
+        let Some((left, mut seek)) = gains.next_message(Bound::Included(message)) else {
             return Some(first);
         };
         from = left;
         // Where they are the same, a gain of a message under the key is left; otherwise the search goes on from the greater one.
         if left == message {
-            let mut seek = Seek::new(gains, message, account.start);
             let place = find(gains, strikes, account, &mut seek, message, moment);
             first = sooner(first, place);
             // Up to this place no greater message was gained, so none is found sooner.

@@ -55,7 +55,7 @@ pub(crate) fn first_acked(
 }
 
 /// The message of the first debt of the row whose message has this To, from which the blanks were taken, and whose deadline has
-/// not passed. First the 8 oldest debts are looked at. Where none of their messages has the To, it is looked for among the messages that the
+/// not passed. First the oldest debt is looked at. Where its message has not the To, it is looked for among the messages that the
 /// book keeps under the hash of the To, in eight times as many steps; where that is not enough, so many debts are looked at.
 fn first_with_to(
     alloc: Global,
@@ -69,7 +69,7 @@ fn first_with_to(
     requires owed { All (Keeps book.now) (owes_names (owed_in accounts.now row)) }
     ensures { IfOk result (FindsFirst (HasTo book.now to.now moment) moment (owed_in accounts.now row)) }
 {
-    let mut most = 8;
+    let mut most = 1;
     loop {
         let debts = accounts.first_debts(alloc, row, most)?;
         let found = first_of(alloc, book, to, &debts, moment)?;

@@ -4,7 +4,7 @@ use Rattle.sip_standard.specs.Key.{KeyParts}
 use Rattle.sip_standard.specs.Times.{Times}
 use Rattle.sip_machine.specs.Texts.{Texts}
 use Rattle.sip_machine.specs.NumberedEvent.{NumberedEvent}
-use Rattle.sip_machine.specs.inner.Coded.{idle_state, ended_state}
+use Rattle.sip_phases.specs.inner.Coded.{idle_state, ended_state}
 use Rattle.sip_standard.specs.VerdictOf.{IsWide}
 use Rattle.sip_states.specs.Held.{Held}
 use Rattle.sip_standard.specs.KeyMachine.{MachineKind, machine_of_key}

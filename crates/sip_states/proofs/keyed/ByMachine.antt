@@ -7,9 +7,9 @@ use Rattle.std.specs.List.{flat_map}
 use Rattle.sip_machine.specs.Owing.{owing_names}
 use Rattle.sip_machine.specs.Naming.{AppendsAll}
 use Rattle.sip_machine.specs.Rules.{IsLawful, Knows}
-use Rattle.sip_machine.specs.inner.Coded.{idle_state, ended_state}
-use Rattle.sip_machine.specs.inner.FigureLaws.{rules_lawful}
-use Rattle.sip_machine.specs.inner.OwingLaws.{owing_by_names, quiet_stands}
+use Rattle.sip_phases.specs.inner.Coded.{idle_state, ended_state}
+use Rattle.sip_phases.proofs.states.FigureLaws.{rules_lawful}
+use Rattle.sip_phases.proofs.states.OwingLaws.{owing_by_names, quiet_stands}
 use Rattle.sip_states.specs.Held.{Held}
 use Rattle.sip_standard.specs.KeyMachine.{MachineKind, transaction_of}
 use Rattle.sip_states.specs.inner.KeySets.{coded_of, StateOf, set_of, each_set, held_at_start, start_of_machine, meaning_of}

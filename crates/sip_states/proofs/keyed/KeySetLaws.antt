@@ -6,7 +6,7 @@ use Rattle.sip_standard.specs.KeyMachine.{MachineKind, OfInvite, OfPlain, transa
 use Rattle.sip_standard.specs.declared.role.Role.TheVariants.{Client}
 use Rattle.sip_standard.specs.declared.rules.Rules.TheVariants.{R3261, R6026}
 use Rattle.sip_standard.specs.PhaseWords.{words_of}
-use Rattle.sip_machine.specs.inner.Coded.{IsCoded}
+use Rattle.sip_phases.specs.inner.Coded.{IsCoded}
 use Rattle.sip_states.specs.Held.{Held}
 use Rattle.sip_states.specs.inner.KeySets.{code_of, coded_of, StateOf, set_of, by_machine}
 

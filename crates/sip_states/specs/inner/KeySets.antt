@@ -3,19 +3,19 @@ use Rattle.std.specs.Prelude.{[], ◌∷◌}
 use Rattle.sip_standard.specs.Times.{Times}
 use Rattle.sip_machine.specs.Owing.{CodeOwing, owing_seen, owing_names, OwingInRange}
 use Rattle.sip_machine.specs.FigureRules.{rules_of as rules_of_figure, until_of}
-use Rattle.sip_machine.specs.inner.Coded.{Coded, IsCoded, idle_state, ended_state}
-use Rattle.sip_machine.specs.inner.InviteClient.{invite_client_coded}
-use Rattle.sip_machine.specs.inner.InviteClient.Laws.{invite_client_is_coded}
-use Rattle.sip_machine.specs.inner.PlainClient.{plain_client_coded}
-use Rattle.sip_machine.specs.inner.PlainClient.Laws.{plain_client_is_coded}
-use Rattle.sip_machine.specs.inner.InviteServer.{invite_server_coded}
-use Rattle.sip_machine.specs.inner.InviteServer.Laws.{invite_server_is_coded}
-use Rattle.sip_machine.specs.inner.InviteClient3261.{invite_client_3261_coded}
-use Rattle.sip_machine.specs.inner.InviteClient3261.Laws.{invite_client_3261_is_coded}
-use Rattle.sip_machine.specs.inner.InviteServer3261.{invite_server_3261_coded}
-use Rattle.sip_machine.specs.inner.InviteServer3261.Laws.{invite_server_3261_is_coded}
-use Rattle.sip_machine.specs.inner.PlainServer.{plain_server_coded}
-use Rattle.sip_machine.specs.inner.PlainServer.Laws.{plain_server_is_coded}
+use Rattle.sip_phases.specs.inner.Coded.{Coded, IsCoded, idle_state, ended_state}
+use Rattle.sip_phases.specs.inner.InviteClient.{invite_client_coded}
+use Rattle.sip_phases.proofs.phases.InviteClientLaws.{invite_client_is_coded}
+use Rattle.sip_phases.specs.inner.PlainClient.{plain_client_coded}
+use Rattle.sip_phases.proofs.phases.PlainClientLaws.{plain_client_is_coded}
+use Rattle.sip_phases.specs.inner.InviteServer.{invite_server_coded}
+use Rattle.sip_phases.proofs.phases.InviteServerLaws.{invite_server_is_coded}
+use Rattle.sip_phases.specs.inner.InviteClient3261.{invite_client_3261_coded}
+use Rattle.sip_phases.proofs.phases.InviteClient3261Laws.{invite_client_3261_is_coded}
+use Rattle.sip_phases.specs.inner.InviteServer3261.{invite_server_3261_coded}
+use Rattle.sip_phases.proofs.phases.InviteServer3261Laws.{invite_server_3261_is_coded}
+use Rattle.sip_phases.specs.inner.PlainServer.{plain_server_coded}
+use Rattle.sip_phases.proofs.phases.PlainServerLaws.{plain_server_is_coded}
 use Rattle.sip_states.specs.Held.{Held}
 use Rattle.sip_states.specs.KeyRules.{PhaseOf}
 use Rattle.sip_states.specs.Meaning.{Meaning}

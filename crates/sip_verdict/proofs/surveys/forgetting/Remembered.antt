@@ -11,7 +11,7 @@ use Rattle.sip_standard.specs.Times.{Times}
 use Rattle.sip_standard.specs.MachineEvent.{MachineEvent}
 use Rattle.sip_standard.specs.declared.action.Action.TheVariants.{Restart}
 use Rattle.sip_standard.specs.Figure.{Figure, Owing, quiet, Lasts, MayEnd, Restarts, Steps, Takes}
-use Rattle.sip_machine.specs.inner.DebtLaws.{All-front}
+use Rattle.sip_phases.proofs.debts.DebtLaws.{All-front}
 use Rattle.sip_standard.specs.Stands.{Stands, begins, waits, ends, takes}
 use Rattle.sip_standard.specs.KeyMachine.{MachineKind, machine_of_key, transaction_of}
 use Rattle.sip_standard.specs.Observation.{Observation}

@@ -13,7 +13,7 @@ use Rattle.sip_standard.specs.Observation.{Observation}
 use Rattle.sip_standard.specs.VerdictOf.{events_for}
 use Rattle.sip_machine.specs.Texts.{Texts, IsBook}
 use Rattle.sip_machine.specs.Rules.{StandFor, Knows}
-use Rattle.sip_machine.specs.inner.OwingLaws.{owing_apart}
+use Rattle.sip_phases.proofs.states.OwingLaws.{owing_apart}
 use Rattle.sip_states.specs.Held.{Held}
 use Rattle.sip_states.specs.Waits.{Wait}
 use Rattle.sip_states.specs.Meaning.{IsKnown, HasWaited}

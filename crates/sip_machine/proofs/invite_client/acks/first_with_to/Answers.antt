@@ -4,7 +4,7 @@ use Rattle.std.proofs.lemmas.List.Elements.{All-take}
 use Rattle.sip_ledger.specs.declared.debt.Debt.{Debt}
 use Rattle.sip_machine.specs.Owes.{owed_in}
 use Rattle.sip_machine.specs.Texts.{Keeps}
-use Rattle.sip_machine.specs.inner.OwesLaws.{All-names}
+use Rattle.sip_phases.proofs.debts.OwesLaws.{All-names}
 use Rattle.sip_machine.proofs.debts.LookLemmas.{found-front, none-of-all}
 use Rattle.sip_machine.proofs.invite_client.acks.first_with_to.Goals as goal
 

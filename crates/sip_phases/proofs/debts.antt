@@ -1,0 +1,2 @@
+pub mod DebtLaws
+pub mod OwesLaws

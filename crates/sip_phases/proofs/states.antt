@@ -1,0 +1,2 @@
+pub mod FigureLaws
+pub mod OwingLaws

@@ -9,7 +9,7 @@ use Rattle.std.proofs.lemmas.List.Elements.{All-nil, All-cons, All-head, All-tai
 use Rattle.std.proofs.lemmas.Option.{slice_get_within, slice_get-get_or}
 use Rattle.sip_standard.proofs.Few.{AllPairs-head, AllPairs-tail}
 use Rattle.sip_standard.specs.Key.{KeyParts, same_key}
-use Rattle.sip_key.specs.inner.KeyLaws.{same_key-decides}
+use Rattle.sip_standard.proofs.SameKey.{same_key-decides}
 use Rattle.sip_standard.specs.Times.{Times}
 use Rattle.sip_standard.specs.KeyMachine.{machine_of_key}
 use Rattle.sip_standard.specs.Observation.{Observation}

@@ -6,7 +6,7 @@ use Rattle.std.proofs.lemmas.Bool.{false≢true}
 use Rattle.std.proofs.lemmas.List.{append-nil}
 use Rattle.std.proofs.lemmas.List.Elements.{filter-append}
 use Rattle.sip_standard.specs.Key.{KeyParts, same_key}
-use Rattle.sip_key.specs.inner.KeyLaws.{same_key-decides}
+use Rattle.sip_standard.proofs.SameKey.{same_key-decides}
 use Rattle.sip_standard.specs.Times.{Times}
 use Rattle.sip_standard.specs.MachineEvent.{MachineEvent}
 use Rattle.sip_standard.specs.Figure.{Owing}

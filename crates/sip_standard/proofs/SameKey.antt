@@ -1,4 +1,4 @@
--- Equal keys are the same.
+-- The test of two keys decides whether they are the same: equal keys are, and the same are equal.
 -- `λ i. f (e i)`: by the equation e, f of its left side is equal to f of its right side.
 use Rattle.std.specs.Prelude.{◌≡◌, ℕ, true, List, refl}
 use Rattle.std.specs.Bool.{Decides}

@@ -42,8 +42,7 @@ pub use Rattle.sip_phases.proofs.debts.OwesLaws.{All-names}
 pub use Rattle.sip_machine.specs.inner.Paying.{FindsFirst}
 pub use Rattle.sip_machine.specs.inner.Pools.{AreMixedWith, IsSought, beside, one_past}
 pub use Rattle.sip_machine.specs.inner.Tos.{AreTos, AreUnder, IsChanged, IsTo, IsToOf, IsUnder, StandUnder, count_between}
-pub use Rattle.sip_message.proofs.lemmas.message.Views.{same_reading}
-pub use Rattle.sip_message.proofs.lemmas.says.Reading.{says-no_fault, says-reads}
+pub use Rattle.sip_message.proofs.lemmas.says.Reading.{same_reading, says-no_fault, says-reads}
 pub use Rattle.sip_message.specs.Reading.{Reading}
 pub use Rattle.sip_message.specs.Reads.{Reads}
 pub use Rattle.sip_message.specs.SaidOf.{said_of}

@@ -1,8 +1,8 @@
 //! Messages.
 ghost use Rattle.std.specs.Prelude.{◌≡◌, ◌∷◌, ℕ, List, false};
-ghost use Rattle.sip_message.specs.Only.{IsOnly};
-ghost use Rattle.sip_message.specs.inner.Only.{ExactlyOne, the, One-prop};
-ghost use Rattle.sip_message.specs.Reading.{Reading, Parts, HasParts};
+ghost use Rattle.sip_message.specs.inner.Parts.{HasParts};
+ghost use Rattle.sip_message.specs.inner.Only.{ExactlyOne, the, One-prop, IsOnly};
+ghost use Rattle.sip_message.specs.Reading.{Reading, Parts};
 ghost use Rattle.sip_message.specs.inner.Codes.{parts_code};
 ghost use Rattle.sip_message.specs.inner.Kept.{KeepsRead};
 ghost use Rattle.sip_message.specs.inner.MessageText.{AreUnfolded};

@@ -1,8 +1,7 @@
 //! The elements of all Via fields, and the values of Route fields, one after another.
 ghost use Rattle.std.specs.Prelude.{◌≡◌, ℕ, List, [], drop, MatchOption};
 ghost use Rattle.sip_message.specs.declared.name.Known.TheVariants as known_name;
-ghost use Rattle.sip_message.specs.Only.{IsOnly};
-ghost use Rattle.sip_message.specs.inner.Only.{ExactlyOne, the, One-prop};
+ghost use Rattle.sip_message.specs.inner.Only.{ExactlyOne, the, One-prop, IsOnly};
 ghost use Rattle.sip_standard.specs.Via.{SaidVia};
 ghost use Rattle.sip_standard.specs.Says.{ViasTell};
 ghost use Rattle.sip_message.specs.Field.{values};

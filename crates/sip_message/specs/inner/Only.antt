@@ -3,7 +3,11 @@ use Rattle.std.specs.Prelude.{◌≡◌, ℕ, List, Option, None, Some}
 use Rattle.std.specs.Coded.{Coded, Coded-set}
 use Rattle.std.proofs.Math.Logic.{∥∥₁_elim, ∥∥₁_prop}
 use mathlib.Core.HLevel.{Σ_prop_path}
-use Rattle.sip_message.specs.Only.{IsOnly}
+
+-- R holds of this value, and of no other
+pub record IsOnly {X : Type 0} (R : X → Type 0) (x : X) : Type 0 where
+  pub is : R x
+  pub only : (y : X) → R y → y ≡ x
 
 -- ∥ P ∥₁ says that P holds, and leaves open by which proof.
 -- there is a value of which R holds, and R holds of no other

@@ -13,8 +13,7 @@ use Rattle.sip_message.proofs.lemmas.front.Cuts.{ReadAs, NotRead}
 use Rattle.sip_message.specs.declared.name.Known.{Known}
 use Rattle.sip_message.specs.declared.field.Field.{Field as Code}
 use Rattle.sip_message.specs.Name.{is_name_of}
-use Rattle.sip_message.specs.Only.{IsOnly}
-use Rattle.sip_message.specs.inner.Only.{ExactlyOne, the, One-prop}
+use Rattle.sip_message.specs.inner.Only.{ExactlyOne, the, One-prop, IsOnly}
 use Rattle.std.specs.Prelude.{MatchOption, ⊤}
 use Rattle.std.specs.Borrow.{Bor}
 use Rattle.std.specs.Iterator.{YieldsFirstBy, MakesProgress, item_count}

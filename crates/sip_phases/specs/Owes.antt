@@ -1,12 +1,9 @@
 -- The debts of the code, whose messages are numbers of a book.
-use Rattle.std.specs.Prelude.{ℕ, ◌<◌, ◌^◌, List, [], All, get_or, map}
+use Rattle.std.specs.Prelude.{ℕ, ◌<◌, ◌^◌, List, All, map}
+pub use Rattle.sip_ledger.specs.Accounts.{owed_in}
 use Rattle.sip_ledger.specs.declared.debt.Debt.{Debt}
 use Rattle.sip_phases.specs.Texts.{Texts, text_of}
 use Rattle.sip_standard.specs.Debts.{Owed}
-
--- what one of many states owes: its row, and nothing where it has none
-abbrev pub owed_in : List (List Debt) → ℕ → List Debt
-owed_in rows row = get_or rows row []
 
 -- the message owed that a debt of the code stands for beside a book
 abbrev pub owed_seen : Texts → Debt → Owed

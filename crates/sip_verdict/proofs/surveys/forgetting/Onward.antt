@@ -21,10 +21,10 @@ use Rattle.sip_standard.specs.LogEntry.{Item}
 use Rattle.sip_standard.specs.Observation.{Observation}
 use Rattle.sip_standard.specs.Seen.{AreSeen}
 use Rattle.sip_standard.specs.VerdictOf.{keys_in, events_for, IsWideAt}
-use Rattle.sip_verdict.specs.Forgetting.{HasSameTroubleAfter, remembered}
+use Rattle.sip_verdict.specs.Forgetting.{remembered}
 use Rattle.sip_verdict.specs.Entries.{newest_moment}
 use Rattle.sip_verdict.specs.inner.Keyed.{with_key}
-use Rattle.sip_verdict.specs.SurveyLaws.{IsCutOf, IsIdleAgain}
+use Rattle.sip_verdict.specs.SurveyLaws.{IsCutOf, HasSameTroubleAfter, IsIdleAgain}
 use Rattle.sip_verdict.specs.SurveyOf.{IsSound, Breaks, Widens}
 use Rattle.sip_verdict.specs.inner.Surveying.{IsOrdered}
 use Rattle.sip_verdict.proofs.keys.FewerEntries.{newest-before}

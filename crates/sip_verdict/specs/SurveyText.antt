@@ -1,13 +1,14 @@
 -- The text of a survey: a line for each finding as its entry passes, and a last line.
-use Rattle.std.specs.Prelude.{◌≡◌, ◌++◌, ◌∷◌, [], ℕ, Bool, true, false, List, length, filter, codes, decimal, ◌+◌, ◌⊎◌, Some, All}
+use Rattle.std.specs.Prelude.{◌≡◌, ◌++◌, ◌∷◌, [], ℕ, Bool, true, false, List, length, filter, codes, decimal, ◌+◌, ◌⊎◌, Option, None, Some, All}
 use Rattle.sip_standard.specs.LogSays.{line_feed, LogEnd, LogSays, LacksHeader}
 use Rattle.sip_verdict.specs.declared.finding.Finding.{Finding}
 use Rattle.sip_verdict.specs.declared.finding.Finding.TheVariants.{Malformed, Breach, Undecided}
 use Rattle.sip_verdict.specs.declared.survey_end.SurveyEnd.{SurveyEnd}
 use Rattle.sip_verdict.specs.declared.survey_end.SurveyEnd.TheVariants.{Clean, LogFault}
 use Rattle.sip_verdict.specs.declared.summary.Summary.{Summary}
+use Rattle.sip_verdict.specs.declared.transaction.Transaction.{Transaction}
 use Rattle.sip_standard.specs.Rendering.{rendered}
-use Rattle.sip_verdict.specs.SurveyOf.{HoldsOf, IsSurveyOf}
+use Rattle.sip_verdict.specs.SurveyOf.{HoldsOf, IsSurveyOf, verdict_of}
 use Rattle.std.specs.List.{list_any}
 use Rattle.sip_standard.specs.Key.{KeyParts, same_key}
 use Rattle.sip_standard.specs.Times.{Times}
@@ -41,6 +42,15 @@ IsLastOf es key number =
 abbrev pub transaction_words : KeyParts → (branch : List ℕ) → (first last : ℕ) → List ℕ
 transaction_words key branch first last =
     codes " " ++ key_text key ++ codes " " ++ branch ++ codes " " ++ decimal first ++ codes " " ++ decimal last
+
+-- the words for a transaction as a survey tells it
+abbrev pub told_words : Transaction → List ℕ
+told_words t = transaction_words t.key.now t.branch.now t.first t.last
+
+-- the line of a finding, with the words for its transaction where the transaction is known
+abbrev pub line_with : Finding → Option Transaction → List ℕ
+line_with f None = rendered (verdict_of f) ++ line_feed ∷ []
+line_with f (Some t) = rendered (verdict_of f) ++ told_words t ++ line_feed ∷ []
 
 -- these bytes are the words for the transaction after the entries
 abbrev pub AreWordsOf : List (Observation KeyParts) → List ℕ → KeyParts → Type 0

@@ -23,10 +23,10 @@ use Rattle.sip_standard.specs.Observation.{Observation}
 use Rattle.sip_standard.specs.ListingOf.{trouble_of}
 use Rattle.sip_standard.specs.VerdictOf.{keys_in, IsVerdictOf, Sees}
 use Rattle.sip_verdict.specs.SurveyOf.{AreFoundAt, IsSurveyAfter, HoldsOf, IsFoundAt, verdict_of}
-use Rattle.sip_verdict.specs.SurveyText.{SumsUp, end_text, is_undecided, AreWordsOf, IsFirstOf, IsLastOf, IsTextOf, entry_of, transaction_words}
+use Rattle.sip_verdict.specs.SurveyText.{SumsUp, end_text, is_undecided, AreWordsOf, IsFirstOf, IsLastOf, IsTextOf, entry_of, line_with, told_words, transaction_words}
 use Rattle.sip_verdict.specs.Surveys.{Surveying, SurveysFor}
 use Rattle.sip_verdict.specs.SurveyParts.{IsTaken}
-use Rattle.sip_verdict.specs.inner.SurveyingLogs.{AreCounted, AreTold, IsSurveyIn, IsWritten, SurveysRead, AreLinesBy, IsLineBy, IsToldIn, Tells, TellsOf, line_with, words_of}
+use Rattle.sip_verdict.specs.inner.SurveyingLogs.{AreCounted, AreTold, IsSurveyIn, IsWritten, SurveysRead, AreLinesBy, IsLineBy, IsToldIn, Tells, TellsOf}
 use Rattle.sip_verdict.specs.inner.Walking.{HasRead}
 use Rattle.sip_verdict.proofs.surveys.written.Gathering.{found_on, entries_in, gathered_of, header_lacks, told_without}
 use Rattle.std.specs.Option.{ok_or}
@@ -98,7 +98,7 @@ line_with-told s f number told line tells is es stands P (before, key, rest, who
         → (words : List ℕ) × HoldsOf (AreWordsOf es words) (keys_in es) number × (line ≡ rendered (verdict_of f) ++ words ++ line_feed ∷ [])
     by None none same = absurd none
     by (Some t) (key_is, first, last) same = (
-      words_of t,
+      told_words t,
       (before, key, rest, whole, (t.branch.now, t.first, t.last, first, last, ap (λ k. transaction_words k t.branch.now t.first t.last) key_is), counts),
       same,
     )

@@ -9,8 +9,7 @@ use Rattle.sip_verdict.specs.declared.summary.Summary.{Summary}
 use Rattle.sip_verdict.specs.declared.transaction.Transaction.{Transaction}
 use Rattle.sip_standard.specs.Rendering.{rendered}
 use Rattle.sip_verdict.specs.SurveyOf.{HoldsOf, IsSurveyOf, verdict_of}
-use Rattle.std.specs.List.{list_any}
-use Rattle.sip_standard.specs.Key.{KeyParts, same_key}
+use Rattle.sip_standard.specs.Key.{KeyParts}
 use Rattle.sip_standard.specs.Times.{Times}
 use Rattle.sip_standard.specs.Outcome.{gives}
 use Rattle.sip_standard.specs.Says.{Said, Says}
@@ -19,24 +18,21 @@ use Rattle.sip_standard.specs.TransactionText.{key_text}
 use Rattle.sip_standard.specs.Observation.{Observation}
 use Rattle.sip_standard.specs.Seen.{AreSeen}
 use Rattle.sip_standard.specs.VerdictOf.{keys_in}
+use Rattle.sip_verdict.specs.Entries.{concerns}
 use Rattle.sip_standard.specs.declared.verdict.Verdict.TheVariants as verdicts
-
--- whether the entry concerns the transaction
-abbrev pub is_of : KeyParts → Observation KeyParts → Bool
-is_of key e = list_any (same_key key) e.keys
 
 -- the first of the entries that concern the transaction has this number, and its message spells the branch as these bytes
 abbrev pub IsFirstOf : List (Observation KeyParts) → KeyParts → ℕ → List ℕ → Type 0
 IsFirstOf es key number branch =
     (before : List (Observation KeyParts)) × (e : Observation KeyParts) × (after : List (Observation KeyParts)) × (es ≡ before ++ e ∷ after)
-    × (is_of key e ≡ true) × All (λ o. is_of key o ≡ false) before × (number ≡ length before + 1)
+    × (concerns key e ≡ true) × All (λ o. concerns key o ≡ false) before × (number ≡ length before + 1)
     × ((s : Said) × Says e.event.text (gives s) × (s.via.branch ≡ Some branch))
 
 -- the last of the entries that concern the transaction has this number
 abbrev pub IsLastOf : List (Observation KeyParts) → KeyParts → ℕ → Type 0
 IsLastOf es key number =
     (before : List (Observation KeyParts)) × (e : Observation KeyParts) × (after : List (Observation KeyParts)) × (es ≡ before ++ e ∷ after)
-    × (is_of key e ≡ true) × All (λ o. is_of key o ≡ false) after × (number ≡ length before + 1)
+    × (concerns key e ≡ true) × All (λ o. concerns key o ≡ false) after × (number ≡ length before + 1)
 
 -- what a line says of a transaction: a word each for its role, its method and its branch, and the numbers of its first entry and of its last one
 abbrev pub transaction_words : KeyParts → (branch : List ℕ) → (first last : ℕ) → List ℕ

@@ -6,7 +6,8 @@ use Rattle.std.specs.List.{list_any}
 use Rattle.sip_standard.specs.declared.action.Action.{Action}
 use Rattle.sip_standard.specs.declared.action.Action.TheVariants.{Sent, Received, Failed, Mark, Restart}
 use Rattle.sip_standard.specs.Seen.{AreSeen}
-use Rattle.sip_verdict.specs.inner.Keyed.{with_key, concerns}
+use Rattle.sip_verdict.specs.Entries.{concerns}
+use Rattle.sip_verdict.specs.inner.Keyed.{with_key}
 use Rattle.sip_standard.specs.VerdictOf.{keys_in, events_for, IsFirstKey, Sees}
 use Rattle.std.proofs.lemmas.List.{append-nil}
 use Rattle.std.proofs.lemmas.List.Elements.{All-nil, All-head, All-tail, All-push, Contains-get_or}

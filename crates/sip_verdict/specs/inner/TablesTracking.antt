@@ -22,7 +22,7 @@ use Rattle.sip_verdict.specs.declared.passing.Hearing.{Hearing}
 use Rattle.sip_verdict.specs.declared.passing.Outcome.{Outcome}
 use Rattle.sip_verdict.specs.declared.passing.Outcome.TheVariants as all
 use Rattle.sip_standard.specs.Observation.{Observation}
-use Rattle.sip_verdict.specs.inner.Keyed.{concerns}
+use Rattle.sip_verdict.specs.Entries.{concerns}
 use Rattle.sip_verdict.specs.inner.Stepping.{LeadsTo, IsStepped}
 use Rattle.sip_verdict.specs.inner.Tracking.{Keeping, Tracks, TracksBefore, IsOwnOutcome, first_of}
 use Rattle.sip_verdict.specs.inner.Concerned.{each, is_all}

@@ -25,8 +25,8 @@ use Rattle.sip_verdict.specs.declared.histories.Histories.{Histories}
 use Rattle.sip_verdict.specs.declared.histories.History.{History}
 use Rattle.sip_verdict.specs.declared.troubled.Troubled.{Troubled}
 use Rattle.sip_verdict.specs.Forgetting.{remembered, IsOver, ForgetsUpTo}
-use Rattle.sip_verdict.specs.Entries.{newest_moment}
-use Rattle.sip_verdict.specs.SurveyText.{is_of, IsFirstOf, IsLastOf}
+use Rattle.sip_verdict.specs.Entries.{concerns, newest_moment}
+use Rattle.sip_verdict.specs.SurveyText.{IsFirstOf, IsLastOf}
 use Rattle.sip_verdict.specs.Surveys.{IsHistoryOf, AreHistories}
 use Rattle.sip_verdict.specs.inner.Forgetting.{IsPast, AreFlags, AreQuietIfOver, TellsPast}
 use Rattle.sip_verdict.specs.inner.Surveying.{AreWatched, IsFollowed, TablesSurvey}
@@ -118,15 +118,15 @@ All-kept P flags xs all = All-places P (kept_of flags xs) (λ n x at. All-place 
 -- What follows is of one key that is kept: `kept` says which are.
 module _ (kept : KeyParts → Bool) (key : KeyParts) (is : kept key ≡ true) where
   -- an entry without the keys that are not kept is of a kept key exactly if the entry is
-  same_of : (e : Observation KeyParts) → is_of key (record { fault = e.fault; event = e.event; keys = filter kept e.keys }) ≡ is_of key e
+  same_of : (e : Observation KeyParts) → concerns key (record { fault = e.fault; event = e.event; keys = filter kept e.keys }) ≡ concerns key e
   same_of e = among_chosen kept key is e.keys
 
   -- where no entry concerns the key, none concerns it as it is remembered
-  none_of : (es : List (Observation KeyParts)) → All (λ o. is_of key o ≡ false) es → All (λ o. is_of key o ≡ false) (remembered kept es)
-  none_of [] all = All-nil (λ o. is_of key o ≡ false)
+  none_of : (es : List (Observation KeyParts)) → All (λ o. concerns key o ≡ false) es → All (λ o. concerns key o ≡ false) (remembered kept es)
+  none_of [] all = All-nil (λ o. concerns key o ≡ false)
   none_of (e ∷ es) all =
-      All-cons (λ o. is_of key o ≡ false) (record { fault = e.fault; event = e.event; keys = filter kept e.keys }) (remembered kept es)
-      (same_of e ∙ All-head (λ o. is_of key o ≡ false) e es all) (none_of es (All-tail (λ o. is_of key o ≡ false) e es all))
+      All-cons (λ o. concerns key o ≡ false) (record { fault = e.fault; event = e.event; keys = filter kept e.keys }) (remembered kept es)
+      (same_of e ∙ All-head (λ o. concerns key o ≡ false) e es all) (none_of es (All-tail (λ o. concerns key o ≡ false) e es all))
 
   -- an entry as it is remembered: with the kept keys alone
   abbrev one : Observation KeyParts → Observation KeyParts
@@ -174,7 +174,7 @@ last_not_after es key m n (b, e, a, whole, is, none, counts) (c, f, d, other, at
     by (inr (inl (zs, later))) =
         let tail : e ∷ a ≡ (e ∷ zs) ++ f ∷ d = append_cancel_left b (e ∷ a) ((e ∷ zs) ++ f ∷ d) (sym whole ∙ other ∙ ap (λ xs. xs ++ f ∷ d) later ∙ append_assoc b (e ∷ zs) (f ∷ d)) in
         let after : a ≡ zs ++ f ∷ d = cc in
-        absurd (false≢true (sym (All-middle (λ o. is_of key o ≡ false) zs d f (subst (All (λ o. is_of key o ≡ false)) after none)) ∙ at))
+        absurd (false≢true (sym (All-middle (λ o. concerns key o ≡ false) zs d f (subst (All (λ o. concerns key o ≡ false)) after none)) ∙ at))
     by (inr (inr (zs, earlier))) = omega (arith, counts, number, simp length-append at (ap length earlier))
 
 -- a key that an entry concerns stands at some place among the keys of the entries
@@ -187,7 +187,7 @@ key_of p es key last (before, e, after, whole, is, none, counts) = by (list_any 
     -- else no entry would concern the key, but e does
     by false lacks =
         let all = none_in key es (among-fold key [] (flat_map (λ o. o.keys) es) lacks).1 in
-        absurd (false≢true (sym (All-middle (λ o. is_of key o ≡ false) before after e (subst (All (λ o. is_of key o ≡ false)) whole all)) ∙ is))
+        absurd (false≢true (sym (All-middle (λ o. concerns key o ≡ false) before after e (subst (All (λ o. concerns key o ≡ false)) whole all)) ∙ is))
 
 -- as many entries are remembered as there were
 pub long_kept : (kept : KeyParts → Bool) (es : List (Observation KeyParts)) → length (remembered kept es) ≡ length es

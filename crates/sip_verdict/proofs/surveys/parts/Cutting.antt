@@ -13,8 +13,8 @@ use Rattle.sip_standard.specs.Figure.{Owing}
 use Rattle.sip_standard.specs.Stands.{Stands, StandsAfter}
 use Rattle.sip_standard.specs.KeyMachine.{machine_of_key, transaction_of}
 use Rattle.sip_standard.specs.Observation.{Observation}
-use Rattle.sip_verdict.specs.Entries.{newest_moment}
-use Rattle.sip_verdict.specs.inner.Keyed.{with_key, concerns}
+use Rattle.sip_verdict.specs.Entries.{concerns, newest_moment}
+use Rattle.sip_verdict.specs.inner.Keyed.{with_key}
 use Rattle.sip_standard.specs.VerdictOf.{keys_in, events_for, RunsOver, IsWideAt}
 use Rattle.sip_verdict.specs.SurveyOf.{IsSound, Breaks, Widens}
 use Rattle.sip_verdict.specs.SurveyLaws.{IsCutOf, HasSameRuns, HasSameTrouble}

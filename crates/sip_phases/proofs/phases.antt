@@ -1,3 +1,4 @@
+-- What holds of the phases of each machine, as the code has them.
 pub mod CodedLaws
 pub mod MessageLaws
 pub mod WaitingLaws

@@ -1,3 +1,4 @@
+-- Bytes of a class, runs of them, texts joined by a mark, and repetitions.
 pub mod BlockLemmas
 pub mod ClassLemmas
 pub mod GroupLemmas

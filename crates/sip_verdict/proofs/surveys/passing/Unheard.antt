@@ -12,7 +12,7 @@ use Rattle.sip_standard.specs.VerdictOf.{events_for, IsWideAt}
 -- where an entry concerns the key, the list of the key's events is not empty
 concerned_events : (key : KeyParts) (front : List (Observation KeyParts)) (e : Observation KeyParts) (rest : List (Observation KeyParts)) → list_any (same_key key) e.keys ≡ true → events_for key (front ++ e ∷ rest) ≡ [] → ⊥
 concerned_events key front e rest concerned none =
-    -- P says that an entry concerns the key; e passes it, so at least one entry does, and there are as many events as such entries
+    -- P is the test whether an entry concerns the key. The entry e passes it. There is an event for each entry that passes it, so there is at least one
     let P = λ (f : Observation KeyParts). list_any (same_key key) f.keys in
     let here : filter P (e ∷ rest) ≡ e ∷ filter P rest = ap (λ b. cond b (e ∷ filter P rest) (filter P rest)) concerned in
     let split : filter P (front ++ e ∷ rest) ≡ filter P front ++ (e ∷ filter P rest) = filter-append P front (e ∷ rest) ∙ ap (λ fs. filter P front ++ fs) here in

@@ -5,4 +5,5 @@ pub mod GroupLemmas
 pub mod JoinedLemmas
 pub mod LacksLemmas
 pub mod ManyLemmas
+pub mod OneLaws
 pub mod RunLemmas

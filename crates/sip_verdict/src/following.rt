@@ -11,10 +11,10 @@ ghost use Rattle.sip_verdict.specs.Entries.{ConcernsNone};
 ghost use Rattle.sip_standard.specs.VerdictOf.{keys_in, Sees};
 ghost use Rattle.sip_verdict.specs.SurveyOf.{AreFoundAt};
 ghost use Rattle.sip_verdict.specs.Forgetting.{ForgetsUpTo, remembered};
-ghost use Rattle.sip_verdict.specs.Named.{AreMany};
+ghost use Rattle.sip_verdict.specs.Named.{AreFew, AreMany};
 ghost use Rattle.sip_verdict.specs.SurveyText.{IsFirstOf, IsLastOf};
 ghost use Rattle.sip_verdict.specs.Room.{HasRoom};
-ghost use Rattle.sip_verdict.specs.Surveys.{AreFewKept, IsStillNamed, MayAnswer, MayFollow, SurveysFor, end_after};
+ghost use Rattle.sip_verdict.specs.Surveys.{IsStillNamed, MayAnswer, MayFollow, SurveysFor, end_after};
 
 use crate::entries::find_next;
 use crate::finding::Finding;
@@ -252,7 +252,7 @@ impl<H: BuildHasher + Drop> Survey<H> {
     /// How many messages the survey keeps.
     pub fn kept(&self) -> usize
         ensures kept { result ≡ length self.now.texts }
-        ensures few { (es : List (Observation KeyParts)) → SurveysFor self.now es → AreFewKept self.now.tables.times es result }
+        ensures few { (es : List (Observation KeyParts)) → SurveysFor self.now es → AreFew (IsStillNamed self.now.tables.times) es result }
     {
         self.standing.kept()
     }

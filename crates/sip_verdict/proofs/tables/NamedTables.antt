@@ -157,17 +157,15 @@ module _ (texts : Texts) (book : IsBook texts) (p : Times) (moment : ℕ) where
     -- the texts that are named in the log are those of the messages that the sets name
     pub tables_named : (text : List ℕ) → IsNamed p es text ↔ IsNumberOf texts (flat_map numbers_of u.sets) text
     tables_named text = (
-      λ h. from_key h.key text (h.state, subst (λ n. Stands (transaction_of (machine_of_key p.rules h.key)).figure p (events_for h.key es) n h.state) newest h.stands, h.names)
-          (list_any (same_key h.key) (keys_in es)) refl,
+      λ h. from_key h.0 text (subst (λ n. StandsNaming p (machine_of_key p.rules h.0) (events_for h.0 es) n text) newest h.1) (list_any (same_key h.0) (keys_in es)) refl,
       -- a number that a set names is named by the runs of its key
       λ h. let (number, has, text_is) = h in
           let (new, (n, low, is), in_set) = Contains-from_flat_map numbers_of u.sets number has in
           let there : slice_get u.sets n ≡ Some new = slice_get-get_or u.sets n new low ∙ ap Some is in
           let (old, here) = at_place t.sets n (omega (arith, low, as_long)) in
           let (key, at) = at_place t.keys n (omega (arith, low, as_long, long)) in
-          -- a run of the key stands in a state y that names the text
-          let (y, run, names) = (at_key n key old new at here there text).1 (number, in_set, text_is) in
-          record { key = key; state = y; stands = subst (λ n. Stands (transaction_of (machine_of_key p.rules key)).figure p (events_for key es) n y) (sym newest) run; names = names },
+          -- a run of the key stands in a state that names the text
+          (key, subst (λ n. StandsNaming p (machine_of_key p.rules key) (events_for key es) n text) (sym newest) ((at_key n key old new at here there text).1 (number, in_set, text_is))),
     )
 
     -- as many messages are named after the entries as the book keeps under the numbers that the sets name

@@ -1,5 +1,5 @@
 -- The debts of a list of entries: `o` tells which places are owed, and `m` which of them must be sent.
-use Rattle.sip_ledger.proofs.Words.{common_steps, nat_tests, ◌≡◌, ℕ, zero, suc, ◌+◌, ◌-◌, ◌<◌, ◌≤◌, Bool, true, false, ◌&&◌, ◌||◌, cond, List, [], ◌∷◌, ◌++◌, length, take, drop, get_or, map, filter, refl, sym, ap, ◌∙◌, subst, arith, ap₂, All, nat_le, Some, option_to_list, min, fold, append_cancel_right, drop_more, length-take-le, take-append-drop, take_more, get_or_default, All-nil, All-cons, All-head, All-tail, Debt, Entry, counts_at, softened_debt, debt_deadlines, earliest, debt_of, debts_from, IsGap}
+use Rattle.sip_ledger.proofs.Words.{common_steps, nat_tests, ◌≡◌, ℕ, zero, suc, ◌+◌, ◌-◌, ◌<◌, ◌≤◌, Bool, true, false, ◌&&◌, ◌||◌, cond, List, [], ◌∷◌, ◌++◌, length, take, drop, get_or, map, filter, refl, sym, ap, ◌∙◌, subst, arith, ap₂, All, nat_le, Some, option_to_list, min, fold, append-nil, append_cancel_right, drop_more, length-take-le, take-append-drop, take_more, get_or_default, All-nil, All-cons, All-head, All-tail, Debt, Entry, counts_at, softened_debt, debt_deadlines, earliest, debt_of, debts_from, IsGap}
 
 -- what stands where there is no entry
 abbrev pub no_entry : Entry
@@ -82,6 +82,10 @@ back-unset o m entries k within is =
 -- where no place from k on is owed, there are no debts from k on
 pub back-none : (o m : ℕ → Bool) (entries : List Entry) (k : ℕ) → ((j : ℕ) → k ≤ j → o j ≡ false) → back o m entries k ≡ []
 back-none o m entries k none = listed-none o m k (drop k entries) (λ j from below. none j from)
+
+-- where nothing is owed from a place on, the debts are those before it
+pub listed-front : (o m : ℕ → Bool) (entries : List Entry) (at : ℕ) → at ≤ length entries → ((k : ℕ) → at ≤ k → o k ≡ false) → debts_from o m 0 entries ≡ front o m entries at
+listed-front o m entries at within last = parts o m entries at within ∙ ap (λ l. front o m entries at ++ l) (back-none o m entries at last) ∙ append-nil (front o m entries at)
 
 -- where the same places before k are owed and must be sent, the debts before k are the same
 pub front-same : (o m o' m' : ℕ → Bool) (entries : List Entry) (k : ℕ) → k ≤ length entries → ((j : ℕ) → j < k → (o j ≡ o' j) × (m j ≡ m' j)) →

@@ -160,6 +160,10 @@ pub record IsWithout (place : ℕ) (owes owes' : ℕ → Bool) : Type 0 where
   pub gone : owes' place ≡ false
   pub others : (k : ℕ) → k ≢ place → owes' k ≡ owes k
 
+-- the account, of which no gain below the place must be sent any more
+abbrev pub softened_account : ℕ → Account → Account
+softened_account place a = record { start = a.start; end = a.end; soft = place; first = a.first; last = a.last; print = a.print }
+
 -- all accounts, over gains and strikes
 pub record AreAccounts (gains : Gains) (strikes : List Strike) (accounts : List Account) : Type 0 where
   pub gained : AreGains gains

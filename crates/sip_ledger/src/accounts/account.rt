@@ -1,6 +1,6 @@
 //! What one row owes of what was gained.
 ghost use Rattle.std.specs.Prelude.{◌≡◌, ◌≢◌, ◌↔◌, ◌<◌, ◌≤◌, ◌*◌, ◌%◌, ◌^◌, ◌++◌, ◌∷◌, ◌+◌};
-ghost use Rattle.sip_ledger.specs.inner.Words.{[], ℕ, Bool, true, false, Some, IfOk, IfSome, IfNone, IsTrue, OnOk, OnErr, bit_xor, filter, length, option_to_list, take, OnTrue, counts_at, debt_deadlines, earliest, is_timely, paid_by, worth_of, debt_of, Account, AreGains, IsAccount, IsExpiredTo, IsFirstOf, IsFirstPayable, IsGainAt, IsKept, IsNextGain, IsPlaceOf, IsSeek, IsStruck, IsWithout, KeepsAccounts, SharesRest, account_debts, entries_of, entry_at, is_gone, is_struck, must_at, owes_at, pays_at, sooner, strikes_of, count_under, holds};
+ghost use Rattle.sip_ledger.specs.inner.Words.{[], ℕ, Bool, true, false, Some, IfOk, IfSome, IfNone, IsTrue, OnOk, OnErr, bit_xor, filter, length, option_to_list, take, OnTrue, counts_at, debt_deadlines, earliest, is_timely, paid_by, worth_of, debt_of, Account, AreGains, IsAccount, IsExpiredTo, IsFirstOf, IsFirstPayable, IsGainAt, IsKept, IsNextGain, IsPlaceOf, IsSeek, IsStruck, IsWithout, KeepsAccounts, SharesRest, account_debts, entries_of, entry_at, is_gone, is_struck, must_at, owes_at, pays_at, softened_account, sooner, strikes_of, count_under, holds};
 
 use crate::accounts::gains::Gains;
 use crate::accounts::seek::Seek;
@@ -431,6 +431,25 @@ fn pass_to(gains: &Gains, strikes: &mut Strikes, account: Account, place: usize)
     put(gains, strikes, account, account.end, place)
 }
 
+/// The account before it gains at the place: where it owes nothing that must be sent, and gains nothing such, what must be sent is looked for from the place on.
+fn eased(gains: &Gains, strikes: &[Strike], account: Account, debt: Debt, place: usize) -> Account
+    requires gained { AreGains gains.now }
+    requires account { IsAccount gains.now strikes.now account }
+    requires next { IsNextGain gains.now strikes.now account debt place }
+    ensures account { IsAccount gains.now strikes.now result }
+    ensures next { IsNextGain gains.now strikes.now result debt place }
+    ensures debts { account_debts gains.now strikes.now result ≡ account_debts gains.now strikes.now account }
+    ensures rest { result ≡ softened_account result.soft account }
+{
+    if debt.must || earliest_must(gains, strikes, account).is_some() {
+        return account;
+    }
+    Account {
+        soft: place,
+        ..account
+    }
+}
+
 /// The account with what was gained at the place, after all that it owes.
 pub(crate) fn gained(
     gains: &Gains,
@@ -460,7 +479,8 @@ pub(crate) fn gained(
             print,
         });
     }
-    let passed = pass_to(gains, strikes, account, place)?;
+    let eased = eased(gains, strikes, account, debt, place);
+    let passed = pass_to(gains, strikes, eased, place)?;
     Ok(Account {
         end: place + 1,
         print,

@@ -1,7 +1,7 @@
 -- What an account owes, place by place: its debts, whether another account owes the same, and the least deadline of what it must send.
-use Rattle.sip_ledger.proofs.Words.{max, ◌≡◌, ◌≢◌, ℕ, ◌+◌, ◌<◌, ◌≤◌, ◌==◌, ◌&&◌, Bool, true, false, List, [], ◌∷◌, ◌++◌, length, take, drop, map, refl, sym, ap, ap₂, ◌∙◌, arith, append-nil, nat_tests, IsTrue, Option, Some, None, ◌↔◌, nat_le, option_to_list, OnTrue, and_left, and_right, cases_eq, cases_lt, eq-eqb, eqb-true, le-leb, true≢false, append_cancel_left, get_or-drop, get_or_default, length-append, length-drop, length-take-le, map-append, take-append-le, take_all, All-map, Debt, Entry, Account, Gains, Strike, debt_deadlines, earliest, debt_of, debts_from, IsGap, AreGains, IsAccount, SharesRest, account_debts, entries_of, entry_at, is_struck, must_at, owes_at, strikes_of, holds}
+use Rattle.sip_ledger.proofs.Words.{max, ◌≡◌, ◌≢◌, ℕ, ◌+◌, ◌<◌, ◌≤◌, ◌==◌, ◌&&◌, Bool, true, false, List, [], ◌∷◌, ◌++◌, length, take, drop, map, refl, sym, ap, ap₂, ◌∙◌, arith, append-nil, nat_tests, IsTrue, Option, Some, None, ◌↔◌, nat_le, option_to_list, OnTrue, and_left, and_right, cases_eq, cases_lt, eq-eqb, eqb-true, le-leb, false_from_ne_true, true≢false, append_cancel_left, get_or-drop, get_or_default, length-append, length-drop, length-take-le, map-append, take-append-le, take_all, All-map, Debt, Entry, Account, Gains, Strike, debt_deadlines, earliest, debt_of, debts_from, IsGap, AreGains, IsAccount, SharesNext, account_debts, entries_of, entry_at, is_left, is_struck, must_at, owes_at, strikes_of, holds}
 use Rattle.sip_ledger.proofs.gains.LeftLemmas.{entries_long, gone-same, left-kept, owed-left, rising_kept}
-use Rattle.sip_ledger.proofs.debts.ListedLemmas.{back, back-none, back-same, back-set, earliest-first, earliest-push, front, front-gap, front-next, listed-All, listed-must, listed-none, no_entry, parts}
+use Rattle.sip_ledger.proofs.debts.ListedLemmas.{back, back-none, back-same, back-set, earliest-first, earliest-push, front, front-gap, front-next, front-on, listed-All, listed-must, listed-none, no_entry, parts}
 use Rattle.sip_ledger.proofs.account.AccountLemmas.{must-below, must-from, past-end, soft-must}
 use Rattle.sip_ledger.proofs.account.WithoutLemmas.{before-start}
 
@@ -28,6 +28,14 @@ module _ {gains : Gains} {strikes : List Strike} {a : Account} where
   pub told-more : {place next : ℕ} {debt : Debt} {debts more : List Debt} → IsAccount gains strikes a → IsToldTo gains strikes a place debts → place < a.end → IsAfter gains strikes a place next →
       debt ≡ debt_of (entry_at (entries_of gains) place) (must_at gains a place) → more ≡ debts ++ debt ∷ [] → IsToldTo gains strikes a next more
   told-more {place} {next} is was inside after debt_is more_is = grind (arith, nat_tests, front-gap, front-next)
+
+  -- before the place after this one it owes one debt more: that of this place
+  told-push : {place : ℕ} {debt : Debt} {debts : List Debt} → IsAccount gains strikes a → IsToldTo gains strikes a place debts → place < a.end →
+      debt ≡ debt_of (entry_at (entries_of gains) place) (must_at gains a place) → debts ++ debt ∷ [] ≡ front (owes_at gains strikes a) (must_at gains a) (entries_of gains) (place + 1)
+  told-push {place} is was inside debt_is =
+      ap₂ (λ l (d : Debt). l ++ d ∷ []) was.told debt_is
+      ∙ sym (front-next (owes_at gains strikes a) (must_at gains a) (entries_of gains) place place no_entry (omega arith) (omega (arith, inside, is.end))
+      (λ j from below. absurd (omega (arith, from, below))) (was.owed inside))
 
   -- what it owes is what it owes before a place and from there on
   pub told-split : {place : ℕ} {debts : List Debt} → IsAccount gains strikes a → IsToldTo gains strikes a place debts →
@@ -65,20 +73,40 @@ pub record AreAt (gains : Gains) (strikes : List Strike) (one other : Account) (
   pub told : IsToldTo gains strikes one at debts
   pub told_beside : IsToldTo gains strikes other beside debts
 
+-- both accounts owe the same before these places of them
+pub record AreEven (gains : Gains) (strikes : List Strike) (one other : Account) (at beside : ℕ) : Type 0 where
+  pub same : front (owes_at gains strikes one) (must_at gains one) (entries_of gains) at ≡ front (owes_at gains strikes other) (must_at gains other) (entries_of gains) beside
+  pub here : (one.start ≤ at) × (at ≤ one.end)
+  pub there : (other.start ≤ beside) × (beside ≤ other.end)
+
 -- What follows is of two accounts that are compared, `one` and `other`, by one list of gains and what was struck from it.
 module _ {gains : Gains} {strikes : List Strike} {one other : Account} (is : IsAccount gains strikes one) (is_other : IsAccount gains strikes other) where
-  -- AreAt holds at the starts of two accounts
-  pub at-start : AreAt gains strikes one other one.start other.start
-  at-start = record { debts = []; told = told-none is refl; told_beside = told-none is_other refl }
+  -- AreEven holds at the starts of two accounts
+  pub even-start : AreEven gains strikes one other one.start other.start
+  even-start = record { same = sym (told-none is refl).told ∙ (told-none is_other refl).told; here = (omega arith, is.order); there = (omega arith, is_other.order) }
 
-  -- AreAt goes on with the next places of both accounts, where both owe the same debt at their places
-  pub at-more : {at beside next next_beside : ℕ} (d : Debt) → AreAt gains strikes one other at beside → at < one.end → beside < other.end →
+  -- AreEven holds after the debts at two places, where both owe the same debt
+  pub even-more : {at beside : ℕ} (d : Debt) → AreAt gains strikes one other at beside → at < one.end → beside < other.end →
       d ≡ debt_of (entry_at (entries_of gains) at) (must_at gains one at) → d ≡ debt_of (entry_at (entries_of gains) beside) (must_at gains other beside) →
-      IsAfter gains strikes one at next → IsAfter gains strikes other beside next_beside → AreAt gains strikes one other next next_beside
-  at-more d are inside inside_beside here there after after_beside = record {
-    debts = are.debts ++ d ∷ [];
-    told = told-more is are.told inside after here refl;
-    told_beside = told-more is_other are.told_beside inside_beside after_beside there refl;
+      AreEven gains strikes one other (at + 1) (beside + 1)
+  even-more {at} {beside} d are inside inside_beside here there = record {
+    same = sym (told-push is are.told inside here) ∙ told-push is_other are.told_beside inside_beside there;
+    here = (omega (arith, are.told.low), omega (arith, inside));
+    there = (omega (arith, are.told_beside.low), omega (arith, inside_beside));
+  }
+
+  -- AreEven holds after what both owe alike
+  pub even-shared : {at beside n : ℕ} → AreEven gains strikes one other at beside → SharesNext gains strikes one other at beside n → AreEven gains strikes one other (at + n) (beside + n)
+  even-shared {at} {beside} {n} even shares = grind (arith, nat_tests, front-on)
+
+  -- AreAt holds at the next places from there on at which they owe something, or at their ends
+  pub at-even : {at beside next next_beside : ℕ} → AreEven gains strikes one other at beside → (at ≤ next) × (next ≤ one.end) → IsGap (owes_at gains strikes one) at next →
+      (next < one.end → owes_at gains strikes one next ≡ true) → (beside ≤ next_beside) × (next_beside ≤ other.end) → IsGap (owes_at gains strikes other) beside next_beside →
+      (next_beside < other.end → owes_at gains strikes other next_beside ≡ true) → AreAt gains strikes one other next next_beside
+  at-even {at} {beside} {next} {next_beside} even within gap owed within_beside gap_beside owed_beside = record {
+    debts = front (owes_at gains strikes one) (must_at gains one) (entries_of gains) next;
+    told = record { told = refl; low = omega (arith, even.here, within); end = within.1; owed = owed };
+    told_beside = record { told = grind (arith, front-gap); low = omega (arith, even.there, within_beside); end = within_beside.1; owed = owed_beside };
   }
 
   -- accounts that owe different debts at their places do not owe the same
@@ -97,10 +125,6 @@ module _ {gains : Gains} {strikes : List Strike} {one other : Account} (is : IsA
       first : {d d' : Debt} {ds ds' : List Debt} → d ∷ ds ≡ d' ∷ ds' → d ≡ d'
       first equal = cc
 
-  -- accounts at one place that owe the same from there on owe the same
-  pub rest-same : {at beside : ℕ} → AreAt gains strikes one other at beside → at ≡ beside → SharesRest strikes one other at → account_debts gains strikes one ≡ account_debts gains strikes other
-  rest-same {at} are here shared = grind (arith, told-split is are.told, told-split is_other are.told_beside, back-same, soft-must)
-
   -- where one account is at its end, both owe the same exactly if the other one is at its end too
   pub end-same : {at beside : ℕ} → AreAt gains strikes one other at beside → at ≡ one.end → IsTrue (beside == other.end) ↔ (account_debts gains strikes one ≡ account_debts gains strikes other)
   end-same {at} {beside} are here = (
@@ -109,27 +133,17 @@ module _ {gains : Gains} {strikes : List Strike} {one other : Account} (is : IsA
   )
 
   -- where one account is not at its end and the other is, they do not owe the same
-  pub end-other : {at beside : ℕ} → AreAt gains strikes one other at beside → at ≢ one.end → other.end ≤ beside →
-      IsTrue (at == one.end) ↔ (account_debts gains strikes one ≡ account_debts gains strikes other)
+  pub end-other : {at beside : ℕ} → AreAt gains strikes one other at beside → at ≢ one.end → beside ≡ other.end →
+      IsTrue false ↔ (account_debts gains strikes one ≡ account_debts gains strikes other)
   end-other {at} are short past = grind (arith, nat_tests, longer is is_other are.told are.told_beside)
 
--- accounts that end at one place, and have the same strikes, owe the same from a place on that neither begins after
-pub alike-rest : (strikes : List Strike) (one other : Account) (place : ℕ) → one.end ≡ other.end → one.soft ≡ other.soft → one.start ≤ place → other.start ≤ place →
-    strikes_of strikes one ≡ strikes_of strikes other → SharesRest strikes one other place
+-- accounts that strike the same of what is left from one place up to another, at neither of which either begins or ends, owe the same there
+pub alike-struck : (gains : Gains) (strikes : List Strike) (one other : Account) (k : ℕ) → one.start ≤ k → k < one.end → other.start ≤ k → k < other.end →
+    (is_left gains k ≡ true → is_struck (strikes_of strikes one) (entry_at (entries_of gains) k).message k ≡ true → is_struck (strikes_of strikes other) (entry_at (entries_of gains) k).message k ≡ true) →
+    (is_left gains k ≡ true → is_struck (strikes_of strikes other) (entry_at (entries_of gains) k).message k ≡ true → is_struck (strikes_of strikes one) (entry_at (entries_of gains) k).message k ≡ true) →
+    owes_at gains strikes one k ≡ owes_at gains strikes other k
 unfolding owes_at
-alike-rest strikes one other place end soft start start_other same = grind (arith, nat_tests, gone-same, le-leb)
-
--- accounts that end at one place, and have no strike that goes past this one, owe the same from here on
-pub shares-rest : (strikes : List Strike) (one other : Account) (place : ℕ) → one.end ≡ other.end → one.soft ≡ other.soft → one.start ≤ place → other.start ≤ place →
-    ((m k : ℕ) → place ≤ k → is_struck (strikes_of strikes one) m k ≡ false) → ((m k : ℕ) → place ≤ k → is_struck (strikes_of strikes other) m k ≡ false) →
-    SharesRest strikes one other place
-unfolding owes_at
-shares-rest strikes one other place end soft start start_other free free_other = grind (arith, nat_tests, gone-same, le-leb)
-
--- what is said where a test is true may say less
-pub on-true : {P Q : Type 0} (b : Bool) → OnTrue b P → (P → Q) → OnTrue b Q
-on-true true p more = more p
-on-true false p more = p
+alike-struck gains strikes one other k start end start_other end_other too too_other = grind (arith, nat_tests, gone-same, false_from_ne_true)
 
 -- whether what stands at a place is owed and must be sent: o tells which places are owed, and m which must be sent
 abbrev pub due : (ℕ → Bool) → (ℕ → Bool) → ℕ → Bool
@@ -218,7 +232,7 @@ least-passed gains strikes a from at least was above inside gap unowed = grind (
 pub least-found : (gains : Gains) (strikes : List Strike) (a : Account) (from at moment : ℕ) (least : Option ℕ) → IsLeastTo gains strikes a from least → from ≤ at → at < length (entries_of gains) →
     ((k : ℕ) → from ≤ k → k < at → holds gains.musts 0 k ≡ false) → holds gains.musts 0 at ≡ true → owes_at gains strikes a at ≡ true →
     Some moment ≡ earliest ((entry_at (entries_of gains) at).deadline ∷ option_to_list least) → gains.rises ≡ false → IsLeastTo gains strikes a (at + 1) (Some moment)
-least-found gains strikes a from at moment least was above inside gap held owed is falls = grind (arith, nat_tests, least-more, gap-due, true≢false, must-from)
+least-found gains strikes a from at moment least was above inside gap held owed is falls = grind (arith, nat_tests, least-more, gap-due, false_from_ne_true, true≢false, must-from)
 
 -- where deadlines rise, the first one that is found is the least of all
 pub least-first_due : (gains : Gains) (strikes : List Strike) (a : Account) (from at moment : ℕ) (least : Option ℕ) → AreGains gains → IsLeastTo gains strikes a from least → from ≤ at →
@@ -236,7 +250,7 @@ least-last gains strikes a from at least was gap past = grind (arith, nat_tests,
 
 -- a gain that must be sent was gained so, at `soft` or after it
 must-parts : (gains : Gains) (a : Account) (k : ℕ) → must_at gains a k ≡ true → (holds gains.musts 0 k ≡ true) × (a.soft ≤ k)
-must-parts gains a k is = grind (arith, nat_tests, cases_lt, true≢false, must-below, must-from)
+must-parts gains a k is = grind (arith, nat_tests, cases_lt, false_from_ne_true, true≢false, must-below, must-from)
 
 -- where deadlines rise and the first debt must be sent, its deadline is the least
 pub leading : (gains : Gains) (strikes : List Strike) (a : Account) (moment : ℕ) → AreGains gains → IsAccount gains strikes a → a.start < a.end → gains.rises ≡ true →

@@ -301,10 +301,18 @@ pub record IsClearedTo (place : ℕ) (strikes : List Strike) (rows : List Accoun
 abbrev pub StartFrom : ℕ → List Account → Type 0
 StartFrom place rows = All (λ a. a.start < a.end → place ≤ a.start) rows
 
--- two accounts owe the same from a place on
-pub record SharesRest (strikes : List Strike) (one other : Account) (place : ℕ) : Type 0 where
-  pub soft : one.soft ≡ other.soft
-  pub owes : (gains : Gains) (k : ℕ) → place ≤ k → owes_at gains strikes one k ≡ owes_at gains strikes other k
+-- what a test says is struck of what is left from one place up to another, the strikes strike too
+abbrev pub AreStruckToo : Gains → (ℕ → ℕ → Bool) → List Strike → ℕ → ℕ → Type 0
+AreStruckToo gains test strikes from to = (k : ℕ) → from ≤ k → k < to → is_left gains k ≡ true → test (entry_at (entries_of gains) k).message k ≡ true
+    → is_struck strikes (entry_at (entries_of gains) k).message k ≡ true
+
+-- two accounts owe the same at the next n places of each, which are none but where both are at one place
+pub record SharesNext (gains : Gains) (strikes : List Strike) (one other : Account) (at beside n : ℕ) : Type 0 where
+  pub end : at + n ≤ one.end
+  pub end_beside : beside + n ≤ other.end
+  pub place : 0 < n → at ≡ beside
+  pub owes : (k : ℕ) → at ≤ k → k < at + n → owes_at gains strikes one k ≡ owes_at gains strikes other k
+  pub must : (k : ℕ) → at ≤ k → k < at + n → must_at gains one k ≡ must_at gains other k
 
 -- the new strikes strike what the old ones strike of what is left from a place on, and strike nothing that the old ones do not
 pub record AreThinned (gains : Gains) (from : ℕ) (old new : List Strike) : Type 0 where

@@ -1,10 +1,10 @@
 //! What one row owes of what was gained.
 ghost use Rattle.std.specs.Prelude.{◌≡◌, ◌≢◌, ◌↔◌, ◌<◌, ◌≤◌, ◌*◌, ◌%◌, ◌^◌, ◌++◌, ◌∷◌, ◌+◌};
-ghost use Rattle.sip_ledger.specs.inner.Words.{[], ℕ, Bool, true, false, Some, IfOk, IfSome, IfNone, IsTrue, OnOk, OnErr, bit_xor, filter, length, option_to_list, take, OnTrue, counts_at, debt_deadlines, earliest, is_timely, paid_by, worth_of, debt_of, Account, AreGains, IsAccount, IsExpiredTo, IsFirstOf, IsFirstPayable, IsGainAt, IsKept, IsNextGain, IsPlaceOf, IsSeek, IsStruck, IsWithout, KeepsAccounts, SharesRest, account_debts, entries_of, entry_at, is_gone, is_struck, must_at, owes_at, pays_at, softened_account, sooner, strikes_of, count_under, holds};
+ghost use Rattle.sip_ledger.specs.inner.Words.{[], ℕ, Bool, true, false, Some, IfOk, IfSome, IfNone, IsTrue, OnOk, OnErr, bit_xor, filter, length, option_to_list, take, OnTrue, counts_at, debt_deadlines, earliest, is_timely, paid_by, worth_of, debt_of, Account, AreGains, IsAccount, IsExpiredTo, IsFirstOf, IsFirstPayable, IsGainAt, IsKept, IsNextGain, IsPlaceOf, IsSeek, IsStruck, IsWithout, KeepsAccounts, SharesNext, account_debts, entries_of, entry_at, is_gone, is_struck, must_at, owes_at, pays_at, softened_account, sooner, strikes_of, count_under, holds};
 
 use crate::accounts::gains::Gains;
 use crate::accounts::seek::Seek;
-use crate::accounts::strikes::{Strike, Strikes, are_same, end_by, put, struck_to};
+use crate::accounts::strikes::{Strike, Strikes, first_alone, put, struck_to};
 use crate::debt::Debt;
 use crate::index::Index;
 use std::alloc::{AllocError, Global};
@@ -588,24 +588,47 @@ fn debt_for(gains: &Gains, account: Account, place: usize) -> Debt
     }
 }
 
-/// Whether the accounts are known to owe the same from the place on: they end alike, have the same `soft`, and the same strikes or none that
-/// goes past the place.
-fn shares_rest(strikes: &[Strike], one: Account, other: Account, place: usize) -> bool
-    requires first { one.first ≤ one.last }
-    requires last { one.last ≤ length strikes.now }
-    requires first_other { other.first ≤ other.last }
-    requires last_other { other.last ≤ length strikes.now }
-    requires start { one.start ≤ place }
-    requires start_other { other.start ≤ place }
-    ensures { OnTrue result (SharesRest strikes.now one other place) }
+/// The first place from one on, and below an end, from which only one of the two accounts may have to send what was gained; or that end.
+fn softer(gains: &Gains, one: Account, other: Account, from: usize, end: usize) -> usize
+    requires gained { AreGains gains.now }
+    requires order { from ≤ end }
+    ensures within { (from ≤ result) × (result ≤ end) }
+    ensures before { (k : ℕ) → from ≤ k → k < result → must_at gains.now one k ≡ must_at gains.now other k }
 {
-    if one.end != other.end || one.soft != other.soft {
-        return false;
+    let low = one.soft.min(other.soft).max(from);
+    if one.soft.max(other.soft).min(end) <= low {
+        return end;
     }
-    if are_same(own(strikes, one), own(strikes, other)) {
-        return true;
+    match gains.next_must(low) {
+        Some(place) => place.min(end),
+        None => end,
     }
-    end_by(own(strikes, one), place) && end_by(own(strikes, other), place)
+}
+
+/// At how many places from these on both accounts owe the same. It is asked where both are at one place.
+fn shared(
+    gains: &Gains,
+    strikes: &[Strike],
+    one: Account,
+    other: Account,
+    at: usize,
+    beside: usize,
+) -> usize
+    requires gained { AreGains gains.now }
+    requires one { IsAccount gains.now strikes.now one }
+    requires other { IsAccount gains.now strikes.now other }
+    requires at { (one.start ≤ at) × (at ≤ one.end) }
+    requires beside { (other.start ≤ beside) × (beside ≤ other.end) }
+    ensures { SharesNext gains.now strikes.now one other at beside result }
+{
+    if at != beside {
+        return 0;
+    }
+    let own_one = own(strikes, one);
+    let own_other = own(strikes, other);
+    let end = softer(gains, one, other, at, one.end.min(other.end));
+    let alone = first_alone(gains, own_one, own_other, at, end);
+    first_alone(gains, own_other, own_one, at, alone) - at
 }
 
 /// Whether two accounts owe the same.
@@ -618,20 +641,25 @@ pub(crate) fn same(gains: &Gains, strikes: &[Strike], one: Account, other: Accou
     if one.print != other.print {
         return false;
     }
-    // Both are walked side by side, from debt to debt.
+    // Both are walked side by side, from debt to debt, past all that they share.
     let mut at = one.start;
     let mut beside = other.start;
-    while at < one.end && beside < other.end {
-        if at == beside && shares_rest(strikes, one, other, at) {
-            return true;
+    loop {
+        let count = shared(gains, strikes, one, other, at, beside);
+        at = next(gains, strikes, one, at + count);
+        beside = next(gains, strikes, other, beside + count);
+        if at == one.end {
+            return beside == other.end;
+        }
+        if beside == other.end {
+            return false;
         }
         if debt_for(gains, one, at) != debt_for(gains, other, beside) {
             return false;
         }
-        at = next(gains, strikes, one, at + 1);
-        beside = next(gains, strikes, other, beside + 1);
+        at += 1;
+        beside += 1;
     }
-    at == one.end && beside == other.end
 }
 
 /// What the account owes first: this many debts, or all where it owes fewer.

@@ -565,6 +565,26 @@ fn what_is_owed_is_told_after_a_long_life(rt: HostRuntime) -> Done {
     Ok(())
 }
 
+/// After a long common front two rows owe the same debts in another order, and then the same by other places.
+#[test]
+fn rows_meet_by_other_places(rt: HostRuntime) -> Done {
+    let mut played = Played::new(&rt)?;
+    played.push_copy(&rt, 0)?;
+    played.push_copy(&rt, 0)?;
+    for _ in 0..10 {
+        played.gain_each(0, owed(7, 10, true))?;
+        played.gain_and_expire(&rt, 2, owed(3, 10, true), 0)?;
+    }
+    played.gain_and_expire(&rt, 0, owed(1, 10, true), 0)?;
+    played.gain_and_expire(&rt, 1, owed(2, 10, true), 0)?;
+    played.gain_and_expire(&rt, 0, owed(2, 10, true), 0)?;
+    played.gain_and_expire(&rt, 1, owed(1, 10, true), 0)?;
+    played.agree(&rt)?;
+    played.pay_and_expire(&rt, 0, 2, 10)?;
+    played.pay_and_expire(&rt, 1, 2, 10)?;
+    played.agree(&rt)
+}
+
 /// The first row comes to owe a hundred messages, and pays them in a mixed order.
 #[test]
 fn one_row_pays_in_any_order(rt: HostRuntime) -> Done {

@@ -3,7 +3,7 @@ pub use Rattle.sip_ledger.proofs.Words.{Account, All, All-get_or, ap, AreAccount
 unfoldable pub use Rattle.sip_ledger.proofs.Words.{account_debts, accounts_debts, debts_print, entries_of, holds, is_struck, owes_at, worth_of}
 pub use Rattle.sip_ledger.proofs.account.AccountLemmas.{debts_length, empty-account, empty-debts, kept-from, kept-passed, must-alike, owed-within}
 pub use Rattle.sip_ledger.proofs.account.FindLemmas.{below, below-parts, first-account, first-payable, found-kept, highest-first, left-next, newest-first, none-account, none-left, none-pays_late, none-pays_struck, none-pays_to, none-under, NonePays, one-found, owes-inside}
-pub use Rattle.sip_ledger.proofs.account.ToldLemmas.{alike-struck, AreAt, AreEven, at-apart, at-even, end-other, end-same, even-more, even-shared, even-start, IsLeastTo, IsToldTo, leading, least-first, least-first_due, least-found, least-last, least-passed, told-all, told-first, told-more, told-none}
+pub use Rattle.sip_ledger.proofs.account.ToldLemmas.{alike-struck, AreAt, at-apart, at-more, at-start, end-other, end-same, IsLeastTo, IsToldTo, leading, least-first, least-first_due, least-found, least-last, least-passed, told-all, told-first, told-more, told-none}
 pub use Rattle.sip_ledger.proofs.account.WithoutLemmas.{before-start, first-gain, more-gain, new-gain, without-first, without-last, without-middle}
 pub use Rattle.sip_ledger.proofs.debts.OwedLemmas.{widened-run}
 pub use Rattle.sip_ledger.proofs.gains.LeftLemmas.{entries_long, flags-dropped, flags-let_go, flags-more, flags-same, gains-dropped, gains-let_go, gains-more, gains-same, gone-left, gone-unleft, left-kept, none-entries, none-gained, owed-left, rising-push}
@@ -13,4 +13,4 @@ pub use Rattle.sip_ledger.proofs.lists.IndexLemmas.{at-pair, count_all, count_pa
 unfoldable pub use Rattle.sip_ledger.proofs.lists.IndexLemmas.{count_from}
 pub use Rattle.sip_ledger.proofs.rows.PaidLemmas.{account-there, ArePaidTo, debts-count, expired-rising, gained-grown, gained-more, gained-over, HaveGained, IsExpiring, none-goes, none-past, paid-grown, paid-next}
 pub use Rattle.sip_ledger.proofs.rows.SeenLemmas.{account-at, AreNamedTo, can-pay, changed-by, changed-to, named-nowhere, on-error, over-to, owes-nothing, payable-owes, pushed-to, eased-account, softened-account, spanned, unchanged}
-pub use Rattle.sip_ledger.proofs.strikes.MovedLemmas.{alone-ended, alone-more, alone-none, alone-passed, alone-struck, appended-fewer, appended-more, cleared-dropped, cleared-more, kept-less, longer-too, more-too, moved-more, moved-none, none-struck, strikes-none, struck-by_end, struck-more, written-more, written-none}
+pub use Rattle.sip_ledger.proofs.strikes.MovedLemmas.{alone-more, alone-none, alone-on, appended-fewer, appended-more, cleared-dropped, cleared-more, kept-less, longer-too, more-too, moved-more, moved-none, none-struck, strikes-none, struck-by_end, struck-more, written-more, written-none}

@@ -54,11 +54,11 @@ pub must-from : (gains : Gains) (a : Account) (k : ℕ) → a.soft ≤ k → hol
 unfolding must_at
 must-from gains a k high = sym (ap (λ b. holds gains.musts 0 k && b) (le-leb a.soft k high) ∙ and-true (holds gains.musts 0 k))
 
--- two accounts must send the same gains at a place from `from` on and below `to`, where nothing that must be sent stands in between their `soft`
-pub must-alike : (gains : Gains) (one other : Account) (from to k : ℕ) → from ≤ k → k < to →
-    (max (min one.soft other.soft) from ≤ k → k < min (max one.soft other.soft) to → holds gains.musts 0 k ≡ false) → must_at gains one k ≡ must_at gains other k
+-- two accounts must send the same gains at a place up to whose neighbours both are soft alike
+pub must-alike : (gains : Gains) (one other : Account) (from to k : ℕ) → from ≤ k → k < to → min (max one.soft from) to ≡ min (max other.soft from) to →
+    must_at gains one k ≡ must_at gains other k
 unfolding must_at
-must-alike gains one other from to k low high none = grind (arith, nat_tests)
+must-alike gains one other from to k low high alike = grind (arith, nat_tests)
 
 -- an account owes nothing at its end or after it
 pub past-end : (gains : Gains) (strikes : List Strike) (a : Account) (k : ℕ) → a.end ≤ k → owes_at gains strikes a k ≡ false

@@ -1,14 +1,14 @@
 -- What an account owes, place by place: its debts, whether another account owes the same, and the least deadline of what it must send.
 use Rattle.sip_ledger.proofs.Words.{max, ◌≡◌, ◌≢◌, ℕ, ◌+◌, ◌<◌, ◌≤◌, ◌==◌, ◌&&◌, Bool, true, false, List, [], ◌∷◌, ◌++◌, length, take, drop, map, refl, sym, ap, ap₂, ◌∙◌, arith, append-nil, nat_tests, IsTrue, Option, Some, None, ◌↔◌, nat_le, option_to_list, OnTrue, and_left, and_right, cases_eq, cases_lt, eq-eqb, eqb-true, le-leb, false_from_ne_true, true≢false, append_cancel_left, get_or-drop, get_or_default, length-append, length-drop, length-take-le, map-append, take-append-le, take_all, All-map, Debt, Entry, Account, Gains, Strike, debt_deadlines, earliest, debt_of, debts_from, IsGap, AreGains, IsAccount, SharesNext, account_debts, entries_of, entry_at, is_left, is_struck, must_at, owes_at, strikes_of, holds}
 use Rattle.sip_ledger.proofs.gains.LeftLemmas.{entries_long, gone-same, left-kept, owed-left, rising_kept}
-use Rattle.sip_ledger.proofs.debts.ListedLemmas.{back, back-none, back-same, back-set, earliest-first, earliest-push, front, front-gap, front-next, front-on, listed-All, listed-must, listed-none, no_entry, parts}
-use Rattle.sip_ledger.proofs.account.AccountLemmas.{must-below, must-from, past-end, soft-must}
+use Rattle.sip_ledger.proofs.debts.ListedLemmas.{back, back-none, back-set, earliest-first, earliest-push, front, front-gap, front-next, front-on, listed-All, listed-must, listed-none, no_entry, parts}
+use Rattle.sip_ledger.proofs.account.AccountLemmas.{must-below, must-from, past-end}
 use Rattle.sip_ledger.proofs.account.WithoutLemmas.{before-start}
 
--- `next` is the next place after `at` at which the account owes something, or its end
-pub record IsAfter (gains : Gains) (strikes : List Strike) (a : Account) (at next : ℕ) : Type 0 where
-  pub within : (at + 1 ≤ next) × (next ≤ a.end)
-  pub before : (k : ℕ) → at + 1 ≤ k → k < next → owes_at gains strikes a k ≡ false
+-- `next` is the first place from `from` on at which the account owes something, or its end
+pub record IsAfter (gains : Gains) (strikes : List Strike) (a : Account) (from next : ℕ) : Type 0 where
+  pub within : (from ≤ next) × (next ≤ a.end)
+  pub before : (k : ℕ) → from ≤ k → k < next → owes_at gains strikes a k ≡ false
   pub is : next < a.end → owes_at gains strikes a next ≡ true
 
 -- the debts are what an account owes before a place, at which it owes something or ends
@@ -25,17 +25,14 @@ module _ {gains : Gains} {strikes : List Strike} {a : Account} where
   told-none is none = grind (arith, nat_tests, listed-none, before-start, length-take-le)
 
   -- before the next place it owes one debt more: that of this place
-  pub told-more : {place next : ℕ} {debt : Debt} {debts more : List Debt} → IsAccount gains strikes a → IsToldTo gains strikes a place debts → place < a.end → IsAfter gains strikes a place next →
+  pub told-more : {place next : ℕ} {debt : Debt} {debts more : List Debt} → IsAccount gains strikes a → IsToldTo gains strikes a place debts → place < a.end → IsAfter gains strikes a (place + 1) next →
       debt ≡ debt_of (entry_at (entries_of gains) place) (must_at gains a place) → more ≡ debts ++ debt ∷ [] → IsToldTo gains strikes a next more
   told-more {place} {next} is was inside after debt_is more_is = grind (arith, nat_tests, front-gap, front-next)
 
   -- before the place after this one it owes one debt more: that of this place
   told-push : {place : ℕ} {debt : Debt} {debts : List Debt} → IsAccount gains strikes a → IsToldTo gains strikes a place debts → place < a.end →
       debt ≡ debt_of (entry_at (entries_of gains) place) (must_at gains a place) → debts ++ debt ∷ [] ≡ front (owes_at gains strikes a) (must_at gains a) (entries_of gains) (place + 1)
-  told-push {place} is was inside debt_is =
-      ap₂ (λ l (d : Debt). l ++ d ∷ []) was.told debt_is
-      ∙ sym (front-next (owes_at gains strikes a) (must_at gains a) (entries_of gains) place place no_entry (omega arith) (omega (arith, inside, is.end))
-      (λ j from below. absurd (omega (arith, from, below))) (was.owed inside))
+  told-push {place} is was inside debt_is = grind (arith, was.told, debt_is, front-next (owes_at gains strikes a) (must_at gains a) (entries_of gains) place place no_entry)
 
   -- what it owes is what it owes before a place and from there on
   pub told-split : {place : ℕ} {debts : List Debt} → IsAccount gains strikes a → IsToldTo gains strikes a place debts →
@@ -73,41 +70,24 @@ pub record AreAt (gains : Gains) (strikes : List Strike) (one other : Account) (
   pub told : IsToldTo gains strikes one at debts
   pub told_beside : IsToldTo gains strikes other beside debts
 
--- both accounts owe the same before these places of them
-pub record AreEven (gains : Gains) (strikes : List Strike) (one other : Account) (at beside : ℕ) : Type 0 where
-  pub same : front (owes_at gains strikes one) (must_at gains one) (entries_of gains) at ≡ front (owes_at gains strikes other) (must_at gains other) (entries_of gains) beside
-  pub here : (one.start ≤ at) × (at ≤ one.end)
-  pub there : (other.start ≤ beside) × (beside ≤ other.end)
-
 -- What follows is of two accounts that are compared, `one` and `other`, by one list of gains and what was struck from it.
 module _ {gains : Gains} {strikes : List Strike} {one other : Account} (is : IsAccount gains strikes one) (is_other : IsAccount gains strikes other) where
-  -- AreEven holds at the starts of two accounts
-  pub even-start : AreEven gains strikes one other one.start other.start
-  even-start = record { same = sym (told-none is refl).told ∙ (told-none is_other refl).told; here = (omega arith, is.order); there = (omega arith, is_other.order) }
+  -- AreAt holds at the starts of two accounts
+  pub at-start : AreAt gains strikes one other one.start other.start
+  at-start = record { debts = []; told = told-none is refl; told_beside = told-none is_other refl }
 
-  -- AreEven holds after the debts at two places, where both owe the same debt
-  pub even-more : {at beside : ℕ} (d : Debt) → AreAt gains strikes one other at beside → at < one.end → beside < other.end →
+  -- AreAt goes on with the next places of both accounts after what they share, where both owe the same debt at their places
+  pub at-more : {at beside n next next_beside : ℕ} (d : Debt) → AreAt gains strikes one other at beside → at < one.end → beside < other.end →
       d ≡ debt_of (entry_at (entries_of gains) at) (must_at gains one at) → d ≡ debt_of (entry_at (entries_of gains) beside) (must_at gains other beside) →
-      AreEven gains strikes one other (at + 1) (beside + 1)
-  even-more {at} {beside} d are inside inside_beside here there = record {
-    same = sym (told-push is are.told inside here) ∙ told-push is_other are.told_beside inside_beside there;
-    here = (omega (arith, are.told.low), omega (arith, inside));
-    there = (omega (arith, are.told_beside.low), omega (arith, inside_beside));
-  }
-
-  -- AreEven holds after what both owe alike
-  pub even-shared : {at beside n : ℕ} → AreEven gains strikes one other at beside → SharesNext gains strikes one other at beside n → AreEven gains strikes one other (at + n) (beside + n)
-  even-shared {at} {beside} {n} even shares = grind (arith, nat_tests, front-on)
-
-  -- AreAt holds at the next places from there on at which they owe something, or at their ends
-  pub at-even : {at beside next next_beside : ℕ} → AreEven gains strikes one other at beside → (at ≤ next) × (next ≤ one.end) → IsGap (owes_at gains strikes one) at next →
-      (next < one.end → owes_at gains strikes one next ≡ true) → (beside ≤ next_beside) × (next_beside ≤ other.end) → IsGap (owes_at gains strikes other) beside next_beside →
-      (next_beside < other.end → owes_at gains strikes other next_beside ≡ true) → AreAt gains strikes one other next next_beside
-  at-even {at} {beside} {next} {next_beside} even within gap owed within_beside gap_beside owed_beside = record {
-    debts = front (owes_at gains strikes one) (must_at gains one) (entries_of gains) next;
-    told = record { told = refl; low = omega (arith, even.here, within); end = within.1; owed = owed };
-    told_beside = record { told = grind (arith, front-gap); low = omega (arith, even.there, within_beside); end = within_beside.1; owed = owed_beside };
-  }
+      SharesNext gains strikes one other (at + 1) (beside + 1) n → IsAfter gains strikes one (at + 1 + n) next → IsAfter gains strikes other (beside + 1 + n) next_beside →
+      AreAt gains strikes one other next next_beside
+  at-more {at} {beside} {n} {next} {next_beside} d are inside inside_beside here there shares after after_beside =
+      let same : front (owes_at gains strikes one) (must_at gains one) (entries_of gains) (at + 1 + n) ≡ front (owes_at gains strikes other) (must_at gains other) (entries_of gains) (beside + 1 + n) =
+      grind (arith, nat_tests, told-push is are.told inside here, told-push is_other are.told_beside inside_beside there, front-on) in record {
+        debts = front (owes_at gains strikes one) (must_at gains one) (entries_of gains) next;
+        told = record { told = refl; low = omega (arith, are.told.low, after.within); end = after.within.1; owed = after.is };
+        told_beside = record { told = grind (arith, same, front-gap); low = omega (arith, are.told_beside.low, after_beside.within); end = after_beside.within.1; owed = after_beside.is };
+      }
 
   -- accounts that owe different debts at their places do not owe the same
   pub at-apart : {at beside : ℕ} → AreAt gains strikes one other at beside → at < one.end → beside < other.end →
@@ -133,17 +113,17 @@ module _ {gains : Gains} {strikes : List Strike} {one other : Account} (is : IsA
   )
 
   -- where one account is not at its end and the other is, they do not owe the same
-  pub end-other : {at beside : ℕ} → AreAt gains strikes one other at beside → at ≢ one.end → beside ≡ other.end →
-      IsTrue false ↔ (account_debts gains strikes one ≡ account_debts gains strikes other)
+  pub end-other : {at beside : ℕ} → AreAt gains strikes one other at beside → at ≢ one.end → other.end ≤ beside →
+      IsTrue (at == one.end) ↔ (account_debts gains strikes one ≡ account_debts gains strikes other)
   end-other {at} are short past = grind (arith, nat_tests, longer is is_other are.told are.told_beside)
 
--- accounts that strike the same of what is left from one place up to another, at neither of which either begins or ends, owe the same there
-pub alike-struck : (gains : Gains) (strikes : List Strike) (one other : Account) (k : ℕ) → one.start ≤ k → k < one.end → other.start ≤ k → k < other.end →
+-- accounts that strike alike what is left at a place, which is in both, owe it alike
+pub alike-struck : (gains : Gains) (strikes : List Strike) (one other : Account) (k : ℕ) → (one.start ≤ k) × (k < one.end) → (other.start ≤ k) × (k < other.end) →
     (is_left gains k ≡ true → is_struck (strikes_of strikes one) (entry_at (entries_of gains) k).message k ≡ true → is_struck (strikes_of strikes other) (entry_at (entries_of gains) k).message k ≡ true) →
     (is_left gains k ≡ true → is_struck (strikes_of strikes other) (entry_at (entries_of gains) k).message k ≡ true → is_struck (strikes_of strikes one) (entry_at (entries_of gains) k).message k ≡ true) →
     owes_at gains strikes one k ≡ owes_at gains strikes other k
 unfolding owes_at
-alike-struck gains strikes one other k start end start_other end_other too too_other = grind (arith, nat_tests, gone-same, false_from_ne_true)
+alike-struck gains strikes one other k in_one in_other too too_other = grind (arith, nat_tests, gone-same, false_from_ne_true)
 
 -- whether what stands at a place is owed and must be sent: o tells which places are owed, and m which must be sent
 abbrev pub due : (ℕ → Bool) → (ℕ → Bool) → ℕ → Bool

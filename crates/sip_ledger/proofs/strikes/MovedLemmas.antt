@@ -145,24 +145,15 @@ pub out-struck : (xs : List Strike) (i m k : ℕ) (s : Strike) → i < length xs
 unfolding is_struck
 out-struck xs i m k s within out = grind (arith, nat_tests, list_any_at, out-parts m (get_or xs i s).message (get_or xs i s).from (get_or xs i s).to k out)
 
--- what a strike strikes of what is left before a place, others strike too, if they do so before an earlier place, from which on nothing of its message is left
-pub alone-passed : (gains : Gains) (s : Strike) (others : List Strike) (from place at : ℕ) → AreStruckToo gains (λ m k. is_out m k s) others from place →
-    ((k : ℕ) → place ≤ k → k < at → holds gains.messages s.message k ≡ false) → AreStruckToo gains (λ m k. is_out m k s) others from at
+-- what a strike strikes of what is left up to the place `to`, others strike too, where they do so before an earlier place, from which on nothing of its
+-- message is left up to another one, from which on they strike it
+pub alone-on : (gains : Gains) (s : Strike) (others : List Strike) (from place at to : ℕ) → AreStruckToo gains (λ m k. is_out m k s) others from place →
+    ((k : ℕ) → place ≤ k → k < at → holds gains.messages s.message k ≡ false) → ((k : ℕ) → at ≤ k → k < to → k < s.to → is_struck others s.message k ≡ true) →
+    AreStruckToo gains (λ m k. is_out m k s) others from to
 unfolding is_left
-alone-passed gains s others from place at was none = λ k low high left out.
-    let parts = out-parts (entry_at (entries_of gains) k).message s.message s.from s.to k out in grind (arith, nat_tests, cases_lt, true≢false, parts, was k, none k)
-
--- .. or from which on the others strike all of its message
-pub alone-struck : (gains : Gains) (s : Strike) (others : List Strike) (from at after : ℕ) → AreStruckToo gains (λ m k. is_out m k s) others from at →
-    ((k : ℕ) → at ≤ k → k < after → is_struck others s.message k ≡ true) → AreStruckToo gains (λ m k. is_out m k s) others from after
-alone-struck gains s others from at after was struck = λ k low high left out.
-    let parts = out-parts (entry_at (entries_of gains) k).message s.message s.from s.to k out in grind (arith, nat_tests, cases_lt, parts, was k, struck k)
-
--- .. or from which on the strike has its end
-pub alone-ended : (gains : Gains) (s : Strike) (others : List Strike) (from at end : ℕ) → AreStruckToo gains (λ m k. is_out m k s) others from at → min s.to end ≤ at →
-    AreStruckToo gains (λ m k. is_out m k s) others from end
-alone-ended gains s others from at end was past = λ k low high left out.
-    let parts = out-parts (entry_at (entries_of gains) k).message s.message s.from s.to k out in was k low (omega (arith, parts, past, high)) left out
+alone-on gains s others from place at to was none struck = λ k low high left out.
+    let parts = out-parts (entry_at (entries_of gains) k).message s.message s.from s.to k out in
+    grind (arith, nat_tests, cases_lt, true≢false, parts, was k low, none k, struck k)
 
 -- what one strike more strikes, others strike too
 pub alone-more : (gains : Gains) (xs others : List Strike) (at from to to' : ℕ) (d : Strike) → at < length xs → AreStruckToo gains (is_struck (take at xs)) others from to → to' ≤ to →

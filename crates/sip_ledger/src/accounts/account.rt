@@ -588,24 +588,7 @@ fn debt_for(gains: &Gains, account: Account, place: usize) -> Debt
     }
 }
 
-/// The first place from one on, and below an end, from which only one of the two accounts may have to send what was gained; or that end.
-fn softer(gains: &Gains, one: Account, other: Account, from: usize, end: usize) -> usize
-    requires gained { AreGains gains.now }
-    requires order { from ≤ end }
-    ensures within { (from ≤ result) × (result ≤ end) }
-    ensures before { (k : ℕ) → from ≤ k → k < result → must_at gains.now one k ≡ must_at gains.now other k }
-{
-    let low = one.soft.min(other.soft).max(from);
-    if one.soft.max(other.soft).min(end) <= low {
-        return end;
-    }
-    match gains.next_must(low) {
-        Some(place) => place.min(end),
-        None => end,
-    }
-}
-
-/// At how many places from these on both accounts owe the same. It is asked where both are at one place.
+/// At how many places from these on it is known that both accounts owe the same: none, where they are not one place.
 fn shared(
     gains: &Gains,
     strikes: &[Strike],
@@ -624,11 +607,17 @@ fn shared(
     if at != beside {
         return 0;
     }
+    // Where one of them alone is soft from here on, they may differ at once.
+    let end = one.end.min(other.end);
+    let soft = one.soft.max(at).min(end);
+    let soft_beside = other.soft.max(at).min(end);
+    if soft != soft_beside {
+        return 0;
+    }
     let own_one = own(strikes, one);
     let own_other = own(strikes, other);
-    let end = softer(gains, one, other, at, one.end.min(other.end));
-    let alone = first_alone(gains, own_one, own_other, at, end);
-    first_alone(gains, own_other, own_one, at, alone) - at
+    let first = first_alone(gains, own_one, own_other, at, end);
+    first_alone(gains, own_other, own_one, at, first) - at
 }
 
 /// Whether two accounts owe the same.
@@ -641,25 +630,18 @@ pub(crate) fn same(gains: &Gains, strikes: &[Strike], one: Account, other: Accou
     if one.print != other.print {
         return false;
     }
-    // Both are walked side by side, from debt to debt, past all that they share.
+    // Both are walked side by side, from debt to debt, but for what they share.
     let mut at = one.start;
     let mut beside = other.start;
-    loop {
-        let count = shared(gains, strikes, one, other, at, beside);
-        at = next(gains, strikes, one, at + count);
-        beside = next(gains, strikes, other, beside + count);
-        if at == one.end {
-            return beside == other.end;
-        }
-        if beside == other.end {
-            return false;
-        }
+    while at < one.end && beside < other.end {
         if debt_for(gains, one, at) != debt_for(gains, other, beside) {
             return false;
         }
-        at += 1;
-        beside += 1;
+        let count = shared(gains, strikes, one, other, at + 1, beside + 1);
+        at = next(gains, strikes, one, at + 1 + count);
+        beside = next(gains, strikes, other, beside + 1 + count);
     }
+    at == one.end && beside == other.end
 }
 
 /// What the account owes first: this many debts, or all where it owes fewer.

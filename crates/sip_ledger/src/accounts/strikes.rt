@@ -53,10 +53,7 @@ fn struck_alone(gains: &Gains, strike: Strike, others: &[Strike], from: usize, e
 {
     let to = strike.to.min(end);
     let mut place = from.max(strike.from);
-    while place < to {
-        let Some(at) = gains.next(strike.message, place) else {
-            return end;
-        };
+    while let Some(at) = gains.next(strike.message, place) {
         if to <= at {
             return end;
         }

@@ -1,6 +1,6 @@
 -- Accounts as contracts see them: a list of what each row owes, and the messages that rows owe.
-use Rattle.sip_ledger.proofs.Words.{◌≡◌, ℕ, ◌+◌, ◌<◌, ◌≤◌, ◌==◌, true, false, List, [], ◌∷◌, ◌++◌, length, get_or, map, refl, sym, ap, ◌∙◌, subst, inl, inr, arith, nat_tests, All, Contains, list_any, and-true, cases_eq, cases_lt, eqb-true, false_from_ne_true, le-leb, true≢false, append_assoc, get_or_append_left, get_or_default, get_or_push, length_push, All-map, Contains-append_left, Contains-push, Contains-push_cases, list_any_at, list_any_none, Debt, Account, Gains, Strike, AppendsOwed, owes_message, some_owes, is_payable, Rise, account_debts, accounts_debts, entries_of, entry_at, must_at, owes_at, holds, common_steps, ◌≢◌, take, set, IsTrue, Option, Some, None, IfSome, IfNone, Result, Ok, Err, IsErr, OnErr, ◌↔◌, is_err, is_some, eq-eqb, drop_min, All-weaker, sum_by-cons, debts_print, owed_in, softened_account, softened_debt, debt_deadlines, earliest, filter, IsNextGain, AreAccounts, AreGains, IsAccount, IsFirstPayable, KeepsAccounts, pays_at, map-append, All-push, ◌^◌}
-use Rattle.sip_ledger.proofs.debts.ListedLemmas.{front-same, listed-each, listed-few, listed-front, listed-same, listed-softened}
+use Rattle.sip_ledger.proofs.Words.{◌≡◌, ℕ, ◌+◌, ◌<◌, ◌≤◌, ◌==◌, true, false, List, [], ◌∷◌, ◌++◌, length, get_or, map, refl, sym, ap, ◌∙◌, subst, inl, inr, arith, nat_tests, All, Contains, list_any, and-true, cases_eq, cases_lt, eqb-true, false_from_ne_true, le-leb, true≢false, append_assoc, get_or_append_left, get_or_default, get_or_push, length_push, All-map, Contains-append_left, Contains-push, Contains-push_cases, list_any_at, list_any_none, All-cons, All-nil, Debt, Account, Gains, Strike, AppendsOwed, owes_message, some_owes, is_payable, Rise, account_debts, accounts_debts, entries_of, entry_at, must_at, owes_at, holds, common_steps, ◌≢◌, take, set, IsTrue, Option, Some, None, IfSome, IfNone, Result, Ok, Err, IsErr, OnErr, ◌↔◌, is_err, is_some, eq-eqb, drop_min, All-weaker, sum_by-cons, debts_print, owed_in, softened_account, softened_debt, debt_deadlines, earliest, filter, IsNextGain, AreAccounts, AreGains, IsAccount, IsFirstPayable, KeepsAccounts, pays_at, map-append, All-push, ◌^◌}
+use Rattle.sip_ledger.proofs.debts.ListedLemmas.{front-same, listed-each, listed-front, listed-same, listed-softened}
 use Rattle.sip_ledger.proofs.account.AccountLemmas.{debts_length, row-debts, changed, empty-debts, kept-all, must-below, over, owed-within, past-end, row-account, truncated, without-first_rows}
 use Rattle.sip_ledger.proofs.gains.LeftLemmas.{held_left, owed-left, entries_long}
 use Rattle.sip_ledger.proofs.debts.OwedLemmas.{listed-any, some-debt}
@@ -30,14 +30,13 @@ module _ {gains : Gains} {strikes : List Strike} {rows : List Account} {seen : L
       let debts = row-debts gains strikes rows row a within is in
       grind (arith, row-account, debts)
 
-  -- a row owes no more debts than were gained
-  pub row-few : (row : ℕ) → AreAccounts gains strikes rows → accounts_debts gains strikes rows ≡ seen → row < length seen → length (owed_in seen row) < 2 ^ 64
-  unfolding account_debts
-  row-few row are view inside =
-      -- `none` stands for no account
-      let none : Account = record { start = 0; end = 0; soft = 0; first = 0; last = 0; print = 0 } in
-      let at = account-at row (get_or rows row none) are view inside (get_or_default rows row none (get_or rows row none) (row-inside row are view inside)) in
-      grind (arith, at, listed-few, entries_long)
+  -- the account of a row, alone, is seen as what the row owes
+  pub alone : (row : ℕ) (a : Account) → AreAccounts gains strikes rows → accounts_debts gains strikes rows ≡ seen → row < length seen → a ≡ get_or rows row a →
+      AreAccounts gains strikes (a ∷ []) × (accounts_debts gains strikes (a ∷ []) ≡ owed_in seen row ∷ [])
+  unfolding accounts_debts
+  alone row a are view inside is =
+      let at = account-at row a are view inside is in
+      (record { gained = are.gained; each = All-cons (IsAccount gains strikes) a [] at.0 (All-nil (IsAccount gains strikes)) }, ap (λ debts. debts ∷ []) at.1)
 
   -- where one of the accounts changes, contracts see its row changed
   pub changed-to : (new : List Strike) (row : ℕ) (a : Account) (debts : List Debt) → take (length strikes) new ≡ strikes →

@@ -4,7 +4,7 @@ pub use Rattle.std.specs.BTreeSet.{BTreeSet, IsKeyRangeOf, IsLowerBound, IsUpper
 pub use Rattle.std.specs.Bool.{OnFalse, OnTrue}
 pub use Rattle.std.specs.List.{copy_within, count_by, list_any, sum_by}
 pub use Rattle.std.specs.Ordering.{is_eq, is_gt}
-pub use Rattle.std.specs.Prelude.{All, Bool, Contains, Err, IfNone, IfOk, IfSome, IsErr, IsTrue, List, MatchOption, None, Ok, OnErr, OnOk, Option, Result, Some, [], bit_xor, cond, drop, false, filter, fold, get_or, is_err, is_some, length, map, max, min, nat_le, nat_lt, option_to_list, replicate, take, true, ℕ, ◌%◌, ◌&&◌, ◌*◌, ◌++◌, ◌+◌, ◌-◌, ◌<◌, ◌==◌, ◌^◌, ◌↔◌, ◌∷◌, ◌≡◌, ◌≢◌, ◌≤◌, ◌⊎◌}
+pub use Rattle.std.specs.Prelude.{All, Bool, Contains, Err, IfNone, IfOk, IfSome, IsErr, IsTrue, List, MatchOption, None, Ok, OnErr, OnOk, Option, Result, Some, [], bit_xor, cond, drop, false, filter, fold, get_or, is_err, is_some, length, map, max, min, nat_le, nat_lt, option_to_list, replicate, slice_get, take, true, ℕ, ◌%◌, ◌&&◌, ◌*◌, ◌++◌, ◌+◌, ◌-◌, ◌<◌, ◌==◌, ◌^◌, ◌↔◌, ◌∷◌, ◌≡◌, ◌≢◌, ◌≤◌, ◌⊎◌}
 pub use Rattle.std.specs.Vec.{vec_capacity}
 pub use Rattle.std.specs.declared.ops.Bound.TheVariants.{Included, Unbounded}
 pub use Rattle.sip_standard.specs.Debts.{IsWithoutFirst}

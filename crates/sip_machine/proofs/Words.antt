@@ -17,7 +17,7 @@ pub use Rattle.std.specs.Prelude.{All, AllPairs, Bool, Contains, IfOk, IfSome, I
 pub use Rattle.sip_key.proofs.AckOfLemmas.{ack-of_says}
 pub use Rattle.sip_ledger.proofs.lists.EachLemmas.{on_ok}
 pub use Rattle.sip_ledger.proofs.lists.FrontLemmas.{dropped-first}
-pub use Rattle.sip_ledger.specs.Accounts.{AppendsOwed, paid_rows}
+pub use Rattle.sip_ledger.specs.Accounts.{paid_rows}
 pub use Rattle.sip_ledger.specs.Debts.{IsFirstPaid, PaysSome, counts_at, is_payable, is_timely, paid_by}
 pub use Rattle.sip_ledger.specs.Indexes.{holds}
 pub use Rattle.sip_ledger.specs.Lists.{from_to}

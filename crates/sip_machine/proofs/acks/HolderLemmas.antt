@@ -1,27 +1,12 @@
 -- Which debt is the first one whose message has a given To, where messages stand under the hashes of their Tos.
 -- `IsFirstPaid P t debts m` says that m is the message of the first debt of which P holds, and that a send of it at t pays that debt; or that there is no m,
 -- and P holds of none. `holds pairs h n` tells whether the number n stands under the hash h.
-use Rattle.sip_machine.proofs.Words.{◌<◌, ◌∷◌, ◌↔◌, IsTrue, ℕ, Option, None, Some, List, [], All, get_or, length, sym, subst, All-get_or, All-head, Debt, IsFirstPaid, PaysSome, paid_by, holds, owed_in, owes_names, Texts, Keeps, text_of, HasTo, All-back, All-front, IsWithoutFirst-alike, All-names, full_hash, FindsFirst, AreBetween, IsToOf, StandUnder, AppendsOwed}
-use Rattle.sip_machine.proofs.debts.NamesLemmas.{all-owed}
+use Rattle.sip_machine.proofs.Words.{◌<◌, ◌∷◌, ◌↔◌, ℕ, Option, None, Some, List, [], All, get_or, length, sym, subst, All-get_or, All-head, Debt, IsFirstPaid, PaysSome, paid_by, holds, owed_in, owes_names, Texts, Keeps, text_of, HasTo, All-back, All-front, IsWithoutFirst-alike, All-names, full_hash, FindsFirst, AreBetween, IsToOf, StandUnder}
 
 -- where P and Q hold of the same debts, the first debt of which P holds is the first of which Q holds
 pub FindsFirst-same : (P Q : Debt → Type 0) (t : ℕ) (debts : List Debt) (message : Option ℕ) → All (λ d. P d ↔ Q d) debts → FindsFirst P t debts message → FindsFirst Q t debts message
 FindsFirst-same P Q t debts None same none = λ k d low holds. none k d low ((same k d low).1 holds)
 FindsFirst-same P Q t debts (Some message) same first = IsWithoutFirst-alike P Q debts (paid_by message t debts) same first
-
--- where of the messages that are owed those with the To stand under 0, what is found under 0 is found with the To
-pub first-named : (texts : Texts) (to : List ℕ) (t : ℕ) (debts : List Debt) (names : List ℕ) (pairs : List (ℕ × ℕ)) (message : Option ℕ) → AppendsOwed (debts ∷ []) [] names →
-    All (λ n. IsTrue (holds pairs 0 n) ↔ IsToOf (text_of texts n) to) names → IsFirstPaid (PaysSome (holds pairs 0) t) t debts message → FindsFirst (HasTo texts to t) t debts message
-first-named texts to t debts names pairs message owed stand first =
-    let Stands : ℕ → Type 0 = λ n. IsTrue (holds pairs 0 n) ↔ IsToOf (text_of texts n) to in
-    FindsFirst-same (PaysSome (holds pairs 0) t) (HasTo texts to t) t debts message (λ k d within.
-    let here = All-names Stands debts (all-owed Stands debts names owed stand) k d within in
-    (λ pays. (here.0 pays.0, pays.1), λ has. (here.1 has.0, has.1))) (found message first)
-  where
-    -- what is found first and paid is found first
-    found : (message : Option ℕ) → IsFirstPaid (PaysSome (holds pairs 0) t) t debts message → FindsFirst (PaysSome (holds pairs 0) t) t debts message
-    found None none = none
-    found (Some message) first = first.0
 
 -- What follows is of a row at the moment t, and of `pairs`: what the index of Tos has for the kept messages with numbers from `low` up to `high`.
 module _ (texts : Texts) (to : List ℕ) (low high t : ℕ) (rows : List (List Debt)) (row : ℕ) (inside : row < length rows)

@@ -1,14 +1,26 @@
--- The debt that is owed first: where P holds of it, a send of its message at t pays it, and it is the first of which P holds.
-use Rattle.std.specs.Prelude.{◌≡◌, ◌≤◌, ℕ, true, Option, Some, None, List, [], ◌∷◌, All, is_some, slice_get}
-use Rattle.std.proofs.Common.{refl, sym, ap, subst, arith, cond, true≢false}
+-- How a debt is looked for: what is owed first, and the messages with a To. P holds of debts, of which a send at t pays one.
+use Rattle.std.specs.Prelude.{◌≡◌, ◌<◌, ◌≤◌, ◌+◌, ◌↔◌, ℕ, true, Option, Some, None, List, [], ◌∷◌, All, get_or, is_some, length, slice_get, take}
+use Rattle.std.proofs.Common.{refl, sym, ◌∙◌, ap, subst, inl, inr, arith, cond, true≢false}
+use Rattle.std.proofs.lemmas.Bool.{cases_eq, ne_eqb}
 use Rattle.std.proofs.lemmas.Bool.Decides.{nat_tests}
-use Rattle.std.proofs.lemmas.List.Elements.{All-nil, All-head}
+use Rattle.std.proofs.lemmas.List.{take_all}
+use Rattle.std.proofs.lemmas.List.Elements.{All-head, All-more, All-nil, All-weaker}
 use Rattle.std.proofs.lemmas.Option.{get_or_from_slice_get}
 use Rattle.sip_ledger.specs.declared.debt.Debt.{Debt}
-use Rattle.sip_ledger.specs.Debts.{is_payable, paid_by}
+use Rattle.sip_ledger.specs.Debts.{IsFirstPaid, PaysSome, is_payable, paid_by}
+use Rattle.sip_ledger.specs.Indexes.{holds}
+use Rattle.sip_ledger.proofs.lists.IndexLemmas.{none-held}
 use Rattle.sip_standard.specs.Debts.{IsWithoutFirst}
+use Rattle.sip_ledger.specs.Accounts.{AppendsOwed}
 use Rattle.sip_machine.specs.Owes.{owes_names}
+use Rattle.sip_machine.specs.Texts.{Texts, text_of}
+use Rattle.sip_machine.specs.inner.Acks.{HasTo}
 use Rattle.sip_machine.specs.inner.Paying.{FindsFirst}
+use Rattle.sip_machine.specs.inner.Tos.{IsChanged, IsToOf}
+use Rattle.sip_phases.proofs.debts.OwesLaws.{All-names}
+use Rattle.sip_machine.proofs.acks.HolderLemmas.{FindsFirst-same}
+use Rattle.sip_machine.proofs.acks.ToLemmas.{put-here, put-keeps}
+use Rattle.sip_machine.proofs.debts.NamesLemmas.{all-owed}
 
 -- a debt whose deadline is not past is paid by a send of its message
 payable-now : (t : ℕ) (debt : Debt) → t ≤ debt.deadline → is_payable debt.message t debt ≡ true
@@ -39,3 +51,62 @@ first-here P t debts debt is = begun (λ ds d. P d → t ≤ d.deadline → Find
   none_before = All-nil (λ x. ¬ (P x));
   rest = ap (λ b. cond b ds (d ∷ paid_by d.message t ds)) (payable-now t d now);
 })
+
+-- What follows is of the numbers that stand under 0 in `pairs`, and of the messages with a To.
+module _ (texts : Texts) (to : List ℕ) where
+  -- each number under 0 is of a message with the To, and of these names each whose message has it stands there
+  pub record AreWith (pairs : List (ℕ × ℕ)) (names : List ℕ) : Type 0 where
+    pub only : (n : ℕ) → holds pairs 0 n ≡ true → IsToOf (text_of texts n) to
+    pub each : All (λ n. IsToOf (text_of texts n) to → holds pairs 0 n ≡ true) names
+
+  -- none of no names stands there
+  pub with-none : (pairs : List (ℕ × ℕ)) (names : List ℕ) → pairs ≡ [] → AreWith pairs (take 0 names)
+  with-none pairs names none = record {
+    only = λ n is. absurd (none-held pairs (omega (arith, ap length none)) 0 n is);
+    each = All-nil (λ n. IsToOf (text_of texts n) to → holds pairs 0 n ≡ true);
+  }
+
+  -- one name more, whose message has another To
+  pub with-other : (pairs : List (ℕ × ℕ)) (names : List ℕ) (at n : ℕ) → AreWith pairs (take at names) → at < length names → ¬ (IsToOf (text_of texts (get_or names at n)) to) →
+      AreWith pairs (take (at + 1) names)
+  with-other pairs names at n are low other = record {
+    only = are.only;
+    each = All-more (λ n. IsToOf (text_of texts n) to → holds pairs 0 n ≡ true) names at n low are.each (λ its. absurd (other its));
+  }
+
+  -- one name more, whose message has the To, and which is put there
+  pub with-one : (old new : List (ℕ × ℕ)) (names : List ℕ) (at n : ℕ) → AreWith old (take at names) → at < length names → IsToOf (text_of texts (get_or names at n)) to →
+      IsChanged 0 (get_or names at n) true (Some old) (Some new) → AreWith new (take (at + 1) names)
+  with-one old new names at n are low its changed =
+      let name = get_or names at n in
+      let Old : ℕ → Type 0 = λ m. IsToOf (text_of texts m) to → holds old 0 m ≡ true in
+      let New : ℕ → Type 0 = λ m. IsToOf (text_of texts m) to → holds new 0 m ≡ true in
+      let kept = All-weaker Old New (λ m was has. put-keeps 0 name (Some old) (Some new) changed 0 m (was has)) (take at names) are.each in
+      record {
+        -- what stands there now is the name, or stood there
+        only = λ m is. elim (cases_eq m name) [
+          | inl same ↦ subst (λ k. IsToOf (text_of texts k) to) (sym same) its
+          | inr other ↦ are.only m (sym (changed 0 m ∙ ap (λ b. cond b true (holds old 0 m)) (ne_eqb m name other)) ∙ is)
+        ];
+        each = All-more New names at n low kept (λ _. put-here 0 name (Some old) (Some new) changed);
+      }
+
+  -- of all names those whose message has the To stand there, and no others
+  pub with-all : (pairs : List (ℕ × ℕ)) (names : List ℕ) (at : ℕ) → AreWith pairs (take at names) → length names ≤ at → All (λ n. (holds pairs 0 n ≡ true) ↔ IsToOf (text_of texts n) to) names
+  with-all pairs names at are past =
+      let all : All (λ n. IsToOf (text_of texts n) to → holds pairs 0 n ≡ true) names = subst (All (λ n. IsToOf (text_of texts n) to → holds pairs 0 n ≡ true)) (take_all at names past) are.each in
+      λ k n within. (are.only (get_or names k n), all k n within)
+
+-- where of the messages that are owed those with the To stand under 0, what is found under 0 is found with the To
+pub first-named : (texts : Texts) (to : List ℕ) (t : ℕ) (debts : List Debt) (names : List ℕ) (pairs : List (ℕ × ℕ)) (message : Option ℕ) → AppendsOwed (debts ∷ []) [] names →
+    All (λ n. (holds pairs 0 n ≡ true) ↔ IsToOf (text_of texts n) to) names → IsFirstPaid (PaysSome (holds pairs 0) t) t debts message → FindsFirst (HasTo texts to t) t debts message
+first-named texts to t debts names pairs message owed stand first =
+    let Stands : ℕ → Type 0 = λ n. (holds pairs 0 n ≡ true) ↔ IsToOf (text_of texts n) to in
+    FindsFirst-same (PaysSome (holds pairs 0) t) (HasTo texts to t) t debts message (λ k d within.
+    let here = All-names Stands debts (all-owed Stands debts names owed stand) k d within in
+    (λ pays. (here.0 pays.0, pays.1), λ has. (here.1 has.0, has.1))) (found message first)
+  where
+    -- what is found first and paid is found first
+    found : (message : Option ℕ) → IsFirstPaid (PaysSome (holds pairs 0) t) t debts message → FindsFirst (PaysSome (holds pairs 0) t) t debts message
+    found None none = none
+    found (Some message) first = first.0

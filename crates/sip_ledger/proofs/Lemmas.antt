@@ -1,5 +1,5 @@
 -- The names that answers and invariants cite, passed on from one place. Declares nothing.
-pub use Rattle.sip_ledger.proofs.Words.{Account, All, All-get_or, ap, AppendsOwed, AreAccounts, AreAppended, AreKept, AreMoved, AreRuns, AreStruckToo, arith, cases_eq, cases_lt, common_steps, cond, count_under, counts_at, Debt, debt_deadlines, drop, drop-take, earliest, Entry, entry_at, eq-eqb, false, false≢true, filter, Flags, from_to, Gains, get_or, get_or_append_left, get_or_default, get_or_push, IfOk-weaker, IfSome, inl, is_timely, IsClearedTo, IsFirstFrom, IsFirstOf, IsFirstPaid, IsGainAt, IsSeek, is_out, IsWritten, least_in, leb-true, length, length_push, List, ltb-false, map, nat_le, nat_lt, nat_tests, no_flags, None, NoneFrom, OnFalse_from, OnOk, OnTrue_from, owed_in, owes_message, paid_by, PaysSome, refl, rules, set, slice_get, softened_account, softened_debt, Some, sooner, Strike, subst, sym, take, take-length, take_all, take_more, true, true≢false, vec_capacity, with_items_is, [], ℕ, ◌%◌, ◌&&◌, ◌++◌, ◌+◌, ◌-◌, ◌<◌, ◌==◌, ◌^◌, ◌∙◌, ◌∷◌, ◌≡◌, ◌≢◌, ◌≤◌, ◌⊎◌}
+pub use Rattle.sip_ledger.proofs.Words.{Account, All, All-get_or, ap, AppendsOwed, AreAccounts, AreAppended, AreKept, AreMoved, AreRuns, AreStruckToo, arith, cases_eq, cases_lt, common_steps, cond, count_under, counts_at, Debt, debt_deadlines, drop, drop-take, earliest, Entry, entry_at, eq-eqb, false, false≢true, filter, Flags, from_to, Gains, get_or, get_or_append_left, get_or_default, get_or_push, IfOk-weaker, IfSome, inl, is_timely, IsClearedTo, IsFirstFrom, IsFirstPaying, IsFirstPaid, IsGainAt, IsSeek, is_out, IsWritten, least_in, leb-true, length, length_push, List, ltb-false, map, nat_le, nat_lt, nat_tests, no_flags, None, NoneFrom, OnFalse_from, OnOk, OnTrue_from, owed_in, owes_message, paid_by, PaysSome, refl, rules, set, slice_get, softened_account, softened_debt, Some, sooner, Strike, subst, sym, take, take-length, take_all, take_more, true, true≢false, vec_capacity, with_items_is, [], ℕ, ◌%◌, ◌&&◌, ◌++◌, ◌+◌, ◌-◌, ◌<◌, ◌==◌, ◌^◌, ◌∙◌, ◌∷◌, ◌≡◌, ◌≢◌, ◌≤◌, ◌⊎◌}
 unfoldable pub use Rattle.sip_ledger.proofs.Words.{account_debts, accounts_debts, debts_print, entries_of, holds, is_struck, owes_at, worth_of}
 pub use Rattle.sip_ledger.proofs.account.AccountLemmas.{debts_length, empty-account, empty-debts, kept-from, kept-passed, must-alike, owed-within}
 pub use Rattle.sip_ledger.proofs.account.FindLemmas.{below, below-parts, first-account, first-payable, found-kept, highest-first, left-next, newest-first, none-account, none-left, none-pays_late, none-pays_struck, none-pays_to, none-under, NonePays, one-found, owes-inside}

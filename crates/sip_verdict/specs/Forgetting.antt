@@ -9,7 +9,7 @@ use Rattle.sip_standard.specs.VerdictOf.{events_for}
 use Rattle.sip_verdict.specs.Entries.{newest_moment}
 use Rattle.sip_verdict.specs.SurveyOf.{IsSound}
 use Rattle.sip_verdict.specs.SurveyLaws.{IsIdleAgain, StandsOnlyIn}
-use Rattle.sip_verdict.specs.SurveyText.{IsLastOf}
+use Rattle.sip_verdict.specs.SurveyText.{IsLastEntryOf}
 
 -- the entries without the transactions that are not kept: each has its moment, its event, and the kept ones of the keys that it concerns
 abbrev pub remembered : (KeyParts → Bool) → List (Observation KeyParts) → List (Observation KeyParts)
@@ -27,4 +27,4 @@ IsOver p es key =
 
 -- the keys that are not kept are just those of the entries whose transaction is over and whose last entry has a number up to `until`
 abbrev pub ForgetsUpTo : ℕ → Times → List (Observation KeyParts) → (KeyParts → Bool) → Type 0
-ForgetsUpTo until p es kept = (key : KeyParts) → (kept key ≡ false) ↔ (IsOver p es key × ((last : ℕ) × IsLastOf es key last × (last ≤ until)))
+ForgetsUpTo until p es kept = (key : KeyParts) → (kept key ≡ false) ↔ (IsOver p es key × ((last : ℕ) × IsLastEntryOf es key last × (last ≤ until)))

@@ -8,18 +8,18 @@ use Rattle.sip_standard.specs.Observation.{Observation}
 use Rattle.sip_standard.specs.VerdictOf.{events_for}
 use Rattle.sip_standard.specs.PhaseWords.{words_of}
 use Rattle.sip_machine.specs.Told.{messages_told}
-use Rattle.sip_states.specs.KeyRules.{PhaseOf}
+use Rattle.sip_states.specs.KeyRules.{OwingOf}
 use Rattle.sip_verdict.specs.Entries.{newest_moment}
 
 -- the messages that a state names: those that its phase tells of, and those that are owed
-abbrev pub messages_of : (machine : MachineKind) → PhaseOf machine → List (List ℕ)
+abbrev pub messages_of : (machine : MachineKind) → OwingOf machine → List (List ℕ)
 messages_of machine x = messages_told (words_of machine x.phase) ++ map (λ owed. owed.message) x.owes
 
 -- a state in which a run of the key over the entries can stand at the newest names the message
 abbrev pub NamesOver : Times → List (Observation KeyParts) → KeyParts → List ℕ → Type 0
 NamesOver p es key text =
     let machine = machine_of_key p.rules key in
-    (x : PhaseOf machine) × Stands (transaction_of machine).figure p (events_for key es) (newest_moment es) x × Contains (messages_of machine x) text
+    (x : OwingOf machine) × Stands (transaction_of machine).figure p (events_for key es) (newest_moment es) x × Contains (messages_of machine x) text
 
 -- some key names the message over the entries
 abbrev pub IsNamed : Times → List (Observation KeyParts) → List ℕ → Type 0

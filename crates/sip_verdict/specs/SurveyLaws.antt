@@ -19,10 +19,10 @@ use Rattle.sip_verdict.specs.SurveyOf.{Breaks, Widens, HoldsOf}
 -- What follows is of the transactions in trouble.
 
 -- the finding is of the transaction with this number
-abbrev pub IsOf : ℕ → Finding → Type 0
-IsOf transaction (Malformed entry fault) = ⊥
-IsOf transaction (Breach entry number) = number ≡ transaction
-IsOf transaction (Undecided entry number) = number ≡ transaction
+abbrev pub IsFindingOf : ℕ → Finding → Type 0
+IsFindingOf transaction (Malformed entry fault) = ⊥
+IsFindingOf transaction (Breach entry number) = number ≡ transaction
+IsFindingOf transaction (Undecided entry number) = number ≡ transaction
 
 -- the findings have one of this kind of the key at the entry with this number, where keys have their numbers among those that are counted
 abbrev pub Names : (ℕ → ℕ → Finding) → (List (Observation KeyParts) → List KeyParts) → List (Observation KeyParts) → List Finding → KeyParts → ℕ → Type 0
@@ -80,7 +80,7 @@ HasSameRuns p es cuts key =
     → Stands key_machine.figure p (events_for key front) (newest_moment front) x ↔ Stands key_machine.figure p (events_for key back) (newest_moment back) x
 
 -- what the log of some keys keeps of the whole log: the chosen keys in their order, and the runs and the trouble of each
-pub record Keeps (p : Times) (chosen : KeyParts → Bool) (es : List (Observation KeyParts)) (cuts : List Item) : Type 0 where
+pub record KeepsChosen (p : Times) (chosen : KeyParts → Bool) (es : List (Observation KeyParts)) (cuts : List Item) : Type 0 where
   pub seen : List (Observation KeyParts)
   pub are : AreSeen [] cuts seen
   pub keys : keys_in seen ≡ chosen_in chosen es

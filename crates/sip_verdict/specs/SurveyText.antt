@@ -22,15 +22,15 @@ use Rattle.sip_verdict.specs.Entries.{concerns}
 use Rattle.sip_standard.specs.declared.verdict.Verdict.TheVariants as verdicts
 
 -- the first of the entries that concern the transaction has this number, and its message spells the branch as these bytes
-abbrev pub IsFirstOf : List (Observation KeyParts) → KeyParts → ℕ → List ℕ → Type 0
-IsFirstOf es key number branch =
+abbrev pub IsFirstEntryOf : List (Observation KeyParts) → KeyParts → ℕ → List ℕ → Type 0
+IsFirstEntryOf es key number branch =
     (before : List (Observation KeyParts)) × (e : Observation KeyParts) × (after : List (Observation KeyParts)) × (es ≡ before ++ e ∷ after)
     × (concerns key e ≡ true) × All (λ o. concerns key o ≡ false) before × (number ≡ length before + 1)
     × ((s : Said) × Says e.event.text (gives s) × (s.via.branch ≡ Some branch))
 
 -- the last of the entries that concern the transaction has this number
-abbrev pub IsLastOf : List (Observation KeyParts) → KeyParts → ℕ → Type 0
-IsLastOf es key number =
+abbrev pub IsLastEntryOf : List (Observation KeyParts) → KeyParts → ℕ → Type 0
+IsLastEntryOf es key number =
     (before : List (Observation KeyParts)) × (e : Observation KeyParts) × (after : List (Observation KeyParts)) × (es ≡ before ++ e ∷ after)
     × (concerns key e ≡ true) × All (λ o. concerns key o ≡ false) after × (number ≡ length before + 1)
 
@@ -51,7 +51,7 @@ line_with f (Some t) = rendered (verdict_of f) ++ told_words t ++ line_feed ∷ 
 -- these bytes are the words for the transaction after the entries
 abbrev pub AreWordsOf : List (Observation KeyParts) → List ℕ → KeyParts → Type 0
 AreWordsOf es words key =
-    (branch : List ℕ) × (first : ℕ) × (last : ℕ) × IsFirstOf es key first branch × IsLastOf es key last × (words ≡ transaction_words key branch first last)
+    (branch : List ℕ) × (first : ℕ) × (last : ℕ) × IsFirstEntryOf es key first branch × IsLastEntryOf es key last × (words ≡ transaction_words key branch first last)
 
 -- the line of a finding at the last of these entries: the words of a verdict, and after them those for its transaction, where it is of one
 abbrev pub IsLineOf : List (Observation KeyParts) → Finding → List ℕ → Type 0

@@ -14,7 +14,7 @@ use Rattle.sip_verdict.specs.SurveyOf.{IsSound}
 use Rattle.sip_verdict.specs.inner.Surveying.{TablesSurvey}
 use Rattle.sip_verdict.specs.declared.histories.Histories.{Histories}
 use Rattle.sip_verdict.specs.declared.histories.History.{History}
-use Rattle.sip_verdict.specs.SurveyText.{IsFirstOf, IsLastOf}
+use Rattle.sip_verdict.specs.SurveyText.{IsFirstEntryOf, IsLastEntryOf}
 use Rattle.sip_standard.specs.VerdictOf.{keys_in}
 use Rattle.sip_verdict.specs.declared.step_error.StepError.TheVariants as errors
 use Rattle.sip_verdict.specs.declared.survey_end.SurveyEnd.TheVariants as ended
@@ -25,8 +25,8 @@ IsStillNamed p es text = (key : KeyParts) × IsSound p es key × NamesOver p es 
 
 -- the history tells the first of the entries that concern the transaction, with its branch, and the last one, which may be the newest restart
 pub record IsHistoryOf (es : List (Observation KeyParts)) (restart : ℕ) (key : KeyParts) (h : History) : Type 0 where
-  pub first : IsFirstOf es key h.first h.branch.items
-  pub last : IsLastOf es key (max h.last restart)
+  pub first : IsFirstEntryOf es key h.first h.branch.items
+  pub last : IsLastEntryOf es key (max h.last restart)
 
 -- there is a history of each transaction of the entries, in the order of the transactions
 pub record AreHistories (es : List (Observation KeyParts)) (b : Histories) : Type 0 where

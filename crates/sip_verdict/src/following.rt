@@ -12,7 +12,7 @@ ghost use Rattle.sip_standard.specs.VerdictOf.{keys_in, Sees};
 ghost use Rattle.sip_verdict.specs.SurveyOf.{AreFoundAt};
 ghost use Rattle.sip_verdict.specs.Forgetting.{ForgetsUpTo, remembered};
 ghost use Rattle.sip_verdict.specs.Named.{AreFew, AreMany};
-ghost use Rattle.sip_verdict.specs.SurveyText.{IsFirstOf, IsLastOf};
+ghost use Rattle.sip_verdict.specs.SurveyText.{IsFirstEntryOf, IsLastEntryOf};
 ghost use Rattle.sip_verdict.specs.Room.{HasRoom};
 ghost use Rattle.sip_verdict.specs.Surveys.{IsStillNamed, MayAnswer, MayFollow, SurveysFor, end_after};
 
@@ -237,7 +237,7 @@ impl<H: BuildHasher + Drop> Survey<H> {
     /// The transaction with this number, by which a finding names it, and None where no transaction has the number.
     pub fn transaction(&self, number: u64) -> Option<Transaction<'_>>
         ensures { (es : List (Observation KeyParts)) → SurveysFor self.now es → 0 < number
-            → IfSome (slice_get (keys_in es) (number - 1)) (λ key. IsSomeAnd result (λ t. (t.key.now ≡ key) × IsFirstOf es key t.first t.branch.now × IsLastOf es key t.last)) }
+            → IfSome (slice_get (keys_in es) (number - 1)) (λ key. IsSomeAnd result (λ t. (t.key.now ≡ key) × IsFirstEntryOf es key t.first t.branch.now × IsLastEntryOf es key t.last)) }
     {
         let key = self.standing.key(number)?;
         let history = self.histories.each.get(number as usize - 1)?;

@@ -40,13 +40,13 @@ least_in (Included message) = message
 least_in (Excluded message) = message + 1
 
 -- the gain at the place is kept
-pub record IsKept (gains : Gains) (k : ℕ) : Type 0 where
+pub record IsUndropped (gains : Gains) (k : ℕ) : Type 0 where
   pub from : gains.end ≤ k + length gains.entries.items
   pub within : k < gains.end
 
 -- the gain at the place is kept, and is of this message
 pub record IsPlaceOf (gains : Gains) (m k : ℕ) : Type 0 where
-  pub kept : IsKept gains k
+  pub kept : IsUndropped gains k
   pub message : (entry_at (entries_of gains) k).message ≡ m
 
 -- the deadlines of the entries never fall
@@ -64,9 +64,9 @@ flags_at gains k = get_or gains.flags.items (k - (gains.end - length gains.entri
 -- each gain that is kept has its flags, and they are right; where one is newest, no gain that is kept before it has a greater message
 pub record AreFlags (gains : Gains) : Type 0 where
   pub many : length gains.flags.items ≡ length gains.entries.items
-  pub left : (k : ℕ) → IsKept gains k → (flags_at gains k).left ≡ is_left gains k
-  pub must : (k : ℕ) → IsKept gains k → (flags_at gains k).must ≡ holds gains.musts 0 k
-  pub newest : (j k : ℕ) → j ≤ k → IsKept gains j → IsKept gains k → (flags_at gains k).newest ≡ true → (entry_at (entries_of gains) j).message ≤ (entry_at (entries_of gains) k).message
+  pub left : (k : ℕ) → IsUndropped gains k → (flags_at gains k).left ≡ is_left gains k
+  pub must : (k : ℕ) → IsUndropped gains k → (flags_at gains k).must ≡ holds gains.musts 0 k
+  pub newest : (j k : ℕ) → j ≤ k → IsUndropped gains j → IsUndropped gains k → (flags_at gains k).newest ≡ true → (entry_at (entries_of gains) j).message ≤ (entry_at (entries_of gains) k).message
 
 -- what holds of the gains at all times: no more are kept than there were, and a place is a number of the code; what stands under a message are gains
 -- of it that are kept; what must be sent was gained; deadlines never fall where `rises` says so; no message is above the highest; the flags are right
@@ -76,7 +76,7 @@ pub record AreGains (gains : Gains) : Type 0 where
   pub messages : (m k : ℕ) → holds gains.messages m k ≡ true → IsPlaceOf gains m k
   pub musts : (k : ℕ) → holds gains.musts 0 k ≡ true → k < gains.end
   pub rises : gains.rises ≡ true → AreRising gains.entries.items
-  pub highest : (k : ℕ) → IsKept gains k → (entry_at (entries_of gains) k).message ≤ gains.highest
+  pub highest : (k : ℕ) → IsUndropped gains k → (entry_at (entries_of gains) k).message ≤ gains.highest
   pub flags : AreFlags gains
 
 -- the place stands under the debt's message, and among those of what must be sent if it must; no other place moves
@@ -220,9 +220,9 @@ abbrev pub PaysSomeAt : List Entry → (ℕ → Bool) → ℕ → ℕ → Type 0
 PaysSomeAt entries test t k = (test (entry_at entries k).message ≡ true) × (t ≤ (entry_at entries k).deadline)
 
 -- the first place that is owed and whose gain a send at t of a message that passes the test pays, if there is one
-abbrev pub IsFirstOf : List Entry → (ℕ → Bool) → (ℕ → Bool) → ℕ → Option ℕ → Type 0
-IsFirstOf entries owes test t None = (k : ℕ) → owes k ≡ true → ¬ (PaysSomeAt entries test t k)
-IsFirstOf entries owes test t (Some place) =
+abbrev pub IsFirstPaying : List Entry → (ℕ → Bool) → (ℕ → Bool) → ℕ → Option ℕ → Type 0
+IsFirstPaying entries owes test t None = (k : ℕ) → owes k ≡ true → ¬ (PaysSomeAt entries test t k)
+IsFirstPaying entries owes test t (Some place) =
     (owes place ≡ true) × PaysSomeAt entries test t place × ((k : ℕ) → k < place → owes k ≡ true → ¬ (PaysSomeAt entries test t k))
 
 -- the lesser of two places, where there are some

@@ -1,6 +1,6 @@
 //! What one row owes of what was gained.
 ghost use Rattle.std.specs.Prelude.{◌≡◌, ◌≢◌, ◌↔◌, ◌<◌, ◌≤◌, ◌*◌, ◌%◌, ◌^◌, ◌++◌, ◌∷◌, ◌+◌};
-ghost use Rattle.sip_ledger.specs.inner.Words.{[], ℕ, Bool, true, false, Some, IfOk, IfSome, IfNone, IsTrue, OnOk, OnErr, bit_xor, filter, length, option_to_list, take, OnTrue, counts_at, debt_deadlines, earliest, is_timely, paid_by, worth_of, debt_of, Account, AreGains, IsAccount, IsExpiredTo, IsFirstOf, IsFirstPayable, IsGainAt, IsKept, IsNextGain, IsPlaceOf, IsSeek, IsStruck, IsWithout, KeepsAccounts, SharesNext, account_debts, entries_of, entry_at, is_gone, is_struck, must_at, owes_at, pays_at, softened_account, sooner, strikes_of, count_under, holds};
+ghost use Rattle.sip_ledger.specs.inner.Words.{[], ℕ, Bool, true, false, Some, IfOk, IfSome, IfNone, IsTrue, OnOk, OnErr, bit_xor, filter, length, option_to_list, take, OnTrue, counts_at, debt_deadlines, earliest, is_timely, paid_by, worth_of, debt_of, Account, AreGains, IsAccount, IsExpiredTo, IsFirstPaying, IsFirstPayable, IsGainAt, IsUndropped, IsNextGain, IsPlaceOf, IsSeek, IsStruck, IsWithout, KeepsAccounts, SharesNext, account_debts, entries_of, entry_at, is_gone, is_struck, must_at, owes_at, pays_at, softened_account, sooner, strikes_of, count_under, holds};
 
 use crate::accounts::gains::Gains;
 use crate::accounts::seek::Seek;
@@ -192,7 +192,7 @@ pub(crate) fn find_under(
 ) -> Option<Option<usize>>
     requires gained { AreGains gains.now }
     requires account { IsAccount gains.now strikes.now account }
-    ensures first { IfSome result (IsFirstOf (entries_of gains.now) (owes_at gains.now strikes.now account) (holds index.now key) moment) }
+    ensures first { IfSome result (IsFirstPaying (entries_of gains.now) (owes_at gains.now strikes.now account) (holds index.now key) moment) }
     ensures told { IfNone result (most ≤ count_under index.now key) }
 {
     let mut first = None;
@@ -239,7 +239,7 @@ fn sooner(one: Option<usize>, other: Option<usize>) -> Option<usize>
 #[tactic(auto, using(crate::proofs::account::AccountLemmas::must_by_place))]
 fn must(gains: &Gains, account: Account, place: usize) -> bool
     requires gained { AreGains gains.now }
-    requires kept { IsKept gains.now place }
+    requires kept { IsUndropped gains.now place }
     ensures { result ≡ must_at gains.now account place }
 {
     if place < account.soft {
@@ -254,7 +254,7 @@ fn must(gains: &Gains, account: Account, place: usize) -> bool
 fn expire(gains: &Gains, strikes: &mut Strikes, account: Account, place: usize, moment: u64) -> Made
     requires gained { AreGains gains.now }
     requires account { IsAccount gains.now strikes.old.items account }
-    requires kept { IsKept gains.now place }
+    requires kept { IsUndropped gains.now place }
     ensures kept { take (length strikes.old.items) strikes.new.items ≡ strikes.old.items }
     ensures account { IfOk result (IsAccount gains.now strikes.new.items) }
     ensures soft { IfOk result (λ new. new.soft ≡ account.soft) }
@@ -577,7 +577,7 @@ fn earlier(moment: u64, other: Option<u64>) -> u64
 /// What the account owes at a place, as far as it owes something there.
 pub(crate) fn debt_for(gains: &Gains, account: Account, place: usize) -> Debt
     requires gained { AreGains gains.now }
-    requires kept { IsKept gains.now place }
+    requires kept { IsUndropped gains.now place }
     ensures { result ≡ debt_of (entry_at (entries_of gains.now) place) (must_at gains.now account place) }
 {
     let entry = gains.entry(place);

@@ -1,6 +1,6 @@
 //! What the rows gained: one list for all.
 ghost use Rattle.std.specs.Prelude.{◌≡◌, ◌<◌, ◌≤◌, ◌+◌, ◌==◌, ◌&&◌, ◌++◌, ◌∷◌};
-ghost use Rattle.sip_ledger.specs.inner.Words.{ℕ, [], IfSome, IfNone, MatchOption, OnOk, OnErr, cond, length, true, false, OnTrue, AreGains, AreRising, AreSameGains, IsDropped, IsGain, IsKept, IsLetGo, IsNext, IsNoted, IsPlaceOf, IsSeek, entries_of, entry_at, flags_at, holds, least_in};
+ghost use Rattle.sip_ledger.specs.inner.Words.{ℕ, [], IfSome, IfNone, MatchOption, OnOk, OnErr, cond, length, true, false, OnTrue, AreGains, AreRising, AreSameGains, IsDropped, IsGain, IsUndropped, IsLetGo, IsNext, IsNoted, IsPlaceOf, IsSeek, entries_of, entry_at, flags_at, holds, least_in};
 
 use crate::accounts::seek::Seek;
 use crate::debt::{Debt, Entry};
@@ -68,7 +68,7 @@ impl Gains {
     #[tactic(auto, using(crate::proofs::gains::LeftLemmas::entry_index))]
     pub(crate) fn entry(&self, place: usize) -> Entry
         requires gained { AreGains self.now }
-        requires kept { IsKept self.now place }
+        requires kept { IsUndropped self.now place }
         ensures { result ≡ entry_at (entries_of self.now) place }
     {
         self.entries[place - (self.end - self.entries.len())]
@@ -77,7 +77,7 @@ impl Gains {
     /// The flags of the gain at the place.
     pub(crate) fn flags(&self, place: usize) -> Flags
         requires gained { AreGains self.now }
-        requires kept { IsKept self.now place }
+        requires kept { IsUndropped self.now place }
         ensures { result ≡ flags_at self.now place }
     {
         self.flags[place - (self.end - self.entries.len())]
@@ -105,7 +105,7 @@ impl Gains {
     #[tactic(auto, using(crate::proofs::gains::LeftLemmas::rising_kept))]
     pub(crate) fn all_count(&self, moment: u64) -> bool
         requires { AreGains self.now }
-        ensures { OnTrue result ((k : ℕ) → IsKept self.now k → moment ≤ (entry_at (entries_of self.now) k).deadline) }
+        ensures { OnTrue result ((k : ℕ) → IsUndropped self.now k → moment ≤ (entry_at (entries_of self.now) k).deadline) }
     {
         if self.entries.is_empty() {
             return true;
@@ -180,8 +180,8 @@ impl Gains {
     /// Whether there is a place, and no gain that is kept up to it has a greater message than the one there.
     pub(crate) fn is_newest(&self, place: Option<usize>) -> bool
         requires gained { AreGains self.now }
-        requires kept { IfSome place (IsKept self.now) }
-        ensures { OnTrue result (MatchOption place ⊥ (λ at. (k : ℕ) → k ≤ at → IsKept self.now k → (entry_at (entries_of self.now) k).message ≤ (entry_at (entries_of self.now) at).message)) }
+        requires kept { IfSome place (IsUndropped self.now) }
+        ensures { OnTrue result (MatchOption place ⊥ (λ at. (k : ℕ) → k ≤ at → IsUndropped self.now k → (entry_at (entries_of self.now) k).message ≤ (entry_at (entries_of self.now) at).message)) }
     {
         match place {
             Some(place) => self.flags(place).newest,
@@ -210,7 +210,7 @@ impl Gains {
     /// Lets the gain at the place go: it is not left any more.
     pub(crate) fn let_go(&mut self, place: usize)
         requires gained { AreGains self.old }
-        requires kept { IsKept self.old place }
+        requires kept { IsUndropped self.old place }
         ensures gained { AreGains self.new }
         ensures gone { IsLetGo place self.old self.new }
     {

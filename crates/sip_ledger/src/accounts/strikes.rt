@@ -1,6 +1,6 @@
 //! What is not owed of what was gained.
 ghost use Rattle.std.specs.Prelude.{◌≡◌, ◌<◌, ◌≤◌, ◌+◌, ◌++◌};
-ghost use Rattle.sip_ledger.specs.inner.Words.{ℕ, true, false, IfOk, IfSome, IfNone, OnOk, OnErr, filter, length, take, nat_lt, OnTrue, OnFalse, from_to, AreGains, AreStruckToo, IsKept, IsNoneBetween, IsStruck, IsWritten, Lengthens, Reaches, StrikeToo, is_out, is_struck};
+ghost use Rattle.sip_ledger.specs.inner.Words.{ℕ, true, false, IfOk, IfSome, IfNone, OnOk, OnErr, filter, length, take, nat_lt, OnTrue, OnFalse, from_to, AreGains, AreStruckToo, IsUndropped, IsNoneBetween, IsStruck, IsWritten, Lengthens, Reaches, StrikeToo, is_out, is_struck};
 
 use crate::accounts::account::{Account, Made};
 use crate::accounts::gains::Gains;
@@ -109,7 +109,7 @@ fn copy_some(strikes: &mut Strikes, first: usize, last: usize, start: usize) -> 
 /// there is one of its message that reaches up to it.
 fn lengthen(gains: &Gains, strikes: &mut [Strike], first: usize, place: usize) -> bool
     requires gained { AreGains gains.now }
-    requires kept { IsKept gains.now place }
+    requires kept { IsUndropped gains.now place }
     ensures found { OnTrue result (Lengthens gains.now place first strikes.old strikes.new) }
     ensures none { OnFalse result (strikes.new ≡ strikes.old) }
 {
@@ -125,7 +125,7 @@ fn lengthen(gains: &Gains, strikes: &mut [Strike], first: usize, place: usize) -
 /// Whether the strike is of the message that was gained at the place, and ends where nothing else of it is left before the place.
 fn reaches(gains: &Gains, strike: Strike, place: usize) -> bool
     requires gained { AreGains gains.now }
-    requires kept { IsKept gains.now place }
+    requires kept { IsUndropped gains.now place }
     ensures { OnTrue result (Reaches gains.now place strike) }
 {
     if strike.message != gains.entry(place).message || place < strike.from {
@@ -180,7 +180,7 @@ pub(crate) fn put(
 ) -> Made
     requires gained { AreGains gains.now }
     requires order { from ≤ to }
-    requires kept { (k : ℕ) → from ≤ k → k < to → IsKept gains.now k }
+    requires kept { (k : ℕ) → from ≤ k → k < to → IsUndropped gains.now k }
     requires first { account.first ≤ account.last }
     requires last { account.last ≤ length strikes.old.items }
     ensures kept { take (length strikes.old.items) strikes.new.items ≡ strikes.old.items }
@@ -202,7 +202,7 @@ pub(crate) fn put(
 /// new one is put after them. On an error the strikes are as before.
 fn strike_too(gains: &Gains, strikes: &mut Strikes, first: usize, place: usize) -> Written
     requires gained { AreGains gains.now }
-    requires kept { IsKept gains.now place }
+    requires kept { IsUndropped gains.now place }
     requires first { first ≤ length strikes.old.items }
     ensures ok { OnOk result (StrikeToo gains.now place first strikes.old.items strikes.new.items) }
     ensures err { OnErr result (strikes.new.items ≡ strikes.old.items) }

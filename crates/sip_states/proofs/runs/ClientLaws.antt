@@ -28,7 +28,7 @@ use Rattle.sip_standard.specs.InviteClient as invite
 use Rattle.sip_standard.specs.PlainClient as plain
 use Rattle.sip_states.proofs.runs.Steps.{Step, Hides, Takes, Does, Goes, taken, AfterRun}
 use Rattle.sip_standard.specs.KeyMachine.{OfInvite, OfPlain, machine_of}
-use Rattle.sip_states.specs.KeyRules.{PhaseOf, key_rules}
+use Rattle.sip_states.specs.KeyRules.{OwingOf, key_rules}
 use Rattle.sip_states.proofs.runs.RunLemmas.{Goes-last}
 use Rattle.sip_states.proofs.runs.FewerLemmas.{Goes-through}
 
@@ -437,7 +437,7 @@ plain_silent p =
     (λ code e x y h is final low. plain_finishes p code e y is final x.phase x.owes low h) (plain_sends p)
 
 -- a client that has received a final response to a request that is no INVITE sends nothing, by the rules of RFC 3261 and of RFC 6026
-pub plain_after_final : (p : Times) (rules : Rules) (before between later : List MachineEvent) (request final e : MachineEvent) (code : ℕ) (y : PhaseOf (machine_of rules Client false)) →
+pub plain_after_final : (p : Times) (rules : Rules) (before between later : List MachineEvent) (request final e : MachineEvent) (code : ℕ) (y : OwingOf (machine_of rules Client false)) →
     request.action ≡ Sent → IsRequest request.kind → final.action ≡ Received → final.kind ≡ Response code → IsFinal code → e.action ≡ Sent →
     AfterRun (key_rules p (machine_of rules Client false)) (before ++ request ∷ (between ++ final ∷ later)) e y → ⊥
 plain_after_final p R6026 = plain_silent p

@@ -17,7 +17,7 @@ use Rattle.sip_phases.proofs.phases.InviteServer3261Laws.{invite_server_3261_is_
 use Rattle.sip_phases.specs.inner.PlainServer.{plain_server_coded}
 use Rattle.sip_phases.proofs.phases.PlainServerLaws.{plain_server_is_coded}
 use Rattle.sip_states.specs.Held.{Held}
-use Rattle.sip_states.specs.KeyRules.{PhaseOf}
+use Rattle.sip_states.specs.KeyRules.{OwingOf}
 use Rattle.sip_states.specs.Meaning.{Meaning}
 use Rattle.sip_states.specs.declared.any_set.AnySet.{AnySet}
 use Rattle.sip_states.specs.declared.any_set.AnySet.TheVariants.{InviteClient, PlainClient, InviteServer, PlainServer, InviteClient3261, InviteServer3261}
@@ -46,15 +46,15 @@ abbrev pub coded_of : (machine : MachineKind) → Coded (transaction_of machine)
 coded_of machine = (code_of machine).phases
 
 -- a state of the machine as the code represents it
-abbrev pub StateOf : MachineKind → Type 0
-StateOf machine = CodeOwing (coded_of machine).Code
+abbrev pub CodeOwingOf : MachineKind → Type 0
+CodeOwingOf machine = CodeOwing (coded_of machine).Code
 
 -- the set of this machine that holds these states
-abbrev pub set_of : (machine : MachineKind) → Held Times (StateOf machine) → AnySet
+abbrev pub set_of : (machine : MachineKind) → Held Times (CodeOwingOf machine) → AnySet
 set_of machine s = (code_of machine).set s
 
 -- what the states of a machine mean
-abbrev pub meaning_of : (machine : MachineKind) → Meaning (PhaseOf machine) Times (StateOf machine)
+abbrev pub meaning_of : (machine : MachineKind) → Meaning (OwingOf machine) Times (CodeOwingOf machine)
 meaning_of machine =
     let figure = (transaction_of machine).figure in
     let c = coded_of machine in
@@ -69,7 +69,7 @@ meaning_of machine =
     }
 
 -- What follows is of what is given of the set of each machine.
-module _ {ℓ} (P : AnySet → Type ℓ) (of : (machine : MachineKind) (s : Held Times (StateOf machine)) → P (set_of machine s)) where
+module _ {ℓ} (P : AnySet → Type ℓ) (of : (machine : MachineKind) (s : Held Times (CodeOwingOf machine)) → P (set_of machine s)) where
   -- what is given of the set of each machine, given of any set
   abbrev pub each_set : (set : AnySet) → P set
   each_set (InviteClient s) = of (OfInvite R6026 Client) s
@@ -80,11 +80,11 @@ module _ {ℓ} (P : AnySet → Type ℓ) (of : (machine : MachineKind) (s : Held
   each_set (PlainServer s) = of (OfPlain Server) s
 
 -- what is given of the machine of the set and of what the set holds
-abbrev pub by_machine {ℓ} : {A : Type ℓ} → ((machine : MachineKind) → Held Times (StateOf machine) → A) → AnySet → A
+abbrev pub by_machine {ℓ} : {A : Type ℓ} → ((machine : MachineKind) → Held Times (CodeOwingOf machine) → A) → AnySet → A
 by_machine {A} of set = each_set (λ any. A) of set
 
 -- what the set that a machine starts with holds: its first state, at moment 0
-abbrev pub held_at_start : Times → (machine : MachineKind) → Held Times (StateOf machine)
+abbrev pub held_at_start : Times → (machine : MachineKind) → Held Times (CodeOwingOf machine)
 held_at_start p machine = record { machine = p; moment = 0; states = idle_state (coded_of machine) ∷ [] }
 
 -- the set that a machine starts with, as one of the sets of all machines

@@ -13,8 +13,8 @@ use Rattle.sip_machine.proofs.texts.RetainLemmas.{length-only}
 use Rattle.sip_states.specs.Waits.{Wait}
 use Rattle.sip_states.specs.Held.{Held}
 use Rattle.sip_standard.specs.KeyMachine.{MachineKind, machine_of_key, transaction_of}
-use Rattle.sip_states.specs.inner.KeySets.{StateOf, meaning_of}
-use Rattle.sip_states.specs.KeyRules.{PhaseOf, key_rules}
+use Rattle.sip_states.specs.inner.KeySets.{CodeOwingOf, meaning_of}
+use Rattle.sip_states.specs.KeyRules.{OwingOf, key_rules}
 use Rattle.sip_states.specs.Meaning.{HasWaited}
 use Rattle.sip_states.specs.AnySet.{moment_of, SetWaits}
 use Rattle.sip_states.specs.Sweep.{numbers_of, IsAdvanced}
@@ -38,7 +38,7 @@ use Rattle.sip_verdict.proofs.sweeps.NamedLemmas.{RunNames, IsNumberOf, waited_n
 
 -- a run over no event stands in the first state
 -- y is the state in which the run stands at the moment m
-stays_first : (p : Times) (machine : MachineKind) (m : ℕ) (y : PhaseOf machine) → Stands (transaction_of machine).figure p [] m y → y ≡ (key_rules p machine).first
+stays_first : (p : Times) (machine : MachineKind) (m : ℕ) (y : OwingOf machine) → Stands (transaction_of machine).figure p [] m y → y ≡ (key_rules p machine).first
 stays_first p machine m y run = go ((stands_first p machine m y).0 run)
   where
     -- a run over no event stays in the first state, which has no end
@@ -87,11 +87,11 @@ module _ (texts : Texts) (book : IsBook texts) (p : Times) (moment : ℕ) where
   -- What follows is of one key, whose runs name just what its set names: `old` is its set before the wait, and `new` after it; `text` is any message.
   module _ (machine : MachineKind) (events : List MachineEvent) (from : ℕ) (old new : AnySet) (leads : LeadsOf texts p machine events from old) (late : from ≤ moment) (low : moment_of old ≤ moment) (text : List ℕ) where
     -- what the code holds for the set
-    abbrev held : Held Times (StateOf machine)
+    abbrev held : Held Times (CodeOwingOf machine)
     held = leads.0
 
     -- the rules of the machine
-    abbrev r : MachineRules (PhaseOf machine)
+    abbrev r : MachineRules (OwingOf machine)
     r = (meaning_of machine).rules p
 
     -- the set has waited no longer than until the moment

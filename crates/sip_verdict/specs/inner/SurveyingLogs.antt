@@ -16,7 +16,7 @@ use Rattle.sip_verdict.specs.declared.surveying.Counts.{Counts}
 use Rattle.sip_standard.specs.Observation.{Observation}
 use Rattle.sip_verdict.specs.SurveyOf.{IsSurveyAfter, IsSurveyOf, IsFoundAt}
 use Rattle.sip_verdict.specs.SurveyParts.{IsPartSurveyOf, IsPartToldOf, IsTaken}
-use Rattle.sip_verdict.specs.SurveyText.{SumsUp, is_undecided, IsFirstOf, IsLastOf, IsLineOf, IsToldOf}
+use Rattle.sip_verdict.specs.SurveyText.{SumsUp, is_undecided, IsFirstEntryOf, IsLastEntryOf, IsLineOf, IsToldOf}
 use Rattle.sip_verdict.specs.Surveys.{Surveying, SurveysFor}
 use Rattle.sip_verdict.specs.inner.Walking.{HasRead}
 use Rattle.sip_standard.specs.Times.{Times}
@@ -38,7 +38,7 @@ pub record AreCounted (found : List Finding) (old new : Counts) : Type 0 where
   pub undecided : new.undecided ≡ old.undecided + length (filter is_undecided found)
 
 -- the counts are those of these findings, and these lines were written
-pub record AreTold (found : List Finding) (lines : List ℕ) (counts : Counts) (before after : Option (List ℕ)) : Type 0 where
+pub record HasWritten (found : List Finding) (lines : List ℕ) (counts : Counts) (before after : Option (List ℕ)) : Type 0 where
   pub findings : counts.findings ≡ length found
   pub undecided : counts.undecided ≡ length (filter is_undecided found)
   pub written : Appends before after lines
@@ -46,7 +46,7 @@ pub record AreTold (found : List Finding) (lines : List ℕ) (counts : Counts) (
 -- the survey tells the transaction with this number
 abbrev pub Tells : Surveying → ℕ → Option Transaction → Type 0
 Tells s number told = (es : List (Observation KeyParts)) → SurveysFor s es → 0 < number
-    → IfSome (slice_get (keys_in es) (number - 1)) (λ key. IsSomeAnd told (λ t. (t.key.now ≡ key) × IsFirstOf es key t.first t.branch.now × IsLastOf es key t.last))
+    → IfSome (slice_get (keys_in es) (number - 1)) (λ key. IsSomeAnd told (λ t. (t.key.now ≡ key) × IsFirstEntryOf es key t.first t.branch.now × IsLastEntryOf es key t.last))
 
 -- the survey tells the transaction of the finding; a fault of a message has no transaction
 abbrev pub TellsOf : Surveying → Finding → Option Transaction → Type 0

@@ -26,7 +26,7 @@ use Rattle.sip_verdict.specs.declared.histories.History.{History}
 use Rattle.sip_verdict.specs.declared.troubled.Troubled.{Troubled}
 use Rattle.sip_verdict.specs.Forgetting.{remembered, IsOver, ForgetsUpTo}
 use Rattle.sip_verdict.specs.Entries.{concerns, newest_moment}
-use Rattle.sip_verdict.specs.SurveyText.{IsFirstOf, IsLastOf}
+use Rattle.sip_verdict.specs.SurveyText.{IsFirstEntryOf, IsLastEntryOf}
 use Rattle.sip_verdict.specs.Surveys.{IsHistoryOf, AreHistories}
 use Rattle.sip_verdict.specs.inner.Forgetting.{IsPast, AreFlags, AreQuietIfOver, TellsPast}
 use Rattle.sip_verdict.specs.inner.Surveying.{AreWatched, IsFollowed, TablesSurvey}
@@ -133,12 +133,12 @@ module _ (kept : KeyParts → Bool) (key : KeyParts) (is : kept key ≡ true) wh
   one e = record { fault = e.fault; event = e.event; keys = filter kept e.keys }
 
   -- where an entry is the first of the key, it is the first of the key as the entries are remembered
-  first_kept : (es : List (Observation KeyParts)) (n : ℕ) (branch : List ℕ) → IsFirstOf es key n branch → IsFirstOf (remembered kept es) key n branch
+  first_kept : (es : List (Observation KeyParts)) (n : ℕ) (branch : List ℕ) → IsFirstEntryOf es key n branch → IsFirstEntryOf (remembered kept es) key n branch
   first_kept es n branch (before, e, after, whole, at, none, counts, says) =
       (remembered kept before, one e, remembered kept after, ap (remembered kept) whole ∙ map-append one before (e ∷ after), same_of e ∙ at, none_of before none, counts ∙ ap (λ k. k + 1) (sym (length-map before one)), says)
 
   -- where an entry is the last of the key, it is the last of the key as the entries are remembered
-  last_kept : (es : List (Observation KeyParts)) (n : ℕ) → IsLastOf es key n → IsLastOf (remembered kept es) key n
+  last_kept : (es : List (Observation KeyParts)) (n : ℕ) → IsLastEntryOf es key n → IsLastEntryOf (remembered kept es) key n
   last_kept es n (before, e, after, whole, at, none, counts) =
       (remembered kept before, one e, remembered kept after, ap (remembered kept) whole ∙ map-append one before (e ∷ after), same_of e ∙ at, none_of after none, counts ∙ ap (λ k. k + 1) (sym (length-map before one)))
 
@@ -163,7 +163,7 @@ module _ (kept : KeyParts → Bool) (key : KeyParts) (is : kept key ≡ true) wh
       )
 
 -- no entry of a transaction comes after its last one
-last_not_after : (es : List (Observation KeyParts)) (key : KeyParts) (m n : ℕ) → IsLastOf es key m → IsLastOf es key n → n ≤ m
+last_not_after : (es : List (Observation KeyParts)) (key : KeyParts) (m n : ℕ) → IsLastEntryOf es key m → IsLastEntryOf es key n → n ≤ m
 -- e is the last entry with b before it and a after it, and f is the other one with c before it and d after it
 last_not_after es key m n (b, e, a, whole, is, none, counts) (c, f, d, other, at, last, number) = by (split_compare b a c d e f (sym whole ∙ other))
   where
@@ -178,7 +178,7 @@ last_not_after es key m n (b, e, a, whole, is, none, counts) (c, f, d, other, at
     by (inr (inr (zs, earlier))) = omega (arith, counts, number, simp length-append at (ap length earlier))
 
 -- a key that an entry concerns stands at some place among the keys of the entries
-key_of : (p : Times) (es : List (Observation KeyParts)) (key : KeyParts) (last : ℕ) → IsLastOf es key last → (n : ℕ) × (slice_get (keys_in es) n ≡ Some key)
+key_of : (p : Times) (es : List (Observation KeyParts)) (key : KeyParts) (last : ℕ) → IsLastEntryOf es key last → (n : ℕ) × (slice_get (keys_in es) n ≡ Some key)
 key_of p es key last (before, e, after, whole, is, none, counts) = by (list_any (same_key key) (keys_in es)) refl
   where
     -- the key stands at some place of the keys, since an entry concerns it
@@ -323,7 +323,7 @@ module _ (flags : List Bool) (t : Tabled) (long : length flags ≡ length t.keys
     over_by key set false (leads, sound) low quiet = inr (quiet_over texts t.times (machine_of_key t.times.rules key) (events_for key es) (newest_moment es) set leads low quiet)
 
     -- a key that is not kept is over, and its last entry has a number up to `until`
-    forgotten : (key : KeyParts) → kept key ≡ false → IsOver t.times es key × ((last : ℕ) × IsLastOf es key last × (last ≤ until))
+    forgotten : (key : KeyParts) → kept key ≡ false → IsOver t.times es key × ((last : ℕ) × IsLastEntryOf es key last × (last ≤ until))
     forgotten key gone =
         let (n, at, flag) = kept_by_not flags t.keys key gone in
         let (set, d, h, here, is, of) = at_key n key at in
@@ -337,7 +337,7 @@ module _ (flags : List Bool) (t : Tabled) (long : length flags ≡ length t.keys
     -- What follows needs that the set of each transaction that is over is quiet: a transaction that is over, and has no later entry, is not kept.
     module _ (over_quiet : AreQuietIfOver es t) where
       -- a key that is over, and whose last entry has a number up to `until`, is not kept
-      remembers : (key : KeyParts) → IsOver t.times es key → (last : ℕ) → IsLastOf es key last → last ≤ until → kept key ≡ false
+      remembers : (key : KeyParts) → IsOver t.times es key → (last : ℕ) → IsLastEntryOf es key last → last ≤ until → kept key ≡ false
       remembers key over last is_last low =
           let (n, there) = key_of t.times es key last is_last in
           let at : slice_get t.keys n ≡ Some key = ap (λ ks. slice_get ks n) tracks.keys ∙ there in

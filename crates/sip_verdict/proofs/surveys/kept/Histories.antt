@@ -29,7 +29,7 @@ use Rattle.sip_standard.specs.Observation.{Observation, ObservesMessage, has_fau
 use Rattle.sip_verdict.specs.inner.Keyed.{with_key}
 use Rattle.sip_standard.specs.VerdictOf.{keys_in, Sees}
 use Rattle.sip_message.proofs.lemmas.says.Reading.{said-one}
-use Rattle.sip_verdict.specs.SurveyText.{IsFirstOf, IsLastOf}
+use Rattle.sip_verdict.specs.SurveyText.{IsFirstEntryOf, IsLastEntryOf}
 use Rattle.sip_verdict.specs.Surveys.{IsHistoryOf, AreHistories}
 use Rattle.sip_verdict.specs.inner.Histories.{SpellsBranch, Notes, NotesEach}
 use Rattle.sip_verdict.specs.inner.TablesTracking.{TouchesEach, is_among}
@@ -68,21 +68,21 @@ history_at xs ys i (Some a) b item same is =
     ap (λ zs. slice_get zs i) (sym same) ∙ slice_get-get_or xs i a.now low ∙ ap Some (sym item.1) ∙ ap (λ x. Some x.now) alike
 
 -- the first entry of a transaction stays the first when one entry more comes
-first_more : (es : Entries) (e : Observation KeyParts) (key : KeyParts) (n : ℕ) (branch : List ℕ) → IsFirstOf es key n branch → IsFirstOf (es ++ e ∷ []) key n branch
+first_more : (es : Entries) (e : Observation KeyParts) (key : KeyParts) (n : ℕ) (branch : List ℕ) → IsFirstEntryOf es key n branch → IsFirstEntryOf (es ++ e ∷ []) key n branch
 first_more es e key n branch (before, o, after, whole, is, none, counts, says) =
     (before, o, after ++ e ∷ [], ap (λ xs. xs ++ e ∷ []) whole ∙ append_assoc before (o ∷ after) (e ∷ []), is, none, counts, says)
 
 -- an entry that does not concern the transaction leaves its last entry as it was
-last_more : (es : Entries) (e : Observation KeyParts) (key : KeyParts) (n : ℕ) → concerns key e ≡ false → IsLastOf es key n → IsLastOf (es ++ e ∷ []) key n
+last_more : (es : Entries) (e : Observation KeyParts) (key : KeyParts) (n : ℕ) → concerns key e ≡ false → IsLastEntryOf es key n → IsLastEntryOf (es ++ e ∷ []) key n
 last_more es e key n other (before, o, after, whole, is, none, counts) =
     (before, o, after ++ e ∷ [], ap (λ xs. xs ++ e ∷ []) whole ∙ append_assoc before (o ∷ after) (e ∷ []), is, All-push (λ x. concerns key x ≡ false) after e none other, counts)
 
 -- an entry that concerns the transaction is its last entry, with the number after all others
-last_here : (es : Entries) (e : Observation KeyParts) (key : KeyParts) (n : ℕ) → concerns key e ≡ true → n ≡ length es + 1 → IsLastOf (es ++ e ∷ []) key n
+last_here : (es : Entries) (e : Observation KeyParts) (key : KeyParts) (n : ℕ) → concerns key e ≡ true → n ≡ length es + 1 → IsLastEntryOf (es ++ e ∷ []) key n
 last_here es e key n is counts = (es, e, [], refl, is, All-nil (λ x. concerns key x ≡ false), counts)
 
 -- the number of a transaction's last entry is at most the count of the entries
-last_low : (es : Entries) (key : KeyParts) (n : ℕ) → IsLastOf es key n → n ≤ length es
+last_low : (es : Entries) (key : KeyParts) (n : ℕ) → IsLastEntryOf es key n → n ≤ length es
 last_low es key n (before, o, after, whole, is, none, counts) = let long = ap length whole ∙ length-append before (o ∷ after) in omega (arith, long, counts)
 
 -- where a key is none of those that the entries name, no entry concerns it
@@ -261,7 +261,7 @@ module _ (es : Entries) (e : Observation KeyParts) (b c : Histories) (number : �
       elim (more.each n key s at there) [ inl x ↦ inl (ap (λ xs. slice_get xs n) (sym t_keys) ∙ x.0) | inr x ↦ inr (x.0, λ has. x.2 (subst (λ xs. Contains xs key) (sym t_keys) has)) ]
 
   -- the entry is the first one of a key that is new and that the entry concerns
-  begun : (key : KeyParts) (branch : List ℕ) → ¬ Contains (keys_in es) key → concerns key e ≡ true → SpellsBranch text branch → (n : ℕ) → n ≡ number → IsFirstOf (es ++ e ∷ []) key n branch
+  begun : (key : KeyParts) (branch : List ℕ) → ¬ Contains (keys_in es) key → concerns key e ≡ true → SpellsBranch text branch → (n : ℕ) → n ≡ number → IsFirstEntryOf (es ++ e ∷ []) key n branch
   begun key branch none is spells n n_is =
       let (s, said, (there, has)) = says key is in
       let same : branch ≡ there = subst (λ o. IfSome o (λ x. branch ≡ x)) has (spells s said) in
@@ -289,14 +289,14 @@ module _ (es : Entries) (e : Observation KeyParts) (b c : Histories) (number : �
       -- the entry does not concern the transaction, so its history stays
       by n key k false other was (inl at) =
           let one = h.each n key k at was in
-          record { first = first_more es e key k.first k.branch.items one.first; last = subst (λ r. IsLastOf (es ++ e ∷ []) key (max k.last r)) (sym same_restart) (last_more es e key (max k.last b.restart) other one.last) }
+          record { first = first_more es e key k.first k.branch.items one.first; last = subst (λ r. IsLastEntryOf (es ++ e ∷ []) key (max k.last r)) (sym same_restart) (last_more es e key (max k.last b.restart) other one.last) }
       -- a key that is new has no history yet
       by n key k false other was (inr (beyond, none)) = (let within = slice_get_within b.each.items n k was in absurd (omega (arith, t_long)))
       -- the entry is its last one now
       by n key k true is (last, inl (o, was, branch, first)) (inl at) =
           let one = h.each n key o at was in
           record {
-            first = subst (λ x. IsFirstOf (es ++ e ∷ []) key x k.branch.items) (sym first) (subst (IsFirstOf (es ++ e ∷ []) key o.first) (sym branch) (first_more es e key o.first o.branch.items one.first));
+            first = subst (λ x. IsFirstEntryOf (es ++ e ∷ []) key x k.branch.items) (sym first) (subst (IsFirstEntryOf (es ++ e ∷ []) key o.first) (sym branch) (first_more es e key o.first o.branch.items one.first));
             last = last_here es e key (max k.last c.restart) is (newest k last);
           }
       -- a key that is new had no history

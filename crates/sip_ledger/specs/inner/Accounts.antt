@@ -311,8 +311,7 @@ pub record SharesNext (gains : Gains) (strikes : List Strike) (one other : Accou
   pub end : at + n ≤ one.end
   pub end_beside : beside + n ≤ other.end
   pub place : 0 < n → at ≡ beside
-  pub owes : (k : ℕ) → at ≤ k → k < at + n → owes_at gains strikes one k ≡ owes_at gains strikes other k
-  pub must : (k : ℕ) → at ≤ k → k < at + n → must_at gains one k ≡ must_at gains other k
+  pub same : (k : ℕ) → at ≤ k → k < at + n → (owes_at gains strikes one k ≡ owes_at gains strikes other k) × (must_at gains one k ≡ must_at gains other k)
 
 -- the new strikes strike what the old ones strike of what is left from a place on, and strike nothing that the old ones do not
 pub record AreThinned (gains : Gains) (from : ℕ) (old new : List Strike) : Type 0 where

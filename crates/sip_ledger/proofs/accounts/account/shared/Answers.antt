@@ -6,18 +6,14 @@ pub returns : goal.returns
 returns c =
     let here = c.if-at-beside.false in
     let within = c.first_alone.ensures.within in
-    let within_first = c.first_alone-first.ensures.within in
-    let end = c.min-end.ensures in
-    let soft = c.min-soft.ensures in
-    let soft_beside = c.min-soft_beside.ensures in
-    let equal = c.if-soft-soft_beside.false in record {
-      end = omega (arith, within, within_first, end);
-      end_beside = omega (arith, within, within_first, end, here);
+    let order = c.first_alone-first.ensures.within in
+    let end = c.min-end.ensures in record {
+      end = omega (arith, within, order, end);
+      end_beside = omega (arith, within, order, end, here);
       place = λ _. here;
-      owes = λ k low high. alike-struck c.args.gains.now c.args.strikes.now c.args.one c.args.other k (omega (arith, low, c.requires.at), omega (arith, high, within, within_first, end))
-          (omega (arith, low, here, c.requires.beside), omega (arith, high, within, within_first, end))
-          ((rw c.own-own_one.ensures at (rw c.own-own_other.ensures at c.first_alone-first.ensures.before)) k low (omega (arith, high, within)))
-          ((rw c.own-own_one.ensures at (rw c.own-own_other.ensures at c.first_alone.ensures.before)) k low (omega (arith, high, within)));
-      must = λ k low high. must-alike c.args.gains.now c.args.one c.args.other c.args.at c.min-end.result k low (omega (arith, high, within, within_first))
-          (omega (arith, soft, soft_beside, equal, c.max.ensures, c.max-2.ensures));
+      same = λ k low high. (
+        alike-struck c.args.gains.now c.args.strikes.now c.args.one c.args.other k (omega (arith, low, c.requires.at), omega (arith, high, within, order, end)) (omega (arith, low, here, c.requires.beside), omega (arith, high, within, order, end))
+            ((rw c.own-own_one.ensures at (rw c.own-own_other.ensures at c.first_alone-first.ensures.before)) k low (omega (arith, high, within))) ((rw c.own-own_one.ensures at (rw c.own-own_other.ensures at c.first_alone.ensures.before)) k low (omega (arith, high, within))),
+        must-alike c.args.gains.now c.args.one c.args.other c.args.at c.min-end.result k low (omega (arith, high, within, order)) (omega (arith, c.min-soft.ensures, c.min-soft_beside.ensures, c.if-soft-soft_beside.false, c.max.ensures, c.max-2.ensures)),
+      );
     }

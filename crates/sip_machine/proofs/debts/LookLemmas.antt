@@ -3,8 +3,7 @@ use Rattle.std.specs.Prelude.{◌≡◌, ◌<◌, ◌≤◌, ◌+◌, ◌↔◌,
 use Rattle.std.proofs.Common.{refl, sym, ◌∙◌, ap, subst, inl, inr, arith, cond, true≢false}
 use Rattle.std.proofs.lemmas.Bool.{cases_eq, ne_eqb}
 use Rattle.std.proofs.lemmas.Bool.Decides.{nat_tests}
-use Rattle.std.proofs.lemmas.List.{take_all}
-use Rattle.std.proofs.lemmas.List.Elements.{All-head, All-more, All-nil, All-weaker}
+use Rattle.std.proofs.lemmas.List.Elements.{All-more, All-nil, All-weaker}
 use Rattle.std.proofs.lemmas.Option.{get_or_from_slice_get}
 use Rattle.sip_ledger.specs.declared.debt.Debt.{Debt}
 use Rattle.sip_ledger.specs.Debts.{IsFirstPaid, PaysSome, is_payable, paid_by}
@@ -12,7 +11,6 @@ use Rattle.sip_ledger.specs.Indexes.{holds}
 use Rattle.sip_ledger.proofs.lists.IndexLemmas.{none-held}
 use Rattle.sip_standard.specs.Debts.{IsWithoutFirst}
 use Rattle.sip_ledger.specs.Accounts.{AppendsOwed}
-use Rattle.sip_machine.specs.Owes.{owes_names}
 use Rattle.sip_machine.specs.Texts.{Texts, text_of}
 use Rattle.sip_machine.specs.inner.Acks.{HasTo}
 use Rattle.sip_machine.specs.inner.Paying.{FindsFirst}
@@ -26,31 +24,19 @@ use Rattle.sip_machine.proofs.debts.NamesLemmas.{all-owed}
 payable-now : (t : ℕ) (debt : Debt) → t ≤ debt.deadline → is_payable debt.message t debt ≡ true
 payable-now t debt now = grind (arith, nat_tests)
 
--- what is said of a list that begins with the debt holds of each list whose first element it is
-begun : (Q : List Debt → Debt → Type 0) (debts : List Debt) (debt : Debt) → Some debt ≡ slice_get debts 0 → ((d : Debt) (ds : List Debt) → Q (d ∷ ds) d) → Q debts debt
-begun Q [] debt is all = absurd (true≢false (ap (λ o. is_some o) is))
-begun Q (d ∷ ds) debt is all = subst (Q (d ∷ ds)) (get_or_from_slice_get (d ∷ ds) 0 debt debt (sym is)) (all d ds)
-
--- where nothing is owed first, P holds of no debt
-pub none-here : (P : Debt → Type 0) (debts : List Debt) → None ≡ slice_get debts 0 → All (λ debt. ¬ (P debt)) debts
-none-here P [] is = All-nil (λ debt. ¬ (P debt))
-none-here P (d ∷ ds) is = absurd (true≢false (sym (ap (λ (o : Option Debt). is_some o) is)))
-
--- what holds of each message that is owed holds of the first one
-pub named-here : (P : ℕ → Type 0) (debts : List Debt) (debt : Debt) → Some debt ≡ slice_get debts 0 → All P (owes_names debts) → P debt.message
-named-here P debts debt is = begun (λ ds d. All P (owes_names ds) → P d.message) debts debt is (λ d ds. All-head P d.message (owes_names ds))
-
 -- where P holds of what is owed first, that is found
 pub first-here : (P : Debt → Type 0) (t : ℕ) (debts : List Debt) (debt : Debt) → Some debt ≡ slice_get debts 0 → P debt → t ≤ debt.deadline → FindsFirst P t debts (Some debt.message)
-first-here P t debts debt is = begun (λ ds d. P d → t ≤ d.deadline → FindsFirst P t ds (Some d.message)) debts debt is (λ d ds holds now. record {
+first-here P t [] debt is holds now = absurd (true≢false (ap (λ o. is_some o) is))
+first-here P t (d ∷ ds) debt is holds now = record {
   before = [];
-  first = d;
+  first = debt;
   after = ds;
-  whole = refl;
+  whole = ap (λ x. x ∷ ds) (get_or_from_slice_get (d ∷ ds) 0 debt debt (sym is));
   holds = holds;
   none_before = All-nil (λ x. ¬ (P x));
-  rest = ap (λ b. cond b ds (d ∷ paid_by d.message t ds)) (payable-now t d now);
-})
+  rest = subst (λ x. paid_by debt.message t (x ∷ ds) ≡ ds) (sym (get_or_from_slice_get (d ∷ ds) 0 debt debt (sym is)))
+      (ap (λ b. cond b ds (debt ∷ paid_by debt.message t ds)) (payable-now t debt now));
+}
 
 -- What follows is of the numbers that stand under 0 in `pairs`, and of the messages with a To.
 module _ (texts : Texts) (to : List ℕ) where
@@ -59,10 +45,10 @@ module _ (texts : Texts) (to : List ℕ) where
     pub only : (n : ℕ) → holds pairs 0 n ≡ true → IsToOf (text_of texts n) to
     pub each : All (λ n. IsToOf (text_of texts n) to → holds pairs 0 n ≡ true) names
 
-  -- none of no names stands there
-  pub with-none : (pairs : List (ℕ × ℕ)) (names : List ℕ) → pairs ≡ [] → AreWith pairs (take 0 names)
-  with-none pairs names none = record {
-    only = λ n is. absurd (none-held pairs (omega (arith, ap length none)) 0 n is);
+  -- no number stands there, of no names
+  pub with-none : (pairs : List (ℕ × ℕ)) → pairs ≡ [] → AreWith pairs []
+  with-none pairs none = record {
+    only = λ n is. absurd (none-held pairs (λ some. let long = ap length none in omega (arith, some, long)) 0 n is);
     each = All-nil (λ n. IsToOf (text_of texts n) to → holds pairs 0 n ≡ true);
   }
 
@@ -90,12 +76,6 @@ module _ (texts : Texts) (to : List ℕ) where
         ];
         each = All-more New names at n low kept (λ _. put-here 0 name (Some old) (Some new) changed);
       }
-
-  -- of all names those whose message has the To stand there, and no others
-  pub with-all : (pairs : List (ℕ × ℕ)) (names : List ℕ) (at : ℕ) → AreWith pairs (take at names) → length names ≤ at → All (λ n. (holds pairs 0 n ≡ true) ↔ IsToOf (text_of texts n) to) names
-  with-all pairs names at are past =
-      let all : All (λ n. IsToOf (text_of texts n) to → holds pairs 0 n ≡ true) names = subst (All (λ n. IsToOf (text_of texts n) to → holds pairs 0 n ≡ true)) (take_all at names past) are.each in
-      λ k n within. (are.only (get_or names k n), all k n within)
 
 -- where of the messages that are owed those with the To stand under 0, what is found under 0 is found with the To
 pub first-named : (texts : Texts) (to : List ℕ) (t : ℕ) (debts : List Debt) (names : List ℕ) (pairs : List (ℕ × ℕ)) (message : Option ℕ) → AppendsOwed (debts ∷ []) [] names →

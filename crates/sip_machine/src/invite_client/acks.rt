@@ -160,9 +160,11 @@ fn first_named(
     let mut messages = Vec::new(alloc);
     accounts.names_once(row, &mut messages)?;
     let index = with_to(alloc, book, to, &messages)?;
-    // It is told, since no memory has room for as many messages as a number can count.
-    let found = accounts.first_payable(row, &index, 0, moment, usize::MAX);
-    found.ok_or(AllocError)
+    let Some(found) = accounts.first_payable(row, &index, 0, moment, usize::MAX) else {
+        // No memory has room for as many messages as a number can count.
+        return Err(AllocError);
+    };
+    Ok(found)
 }
 
 /// Those of the messages that have this To, under the key 0.

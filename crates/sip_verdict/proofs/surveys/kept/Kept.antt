@@ -7,7 +7,7 @@ use Rattle.sip_standard.specs.KeyMachine.{machine_of_key}
 use Rattle.sip_states.specs.Tables.{Tabled}
 use Rattle.sip_states.proofs.lists.Listed.{Contains-none}
 use Rattle.sip_standard.specs.Observation.{Observation}
-use Rattle.sip_verdict.specs.Named.{AreMany}
+use Rattle.sip_verdict.specs.Named.{AreMany, WereNamed}
 use Rattle.sip_verdict.specs.Surveys.{IsStillNamed, AreSurveyed}
 use Rattle.sip_verdict.specs.inner.Surveying.{TablesSurvey}
 use Rattle.sip_verdict.proofs.sweeps.FollowedLemmas.{more_named, now_named}
@@ -38,7 +38,7 @@ surveyed_none p = record {
   where
     -- before the first entry no transaction names a message
     none : {text : List ℕ} → IsStillNamed p [] text → ⊥
-    none {text} h = no_events_silent p 0 (machine_of_key p.rules h.0) [] text refl h.1.1
+    none {text} h = no_events_silent p 0 (machine_of_key p.rules h.0) [] text refl h.2
 
 -- an empty book and empty tables are a survey of no entries
 pub surveyed_begun : (p : Times) (texts : Texts) (t : Tabled) (deaf : List Bool) → texts ≡ [] → t ≡ record { times = p; keys = []; sets = []; records = [] } → deaf ≡ [] → AreSurveyed texts t deaf 0 []

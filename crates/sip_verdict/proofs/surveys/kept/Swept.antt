@@ -89,11 +89,11 @@ module _ (texts : Texts) (book : IsBook texts) (t u : Tabled) (moment : ℕ) (ad
   -- a message that a transaction in no trouble names is under a number that some set names
   -- (the first case cannot be: where no entry concerns a key, its transaction names no message)
   from_sound : (h : (text : List ℕ) × IsStillNamed p es text) (b : Bool) → list_any (same_key h.1.0) (keys_in es) ≡ b → IsNumberOf texts (flat_map numbers_of u.sets) h.0
-  from_sound (text, key, is_sound, named) false none =
+  from_sound (text, (key, is_sound, named)) false none =
       absurd (no_events_silent p moment (machine_of_key p.rules key) (events_for key es) text (new_key key es none)
       (subst (λ n. StandsNaming p (machine_of_key p.rules key) (events_for key es) n text) newest named))
   -- the key stands at the place n of the tables, with the sets `old` and `new` before and after the waiting; d is whether it is deaf
-  from_sound (text, key, is_sound, named) true some =
+  from_sound (text, (key, is_sound, named)) true some =
       let (n, inside, is) = subst (λ ks. Contains ks key) (sym tracks.keys) (among-contains key (keys_in es) some) in
       let at : slice_get t.keys n ≡ Some key = slice_get-get_or t.keys n key inside ∙ ap Some is in
       let (old, new, d, was, there, follows_it) = at_key n key at in

@@ -185,6 +185,15 @@ def acks_of_two_in_turn(count, _):
         yield "S", 0, text("ACK sip:b SIP/2.0", "ACK", 1, "t1" if number < count // 2 else "t0")
 
 
+def acks_of_other_calls(count, _):
+    """Refusals that differ in their To and their Call-ID; their ACKs, newest first."""
+    yield "S", 0, text(INVITE)
+    for number in range(count):
+        yield "R", 0, reply(486, f"t{number}").replace("\r\ni:1\r\n", f"\r\ni:{number}\r\n")
+    for number in reversed(range(count)):
+        yield "S", 0, text("ACK sip:b SIP/2.0", "ACK", 1, f"t{number}")
+
+
 def acks_of_long_tos(count, _):
     """Refusals whose Tos are long and differ in their ends alone; their ACKs, newest first."""
     yield from refused(count, lambda it: 300 * "t" + str(it), reversed)
@@ -276,6 +285,7 @@ LOGS = [
     (acks_but_the_first, 4000, (1,)),
     (acks_past_two, 4000, (1,)),
     (acks_of_two_in_turn, 2000, (1,)),
+    (acks_of_other_calls, 1000, (1,)),
     (acks_of_long_tos, 4000, (1,)),
     # Debts that are equal, paid by all states at once, or past.
     (equal_debts, 25000, (1, 1024)),

@@ -9,7 +9,7 @@
 #                                             4397bff9:built/) it prints the goals of time and memory too
 #   bench/judge.sh shapes                     hostile messages and wide transactions, counted: what a byte takes in a message of 4 KiB and in one of
 #                                             64 KiB, which is about the same where reading is linear, and what an entry takes by how many states there
-#                                             are and how much is owed; then what owed prints
+#                                             are and how much is owed; then what owed prints of each header
 #   bench/judge.sh owed [HEADER ..] [long] [LOG ..]
 #                                             hostile logs in which much is owed, timed in three lengths: which of them do not grow in line. HEADER is
 #                                             6026 (it stands for none), 3261, early or restarts; long is for lengths eight times as long
@@ -27,6 +27,6 @@ if [ -z "$SIPTRACE" ]; then SIPTRACE=$PWD/built/$(./build); fi
 if [ "$1" = survey ]; then exec python3 -B bench/survey.py "$SIPTRACE" "${SIPSURVEY:-$PWD/built/$(./build sipsurvey)}"; fi
 if [ "$1" = parts ]; then shift && exec python3 -B bench/parts.py "${SIPSURVEY:-$PWD/built/$(./build sipsurvey)}" "$@"; fi
 if [ "$1" = stream ]; then shift && exec python3 -B bench/stream.py "${SIPSURVEY:-$PWD/built/$(./build sipsurvey)}" "$@"; fi
-if [ "$1" = shapes ]; then python3 -B bench/shapes.py "$SIPTRACE"; exec python3 -B bench/owed.py "$SIPTRACE"; fi
+if [ "$1" = shapes ]; then python3 -B bench/shapes.py "$SIPTRACE"; exec python3 -B bench/owed.py "$SIPTRACE" 6026 3261 early restarts; fi
 if [ "$1" = owed ]; then shift && exec python3 -B bench/owed.py "$SIPTRACE" "$@"; fi
 exec python3 bench/judge.py "$SIPTRACE" "$@"

@@ -162,6 +162,38 @@ def acks_mixed(count, _):
     yield from refused(count, lambda it: f"t{it}", lambda them: (it * step % len(them) for it in them))
 
 
+def acks_but_the_first(count, _):
+    """The ACKs of refusals in their order, but that of the first, which comes last."""
+    yield from refused(count, lambda it: f"t{it}", lambda them: [*them[1:], 0])
+
+
+def acks_past_two(count, _):
+    """A refusal that comes again and again, each time with its ACK, and two others whose ACKs come last: three are owed at most."""
+    def ack(tag):
+        return "S", 0, text("ACK sip:b SIP/2.0", "ACK", 1, tag)
+    yield from [("S", 0, text(INVITE)), ("R", 0, reply(486, "a")), ("R", 0, reply(486, "b"))]
+    yield from count * [("R", 0, reply(486, "c")), ack("c")]
+    yield from (ack("a"), ack("b"))
+
+
+def acks_of_two_in_turn(count, _):
+    """Two refusals that come again and again, in turn, and the ACKs of the second before those of the first."""
+    yield "S", 0, text(INVITE)
+    for number in range(count):
+        yield "R", 0, reply(486, f"t{number % 2}")
+    for number in range(count):
+        yield "S", 0, text("ACK sip:b SIP/2.0", "ACK", 1, "t1" if number < count // 2 else "t0")
+
+
+def acks_of_other_calls(count, _):
+    """Refusals that differ in their To and their Call-ID; their ACKs, newest first."""
+    yield "S", 0, text(INVITE)
+    for number in range(count):
+        yield "R", 0, reply(486, f"t{number}").replace("\r\ni:1\r\n", f"\r\ni:{number}\r\n")
+    for number in reversed(range(count)):
+        yield "S", 0, text("ACK sip:b SIP/2.0", "ACK", 1, f"t{number}")
+
+
 def acks_of_long_tos(count, _):
     """Refusals whose Tos are long and differ in their ends alone; their ACKs, newest first."""
     yield from refused(count, lambda it: 300 * "t" + str(it), reversed)
@@ -208,8 +240,20 @@ def two_that_meet(count, _):
     """Two states that parted before this many debts, and meet again and again."""
     yield from [ASK, ("S", 0, reply(180, "k")), ASK, ("S", 0, reply(180, "k"))]
     yield from owing(count)
-    for _ in range(50):
-        yield "S", 0, reply(180, "o0")
+    yield from count * [("S", 0, reply(180, "o0"))]
+
+
+def meets_by_other_places(count, _):
+    """So many equal debts, then states that come to owe the same by other responses, and a send after which two of them are the same, again and again."""
+    yield from [ASK, ("S", 0, reply(180, "d")), *count * [ASK]]
+    # A letter is a 180 that is sent, and R the INVITE that comes again.
+    yield from (ASK if it == "R" else ("S", 0, reply(180, it)) for it in "aRRacRcaR")
+    yield from count * [("S", 0, reply(180, "a"))]
+
+
+def must_and_may(count, _):
+    """Two states, of which one answers the INVITE that comes again by a 180, which must be sent, and the other by a 100, which may be."""
+    yield from [ASK, ("S", 0, reply(100, "h")), ASK, ("S", 0, reply(180, "p")), ("S", 0, reply(100, "h")), *count * [ASK]]
 
 
 def finished_servers(count, states):
@@ -238,6 +282,10 @@ LOGS = [
     (acks_of_one_to, 4000, (1,)),
     (acks_in_turn, 4000, (1,)),
     (acks_mixed, 4000, (1,)),
+    (acks_but_the_first, 4000, (1,)),
+    (acks_past_two, 4000, (1,)),
+    (acks_of_two_in_turn, 2000, (1,)),
+    (acks_of_other_calls, 1000, (1,)),
     (acks_of_long_tos, 4000, (1,)),
     # Debts that are equal, paid by all states at once, or past.
     (equal_debts, 25000, (1, 1024)),
@@ -245,6 +293,8 @@ LOGS = [
     (debt_and_payment, 1500, (128,)),
     (hundreds_then_past, 250, (2, 100, 1024)),
     (two_that_meet, 2000, (2,)),
+    (meets_by_other_places, 1000, (2,)),
+    (must_and_may, 4000, (2,)),
     # Sets that were wide, and are not any more.
     (finished_servers, 25, (1024,)),
 ]

@@ -152,7 +152,8 @@ class State:
         return {it for crate, module in modules_in(text) if crate in (self.name, "crate") for it in self.named(module)}
 
     def named(self, module):
-        """Returns the file that has this module, or a name in it, or the function whose module it is, but for its theorem; or all, where it is a library."""
+        """Returns the file that has this module, or a name in it, or the list that passes it on; or the function whose module it is, but for its theorem; or
+        all, where it is a library."""
         names = [it for it in module.split(".") if it]
         if len(names) < 2:
             return {*self.parts}
@@ -162,7 +163,9 @@ class State:
                 return {path}
             if names[0] == "proofs" and function in self.functions:
                 return {function} if names[count : count + 1] not in (["Met"], ["Statement"]) else set()
-        return set()
+        # A module of a crate below that this one passes on has a line in its list, which names that crate.
+        passed_on = re.search(rf"(?m)^pub use Rattle\..*\.{re.escape(names[1])}$", self.outside.get(f"{names[0]}/Lib.antt", ""))
+        return {f"{names[0]}/Lib.antt"} if passed_on else set()
 
 
 class Change:

@@ -2,7 +2,7 @@
 
 # The files that are edited, and the texts in them that are replaced.
 KIND, PROFILE, TEXT, PLAIN_CLIENT = (f"crates/sip_standard/specs/{it}.antt" for it in ("Kind", "Profile", "Text", "PlainClient"))
-TEXTS, NAMING = (f"crates/sip_machine/specs/{it}.antt" for it in ("Texts", "Naming"))
+TEXTS, NAMING = "crates/sip_phases/specs/Texts.antt", "crates/sip_machine/specs/Naming.antt"
 MACHINES, VERDICT_LIB, STANDARD_LIB = "docs/standard/MACHINES.md", "crates/sip_verdict/src/lib.rt", "crates/sip_standard/src/lib.rt"
 VERDICT, FORMAT = (f"crates/sip_standard/src/{it}.rt" for it in ("verdict", "format"))
 JUDGING, STAGE = (f"crates/sip_verdict/src/{it}.rt" for it in ("judging", "stage"))
@@ -106,7 +106,7 @@ DEFINITIONS = {
     "all names of a module": planted_elsewhere("planted code", "use Rattle.sip_machine.specs.Naming.*\n", UNREAD),
     "a name under that of another": (at(PLAIN_CLIENT, ("{IsProvisional, IsFinal}", "{IsProvisional, IsSuccess as IsFinal}")), "under the name IsFinal, which others have"),
     "a name handed on under that of another": (
-        at(PLAIN_CLIENT, ("Kind.{IsProvisional, IsFinal}", "Kind.{IsProvisional}\nuse Rattle.sip_machine.specs.Texts.{IsFinal}"))
+        at(PLAIN_CLIENT, ("Kind.{IsProvisional, IsFinal}", "Kind.{IsProvisional}\nuse Rattle.sip_phases.specs.Texts.{IsFinal}"))
         + at(TEXTS, ("use Rattle.std", "pub use Rattle.sip_standard.specs.Kind.{IsSuccess as IsFinal}\nuse Rattle.std")),
         UNREAD,
     ),

@@ -44,7 +44,7 @@ RULES = {
     ("server", False, "no request"): ("", RFC_3261 + "17.2", RESPONSE_BELONGS),
 }
 # What is told where no row of the rules fits: of a message that the transaction does not name, of a reliable transport, and of a restart.
-NOT_NAMED = ("", RFC_3261 + "17", "What a transaction does not name is not sent.")
+NOT_NAMED = ("", RFC_3261 + "17", "A transaction sends only what its state machine names.")
 RELIABLE = ("", RFC_3261 + "17", "Over TCP, TLS and any other reliable transport no timer sends a message again.")
 RESTARTED = ("", "no RFC, but the Z of the log", "What an element had begun is forgotten when it is started anew: nothing more is sent in that transaction.")
 

@@ -192,7 +192,7 @@ def settled(told):
     # The questions whose yes excuses the breach, each with what weakens that, and then the others in short.
     helping = [one for one in told["excuses"] if one["helps"]]
     if helping:
-        yield "Settle these before you send it. A yes to any of them, and it is no breach:"
+        yield "Settle these questions before you send this text. If the answer to one of them is yes, it is no breach:"
     for one in helping:
         yield "  - %s%s%s" % (one["question"], " No clock is." if one["change"].get("tolerance", 0) > NO_CLOCK else "",
                               " Later on its branch is not legal all the same." if one["to_the_end"] is False else "")
@@ -200,7 +200,7 @@ def settled(told):
     if rest:
         yield "These were asked too and excuse nothing: %s." % ", ".join(rest)
     if told["kind"] == "never came":
-        yield "No tolerance is told: it did not come up to %d, the last moment that was read." % told["last_moment"]
+        yield "No tolerance is suggested: what was due had not come by %d, the last moment that was read." % told["last_moment"]
     if told["undecided"]:
         yield "Of the answers %d were `undecided`, and count as allowed." % told["undecided"]
 

@@ -227,33 +227,35 @@ impl Played {
         Ok(())
     }
 
-    /// The row names the messages of this list.
+    /// The row names the messages of this list, or each of them once, from the least on.
     fn owes_names(&self, rt: &impl Abort, row: usize, list: &[Debt]) -> Done {
         holds(rt, row < self.accounts.len(), "a row of the accounts");
         let mut names = Vec::new(self.alloc);
         self.accounts.names(self.alloc, row, &mut names)?;
         let wants = list.iter().map(|debt| debt.message);
-        holds_of(rt, names.into_iter().eq(wants), "names", row);
+        holds_of(rt, names.iter().copied().eq(wants), "names", row);
+        names.sort_unstable();
+        names.dedup();
+        let mut once = Vec::new(self.alloc);
+        holds(rt, row < self.accounts.len(), "a row of the accounts");
+        self.accounts.names_once(row, &mut once)?;
+        holds_of(rt, once.as_slice() == names.as_slice(), "names once", row);
         Ok(())
     }
 
     /// The row owes this list, whatever it is asked.
     fn owes(&self, rt: &impl Abort, row: usize, list: &[Debt]) -> Done {
         self.owes_debts(rt, row, list)?;
-        self.owes_first(rt, row, list)?;
+        self.owes_first(rt, row, list);
         self.owes_in_time(rt, row, list)?;
         self.owes_names(rt, row, list)
     }
 
-    /// What the row owes first is what stands first in this list, whether fewer or more debts are asked for than it owes.
-    fn owes_first(&self, rt: &impl Abort, row: usize, list: &[Debt]) -> Done {
-        for most in [list.len() / 2, list.len(), usize::MAX] {
-            holds(rt, row < self.accounts.len(), "a row of the accounts");
-            let debts = self.accounts.first_debts(self.alloc, row, most)?;
-            let wants = list.get(..most).unwrap_or(list);
-            holds_of(rt, debts.as_slice() == wants, "first debts", row);
-        }
-        Ok(())
+    /// What the row owes first is what stands first in this list.
+    fn owes_first(&self, rt: &impl Abort, row: usize, list: &[Debt]) {
+        holds(rt, row < self.accounts.len(), "a row of the accounts");
+        let first = self.accounts.first_debt(row);
+        holds_of(rt, first == list.first().copied(), "first debt", row);
     }
 
     /// The first debt that a send of a message pays that stands under a key is the first such debt of this list. It is found in three steps,
@@ -563,6 +565,26 @@ fn what_is_owed_is_told_after_a_long_life(rt: HostRuntime) -> Done {
         lives(&rt, &mut played, moment)?;
     }
     Ok(())
+}
+
+/// After a long common front two rows owe the same debts in another order, and then the same by other places.
+#[test]
+fn rows_meet_by_other_places(rt: HostRuntime) -> Done {
+    let mut played = Played::new(&rt)?;
+    played.push_copy(&rt, 0)?;
+    played.push_copy(&rt, 0)?;
+    for _ in 0..10 {
+        played.gain_each(0, owed(7, 10, true))?;
+        played.gain_and_expire(&rt, 2, owed(3, 10, true), 0)?;
+    }
+    played.gain_and_expire(&rt, 0, owed(1, 10, true), 0)?;
+    played.gain_and_expire(&rt, 1, owed(2, 10, true), 0)?;
+    played.gain_and_expire(&rt, 0, owed(2, 10, true), 0)?;
+    played.gain_and_expire(&rt, 1, owed(1, 10, true), 0)?;
+    played.agree(&rt)?;
+    played.pay_and_expire(&rt, 0, 2, 10)?;
+    played.pay_and_expire(&rt, 1, 2, 10)?;
+    played.agree(&rt)
 }
 
 /// The first row comes to owe a hundred messages, and pays them in a mixed order.

@@ -128,7 +128,7 @@ static NINE_ROWS: [Row<InviteClientPhase>; 1] = [(
     )],
 )];
 
-/// The book keeps no To beside a message, so that the debts are looked at, eight of them first.
+/// The book keeps no To beside a message, so that each message that is owed is looked at.
 #[test]
 fn an_ack_finds_the_ninth_debt(rt: HostRuntime) -> Result<(), Fail> {
     lead(&rt, &nine(rt.alloc())?, &NINE_ROWS)

@@ -3,10 +3,11 @@
 use Rattle.std.specs.Prelude.{◌≡◌, ℕ, ◌&&◌, Bool, true, false, List, [], ◌∷◌, Option, None, Some, IfSome, is_some, not, option_map, refl}
 use Rattle.std.proofs.Common.{sym, ◌∙◌, ap, subst}
 use Rattle.sip_standard.specs.Profile.{Port}
+use Rattle.sip_message.specs.inner.Parts.{HasParts}
 use Rattle.sip_message.specs.declared.name.Known.TheVariants as known_name
 use Rattle.sip_message.specs.Field.{Field, values}
 use Rattle.sip_standard.specs.Via.{SaidVia, PortSays}
-use Rattle.sip_message.specs.Reading.{Parts, HasParts}
+use Rattle.sip_message.specs.Reading.{Parts}
 use Rattle.sip_standard.specs.Says.{Said, ViasTell}
 use Rattle.sip_standard.specs.declared.role.Role.{Role}
 use Rattle.sip_standard.specs.declared.role.Direction.{Direction}

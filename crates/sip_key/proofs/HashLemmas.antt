@@ -9,7 +9,7 @@ use Rattle.sip_standard.specs.declared.role.Role.{Role}
 use Rattle.sip_standard.specs.declared.role.Role.TheVariants.{Client, Server}
 use Rattle.sip_key.specs.contracts.key.KeyHash.TheImpl as key_hash
 use Rattle.sip_standard.specs.Key.{KeyParts, same_key}
-use Rattle.sip_key.specs.inner.KeyLaws.{same_key-decides}
+use Rattle.sip_standard.proofs.SameKey.{same_key-decides}
 use Rattle.sip_key.specs.inner.KeyText.{role_byte, length_bytes, key_text}
 
 -- roles with the same byte are the same

@@ -20,6 +20,7 @@ use Rattle.sip_message.proofs.lemmas.text.Cuts as each
 use Rattle.sip_message.proofs.lemmas.field.OneWay.{each-token}
 use Rattle.sip_message.proofs.lemmas.value.CSeq.{cseq-token}
 use Rattle.sip_message.proofs.lemmas.says.Told.{tells-text}
+use Rattle.sip_message.proofs.lemmas.says.Reading.{reads-parts}
 use Rattle.sip_standard.specs.declared.role.Role.TheVariants.{Client}
 use Rattle.sip_standard.specs.declared.role.Direction.{Direction}
 use Rattle.sip_standard.specs.Key.{KeyParts}
@@ -105,7 +106,7 @@ keys_ascii bytes r d keys reads is = subst (All (λ k. IsAscii k.method)) (sym i
     own : All (λ k. IsAscii k.method) (option_to_list (own_key (said_of r) d))
     own = made_key (λ k. IsAscii k.method)
         (λ branch. record { role = role_of r.message.start d; branch = branch; sent_by = sent_by_of (role_of r.message.start d) r.parts.via; method = method_of r.message.start r.parts.cseq.1 })
-        (λ branch. method_ascii text.first r.parts.cseq.1 r.message.start text.is_start (cseq-token reads.parts.is.cseq.0 r.parts.cseq reads.parts.is.cseq.2)) (cookie_branch (said_of r).via.branch)
+        (λ branch. method_ascii text.first r.parts.cseq.1 r.message.start text.is_start (let cseq = (reads-parts bytes r reads).cseq in cseq-token cseq.0 r.parts.cseq cseq.2)) (cookie_branch (said_of r).via.branch)
 
     -- the method of the key that the message cancels is ASCII
     cancelled : All (λ k. IsAscii k.method) (option_to_list (cancelled_key (said_of r) d))

@@ -9,7 +9,7 @@ ghost use Rattle.sip_key.specs.inner.KeyText.{after_length, key_text, key_head, 
 ghost use Rattle.sip_standard.specs.SentBy.{sent_by};
 ghost use Rattle.sip_standard.specs.declared.role.Role.{Role};
 ghost use Rattle.sip_standard.specs.declared.role.Role.TheVariants.{Client, Server};
-ghost use Rattle.sip_key.specs.inner.KeyLaws.{same_key-decides};
+ghost use Rattle.sip_standard.proofs.SameKey.{same_key-decides};
 
 use crate::sent_by::{MOST_PORT_BYTES, push_port};
 use sip_standard::Role;

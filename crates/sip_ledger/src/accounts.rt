@@ -1,5 +1,5 @@
 //! What many rows owe: one list of what they gained, and for each row an account of what it owes of that list.
-ghost use Rattle.std.specs.Prelude.{◌≡◌, ◌↔◌, ◌<◌, ◌≤◌, ◌++◌, ◌∷◌, [], ℕ, List, IsTrue, OnOk, OnErr, IfOk, IfSome, IfNone, All, length, set, map, filter, take, drop, get_or};
+ghost use Rattle.std.specs.Prelude.{◌≡◌, ◌↔◌, ◌<◌, ◌≤◌, ◌++◌, ◌∷◌, [], ℕ, List, IsTrue, OnOk, OnErr, IfOk, IfSome, IfNone, All, length, set, map, filter, take, drop, get_or, slice_get};
 ghost use Rattle.std.specs.List.{list_any};
 ghost use Rattle.sip_ledger.specs.Accounts.{owed_in, AppendsOwed};
 ghost use Rattle.sip_ledger.specs.Debts.{IsFirstPaid, PaysSome, counts_at, softened_debt, is_payable, debt_deadlines, earliest, paid_by};
@@ -17,7 +17,7 @@ mod seek;
 mod strikes;
 
 use crate::accounts::account::{
-    Account, EMPTY, earliest_must, expired, find, find_under, first_debts, gained_and_expired,
+    Account, EMPTY, debt_for, debts, earliest_must, expired, find, find_under, gained_and_expired,
     paid_and_expired, place_for, same,
 };
 use crate::accounts::gains::Gains;
@@ -266,6 +266,14 @@ impl Accounts {
         Ok(())
     }
 
+    /// Puts the number of each message that the row owes after the others, from the least on, each once. On an error some of them are there.
+    pub fn names_once(&self, row: usize, numbers: &mut Vec<u64>) -> Result<(), AllocError>
+        requires { row < length self.now }
+        ensures { OnOk result (AppendsOwed (owed_in self.now row ∷ []) numbers.old.items numbers.new.items) }
+    {
+        name_all(&self.gains, &self.strikes, &[self.rows[row]], numbers)
+    }
+
     /// Puts the numbers of the messages that rows owe after the others, from the least on, each once. On an error the vector is as before.
     pub fn all_names(&self, numbers: &mut Vec<u64>) -> Result<(), AllocError>
         ensures ok { OnOk result (AppendsOwed self.now numbers.old.items numbers.new.items) }
@@ -300,21 +308,19 @@ impl Accounts {
         requires { row < length self.now }
         ensures { IfOk result (λ debts. debts.items ≡ owed_in self.now row) }
     {
-        let most = usize::MAX;
-        first_debts(alloc, &self.gains, &self.strikes, self.rows[row], most)
+        debts(alloc, &self.gains, &self.strikes, self.rows[row])
     }
 
-    /// What the row owes first: this many debts, or all where it owes fewer.
-    pub fn first_debts(
-        &self,
-        alloc: Global,
-        row: usize,
-        most: usize,
-    ) -> Result<Vec<Debt>, AllocError>
+    /// What the row owes first, if it owes something.
+    pub fn first_debt(&self, row: usize) -> Option<Debt>
         requires { row < length self.now }
-        ensures { IfOk result (λ debts. debts.items ≡ take most (owed_in self.now row)) }
+        ensures { result ≡ slice_get (owed_in self.now row) 0 }
     {
-        first_debts(alloc, &self.gains, &self.strikes, self.rows[row], most)
+        let account = self.rows[row];
+        if account.start == account.end {
+            return None;
+        }
+        Some(debt_for(&self.gains, account, account.start))
     }
 
     /// Gives back what no row needs. It is to be called after each step: where many rows pay, what they paid is then looked at once.

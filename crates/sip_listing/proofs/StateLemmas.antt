@@ -7,7 +7,7 @@ use Rattle.sip_machine.specs.Owes.{owes_names}
 use Rattle.sip_machine.specs.Owing.{CodeOwing, owing_seen, owing_names}
 use Rattle.sip_machine.specs.Told.{told_of, field_message, messages_told}
 use Rattle.sip_standard.specs.Told.{ToldField, Told, Flag, Number, Message, field_by, told_by}
-use Rattle.sip_machine.specs.inner.DebtLaws.{All-front, All-back}
+use Rattle.sip_phases.proofs.debts.DebtLaws.{All-front, All-back}
 use Rattle.sip_states.specs.inner.KeySets.{coded_of}
 use Rattle.sip_states.proofs.keyed.KeySetLaws.{of_machine, to_machine}
 use Rattle.sip_states.specs.Told.{Saying, said_state, meant, AreToldAs, AreTold}

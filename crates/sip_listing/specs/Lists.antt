@@ -6,7 +6,7 @@ use Rattle.sip_standard.specs.StateText.{state_text}
 use Rattle.sip_standard.specs.StateLines.{AreInOrder}
 use Rattle.sip_machine.specs.Texts.{Texts, text_of}
 use Rattle.sip_states.specs.Held.{Held}
-use Rattle.sip_states.specs.inner.KeySets.{StateOf, by_machine, meaning_of}
+use Rattle.sip_states.specs.inner.KeySets.{CodeOwingOf, by_machine, meaning_of}
 use Rattle.sip_states.specs.declared.any_set.AnySet.{AnySet}
 use Rattle.sip_states.specs.AnySet.{OfSet}
 
@@ -19,7 +19,7 @@ abbrev pub TellsSet : (List ℕ → ℕ) → Texts → AnySet → Type 0
 TellsSet number texts set = OfSet (λ X M S m s. All (λ x. Tells number texts (m.names x)) s.states) set
 
 -- the lines are, in order, the texts of the states of a set of this machine
-abbrev pub AreLinesOfHeld : (List ℕ → ℕ) → Texts → (machine : MachineKind) → Held Times (StateOf machine) → List (List ℕ) → Type 0
+abbrev pub AreLinesOfHeld : (List ℕ → ℕ) → Texts → (machine : MachineKind) → Held Times (CodeOwingOf machine) → List (List ℕ) → Type 0
 AreLinesOfHeld number texts machine s lines = AreInOrder (map (λ x. state_text machine number ((meaning_of machine).seen texts x)) s.states) lines
 
 -- the lines are, in order, the texts of the states of the set

@@ -1,3 +1,4 @@
+-- What an answer of a reader says, and what its caller knows of the whole input.
 pub mod CallerLemmas
 pub mod NextLemmas
 pub mod NextRead

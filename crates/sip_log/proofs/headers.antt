@@ -1,1 +1,2 @@
+-- How the lines of a header are read.
 pub mod HeaderLemmas

@@ -1,3 +1,4 @@
+-- How the line of an entry and its message are found among the bytes that are held.
 pub mod AheadLemmas
 pub mod FrontLemmas
 pub mod LineLemmas

@@ -1,3 +1,4 @@
+-- The numbers of a log, as digits and as values.
 pub mod DecimalLemmas
 pub mod DigitLemmas
 pub mod NumberLemmas

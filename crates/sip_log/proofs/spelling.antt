@@ -1,2 +1,3 @@
+-- What is written spells what is read of it.
 pub mod PutsLemmas
 pub mod SpellingLemmas

@@ -34,16 +34,15 @@ pub use Rattle.sip_machine.specs.declared.effects.Rest.{Rest}
 pub use Rattle.sip_machine.specs.declared.effects.Rest.TheVariants.{Pays, Stays}
 pub use Rattle.sip_machine.specs.declared.tos.To.{To}
 pub use Rattle.sip_machine.specs.inner.Acks.{HasTo}
-pub use Rattle.sip_machine.specs.inner.DebtLaws.{All-back, All-front, IsWithoutFirst-alike, filter-map}
+pub use Rattle.sip_phases.proofs.debts.DebtLaws.{All-back, All-front, IsWithoutFirst-alike, filter-map}
 pub use Rattle.sip_machine.specs.inner.Dues.{AreBetween, blank_rows}
 pub use Rattle.sip_machine.specs.inner.Effects.{led_by, repaid_at, rested_debts, rests_at}
 pub use Rattle.sip_machine.specs.inner.Order.{full_hash}
-pub use Rattle.sip_machine.specs.inner.OwesLaws.{All-names}
+pub use Rattle.sip_phases.proofs.debts.OwesLaws.{All-names}
 pub use Rattle.sip_machine.specs.inner.Paying.{FindsFirst}
 pub use Rattle.sip_machine.specs.inner.Pools.{AreMixedWith, IsSought, beside, one_past}
 pub use Rattle.sip_machine.specs.inner.Tos.{AreTos, AreUnder, IsChanged, IsTo, IsToOf, IsUnder, StandUnder, count_between}
-pub use Rattle.sip_message.proofs.lemmas.message.Views.{same_reading}
-pub use Rattle.sip_message.proofs.lemmas.says.Reading.{says-no_fault, says-reads}
+pub use Rattle.sip_message.proofs.lemmas.says.Reading.{same_reading, says-no_fault, says-reads}
 pub use Rattle.sip_message.specs.Reading.{Reading}
 pub use Rattle.sip_message.specs.Reads.{Reads}
 pub use Rattle.sip_message.specs.SaidOf.{said_of}

@@ -1,19 +1,10 @@
 -- A phase in words of the code, whose messages are numbers of a book.
-use Rattle.std.specs.Prelude.{ℕ, Option, None, List, map}
-use Rattle.std.specs.List.{filter_map}
+use Rattle.std.specs.Prelude.{ℕ, map}
 use Rattle.sip_standard.specs.Told.{ToldField, Told, Flag, Number, Message}
+pub use Rattle.sip_phases.specs.Told.{field_message, messages_told}
 use Rattle.sip_machine.specs.declared.told.ToldField.{ToldField as CodeField}
 use Rattle.sip_machine.specs.declared.told.ToldField.TheVariants as code
 use Rattle.sip_machine.specs.declared.told.Told.{Told as CodeTold}
-
--- the message that a field tells, if it tells one
-abbrev pub field_message : {M : Type 0} → ToldField M → Option M
-field_message (Message name message) = message
-field_message field = None
-
--- the messages that a phase in words tells, in order
-abbrev pub messages_told : {M : Type 0} → Told M → List M
-messages_told told = filter_map field_message told.fields
 
 -- a field that a phase of the code tells, in the words of a listing
 abbrev pub field_of_code : CodeField → ToldField ℕ

@@ -3,7 +3,6 @@ ghost use Rattle.std.specs.Prelude.{◌≡◌};
 
 mod acks;
 
-use self::InviteClientPhase::{Accepted, Calling, Completed, Ended, Idle, Proceeding};
 use crate::book::Book;
 use crate::dues::Dues;
 use crate::event::{Event, is_provisional, is_success, is_unsuccessful};
@@ -12,46 +11,19 @@ use crate::phases::{Change, Phase, Phases, Turn};
 use crate::timers::timeout;
 use crate::told::Told;
 use crate::told::ToldField::{Flag, Message, Number};
-use crate::waiting::Waiting;
+use crate::waiting::{waiting_closes, waiting_fields, waiting_repeats};
+use sip_phases::InviteClientPhase::{Accepted, Calling, Completed, Ended, Idle, Proceeding};
+use sip_phases::{InviteClientPhase, Waiting};
 use sip_standard::{Kind, Method};
 use sip_times::Params;
 use std::alloc::{AllocError, Global};
-use std::hash::Hash;
 use std::marker::Model;
 
 /// Timer D over an unreliable transport, in milliseconds (RFC 3261 section 17.1.1.2).
 const TIMER_D: u64 = 32_000;
 
-/// A phase of the INVITE client transaction. Moments are in milliseconds, and messages are numbers of the `Book`.
-#[derive(Clone, Copy, Debug, PartialEq, Eq, Hash)]
-pub enum InviteClientPhase {
-    /// No INVITE was sent yet.
-    Idle,
-    /// The INVITE waits for a response: timer B gives it up, and timer A sends it again.
-    Calling(Waiting),
-    /// A provisional response came, and `cancel` is when the INVITE was first cancelled.
-    Proceeding {
-        reliable: bool,
-        request: u64,
-        cancel: Option<u64>,
-    },
-    /// A success came at the moment `set`, which starts timer M.
-    Accepted {
-        set: u64,
-    },
-    /// Another final response came at the moment `set`, which starts timer D. For it, and for each one that came after
-    /// it, an ACK is owed until it is sent.
-    Completed {
-        reliable: bool,
-        request: u64,
-        set: u64,
-    },
-    /// The transaction is over.
-    Ended,
-}
-
 impl Phase for InviteClientPhase {
-    ghost use Rattle.sip_machine.specs.inner.InviteClient.Laws.{invite_client_exact};
+    ghost use Rattle.sip_phases.proofs.phases.InviteClientLaws.{invite_client_exact};
 
     // Phases that `==` finds equal are the same.
     ghost exact = { invite_client_exact };
@@ -85,12 +57,12 @@ impl InviteClient {
 }
 
 impl Phases for InviteClient {
-    ghost use Rattle.sip_machine.specs.declared.invite_client.InviteClientPhase.TheVariants.{Idle, Ended};
+    ghost use Rattle.sip_phases.specs.declared.invite_client.InviteClientPhase.TheVariants.{Idle, Ended};
     ghost use Rattle.sip_standard.specs.InviteClient.{InviteClientPhase as Seen, invite_client};
-    ghost use Rattle.sip_machine.specs.inner.InviteClient.{invite_client_seen, invite_client_names, InviteClientInRange};
+    ghost use Rattle.sip_phases.specs.inner.InviteClient.{invite_client_seen, invite_client_names, InviteClientInRange};
     ghost use Rattle.sip_standard.specs.PhaseWords.{invite_client_told};
-    ghost use Rattle.sip_machine.specs.inner.Coded.{has_phases};
-    ghost use Rattle.sip_machine.specs.inner.InviteClient.Laws.{invite_client_is_coded};
+    ghost use Rattle.sip_phases.proofs.phases.CodedLaws.{has_phases};
+    ghost use Rattle.sip_phases.proofs.phases.InviteClientLaws.{invite_client_is_coded};
 
     type Phase = InviteClientPhase;
 
@@ -211,11 +183,13 @@ impl Phases for InviteClient {
                     interval: t1,
                 }),
                 // Timer A: each wait is twice as long as the one before.
-                Calling(waiting) if waiting.repeats(params, book, event) => Calling(Waiting {
-                    set: event.moment(),
-                    interval: 2 * waiting.interval,
-                    ..waiting
-                }),
+                Calling(waiting) if waiting_repeats(&waiting, params, book, event) => Calling(
+                    Waiting {
+                        set: event.moment(),
+                        interval: 2 * waiting.interval,
+                        ..waiting
+                    },
+                ),
                 _ => return Ok(None),
             },
             // An ACK before any INVITE, such as one for a 2xx, leaves idle as it is.
@@ -299,7 +273,7 @@ impl Phases for InviteClient {
     fn closes(&self, phase: &InviteClientPhase) -> Option<u64> {
         let params = &self.params;
         match *phase {
-            Calling(waiting) => Some(waiting.closes(params)),
+            Calling(waiting) => Some(waiting_closes(&waiting, params)),
             Accepted { set } => Some(params.closes(set, timeout(params))),
             Completed { reliable, set, .. } if reliable => Some(params.closes(set, 0)),
             _ => None,
@@ -319,7 +293,7 @@ impl Phases for InviteClient {
     fn told(alloc: Global, phase: &InviteClientPhase) -> Result<Told, AllocError> {
         match *phase {
             Idle => Told::new(alloc, "idle", &[]),
-            Calling(waiting) => Told::new(alloc, "calling", &waiting.fields()),
+            Calling(waiting) => Told::new(alloc, "calling", &waiting_fields(&waiting)),
             Proceeding {
                 reliable,
                 request,

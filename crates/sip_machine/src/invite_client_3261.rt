@@ -1,15 +1,16 @@
 //! The INVITE client transaction of RFC 3261 section 17.1.1, without the accepted state of RFC 6026.
 ghost use Rattle.std.specs.Prelude.{◌≡◌, ◌↔◌, IsTrue};
 ghost use Rattle.sip_machine.specs.Texts.{Texts};
-ghost use Rattle.sip_machine.specs.inner.InviteClient.{invite_client_seen};
-ghost use Rattle.sip_machine.specs.inner.InviteClient3261.Laws.{IsEndedBy};
+ghost use Rattle.sip_phases.specs.inner.InviteClient.{invite_client_seen};
+ghost use Rattle.sip_machine.specs.inner.Rows3261.{IsEndedBy};
 
 use crate::book::Book;
 use crate::dues::Dues;
 use crate::event::{Event, is_success};
-use crate::invite_client::{InviteClient, InviteClientPhase};
+use crate::invite_client::InviteClient;
 use crate::phases::{Change, Phases, Turn};
 use crate::told::Told;
+use sip_phases::InviteClientPhase;
 use sip_standard::Kind;
 use sip_times::Params;
 use std::alloc::{AllocError, Global};
@@ -46,13 +47,13 @@ impl InviteClient3261 {
 }
 
 impl Phases for InviteClient3261 {
-    ghost use Rattle.sip_machine.specs.declared.invite_client.InviteClientPhase.TheVariants.{Idle, Ended};
+    ghost use Rattle.sip_phases.specs.declared.invite_client.InviteClientPhase.TheVariants.{Idle, Ended};
     ghost use Rattle.sip_standard.specs.InviteClient.{InviteClientPhase as Seen};
-    ghost use Rattle.sip_machine.specs.inner.InviteClient.{invite_client_seen, invite_client_names, InviteClientInRange};
+    ghost use Rattle.sip_phases.specs.inner.InviteClient.{invite_client_seen, invite_client_names, InviteClientInRange};
     ghost use Rattle.sip_standard.specs.PhaseWords.{invite_client_told};
     ghost use Rattle.sip_standard.specs.InviteClient3261.{invite_client_3261};
-    ghost use Rattle.sip_machine.specs.inner.Coded.{has_phases};
-    ghost use Rattle.sip_machine.specs.inner.InviteClient3261.Laws.{invite_client_3261_is_coded};
+    ghost use Rattle.sip_phases.proofs.phases.CodedLaws.{has_phases};
+    ghost use Rattle.sip_phases.proofs.phases.InviteClient3261Laws.{invite_client_3261_is_coded};
 
     type Phase = InviteClientPhase;
 

@@ -2,49 +2,35 @@
 ghost use Rattle.std.specs.Prelude.{◌≡◌, ◌≤◌, ◌↔◌, ℕ, IsTrue, false};
 ghost use Rattle.std.specs.Option.{option_map};
 ghost use Rattle.sip_standard.specs.declared.kind.Kind.TheVariants.{Response};
-ghost use Rattle.sip_machine.specs.declared.invite_server.InviteServerPhase.TheVariants.{Idle};
-ghost use Rattle.sip_machine.specs.declared.invite_server_3261.InviteServer3261Phase.TheVariants.{In};
+ghost use Rattle.sip_phases.specs.declared.invite_server.InviteServerPhase.TheVariants.{Idle};
+ghost use Rattle.sip_phases.specs.declared.invite_server_3261.InviteServer3261Phase.TheVariants.{In};
 ghost use Rattle.sip_standard.specs.Times.{Times, last_moment};
 ghost use Rattle.sip_machine.specs.Texts.{Texts};
 ghost use Rattle.sip_standard.specs.MachineEvent.{MachineEvent};
 ghost use Rattle.sip_machine.specs.NumberedEvent.{event_in};
 ghost use Rattle.sip_standard.specs.Kind.{IsSuccess};
-ghost use Rattle.sip_machine.specs.inner.InviteServer.{invite_server_seen};
+ghost use Rattle.sip_phases.specs.inner.InviteServer.{invite_server_seen};
 ghost use Rattle.sip_machine.specs.inner.Turns.{turn_seen, turn_names, TurnInRange};
 ghost use Rattle.sip_standard.specs.InviteServer3261.{Passed, Receives, Sends, remembers};
-ghost use Rattle.sip_machine.specs.inner.InviteServer3261.{invite_server_3261_seen, invite_server_3261_names, InviteServer3261InRange};
-ghost use Rattle.sip_machine.specs.inner.InviteServer3261.Laws.{turn_within};
+ghost use Rattle.sip_phases.specs.inner.InviteServer3261.{invite_server_3261_seen, invite_server_3261_names, InviteServer3261InRange};
+ghost use Rattle.sip_machine.specs.inner.Rows3261.{turn_within};
 ghost use Rattle.sip_machine.specs.inner.Single.{AnswersOne};
 
 use crate::book::Book;
 use crate::dues::Dues;
 use crate::event::{Event, is_success};
-use crate::invite_server::{InviteServer, InviteServerPhase};
+use crate::invite_server::InviteServer;
 use crate::paying::equal_bytes;
 use crate::phases::{Change, Phase, Phases, Turn};
 use crate::told::{Told, ToldField};
+use sip_phases::{InviteServer3261Phase, InviteServerPhase};
 use sip_standard::{Kind, Method};
 use sip_times::Params;
 use std::alloc::{AllocError, Global};
-use std::hash::Hash;
 use std::marker::Model;
 
-/// A phase of the INVITE server transaction of an element that was built before RFC 6026.
-#[derive(Clone, Copy, Debug, PartialEq, Eq, Hash)]
-pub enum InviteServer3261Phase {
-    /// A 2xx was sent: from then on it is the user that sends it again, and the INVITE may come again.
-    Passed,
-    /// A phase of `InviteServer`: before any 2xx, or since the INVITE came again after one.
-    In {
-        /// The phase, as `InviteServer` has it; it is never accepted.
-        phase: InviteServerPhase,
-        /// Whether the INVITE came again after a 2xx.
-        again: bool,
-    },
-}
-
 impl Phase for InviteServer3261Phase {
-    ghost use Rattle.sip_machine.specs.inner.InviteServer3261.Laws.{invite_server_3261_exact};
+    ghost use Rattle.sip_phases.proofs.phases.InviteServer3261Laws.{invite_server_3261_exact};
 
     // Phases that `==` finds equal are the same.
     ghost exact = { invite_server_3261_exact };
@@ -81,13 +67,13 @@ impl InviteServer3261 {
 
 impl Phases for InviteServer3261 {
     ghost use Rattle.std.specs.Prelude.{refl, [], false};
-    ghost use Rattle.sip_machine.specs.declared.invite_server.InviteServerPhase.TheVariants.{Idle};
-    ghost use Rattle.sip_machine.specs.declared.invite_server_3261.InviteServer3261Phase.TheVariants.{In};
+    ghost use Rattle.sip_phases.specs.declared.invite_server.InviteServerPhase.TheVariants.{Idle};
+    ghost use Rattle.sip_phases.specs.declared.invite_server_3261.InviteServer3261Phase.TheVariants.{In};
     ghost use Rattle.sip_standard.specs.InviteServer3261.{InviteServer3261Phase as Seen, invite_server_3261};
-    ghost use Rattle.sip_machine.specs.inner.InviteServer3261.{invite_server_3261_seen, invite_server_3261_names, InviteServer3261InRange};
+    ghost use Rattle.sip_phases.specs.inner.InviteServer3261.{invite_server_3261_seen, invite_server_3261_names, InviteServer3261InRange};
     ghost use Rattle.sip_standard.specs.PhaseWords.{invite_server_3261_told};
-    ghost use Rattle.sip_machine.specs.inner.Coded.{has_phases};
-    ghost use Rattle.sip_machine.specs.inner.InviteServer3261.Laws.{invite_server_3261_is_coded};
+    ghost use Rattle.sip_phases.proofs.phases.CodedLaws.{has_phases};
+    ghost use Rattle.sip_phases.proofs.phases.InviteServer3261Laws.{invite_server_3261_is_coded};
 
     type Phase = InviteServer3261Phase;
 

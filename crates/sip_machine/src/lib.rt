@@ -30,17 +30,20 @@ mod waiting;
 pub use book::Book;
 pub use dues::Dues;
 pub use event::Event;
-pub use invite_client::{InviteClient, InviteClientPhase};
+pub use invite_client::InviteClient;
 pub use invite_client_3261::InviteClient3261;
-pub use invite_server::{InviteServer, InviteServerPhase};
-pub use invite_server_3261::{InviteServer3261, InviteServer3261Phase};
+pub use invite_server::InviteServer;
+pub use invite_server_3261::InviteServer3261;
 pub use machine::Machine;
 pub use phases::{Change, Phase, Phases, Turn};
-pub use plain_client::{PlainClient, PlainClientPhase};
-pub use plain_server::{PlainServer, PlainServerPhase};
+pub use plain_client::PlainClient;
+pub use plain_server::PlainServer;
 pub use pool::Pool;
 pub use sip_ledger::{Debt, Run};
+pub use sip_phases::{
+    InviteClientPhase, InviteServer3261Phase, InviteServerPhase, PlainClientPhase,
+    PlainServerPhase, Waiting,
+};
 pub use sip_standard::{Kind, Method};
 pub use sip_times::{Action, Params, Rules};
 pub use told::{Told, ToldField};
-pub use waiting::Waiting;

@@ -1,7 +1,6 @@
 //! The non-INVITE client transaction (RFC 3261 section 17.1.2).
 ghost use Rattle.std.specs.Prelude.{◌≡◌};
 
-use self::PlainClientPhase::{Completed, Ended, Idle, Proceeding, Trying};
 use crate::book::Book;
 use crate::dues::Dues;
 use crate::event::{Event, is_final, is_provisional};
@@ -9,30 +8,16 @@ use crate::phases::{Change, Phase, Phases, Turn};
 use crate::timers::{linger, timeout};
 use crate::told::Told;
 use crate::told::ToldField::{Flag, Number};
-use crate::waiting::Waiting;
+use crate::waiting::{waiting_closes, waiting_fields, waiting_repeats};
+use sip_phases::PlainClientPhase::{Completed, Ended, Idle, Proceeding, Trying};
+use sip_phases::{PlainClientPhase, Waiting};
 use sip_standard::Kind;
 use sip_times::Params;
 use std::alloc::{AllocError, Global};
-use std::hash::Hash;
 use std::marker::Model;
 
-/// A phase of the non-INVITE client transaction. Moments are in milliseconds.
-#[derive(Clone, Copy, Debug, PartialEq, Eq, Hash)]
-pub enum PlainClientPhase {
-    /// Nothing was sent yet.
-    Idle,
-    /// The request waits for a response: timer F gives it up, and timer E sends it again.
-    Trying(Waiting),
-    /// A provisional response came, and timers E and F run on.
-    Proceeding(Waiting),
-    /// A final response came at the moment `set`, which starts timer K.
-    Completed { reliable: bool, set: u64 },
-    /// The transaction is over.
-    Ended,
-}
-
 impl Phase for PlainClientPhase {
-    ghost use Rattle.sip_machine.specs.inner.PlainClient.Laws.{plain_client_exact};
+    ghost use Rattle.sip_phases.proofs.phases.PlainClientLaws.{plain_client_exact};
 
     // Phases that `==` finds equal are the same.
     ghost exact = { plain_client_exact };
@@ -66,12 +51,12 @@ impl PlainClient {
 }
 
 impl Phases for PlainClient {
-    ghost use Rattle.sip_machine.specs.declared.plain_client.PlainClientPhase.TheVariants.{Idle, Ended};
+    ghost use Rattle.sip_phases.specs.declared.plain_client.PlainClientPhase.TheVariants.{Idle, Ended};
     ghost use Rattle.sip_standard.specs.PlainClient.{PlainClientPhase as Seen, plain_client};
-    ghost use Rattle.sip_machine.specs.inner.PlainClient.{plain_client_seen, plain_client_names, PlainClientInRange};
+    ghost use Rattle.sip_phases.specs.inner.PlainClient.{plain_client_seen, plain_client_names, PlainClientInRange};
     ghost use Rattle.sip_standard.specs.PhaseWords.{plain_client_told};
-    ghost use Rattle.sip_machine.specs.inner.Coded.{has_phases};
-    ghost use Rattle.sip_machine.specs.inner.PlainClient.Laws.{plain_client_is_coded};
+    ghost use Rattle.sip_phases.proofs.phases.CodedLaws.{has_phases};
+    ghost use Rattle.sip_phases.proofs.phases.PlainClientLaws.{plain_client_is_coded};
 
     type Phase = PlainClientPhase;
 
@@ -160,16 +145,18 @@ impl Phases for PlainClient {
                 interval: params.t1(),
             }),
             // Timer E: each wait is twice as long as the one before, up to T2, and it is T2 in proceeding.
-            Trying(waiting) if waiting.repeats(params, book, event) => Trying(Waiting {
+            Trying(waiting) if waiting_repeats(&waiting, params, book, event) => Trying(Waiting {
                 set: event.moment(),
                 interval: (2 * waiting.interval).min(params.t2()),
                 ..waiting
             }),
-            Proceeding(waiting) if waiting.repeats(params, book, event) => Proceeding(Waiting {
-                set: event.moment(),
-                interval: params.t2(),
-                ..waiting
-            }),
+            Proceeding(waiting) if waiting_repeats(&waiting, params, book, event) => Proceeding(
+                Waiting {
+                    set: event.moment(),
+                    interval: params.t2(),
+                    ..waiting
+                },
+            ),
             _ => return Ok(None),
         };
         let change = Change::Keeps;
@@ -217,8 +204,8 @@ impl Phases for PlainClient {
     fn closes(&self, phase: &PlainClientPhase) -> Option<u64> {
         let params = &self.params;
         match *phase {
-            Trying(waiting) => Some(waiting.closes(params)),
-            Proceeding(waiting) => Some(waiting.closes(params)),
+            Trying(waiting) => Some(waiting_closes(&waiting, params)),
+            Proceeding(waiting) => Some(waiting_closes(&waiting, params)),
             Completed { reliable, set } => Some(params.closes(set, linger(params, reliable))),
             Idle | Ended => None,
         }
@@ -236,8 +223,8 @@ impl Phases for PlainClient {
     fn told(alloc: Global, phase: &PlainClientPhase) -> Result<Told, AllocError> {
         match *phase {
             Idle => Told::new(alloc, "idle", &[]),
-            Trying(waiting) => Told::new(alloc, "trying", &waiting.fields()),
-            Proceeding(waiting) => Told::new(alloc, "proceeding", &waiting.fields()),
+            Trying(waiting) => Told::new(alloc, "trying", &waiting_fields(&waiting)),
+            Proceeding(waiting) => Told::new(alloc, "proceeding", &waiting_fields(&waiting)),
             Completed { reliable, set } => {
                 let fields = [Flag("reliable", reliable), Number("set", Some(set))];
                 Told::new(alloc, "completed", &fields)

@@ -30,7 +30,7 @@ pub(crate) struct Tos {
 const SLOTS: usize = 1024;
 
 /// Where this many Tos of one call come, those of all messages are to stand here: then no message without one lies between these, and the response of an ACK
-/// is found without a look at each debt. Where fewer are left, no hashes are kept. This is the most that a count of a call, which is a byte, can hold.
+/// is found without a look at each message that is owed. Where fewer are left, no hashes are kept. This is the most that a count of a call, which is a byte, can hold.
 const MANY: u8 = u8::MAX;
 
 impl Model for Tos {

@@ -23,7 +23,7 @@ use Rattle.sip_message.specs.inner.AddressFronts.{Words}
 use Rattle.sip_message.specs.inner.Plain.{segment, EndsAt, LiesWithin, PlainRun, HostPort, PlainParam}
 use Rattle.sip_message.proofs.QuickLemmas.{low-one, plain-token}
 use Rattle.sip_message.proofs.lemmas.front.Prefix.{prefix-at, all-some}
-use Rattle.sip_message.specs.inner.ParamFronts.{ParamText, ParamsText, GenericParams}
+use Rattle.sip_message.specs.inner.ParamFronts.{ParamText, GenericParams}
 use Rattle.sip_message.proofs.lemmas.params.Closed.{blanks-space}
 use Rattle.sip_message.proofs.lemmas.params.Reading.{text-generic}
 
@@ -211,13 +211,8 @@ param-some text at end start behind first to mark run equal value =
     (omega (arith, mark.0, run.0, later), value.1, (segment at start text, segment start to text, mark.2, (run-token name run.2, inl (run-token v value.2), whole), segment-cut text at start to mark.0 (omega (arith, run.0, later))))
 
 -- a parameter that lies between two places with its ";" is one after a mark
-param-marked : (p : List ℕ × Option (List ℕ)) (text : List ℕ) (at end to : ℕ) → LiesWithin (PlainParam p) text at end to → (Mark semicolon then ParamText p) (segment at to text)
+pub param-marked : (p : List ℕ × Option (List ℕ)) (text : List ℕ) (at end to : ℕ) → LiesWithin (PlainParam p) text at end to → (Mark semicolon then ParamText p) (segment at to text)
 param-marked p text at end to (before, within, (a, x, a_is, param, whole)) = (a, x, subst (Mark semicolon) (sym a_is) (mark-alone semicolon), param, whole)
-
--- where a parameter lies before a segment of parameters, the segment from it on is these parameters with it at the front
-pub params-part : (p : List ℕ × Option (List ℕ)) (ps : List (List ℕ × Option (List ℕ))) (text : List ℕ) (at end to : ℕ) → LiesWithin (PlainParam p) text at end to → ParamsText ps (segment to end text) → ParamsText (p ∷ ps) (segment at end text)
-params-part p ps text at end to param later =
-    (segment at to text, segment to end text, param-marked p text at end to param, later, segment-cut text at to end param.0 param.1)
 
 -- a plain parameter before parameters is parameters
 pub params-behind : (p : List ℕ × Option (List ℕ)) (text : List ℕ) (at end to : ℕ) → LiesWithin (PlainParam p) text at end to → GenericParams (segment to end text) → GenericParams (segment at end text)

@@ -1,7 +1,7 @@
 -- Plain elements of Via.
 -- In the lemmas `at`, to and end are places of a text in this order.
 -- `BranchText` is the text of parameters, of which this branch counts, and `BranchOf` the branch that one parameter gives.
-use Rattle.std.proofs.Common.{◌≡◌, ℕ, List, [], Option, None, Some, refl, sym, subst, ◌∷◌}
+use Rattle.std.proofs.Common.{◌≡◌, ℕ, List, [], Option, None, Some, refl, sym, ap, ◌∙◌, subst, ◌∷◌}
 use Rattle.std.specs.Option.{option_or}
 use Rattle.std.proofs.lemmas.List.{append-nil}
 use Rattle.sip_standard.specs.Text.{◌then◌}
@@ -14,15 +14,18 @@ use Rattle.sip_message.specs.inner.ElementFronts.{FirstVia}
 use Rattle.sip_message.specs.inner.ParamFronts.{Param}
 use Rattle.sip_message.specs.inner.ViaFronts.{BranchOf, BranchText}
 use Rattle.sip_message.specs.inner.Plain.{segment, LiesWithin, PlainRun, PlainParam}
-use Rattle.sip_message.proofs.PlainLemmas.{segment-none, then-stands, stands-as, whole-stands, run-token, mark-alone, params-part}
-use Rattle.sip_message.proofs.lemmas.params.Branch.{cons-branch}
-use Rattle.sip_message.proofs.lemmas.params.Said.{params-said}
+use Rattle.sip_message.proofs.PlainLemmas.{segment-none, then-stands, stands-as, whole-stands, run-token, mark-alone, segment-cut, param-marked}
+use Rattle.sip_message.proofs.lemmas.params.Said.{param-said, first-or}
 use Rattle.sip_message.proofs.lemmas.params.Closed.{blanks-space}
 
 -- where a parameter lies before the parameters of a Via, the segment from it on is parameters of a Via, and its branch counts if it has one
 pub branch-behind : (p : Param) (found later : Option (List ℕ)) (text : List ℕ) (at end to : ℕ) → LiesWithin (PlainParam p) text at end to → BranchOf p found
     → BranchText (segment to end text) later → BranchText (segment at end text) (option_or found later)
-branch-behind p found later text at end to param fact (ps, part, branch) = (p ∷ ps, params-part p ps text at end to param part, cons-branch p ps found later fact branch)
+branch-behind p found later text at end to param fact (os, branch, said) = (
+  found ∷ os,
+  ap (option_or found) branch ∙ first-or found os,
+  (segment at to text, segment to end text, param-said p found _ fact (param-marked p text at end to param), said, segment-cut text at to end param.0 param.1),
+)
 
 -- the empty segment is parameters of a Via without a branch
 pub branch-none : (text : List ℕ) (end : ℕ) → BranchText (segment end end text) None
@@ -52,13 +55,12 @@ pub via-plain : (text : List ℕ) (at end name first version second transport se
     → LiesWithin PlainRun text second end transport → LiesWithin (Byte space) text transport end sent_by → LiesWithin Host text sent_by end behind
     → LiesWithin (PortSays port) text behind end params → BranchText (segment params end text) branch
     → ViaSays (record { whole = segment at end text; transport = segment second transport text; host = segment sent_by behind text; port = port; branch = branch }) (segment at end text)
-via-plain text at end name first version second transport sent_by behind params port branch protocol_is mark_is version_is mark_too transport_is space_is host_is port_is (ps, params_are, branch_is) =
+via-plain text at end name first version second transport sent_by behind params port branch protocol_is mark_is version_is mark_too transport_is space_is host_is port_is (said, branch_is, params_say) =
     -- t and h are the texts of the transport and the host, and `said` is the branches that the parameters say
     let t = segment second transport text in
     let h = segment sent_by behind text in
-    let said = params-said ps branch (segment params end text) params_are branch_is in
     -- T1 to T8 are the texts of the last part, of the last two, and so on up to all but the first
-    let T1 = EachSays (λ o. Mark semicolon then ParamSays o) said.0 in
+    let T1 = EachSays (λ o. Mark semicolon then ParamSays o) said in
     let T2 = PortSays port then T1 in
     let T3 = (Host is h) then T2 in
     let T4 = Blanks then T3 in
@@ -67,7 +69,7 @@ via-plain text at end name first version second transport sent_by behind params 
     let T7 = Token then T6 in
     let T8 = Mark slash then T7 in
     -- s1 to s8 say that each of these texts stands from the beginning of its first part to the end
-    let s1 : LiesWithin T1 text params end end = whole-stands T1 text params end port_is.1 said.2 in
+    let s1 : LiesWithin T1 text params end end = whole-stands T1 text params end port_is.1 params_say in
     let s2 : LiesWithin T2 text behind end end = then-stands (PortSays port) T1 text behind end params end port_is s1 in
     let s3 : LiesWithin T3 text sent_by end end = then-stands (Host is h) T2 text sent_by end behind end (host_is.0, host_is.1, (host_is.2, refl)) s2 in
     let s4 : LiesWithin T4 text transport end end = then-stands Blanks T3 text transport end sent_by end (space_is.0, space_is.1, subst Blanks (sym space_is.2) blanks-space) s3 in
@@ -76,7 +78,7 @@ via-plain text at end name first version second transport sent_by behind params 
     let s7 : LiesWithin T7 text first end end = then-stands Token T6 text first end version end (token text first end version version_is) s6 in
     let s8 : LiesWithin T8 text name end end = then-stands (Mark slash) T7 text name end first end (marked slash text name end first mark_is) s7 in
     let s9 = then-stands Token T8 text at end name end (token text at end name protocol_is) s8 in
-    (said.0, said.1, refl, s9.2)
+    (said, branch_is, refl, s9.2)
 
 -- a text that is one element of Via is a value of which that element is the first
 pub via-first : (text : List ℕ) (v : SaidVia) → ViaSays v text → FirstVia text v

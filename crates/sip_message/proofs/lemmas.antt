@@ -1,3 +1,4 @@
+-- How a message is read, from its texts to what it says.
 pub mod text
 pub mod front
 pub mod lines

@@ -1,7 +1,6 @@
 pub mod Name
 pub mod Field
 pub mod Message
-pub mod Only
 pub mod inner
 pub mod Reading
 pub mod ValueParts

@@ -11,6 +11,7 @@ pub mod Fronts
 pub mod AddressFronts
 pub mod Stages
 pub mod Only
+pub mod Parts
 pub mod Kept
 pub mod Finds
 pub mod ElementFronts

@@ -1,8 +1,9 @@
 //! Messages.
 ghost use Rattle.std.specs.Prelude.{◌≡◌, ◌∷◌, ℕ, List, false};
-ghost use Rattle.sip_message.specs.Only.{IsOnly};
-ghost use Rattle.sip_message.specs.inner.Only.{ExactlyOne, the, One-prop};
-ghost use Rattle.sip_message.specs.Reading.{Reading, Parts, HasParts};
+ghost use Rattle.sip_message.specs.inner.Parts.{HasParts};
+ghost use Rattle.sip_message.specs.inner.Only.{ExactlyOne, the, IsOnly};
+ghost use Rattle.sip_text.proofs.texts.OneLaws.{One-prop};
+ghost use Rattle.sip_message.specs.Reading.{Reading, Parts};
 ghost use Rattle.sip_message.specs.inner.Codes.{parts_code};
 ghost use Rattle.sip_message.specs.inner.Kept.{KeepsRead};
 ghost use Rattle.sip_message.specs.inner.MessageText.{AreUnfolded};
@@ -39,7 +40,7 @@ pub struct Message<'a> {
     /// Whether a value of the fields may be folded.
     may_fold: bool,
     // The fields have the parts of a message in one way only.
-    ghost parts: { ExactlyOne (HasParts (fields_parts fields)) } by { One-prop parts_code (HasParts (fields_parts fields)) },
+    ghost parts: { ExactlyOne (HasParts (fields_parts fields)) } by { One-prop parts_code (IsOnly (HasParts (fields_parts fields))) (λ x y p q. q.only x p.is) },
 }
 
 impl<'a> Model for Message<'a> {

@@ -1,8 +1,8 @@
 //! The elements of all Via fields, and the values of Route fields, one after another.
 ghost use Rattle.std.specs.Prelude.{◌≡◌, ℕ, List, [], drop, MatchOption};
 ghost use Rattle.sip_message.specs.declared.name.Known.TheVariants as known_name;
-ghost use Rattle.sip_message.specs.Only.{IsOnly};
-ghost use Rattle.sip_message.specs.inner.Only.{ExactlyOne, the, One-prop};
+ghost use Rattle.sip_message.specs.inner.Only.{ExactlyOne, the, IsOnly};
+ghost use Rattle.sip_text.proofs.texts.OneLaws.{One-prop};
 ghost use Rattle.sip_standard.specs.Via.{SaidVia};
 ghost use Rattle.sip_standard.specs.Says.{ViasTell};
 ghost use Rattle.sip_message.specs.Field.{values};
@@ -27,7 +27,7 @@ pub struct Vias<'s, 'a> {
     /// What is left of the value of the Via field that was looked at last.
     rest: &'a [u8],
     // One list of elements is left from this place on.
-    ghost left: { ExactlyOne (AreLeft rest.now (values known_name.Via (drop at (slice_fields fields)))) } by { One-prop elements_code (AreLeft rest.now (values known_name.Via (drop at (slice_fields fields)))) },
+    ghost left: { ExactlyOne (AreLeft rest.now (values known_name.Via (drop at (slice_fields fields)))) } by { One-prop elements_code (IsOnly (AreLeft rest.now (values known_name.Via (drop at (slice_fields fields))))) (λ x y p q. q.only x p.is) },
 }
 
 impl<'s, 'a> Model for Vias<'s, 'a> {

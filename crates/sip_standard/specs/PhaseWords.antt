@@ -6,7 +6,9 @@ use Rattle.sip_standard.specs.PlainServer as server
 use Rattle.sip_standard.specs.InviteClient as inviting
 use Rattle.sip_standard.specs.InviteServer as invited
 use Rattle.sip_standard.specs.InviteServer3261.{InviteServer3261Phase, In, Passed, remembers}
-use Rattle.sip_standard.specs.KeyMachine.{MachineKind, OfInviteClient, OfPlainClient, OfInviteServer, OfPlainServer, OfInviteClient3261, OfInviteServer3261, transaction_of}
+use Rattle.sip_standard.specs.KeyMachine.{MachineKind, OfInvite, OfPlain, transaction_of}
+use Rattle.sip_standard.specs.declared.role.Role.TheVariants.{Client, Server}
+use Rattle.sip_standard.specs.declared.rules.Rules.TheVariants.{R3261, R6026}
 
 -- what is told of a request that waits
 abbrev pub waiting_fields : {M : Type 0} → (reliable : Bool) (request : M) (start set interval : ℕ) → List (ToldField M)
@@ -64,9 +66,9 @@ invite_server_3261_told (In x again) =
 
 -- the words of the phases of each machine
 abbrev pub words_of : (machine : MachineKind) → (transaction_of machine).Phase → Told (List ℕ)
-words_of OfInviteClient = invite_client_told
-words_of OfPlainClient = plain_client_told
-words_of OfInviteServer = invite_server_told
-words_of OfPlainServer = plain_server_told
-words_of OfInviteClient3261 = invite_client_told
-words_of OfInviteServer3261 = invite_server_3261_told
+words_of (OfInvite R6026 Client) = invite_client_told
+words_of (OfInvite R6026 Server) = invite_server_told
+words_of (OfInvite R3261 Client) = invite_client_told
+words_of (OfInvite R3261 Server) = invite_server_3261_told
+words_of (OfPlain Client) = plain_client_told
+words_of (OfPlain Server) = plain_server_told

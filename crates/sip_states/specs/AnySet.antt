@@ -4,36 +4,36 @@ use Rattle.sip_standard.specs.Key.{KeyParts}
 use Rattle.sip_standard.specs.Times.{Times}
 use Rattle.sip_machine.specs.Texts.{Texts}
 use Rattle.sip_machine.specs.NumberedEvent.{NumberedEvent}
-use Rattle.sip_machine.specs.inner.Coded.{idle_state, ended_state}
+use Rattle.sip_phases.specs.inner.Coded.{idle_state, ended_state}
 use Rattle.sip_standard.specs.VerdictOf.{IsWide}
 use Rattle.sip_states.specs.Held.{Held}
 use Rattle.sip_standard.specs.KeyMachine.{MachineKind, machine_of_key}
-use Rattle.sip_states.specs.inner.KeySets.{coded_of, StateOf, set_of, meaning_of, by_machine, start_of_machine}
-use Rattle.sip_states.specs.KeyRules.{PhaseOf}
-use Rattle.sip_states.specs.Meaning.{Meaning, IsKeptBy, IsKnown, Given, HasWaited, HasTaken, HasAgenda}
+use Rattle.sip_states.specs.inner.KeySets.{coded_of, CodeOwingOf, set_of, meaning_of, by_machine, start_of_machine}
+use Rattle.sip_states.specs.KeyRules.{OwingOf}
+use Rattle.sip_states.specs.Meaning.{Meaning, IsProperBy, IsKnown, Given, HasWaited, HasTaken, HasAgenda}
 use Rattle.sip_states.specs.declared.any_set.AnySet.{AnySet}
 
 -- What follows is of a property P of a set, whichever machine it has.
 module _ (P : (X M S : Type 0) → Meaning X M S → Held M S → Type 0) where
   -- P holds of a set of this machine
-  abbrev pub OfHeld : (machine : MachineKind) → Held Times (StateOf machine) → Type 0
-  OfHeld machine s = P (PhaseOf machine) Times (StateOf machine) (meaning_of machine) s
+  abbrev pub OfHeld : (machine : MachineKind) → Held Times (CodeOwingOf machine) → Type 0
+  OfHeld machine s = P (OwingOf machine) Times (CodeOwingOf machine) (meaning_of machine) s
 
   -- P holds of the set, as one of its machine
   abbrev pub OfSet : AnySet → Type 0
   OfSet set = by_machine OfHeld set
 
 -- the set is of this machine, and P holds of what it holds
-pub record IsSetOf (machine : MachineKind) (P : Held Times (StateOf machine) → Type 0) (set : AnySet) : Type 0 where
-  pub held : Held Times (StateOf machine)
+pub record IsSetOf (machine : MachineKind) (P : Held Times (CodeOwingOf machine) → Type 0) (set : AnySet) : Type 0 where
+  pub held : Held Times (CodeOwingOf machine)
   pub is : set ≡ set_of machine held
   pub holds : P held
 
 -- What follows is of a property P of two sets of one machine, whichever it is.
 module _ (P : (X M S : Type 0) → Meaning X M S → Held M S → Held M S → Type 0) where
   -- P holds of two sets of this machine
-  abbrev pub OfHelds : (machine : MachineKind) → Held Times (StateOf machine) → Held Times (StateOf machine) → Type 0
-  OfHelds machine s t = P (PhaseOf machine) Times (StateOf machine) (meaning_of machine) s t
+  abbrev pub OfHelds : (machine : MachineKind) → Held Times (CodeOwingOf machine) → Held Times (CodeOwingOf machine) → Type 0
+  OfHelds machine s t = P (OwingOf machine) Times (CodeOwingOf machine) (meaning_of machine) s t
 
   -- the new set is of the machine of the old one, and P holds of the two
   abbrev pub OfSets : AnySet → AnySet → Type 0
@@ -44,8 +44,8 @@ abbrev pub moment_of : AnySet → ℕ
 moment_of set = by_machine (λ machine s. s.moment) set
 
 -- each state of the set is in it once, is in range and can wait at the set's moment, and there are no more than are followed
-abbrev pub IsKeptSet : AnySet → Type 0
-IsKeptSet set = OfSet (λ X M S m s. IsKeptBy m s) set
+abbrev pub IsProperSet : AnySet → Type 0
+IsProperSet set = OfSet (λ X M S m s. IsProperBy m s) set
 
 -- the set has no state
 abbrev pub IsEmpty : AnySet → Type 0
@@ -72,7 +72,7 @@ abbrev pub IsAgendaOf : Option ℕ → AnySet → Type 0
 IsAgendaOf limit set = OfSet (λ X M S m s. HasAgenda m limit s) set
 
 -- the set has one state, which is the first one or the ended one
-abbrev pub IsQuietIn : (machine : MachineKind) → Held Times (StateOf machine) → Type 0
+abbrev pub IsQuietIn : (machine : MachineKind) → Held Times (CodeOwingOf machine) → Type 0
 IsQuietIn machine s = (s.states ≡ idle_state (coded_of machine) ∷ []) ⊎ (s.states ≡ ended_state (coded_of machine) ∷ [])
 
 -- the set is quiet, so that a restart of the element leaves it as it is

@@ -10,7 +10,7 @@ pub record Held (M S : Type 0) : Type 0 where
   pub states : List S
 
 -- what every set keeps: each state is in range, in the set once, and can wait at its moment; beside the ended one there are no more than are followed
-pub record IsKept {M S : Type 0} (InRange : S → Type 0) (until : M → S → Option ℕ) (ended : M → S) (h : Held M S) : Type 0 where
+pub record IsProper {M S : Type 0} (InRange : S → Type 0) (until : M → S → Option ℕ) (ended : M → S) (h : Held M S) : Type 0 where
   pub in_range : All InRange h.states
   pub distinct : AllPairs (λ x y. x ≢ y) h.states
   pub waiting : All (λ x. IsWithin h.moment (until h.machine x)) h.states

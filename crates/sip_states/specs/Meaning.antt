@@ -5,7 +5,7 @@ use Rattle.sip_machine.specs.NumberedEvent.{NumberedEvent, event_in}
 use Rattle.sip_machine.specs.Rules.{MachineRules, Knows, StandFor}
 use Rattle.sip_states.specs.Waits.{Wait, RunGives, IsAgenda}
 use Rattle.sip_standard.specs.VerdictOf.{widest}
-use Rattle.sip_states.specs.Held.{Held, IsKept}
+use Rattle.sip_states.specs.Held.{Held, IsProper}
 
 -- what a machine M with states S of the code means: the messages that a state names, what it stands for, whether its moments are in range, the
 -- rules, the last moment of a state, and the ended state
@@ -20,27 +20,27 @@ pub record Meaning (X M S : Type 0) : Type 1 where
 -- What follows is of sets of one machine, of which m says what they mean.
 module _ {X M S : Type 0} (m : Meaning X M S) where
   -- the set keeps what every set keeps
-  abbrev pub IsKeptBy : Held M S → Type 0
-  IsKeptBy s = IsKept m.in_range m.until m.ended s
+  abbrev pub IsProperBy : Held M S → Type 0
+  IsProperBy s = IsProper m.in_range m.until m.ended s
 
   -- the book has every message that the states of the set name
   abbrev pub IsKnown : Texts → Held M S → Type 0
   IsKnown texts s = All (Knows m.names texts) s.states
 
   -- the states in which one can stand at the moment, after standing in one of the set and waiting
-  abbrev pub Waiting : Texts → Held M S → ℕ → X → Type 0
-  Waiting texts s moment = Wait (m.rules s.machine) (Contains (map (m.seen texts) s.states)) s.moment moment
+  abbrev pub Waited : Texts → Held M S → ℕ → X → Type 0
+  Waited texts s moment = Wait (m.rules s.machine) (Contains (map (m.seen texts) s.states)) s.moment moment
 
   -- the states in which one can stand after the event
   abbrev pub Given : Texts → Held M S → NumberedEvent → X → Type 0
-  Given texts s e = RunGives (m.rules s.machine) (Waiting texts s e.moment) (event_in texts e)
+  Given texts s e = RunGives (m.rules s.machine) (Waited texts s e.moment) (event_in texts e)
 
   -- the new set is the old one once it has waited until the moment
   pub record HasWaited (moment : ℕ) (old new : Held M S) : Type 0 where
     pub machine : new.machine ≡ old.machine
     pub at : new.moment ≡ moment
     pub states : (texts : Texts) → IsBook texts → IsKnown texts old →
-        StandFor m.names m.in_range m.seen texts (Waiting texts old moment) new.states
+        StandFor m.names m.in_range m.seen texts (Waited texts old moment) new.states
     pub one_more : length new.states ≤ length old.states + 1
 
   -- the new set is the old one once it has taken the event

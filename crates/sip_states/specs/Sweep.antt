@@ -6,13 +6,13 @@ use Rattle.sip_machine.specs.Naming.{AppendsAll}
 use Rattle.sip_states.specs.Held.{Held}
 use Rattle.sip_states.specs.Naming.{MayName}
 use Rattle.sip_standard.specs.KeyMachine.{MachineKind}
-use Rattle.sip_states.specs.inner.KeySets.{coded_of, StateOf, by_machine}
+use Rattle.sip_states.specs.inner.KeySets.{coded_of, CodeOwingOf, by_machine}
 use Rattle.sip_states.specs.declared.any_set.AnySet.{AnySet}
 use Rattle.sip_states.specs.AnySet.{SetWaits}
 use Rattle.sip_states.specs.Tables.{Tabled}
 
 -- the numbers of the messages that the states of a set of this machine name
-abbrev pub names_of : (machine : MachineKind) → Held Times (StateOf machine) → List ℕ
+abbrev pub names_of : (machine : MachineKind) → Held Times (CodeOwingOf machine) → List ℕ
 names_of machine s = flat_map (owing_names (coded_of machine).names) s.states
 
 -- the numbers of the messages that the states of any set name

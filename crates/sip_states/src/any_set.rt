@@ -1,7 +1,7 @@
 //! The states of one transaction, whichever machine it has.
 ghost use Rattle.std.specs.Prelude.{◌≡◌, ◌↔◌, ◌≤◌, false, Contains, IfOk, IsErrOf, IsTrue, OnErr, OnOk};
 ghost use Rattle.sip_machine.specs.NumberedEvent.{FitsBook};
-ghost use Rattle.sip_states.specs.AnySet.{moment_of, start_of, IsEmpty, IsKeptSet, IsQuietSet, IsKnownSet, SetWaits, SetTakes, IsSetTooWide, IsAgendaOf};
+ghost use Rattle.sip_states.specs.AnySet.{moment_of, start_of, IsEmpty, IsProperSet, IsQuietSet, IsKnownSet, SetWaits, SetTakes, IsSetTooWide, IsAgendaOf};
 ghost use Rattle.sip_states.specs.Sweep.{AppendsNumbers, SetMayName, numbers_of};
 ghost use Rattle.sip_states.specs.Told.{AreTold};
 
@@ -112,7 +112,7 @@ impl AnySet {
     /// What every set keeps: each state is in it once, is in range and can wait at the moment, and beside the ended one there are
     /// at most 1,024.
     pub fn known(&self)
-        ensures { IsKeptSet self.now }
+        ensures { IsProperSet self.now }
     {
         each_machine!(self, set => set.known())
     }

@@ -8,7 +8,7 @@ ghost use Rattle.sip_machine.specs.Naming.{AppendsAll};
 ghost use Rattle.sip_machine.specs.Owing.{CodeOwing, owing_names};
 ghost use Rattle.sip_machine.specs.Rules.{Knows, StandFor};
 ghost use Rattle.sip_machine.specs.inner.Pools.{picked};
-ghost use Rattle.sip_states.specs.Held.{IsKept};
+ghost use Rattle.sip_states.specs.Held.{IsProper};
 ghost use Rattle.sip_states.specs.Naming.{MayName};
 ghost use Rattle.sip_states.specs.Waits.{Wait, RunGives, IsAgenda};
 ghost use Rattle.sip_standard.specs.VerdictOf.{IsWide, widest};
@@ -59,14 +59,14 @@ pub struct StateSet<M: Machine> {
 
 impl<M: Machine> Model for StateSet<M> {
     ghost use Rattle.sip_machine.specs.Owing.{CodeOwing};
-    ghost use Rattle.sip_states.specs.Held.{Held, IsKept};
+    ghost use Rattle.sip_states.specs.Held.{Held, IsProper};
 
     // A set means its machine, its moment and its states. The states differ, their numbers are in range, and each can last until the moment.
     ghost Value = { Held M (CodeOwing M.Phase) };
 
     ghost view = { λ s. record { machine = s.machine; moment = s.moment; states = s.states } };
 
-    ghost invariant = { λ s. IsKept M.in_range M.until M.ended (record { machine = s.machine; moment = s.moment; states = s.states }) };
+    ghost invariant = { λ s. IsProper M.in_range M.until M.ended (record { machine = s.machine; moment = s.moment; states = s.states }) };
 }
 
 impl<M: Machine> StateSet<M> {
@@ -200,7 +200,7 @@ impl<M: Machine> StateSet<M> {
     /// What every set keeps: each state is in it once, is in range and can wait at the moment, and beside the ended one there are
     /// at most 1,024.
     pub fn known(&self)
-        ensures { IsKept M.in_range M.until M.ended self.now }
+        ensures { IsProper M.in_range M.until M.ended self.now }
     {
         // Nothing is done: what the contract says holds of each set at all times.
         let _ = &self.states;

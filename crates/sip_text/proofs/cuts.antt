@@ -1,3 +1,4 @@
+-- A text is cut at a mark in one way.
 pub mod CutLemmas
 pub mod DoubleLemmas
 pub mod EndLemmas

@@ -1,3 +1,4 @@
+-- Hosts: names, IPv4 addresses and IPv6 addresses, each with its test.
 pub mod HexLemmas
 pub mod HostLemmas
 pub mod HostnameLemmas

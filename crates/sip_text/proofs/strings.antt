@@ -1,2 +1,3 @@
+-- Blank runs and quoted strings.
 pub mod BlanksLemmas
 pub mod QuotedLemmas

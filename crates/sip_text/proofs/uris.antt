@@ -1,3 +1,4 @@
+-- How a URI is cut into its parts.
 pub mod UriCharLemmas
 pub mod UriHostLemmas
 pub mod UriLemmas

@@ -1,14 +1,11 @@
 -- The bytes that the grammar names (RFC 3261, section 25.1).
 use Rattle.std.specs.Prelude.{◌≡◌, ℕ, Bool, List, [], ◌∷◌}
 use Rattle.sip_standard.specs.Chars.{is_alphanum_or}
+pub use Rattle.sip_standard.specs.LogSays.{line_feed}
 
 -- HTAB
 abbrev pub tab : ℕ
 tab = 9
-
--- LF
-abbrev pub line_feed : ℕ
-line_feed = 10
 
 -- CR
 abbrev pub carriage_return : ℕ

@@ -17,7 +17,7 @@ use Rattle.sip_verdict.specs.Entries.{newest_moment}
 use Rattle.sip_standard.specs.Stands.{Stands}
 use Rattle.sip_standard.specs.Figure.{Owing}
 use Rattle.sip_standard.specs.KeyMachine.{machine_of_key, transaction_of}
-use Rattle.sip_verdict.specs.Named.{WereNamed}
+use Rattle.sip_verdict.specs.Named.{IsNamed, WereNamed}
 use Rattle.sip_verdict.specs.inner.TablesTracking.{TablesTrack}
 
 -- what a judge holds: the number and the moment of its newest entry, the messages that it keeps, the set of each key, how many messages its last
@@ -33,7 +33,7 @@ pub record Judging : Type 0 where
 -- messages and sets follow these entries, none of which is in trouble; `left` messages were named after one of them, and few more are kept
 pub record AreFollowed (texts : Texts) (t : Tabled) (left : ℕ) (es : List (Observation KeyParts)) : Type 0 where
   pub tracks : TablesTrack texts es t
-  pub named : WereNamed t.times es left
+  pub named : WereNamed (IsNamed t.times) es left
   pub few : length texts ≤ left + left + 64
 
 -- the judge has taken just these entries

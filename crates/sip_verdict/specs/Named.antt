@@ -8,23 +8,22 @@ use Rattle.sip_standard.specs.Observation.{Observation}
 use Rattle.sip_standard.specs.VerdictOf.{events_for}
 use Rattle.sip_standard.specs.PhaseWords.{words_of}
 use Rattle.sip_machine.specs.Told.{messages_told}
-use Rattle.sip_states.specs.KeyRules.{PhaseOf}
+use Rattle.sip_states.specs.KeyRules.{OwingOf}
 use Rattle.sip_verdict.specs.Entries.{newest_moment}
 
 -- the messages that a state names: those that its phase tells of, and those that are owed
-abbrev pub messages_of : (machine : MachineKind) → PhaseOf machine → List (List ℕ)
+abbrev pub messages_of : (machine : MachineKind) → OwingOf machine → List (List ℕ)
 messages_of machine x = messages_told (words_of machine x.phase) ++ map (λ owed. owed.message) x.owes
 
--- the messages that a state of the machine of this key names
-abbrev pub key_messages : (p : Times) (key : KeyParts) → PhaseOf (machine_of_key p.rules key) → List (List ℕ)
-key_messages p key x = messages_of (machine_of_key p.rules key) x
+-- a state in which a run of the key over the entries can stand at the newest names the message
+abbrev pub NamesOver : Times → List (Observation KeyParts) → KeyParts → List ℕ → Type 0
+NamesOver p es key text =
+    let machine = machine_of_key p.rules key in
+    (x : OwingOf machine) × Stands (transaction_of machine).figure p (events_for key es) (newest_moment es) x × Contains (messages_of machine x) text
 
--- a state in which a run of some key over the entries can stand at the newest names the message
-pub record IsNamed (p : Times) (es : List (Observation KeyParts)) (text : List ℕ) : Type 0 where
-  pub key : KeyParts
-  pub state : PhaseOf (machine_of_key p.rules key)
-  pub stands : Stands (transaction_of (machine_of_key p.rules key)).figure p (events_for key es) (newest_moment es) state
-  pub names : Contains (key_messages p key state) text
+-- some key names the message over the entries
+abbrev pub IsNamed : Times → List (Observation KeyParts) → List ℕ → Type 0
+IsNamed p es text = (key : KeyParts) × NamesOver p es key text
 
 -- P holds of exactly `count` texts
 pub record AreMany (P : List ℕ → Type 0) (count : ℕ) : Type 0 where
@@ -34,12 +33,12 @@ pub record AreMany (P : List ℕ → Type 0) (count : ℕ) : Type 0 where
   pub counts : count ≡ length texts
 
 -- exactly `count` messages are named after the first entries of the log, for some number of them, which may be 0
-pub record WereNamed (p : Times) (es : List (Observation KeyParts)) (count : ℕ) : Type 0 where
+pub record WereNamed (Named : List (Observation KeyParts) → List ℕ → Type 0) (es : List (Observation KeyParts)) (count : ℕ) : Type 0 where
   pub front : List (Observation KeyParts)
   pub rest : List (Observation KeyParts)
   pub whole : es ≡ front ++ rest
-  pub many : AreMany (IsNamed p front) count
+  pub many : AreMany (Named front) count
 
 -- few messages are kept: at most twice as many as are named after the first entries, for some number of them, and 64 more
-abbrev pub AreFew : Times → List (Observation KeyParts) → ℕ → Type 0
-AreFew p es kept = (named : ℕ) × WereNamed p es named × (kept ≤ named + named + 64)
+abbrev pub AreFew : (Named : List (Observation KeyParts) → List ℕ → Type 0) → List (Observation KeyParts) → ℕ → Type 0
+AreFew Named es kept = (named : ℕ) × WereNamed Named es named × (kept ≤ named + named + 64)

@@ -19,10 +19,10 @@ use Rattle.sip_verdict.specs.SurveyOf.{Breaks, Widens, HoldsOf}
 -- What follows is of the transactions in trouble.
 
 -- the finding is of the transaction with this number
-abbrev pub IsOf : ℕ → Finding → Type 0
-IsOf transaction (Malformed entry fault) = ⊥
-IsOf transaction (Breach entry number) = number ≡ transaction
-IsOf transaction (Undecided entry number) = number ≡ transaction
+abbrev pub IsFindingOf : ℕ → Finding → Type 0
+IsFindingOf transaction (Malformed entry fault) = ⊥
+IsFindingOf transaction (Breach entry number) = number ≡ transaction
+IsFindingOf transaction (Undecided entry number) = number ≡ transaction
 
 -- the findings have one of this kind of the key at the entry with this number, where keys have their numbers among those that are counted
 abbrev pub Names : (ℕ → ℕ → Finding) → (List (Observation KeyParts) → List KeyParts) → List (Observation KeyParts) → List Finding → KeyParts → ℕ → Type 0
@@ -62,11 +62,15 @@ StaysAt items cuts entry =
 abbrev pub IsCutOf : (KeyParts → Bool) → Observation KeyParts → Observation KeyParts → Type 0
 IsCutOf chosen e cut = (cut.event.moment ≡ e.event.moment) × (cut.keys ≡ filter chosen e.keys) × (cut.keys ≢ [] → cut.event ≡ e.event)
 
+-- the entries `es` came after `old`, and the entries `others` after `left`: the key has the same trouble at entries of the same number in both
+abbrev pub HasSameTroubleAfter : Times → (old left : List (Observation KeyParts)) → (es others : List (Observation KeyParts)) → KeyParts → Type 0
+HasSameTroubleAfter p old left es others key =
+    (front back : List (Observation KeyParts)) (e f : Observation KeyParts) (rest more : List (Observation KeyParts)) → es ≡ front ++ e ∷ rest → others ≡ back ++ f ∷ more
+    → length front ≡ length back → (Breaks p (old ++ front) e key ↔ Breaks p (left ++ back) f key) × (Widens p (old ++ front) e key ↔ Widens p (left ++ back) f key)
+
 -- the key has the same trouble in both logs, at the same entry
 abbrev pub HasSameTrouble : Times → List (Observation KeyParts) → List (Observation KeyParts) → KeyParts → Type 0
-HasSameTrouble p es cuts key =
-    (front back : List (Observation KeyParts)) (e cut : Observation KeyParts) (rest others : List (Observation KeyParts)) → es ≡ front ++ e ∷ rest → cuts ≡ back ++ cut ∷ others
-    → length front ≡ length back → (Breaks p front e key ↔ Breaks p back cut key) × (Widens p front e key ↔ Widens p back cut key)
+HasSameTrouble p es cuts key = HasSameTroubleAfter p [] [] es cuts key
 
 -- the key's runs over the first entries of both logs, as many of the one as of the other, stand in the same states at the newest moment
 abbrev pub HasSameRuns : Times → List (Observation KeyParts) → List (Observation KeyParts) → KeyParts → Type 0
@@ -76,7 +80,7 @@ HasSameRuns p es cuts key =
     → Stands key_machine.figure p (events_for key front) (newest_moment front) x ↔ Stands key_machine.figure p (events_for key back) (newest_moment back) x
 
 -- what the log of some keys keeps of the whole log: the chosen keys in their order, and the runs and the trouble of each
-pub record Keeps (p : Times) (chosen : KeyParts → Bool) (es : List (Observation KeyParts)) (cuts : List Item) : Type 0 where
+pub record KeepsChosen (p : Times) (chosen : KeyParts → Bool) (es : List (Observation KeyParts)) (cuts : List Item) : Type 0 where
   pub seen : List (Observation KeyParts)
   pub are : AreSeen [] cuts seen
   pub keys : keys_in seen ≡ chosen_in chosen es
@@ -85,8 +89,12 @@ pub record Keeps (p : Times) (chosen : KeyParts → Bool) (es : List (Observatio
 
 -- What follows is of a transaction that is over.
 
--- the transaction of this machine is idle again: a run over its events stands in idle at the moment without debts, and none stands in any other state
+-- a run over the events of this machine stands at the moment in this phase without debts, and none stands in any other state
+abbrev pub StandsOnlyIn : (kind : MachineKind) → Times → List MachineEvent → ℕ → (transaction_of kind).Phase → Type 0
+StandsOnlyIn kind p events m phase =
+    Stands (transaction_of kind).figure p events m (quiet phase)
+    × ((x : Owing (transaction_of kind).Phase) → Stands (transaction_of kind).figure p events m x → x ≡ quiet phase)
+
+-- the transaction of this machine is idle again
 abbrev pub IsIdleAgain : MachineKind → Times → List MachineEvent → ℕ → Type 0
-IsIdleAgain kind p events m =
-    Stands (transaction_of kind).figure p events m (quiet (transaction_of kind).figure.idle)
-    × ((x : Owing (transaction_of kind).Phase) → Stands (transaction_of kind).figure p events m x → x ≡ quiet (transaction_of kind).figure.idle)
+IsIdleAgain kind p events m = StandsOnlyIn kind p events m (transaction_of kind).figure.idle

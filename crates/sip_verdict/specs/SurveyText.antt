@@ -1,15 +1,15 @@
 -- The text of a survey: a line for each finding as its entry passes, and a last line.
-use Rattle.std.specs.Prelude.{◌≡◌, ◌++◌, ◌∷◌, [], ℕ, Bool, true, false, List, length, filter, codes, decimal, ◌+◌, ◌⊎◌, Some, All}
+use Rattle.std.specs.Prelude.{◌≡◌, ◌++◌, ◌∷◌, [], ℕ, Bool, true, false, List, length, filter, codes, decimal, ◌+◌, ◌⊎◌, Option, None, Some, All}
 use Rattle.sip_standard.specs.LogSays.{line_feed, LogEnd, LogSays, LacksHeader}
 use Rattle.sip_verdict.specs.declared.finding.Finding.{Finding}
 use Rattle.sip_verdict.specs.declared.finding.Finding.TheVariants.{Malformed, Breach, Undecided}
 use Rattle.sip_verdict.specs.declared.survey_end.SurveyEnd.{SurveyEnd}
 use Rattle.sip_verdict.specs.declared.survey_end.SurveyEnd.TheVariants.{Clean, LogFault}
 use Rattle.sip_verdict.specs.declared.summary.Summary.{Summary}
+use Rattle.sip_verdict.specs.declared.transaction.Transaction.{Transaction}
 use Rattle.sip_standard.specs.Rendering.{rendered}
-use Rattle.sip_verdict.specs.SurveyOf.{HoldsOf, IsSurveyOf}
-use Rattle.std.specs.List.{list_any}
-use Rattle.sip_standard.specs.Key.{KeyParts, same_key}
+use Rattle.sip_verdict.specs.SurveyOf.{HoldsOf, IsSurveyOf, verdict_of}
+use Rattle.sip_standard.specs.Key.{KeyParts}
 use Rattle.sip_standard.specs.Times.{Times}
 use Rattle.sip_standard.specs.Outcome.{gives}
 use Rattle.sip_standard.specs.Says.{Said, Says}
@@ -18,34 +18,40 @@ use Rattle.sip_standard.specs.TransactionText.{key_text}
 use Rattle.sip_standard.specs.Observation.{Observation}
 use Rattle.sip_standard.specs.Seen.{AreSeen}
 use Rattle.sip_standard.specs.VerdictOf.{keys_in}
+use Rattle.sip_verdict.specs.Entries.{concerns}
 use Rattle.sip_standard.specs.declared.verdict.Verdict.TheVariants as verdicts
 
--- whether the entry concerns the transaction
-abbrev pub is_of : KeyParts → Observation KeyParts → Bool
-is_of key e = list_any (same_key key) e.keys
-
 -- the first of the entries that concern the transaction has this number, and its message spells the branch as these bytes
-abbrev pub IsFirstOf : List (Observation KeyParts) → KeyParts → ℕ → List ℕ → Type 0
-IsFirstOf es key number branch =
+abbrev pub IsFirstEntryOf : List (Observation KeyParts) → KeyParts → ℕ → List ℕ → Type 0
+IsFirstEntryOf es key number branch =
     (before : List (Observation KeyParts)) × (e : Observation KeyParts) × (after : List (Observation KeyParts)) × (es ≡ before ++ e ∷ after)
-    × (is_of key e ≡ true) × All (λ o. is_of key o ≡ false) before × (number ≡ length before + 1)
+    × (concerns key e ≡ true) × All (λ o. concerns key o ≡ false) before × (number ≡ length before + 1)
     × ((s : Said) × Says e.event.text (gives s) × (s.via.branch ≡ Some branch))
 
 -- the last of the entries that concern the transaction has this number
-abbrev pub IsLastOf : List (Observation KeyParts) → KeyParts → ℕ → Type 0
-IsLastOf es key number =
+abbrev pub IsLastEntryOf : List (Observation KeyParts) → KeyParts → ℕ → Type 0
+IsLastEntryOf es key number =
     (before : List (Observation KeyParts)) × (e : Observation KeyParts) × (after : List (Observation KeyParts)) × (es ≡ before ++ e ∷ after)
-    × (is_of key e ≡ true) × All (λ o. is_of key o ≡ false) after × (number ≡ length before + 1)
+    × (concerns key e ≡ true) × All (λ o. concerns key o ≡ false) after × (number ≡ length before + 1)
 
 -- what a line says of a transaction: a word each for its role, its method and its branch, and the numbers of its first entry and of its last one
 abbrev pub transaction_words : KeyParts → (branch : List ℕ) → (first last : ℕ) → List ℕ
 transaction_words key branch first last =
     codes " " ++ key_text key ++ codes " " ++ branch ++ codes " " ++ decimal first ++ codes " " ++ decimal last
 
+-- the words for a transaction as a survey tells it
+abbrev pub told_words : Transaction → List ℕ
+told_words t = transaction_words t.key.now t.branch.now t.first t.last
+
+-- the line of a finding, with the words for its transaction where the transaction is known
+abbrev pub line_with : Finding → Option Transaction → List ℕ
+line_with f None = rendered (verdict_of f) ++ line_feed ∷ []
+line_with f (Some t) = rendered (verdict_of f) ++ told_words t ++ line_feed ∷ []
+
 -- these bytes are the words for the transaction after the entries
 abbrev pub AreWordsOf : List (Observation KeyParts) → List ℕ → KeyParts → Type 0
 AreWordsOf es words key =
-    (branch : List ℕ) × (first : ℕ) × (last : ℕ) × IsFirstOf es key first branch × IsLastOf es key last × (words ≡ transaction_words key branch first last)
+    (branch : List ℕ) × (first : ℕ) × (last : ℕ) × IsFirstEntryOf es key first branch × IsLastEntryOf es key last × (words ≡ transaction_words key branch first last)
 
 -- the line of a finding at the last of these entries: the words of a verdict, and after them those for its transaction, where it is of one
 abbrev pub IsLineOf : List (Observation KeyParts) → Finding → List ℕ → Type 0

@@ -1,5 +1,5 @@
 -- What a survey holds while it takes the entries of a log as they come.
-use Rattle.std.specs.Prelude.{◌≡◌, ◌≢◌, ◌≤◌, ◌+◌, ℕ, Bool, true, false, List, ◌++◌, Option, Some, None, Result, Err, Contains, length, max, slice_get}
+use Rattle.std.specs.Prelude.{◌≡◌, ◌≢◌, ◌≤◌, ◌+◌, ℕ, Bool, true, false, List, Option, Some, None, Result, Err, length, max, slice_get}
 use Rattle.sip_standard.specs.Key.{KeyParts}
 use Rattle.sip_standard.specs.Times.{Times, last_moment}
 use Rattle.sip_machine.specs.Texts.{Texts}
@@ -8,43 +8,25 @@ use Rattle.sip_verdict.specs.declared.step_error.StepError.{StepError}
 use Rattle.sip_verdict.specs.declared.survey_end.SurveyEnd.{SurveyEnd}
 use Rattle.sip_standard.specs.Observation.{Observation}
 use Rattle.sip_verdict.specs.Entries.{newest_moment}
-use Rattle.sip_standard.specs.Stands.{Stands}
-use Rattle.sip_standard.specs.KeyMachine.{machine_of_key, transaction_of}
-use Rattle.sip_states.specs.KeyRules.{PhaseOf}
-use Rattle.sip_verdict.specs.Named.{AreMany, key_messages}
+use Rattle.sip_verdict.specs.Named.{NamesOver, WereNamed}
 use Rattle.sip_verdict.specs.Room.{HasRoom}
 use Rattle.sip_verdict.specs.SurveyOf.{IsSound}
 use Rattle.sip_verdict.specs.inner.Surveying.{TablesSurvey}
 use Rattle.sip_verdict.specs.declared.histories.Histories.{Histories}
 use Rattle.sip_verdict.specs.declared.histories.History.{History}
-use Rattle.sip_verdict.specs.SurveyText.{IsFirstOf, IsLastOf}
-use Rattle.sip_standard.specs.VerdictOf.{keys_in, events_for}
+use Rattle.sip_verdict.specs.SurveyText.{IsFirstEntryOf, IsLastEntryOf}
+use Rattle.sip_standard.specs.VerdictOf.{keys_in}
 use Rattle.sip_verdict.specs.declared.step_error.StepError.TheVariants as errors
 use Rattle.sip_verdict.specs.declared.survey_end.SurveyEnd.TheVariants as ended
 
--- a state in which a run of a key in no trouble over the entries can stand at the newest names the message
-pub record IsStillNamed (p : Times) (es : List (Observation KeyParts)) (text : List ℕ) : Type 0 where
-  pub key : KeyParts
-  pub sound : IsSound p es key
-  pub state : PhaseOf (machine_of_key p.rules key)
-  pub stands : Stands (transaction_of (machine_of_key p.rules key)).figure p (events_for key es) (newest_moment es) state
-  pub names : Contains (key_messages p key state) text
-
--- transactions in no trouble name exactly `count` messages after the first entries of the log, for some number of them, which may be 0
-pub record WereStillNamed (p : Times) (es : List (Observation KeyParts)) (count : ℕ) : Type 0 where
-  pub front : List (Observation KeyParts)
-  pub rest : List (Observation KeyParts)
-  pub whole : es ≡ front ++ rest
-  pub many : AreMany (IsStillNamed p front) count
-
--- few messages are kept: at most twice as many as transactions in no trouble name after the first entries, for some number of them, and 64 more
-abbrev pub AreFewKept : Times → List (Observation KeyParts) → ℕ → Type 0
-AreFewKept p es kept = (named : ℕ) × WereStillNamed p es named × (kept ≤ named + named + 64)
+-- some key in no trouble names the message over the entries
+abbrev pub IsStillNamed : Times → List (Observation KeyParts) → List ℕ → Type 0
+IsStillNamed p es text = (key : KeyParts) × IsSound p es key × NamesOver p es key text
 
 -- the history tells the first of the entries that concern the transaction, with its branch, and the last one, which may be the newest restart
 pub record IsHistoryOf (es : List (Observation KeyParts)) (restart : ℕ) (key : KeyParts) (h : History) : Type 0 where
-  pub first : IsFirstOf es key h.first h.branch.items
-  pub last : IsLastOf es key (max h.last restart)
+  pub first : IsFirstEntryOf es key h.first h.branch.items
+  pub last : IsLastEntryOf es key (max h.last restart)
 
 -- there is a history of each transaction of the entries, in the order of the transactions
 pub record AreHistories (es : List (Observation KeyParts)) (b : Histories) : Type 0 where
@@ -67,7 +49,7 @@ pub record Surveying : Type 0 where
 -- messages and sets follow these entries, each transaction for itself; `left` messages were named after one of them, and few more are kept
 pub record AreSurveyed (texts : Texts) (t : Tabled) (deaf : List Bool) (left : ℕ) (es : List (Observation KeyParts)) : Type 0 where
   pub tracks : TablesSurvey texts es t deaf
-  pub named : WereStillNamed t.times es left
+  pub named : WereNamed (IsStillNamed t.times) es left
   pub few : length texts ≤ left + left + 64
 
 -- the survey has taken just these entries

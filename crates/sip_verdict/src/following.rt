@@ -11,10 +11,10 @@ ghost use Rattle.sip_verdict.specs.Entries.{ConcernsNone};
 ghost use Rattle.sip_standard.specs.VerdictOf.{keys_in, Sees};
 ghost use Rattle.sip_verdict.specs.SurveyOf.{AreFoundAt};
 ghost use Rattle.sip_verdict.specs.Forgetting.{ForgetsUpTo, remembered};
-ghost use Rattle.sip_verdict.specs.Named.{AreMany};
-ghost use Rattle.sip_verdict.specs.SurveyText.{IsFirstOf, IsLastOf};
+ghost use Rattle.sip_verdict.specs.Named.{AreFew, AreMany};
+ghost use Rattle.sip_verdict.specs.SurveyText.{IsFirstEntryOf, IsLastEntryOf};
 ghost use Rattle.sip_verdict.specs.Room.{HasRoom};
-ghost use Rattle.sip_verdict.specs.Surveys.{AreFewKept, IsStillNamed, MayAnswer, MayFollow, SurveysFor, end_after};
+ghost use Rattle.sip_verdict.specs.Surveys.{IsStillNamed, MayAnswer, MayFollow, SurveysFor, end_after};
 
 use crate::entries::find_next;
 use crate::finding::Finding;
@@ -237,7 +237,7 @@ impl<H: BuildHasher + Drop> Survey<H> {
     /// The transaction with this number, by which a finding names it, and None where no transaction has the number.
     pub fn transaction(&self, number: u64) -> Option<Transaction<'_>>
         ensures { (es : List (Observation KeyParts)) → SurveysFor self.now es → 0 < number
-            → IfSome (slice_get (keys_in es) (number - 1)) (λ key. IsSomeAnd result (λ t. (t.key.now ≡ key) × IsFirstOf es key t.first t.branch.now × IsLastOf es key t.last)) }
+            → IfSome (slice_get (keys_in es) (number - 1)) (λ key. IsSomeAnd result (λ t. (t.key.now ≡ key) × IsFirstEntryOf es key t.first t.branch.now × IsLastEntryOf es key t.last)) }
     {
         let key = self.standing.key(number)?;
         let history = self.histories.each.get(number as usize - 1)?;
@@ -252,7 +252,7 @@ impl<H: BuildHasher + Drop> Survey<H> {
     /// How many messages the survey keeps.
     pub fn kept(&self) -> usize
         ensures kept { result ≡ length self.now.texts }
-        ensures few { (es : List (Observation KeyParts)) → SurveysFor self.now es → AreFewKept self.now.tables.times es result }
+        ensures few { (es : List (Observation KeyParts)) → SurveysFor self.now es → AreFew (IsStillNamed self.now.tables.times) es result }
     {
         self.standing.kept()
     }

@@ -8,7 +8,7 @@ ghost use Rattle.sip_message.specs.SaidOf.{said_of};
 ghost use Rattle.sip_log.specs.Told.{item};
 ghost use Rattle.sip_standard.specs.Observation.{Observation, direction_of};
 ghost use Rattle.sip_standard.specs.VerdictOf.{Sees};
-ghost use Rattle.sip_verdict.specs.inner.Observing.{AreKeysOf, IsObserved, IsKept, IsHeard, silent_told};
+ghost use Rattle.sip_verdict.specs.inner.Observing.{AreKeysOf, IsObserved, KeepsHeard, IsHeard, silent_told};
 
 use crate::concerned::Concerned;
 use sip_key::{Direction, Key, KeyError, cancelled_key, key_of};
@@ -85,7 +85,7 @@ pub(crate) fn observe(alloc: Global, book: &mut Book, entry: &Entry) -> Result<O
     ensures observed { IfOk result (λ told. (es : List (Observation KeyParts)) → (e : Observation KeyParts) × Sees es (item entry.now) e
         × IsObserved book.new es (item entry.now) told e) }
     ensures heard { IfOk result (IsHeard book.new entry.now.moment) }
-    ensures kept { IfOk result (IsKept book.old book.new entry.now) }
+    ensures kept { IfOk result (KeepsHeard book.old book.new entry.now) }
     ensures err { OnErr result (book.new ≡ book.old) }
 {
     let Some(direction) = direction_of(entry.action) else {
@@ -109,7 +109,7 @@ fn observe_message(
     ensures observed { IfOk result (λ told. (es : List (Observation KeyParts)) → (e : Observation KeyParts) × Sees es (item entry.now) e
         × IsObserved book.new es (item entry.now) told e) }
     ensures heard { IfOk result (IsHeard book.new entry.now.moment) }
-    ensures kept { IfOk result (IsKept book.old book.new entry.now) }
+    ensures kept { IfOk result (KeepsHeard book.old book.new entry.now) }
     ensures err { OnErr result (book.new ≡ book.old) }
 {
     let message = match Message::read(alloc, entry.bytes.as_slice()) {

@@ -2,11 +2,10 @@
 ghost use Rattle.std.specs.Prelude.{◌≡◌, ◌++◌, IfOk, OnOk, codes, decimal, string_bytes};
 ghost use Rattle.sip_standard.specs.Rendering.{rendered, rendered_unit};
 ghost use Rattle.sip_standard.specs.Showing.{last_text};
-ghost use Rattle.sip_verdict.specs.SurveyText.{end_text};
+ghost use Rattle.sip_verdict.specs.SurveyText.{end_text, line_with, told_words};
 ghost use Rattle.sip_standard.specs.declared.verdict.Verdict.TheVariants.{Malformed, LogFault};
 ghost use Rattle.std.specs.Option.{option_copied};
 ghost use Rattle.sip_standard.specs.TransactionText.{role_text};
-ghost use Rattle.sip_verdict.specs.inner.SurveyingLogs.{line_with, words_of};
 
 use crate::finding::Finding;
 use crate::survey_end::SurveyEnd;
@@ -79,7 +78,7 @@ pub fn finding_line(
 
 /// Appends the words of a transaction, each after a blank.
 fn push_transaction(line: &mut Vec<u8>, transaction: &Transaction<'_>) -> Result<(), AllocError>
-    ensures { OnOk result (line.new.items ≡ line.old.items ++ words_of transaction.now) }
+    ensures { OnOk result (line.new.items ≡ line.old.items ++ told_words transaction.now) }
 {
     push_word(line, role_text(transaction.key.role()).as_bytes())?;
     push_word(line, transaction.key.method())?;

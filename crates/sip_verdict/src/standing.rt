@@ -18,7 +18,7 @@ ghost use Rattle.sip_verdict.specs.Entries.{newest_moment, ConcernsNone};
 ghost use Rattle.sip_verdict.specs.Named.{AreMany, IsNamed};
 ghost use Rattle.sip_standard.specs.ListingOf.{first_entry};
 ghost use Rattle.sip_verdict.specs.inner.Concerned.{each, is_all, listed, up_to};
-ghost use Rattle.sip_verdict.specs.inner.Numbering.{AreNumbered, StaysNumbered, IsListedEntry, Appends, IsTextOf};
+ghost use Rattle.sip_verdict.specs.inner.Numbering.{AreNumbered, StaysNumbered, IsListedEntry, AppendsListing, IsListingText};
 ghost use Rattle.sip_verdict.specs.Surveys.{IsStillNamed};
 ghost use Rattle.sip_verdict.specs.inner.Forgetting.{AreQuietIfOver};
 ghost use Rattle.sip_verdict.specs.inner.Surveying.{TablesSurvey};
@@ -334,7 +334,7 @@ impl<H: BuildHasher> Standing<H> {
     /// The listing of the transactions with these numbers, or the text that says that there is none.
     fn text(&self, alloc: Global, numbers: Concerned<u64>) -> Result<String, AllocError>
         requires { All (IsGiven self.now.tables) (each numbers) }
-        ensures text { IfOk result (λ text. IsTextOf self.now.tables (listed (length self.now.tables.keys) numbers) (string_bytes text)) }
+        ensures text { IfOk result (λ text. IsListingText self.now.tables (listed (length self.now.tables.keys) numbers) (string_bytes text)) }
         ensures apart { OnOk result (AllPairs (λ a b. a ≢ b) self.now.tables.keys) }
     {
         self.tables.known();
@@ -353,7 +353,7 @@ impl<H: BuildHasher> Standing<H> {
 
     /// The listing of all transactions in the order of their numbers, or the text that says that there is none.
     fn text_of_all(&self, alloc: Global) -> Result<String, AllocError>
-        ensures { IfOk result (λ text. IsTextOf self.now.tables (up_to (length self.now.tables.keys)) (string_bytes text)) }
+        ensures { IfOk result (λ text. IsListingText self.now.tables (up_to (length self.now.tables.keys)) (string_bytes text)) }
     {
         let mut text = String::new(alloc);
         let count = self.tables.len();
@@ -370,7 +370,7 @@ impl<H: BuildHasher> Standing<H> {
     /// Appends the listing of the transaction with this number.
     fn push_one(&self, alloc: Global, text: &mut String, number: u64) -> Result<(), AllocError>
         requires { IsGiven self.now.tables number }
-        ensures { OnOk result (Appends self.now.tables number (string_bytes text.old) (string_bytes text.new)) }
+        ensures { OnOk result (AppendsListing self.now.tables number (string_bytes text.old) (string_bytes text.new)) }
     {
         let key = self.tables.key(number);
         push_transaction(alloc, text, number, key, self.tables.set(number))

@@ -9,7 +9,7 @@ ghost use Rattle.sip_standard.specs.declared.verdict.Verdict.TheVariants.{Legal}
 ghost use Rattle.sip_standard.specs.Observation.{Observation};
 ghost use Rattle.sip_standard.specs.VerdictOf.{keys_in, Sees};
 ghost use Rattle.sip_verdict.specs.Entries.{ConcernsNone};
-ghost use Rattle.sip_verdict.specs.Named.{AreFew};
+ghost use Rattle.sip_verdict.specs.Named.{AreFew, IsNamed};
 ghost use Rattle.sip_verdict.specs.Judging.{StandsFor, CanWaitUntil, MayComeNext, IsNext, CanAnswer, stage_after, last_verdict};
 
 use crate::stage::Stage;
@@ -150,7 +150,7 @@ impl<H: BuildHasher + Drop> Judge<H> {
     /// How many messages the judge keeps.
     pub fn kept(&self) -> usize
         ensures kept { result ≡ length self.now.texts }
-        ensures few { (es : List (Observation KeyParts)) → StandsFor self.now es → AreFew self.now.tables.times es result }
+        ensures few { (es : List (Observation KeyParts)) → StandsFor self.now es → AreFew (IsNamed self.now.tables.times) es result }
     {
         self.standing.kept()
     }

@@ -5,7 +5,7 @@ ghost use Rattle.sip_standard.specs.VerdictOf.{IsVerdictOf, keys_in, events_for,
 ghost use Rattle.sip_verdict.specs.SurveyOf.{IsSound, Breaks, Widens, IsSurveyAfter, IsSurveyOf, verdict_in};
 ghost use Rattle.sip_part.specs.Part.{PartOf, falls_into};
 ghost use Rattle.sip_verdict.specs.SurveyParts.{IsPartLog};
-ghost use Rattle.sip_verdict.specs.SurveyLaws.{IsOf, Names, AreAbout, chosen_in, IsCutLog, StaysAt, Keeps, IsIdleAgain};
+ghost use Rattle.sip_verdict.specs.SurveyLaws.{IsFindingOf, Names, AreAbout, chosen_in, IsCutLog, StaysAt, KeepsChosen, IsIdleAgain};
 ghost use Rattle.sip_verdict.specs.declared.finding.Finding.{Finding as FindingValue};
 ghost use Rattle.sip_verdict.specs.declared.finding.Finding.TheVariants.{Malformed, Breach, Undecided};
 ghost use Rattle.sip_verdict.specs.declared.survey_end.SurveyEnd.{SurveyEnd as EndValue};
@@ -71,7 +71,7 @@ pub fn each_trouble_is_named()
 /// A survey names no transaction twice: two findings of one transaction are the same.
 pub fn a_survey_names_a_transaction_once()
     ensures { (input : List ℕ) (found : List FindingValue) (end : EndValue) → IsSurveyOf input found end → (transaction : ℕ) (f g : FindingValue)
-        → Contains found f → Contains found g → IsOf transaction f → IsOf transaction g → f ≡ g }
+        → Contains found f → Contains found g → IsFindingOf transaction f → IsFindingOf transaction g → f ≡ g }
 {}
 
 /// A log may be cut by its transactions, where all keys that an entry concerns are chosen, or none of them. The cut log has a mark in place of
@@ -79,7 +79,7 @@ pub fn a_survey_names_a_transaction_once()
 /// them stand in the same states, and each breaks, or is followed no further, at the same entry as in the whole log.
 pub fn a_log_may_be_cut()
     ensures { (p : Times) (chosen : KeyParts → Bool) (items : List Item) (es : List (Observation KeyParts)) (cuts : List Item) → AreSeen [] items es
-        → IsCutLog chosen items es cuts → Keeps p chosen es cuts }
+        → IsCutLog chosen items es cuts → KeepsChosen p chosen es cuts }
 {}
 
 /// A log can be cut by branch, whichever branches are chosen, since all keys that a message concerns have the branch of its top Via.

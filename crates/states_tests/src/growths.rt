@@ -3,7 +3,7 @@
 ghost use Rattle.std.specs.Prelude.{◌≡◌, ◌<◌, ◌≤◌, All, IfOk, OnOk, length};
 ghost use Rattle.sip_machine.specs.Rules.{Knows};
 ghost use Rattle.sip_machine.specs.Owing.{owing_names};
-ghost use Rattle.sip_machine.specs.inner.InviteServer.{invite_server_names};
+ghost use Rattle.sip_phases.specs.inner.InviteServer.{invite_server_names};
 
 use crate::agenda::{Folded, empty, put, settle};
 use crate::keys::touch;

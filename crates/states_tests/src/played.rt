@@ -4,7 +4,7 @@ ghost use Rattle.sip_machine.specs.NumberedEvent.{FitsBook};
 ghost use Rattle.sip_machine.specs.Rules.{Knows};
 ghost use Rattle.sip_machine.specs.Texts.{Keeps};
 ghost use Rattle.sip_machine.specs.Owing.{owing_names};
-ghost use Rattle.sip_machine.specs.inner.InviteServer.{invite_server_names};
+ghost use Rattle.sip_phases.specs.inner.InviteServer.{invite_server_names};
 
 use sip_machine::{Action, Book, Event, InviteServer, Params};
 use sip_message::Message;

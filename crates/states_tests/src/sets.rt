@@ -2,7 +2,7 @@
 ghost use Rattle.std.specs.Prelude.{◌≡◌, ◌≤◌, All, IfOk, OnOk};
 ghost use Rattle.sip_machine.specs.NumberedEvent.{FitsBook};
 ghost use Rattle.sip_machine.specs.Owing.{owing_names};
-ghost use Rattle.sip_machine.specs.inner.PlainClient.{plain_client_names};
+ghost use Rattle.sip_phases.specs.inner.PlainClient.{plain_client_names};
 ghost use Rattle.sip_machine.specs.Rules.{Knows};
 ghost use Rattle.sip_machine.specs.Texts.{Keeps};
 ghost use Rattle.sip_standard.specs.Times.{last_moment};

@@ -2,7 +2,7 @@
 ghost use Rattle.std.specs.Prelude.{◌≡◌, ◌≤◌, ◌+◌, ◌*◌, All, OnOk};
 ghost use Rattle.sip_machine.specs.Rules.{Knows};
 ghost use Rattle.sip_machine.specs.Owing.{owing_names};
-ghost use Rattle.sip_machine.specs.inner.InviteServer.{invite_server_names};
+ghost use Rattle.sip_phases.specs.inner.InviteServer.{invite_server_names};
 
 use crate::played::{Entry, book, invite, progress, ringing, take};
 use crate::wants::is;

@@ -1,5 +1,5 @@
 -- Accounts stay accounts, and owe what they owed, while gains and strikes grow, are let go or are dropped.
-use Rattle.sip_ledger.proofs.Words.{common_steps, ◌≡◌, ℕ, ◌<◌, ◌≤◌, ◌&&◌, true, false, List, [], ◌∷◌, ◌++◌, length, take, drop, get_or, set, append-nil, refl, sym, ap, ◌∙◌, subst, arith, nat_tests, All, nat_le, cases_eq, cases_lt, le-leb, le-ltb, lt-leb, true≢false, false_from_ne_true, and-false, and-true, drop-map, get_or_append_left, get_or-map, get_or-take, length-map, length-take, length-take-le, map-set, take-map, take-take, All-cons, All-drop, All-get_or, All-head, All-nil, All-set, All-tail, All-take, All-weaker, Debt, Account, Gains, Strike, debts_print, AreAccounts, AreGains, AreSameGains, IsAccount, IsDropped, IsGain, IsKept, IsLetGo, KeepsAccounts, account_debts, accounts_debts, entries_of, entry_at, is_gone, is_left, is_struck, must_at, owes_at, holds}
+use Rattle.sip_ledger.proofs.Words.{common_steps, max, min, ◌≡◌, ℕ, ◌<◌, ◌≤◌, ◌&&◌, true, false, List, [], ◌∷◌, ◌++◌, length, take, drop, get_or, set, append-nil, refl, sym, ap, ◌∙◌, subst, arith, nat_tests, All, nat_le, cases_eq, cases_lt, le-leb, le-ltb, lt-leb, true≢false, false_from_ne_true, and-false, and-true, drop-map, get_or_append_left, get_or-map, get_or-take, length-map, length-take, length-take-le, map-set, take-map, take-take, All-cons, All-drop, All-get_or, All-head, All-nil, All-set, All-tail, All-take, All-weaker, Debt, Account, Gains, Strike, debts_print, AreAccounts, AreGains, AreSameGains, IsAccount, IsDropped, IsGain, IsUndropped, IsLetGo, KeepsAccounts, account_debts, accounts_debts, entries_of, entry_at, is_gone, is_left, is_struck, must_at, owes_at, holds}
 use Rattle.sip_ledger.proofs.debts.ListedLemmas.{back-none, front, listed-same, listed-none, parts, back}
 use Rattle.sip_ledger.proofs.gains.LeftLemmas.{entries_long, left-kept, listed-alike, owed-left, left-as}
 
@@ -54,6 +54,12 @@ pub must-from : (gains : Gains) (a : Account) (k : ℕ) → a.soft ≤ k → hol
 unfolding must_at
 must-from gains a k high = sym (ap (λ b. holds gains.musts 0 k && b) (le-leb a.soft k high) ∙ and-true (holds gains.musts 0 k))
 
+-- two accounts must send the same gains at a place up to whose neighbours both are soft alike
+pub must-alike : (gains : Gains) (one other : Account) (from to k : ℕ) → from ≤ k → k < to → min (max one.soft from) to ≡ min (max other.soft from) to →
+    must_at gains one k ≡ must_at gains other k
+unfolding must_at
+must-alike gains one other from to k low high alike = grind (arith, nat_tests)
+
 -- an account owes nothing at its end or after it
 pub past-end : (gains : Gains) (strikes : List Strike) (a : Account) (k : ℕ) → a.end ≤ k → owes_at gains strikes a k ≡ false
 unfolding owes_at
@@ -65,11 +71,11 @@ owed-within gains strikes a k is = grind (arith, nat_tests, cases_lt, true≢fal
 
 -- where an account owes something, each gain from its start on is kept
 pub kept-passed : {gains : Gains} {strikes : List Strike} {a : Account} (k : ℕ) → AreGains gains → IsAccount gains strikes a → a.start < a.end → a.start ≤ k →
-    k < length (entries_of gains) → IsKept gains k
+    k < length (entries_of gains) → IsUndropped gains k
 kept-passed {gains} {strikes} {a} k are is some low high = grind (arith, nat_tests, left-kept, owed-left, entries_long)
 
 -- each gain from the start of an account up to its end is kept
-pub kept-from : {gains : Gains} {strikes : List Strike} {a : Account} (k : ℕ) → AreGains gains → IsAccount gains strikes a → a.start ≤ k → k < a.end → IsKept gains k
+pub kept-from : {gains : Gains} {strikes : List Strike} {a : Account} (k : ℕ) → AreGains gains → IsAccount gains strikes a → a.start ≤ k → k < a.end → IsUndropped gains k
 kept-from k are is low high = kept-passed k are is (omega (arith, low, high)) low (omega (arith, high, is.end))
 
 -- where an entry is the same among old and new gains, and is left in both or in neither, an account owes it in both or in neither

@@ -1,5 +1,5 @@
 -- The first debt of an account that a send at the moment t pays, of one message or of the messages that stand under a key: k and `at` are places of gains.
-use Rattle.sip_ledger.proofs.Words.{◌≡◌, ◌≢◌, ℕ, ◌<◌, ◌≤◌, ◌==◌, ◌&&◌, Bool, true, false, not, List, length, ◌+◌, refl, sym, ap, ◌∙◌, subst, arith, ◌⊎◌, All, IfNone, IfSome, IsTrue, MatchOption, Option, None, Some, nat_le, nat_lt, cases_lt, lt-ltb, ltb-true, true≢false, nat_tests, Entry, Account, Gains, Strike, IsFirstPaid, PaysSome, is_payable, debts_from, AreGains, IsAccount, IsFirstOf, IsFirstPayable, IsKept, IsWithout, PaysSomeAt, account_debts, entries_of, entry_at, must_at, owes_at, pays_at, sooner, IsFirstFrom, IsNextUnder, NoneFrom, holds, ap₂, and-false, and_right, cases_eq, eq-eqb, le-leb, lt-leb, ne_eqb, paid_by, is_gone, is_struck, strikes_of}
+use Rattle.sip_ledger.proofs.Words.{◌≡◌, ◌≢◌, ℕ, ◌<◌, ◌≤◌, ◌==◌, ◌&&◌, Bool, true, false, not, List, length, ◌+◌, refl, sym, ap, ◌∙◌, subst, arith, ◌⊎◌, All, IfNone, IfSome, IsTrue, MatchOption, Option, None, Some, nat_le, nat_lt, cases_lt, lt-ltb, ltb-true, true≢false, nat_tests, Entry, Account, Gains, Strike, IsFirstPaid, PaysSome, is_payable, debts_from, AreGains, IsAccount, IsFirstPaying, IsFirstPayable, IsUndropped, IsWithout, PaysSomeAt, account_debts, entries_of, entry_at, must_at, owes_at, pays_at, sooner, IsFirstFrom, IsNextUnder, NoneFrom, holds, ap₂, and-false, and_right, cases_eq, eq-eqb, le-leb, lt-leb, ne_eqb, paid_by, is_gone, is_struck, strikes_of}
 use Rattle.sip_ledger.proofs.debts.ListedLemmas.{listed-each}
 use Rattle.sip_ledger.proofs.debts.OwedLemmas.{removed, paid-is}
 use Rattle.sip_ledger.proofs.gains.LeftLemmas.{held_left, left-kept, owed-left, gone-left, gone-struck, gone-unleft}
@@ -80,7 +80,7 @@ module _ (entries : List Entry) (owes few more : ℕ → Bool) (t : ℕ) (wider 
 
   -- where the wider test passes nothing more that is owed before the first place, the first place stays
   pub first-same : (first : Option ℕ) → ((k : ℕ) → IfSome first (λ at. k < at) → owes k ≡ true → more (entry_at entries k).message ≡ true → few (entry_at entries k).message ≡ true) →
-      IsFirstOf entries owes few t first → IsFirstOf entries owes more t first
+      IsFirstPaying entries owes few t first → IsFirstPaying entries owes more t first
   first-same None back none = λ k owed (passes, early). none k owed (back k tt owed passes, early)
   first-same (Some p) back is = (is.0, of-more p is.1, λ k low owed (passes, early). is.2 k low owed (back k low owed passes, early))
 
@@ -95,8 +95,8 @@ module _ (entries : List Entry) (owes few more : ℕ → Bool) (t : ℕ) (wider 
     of-none k none other (has, early) = grind (arith, nat_tests, true≢false, named-pays)
 
     -- where the wider test passes one message more, the first place is the lesser of that before and the first one of the message
-    pub first-more : (first place : Option ℕ) → IsFirstOf entries owes few t first → IfSome place (IsFirstPayable entries owes message t) →
-        IfNone place ((k : ℕ) → owes k ≡ true → pays_at entries message t k ≡ false) → IsFirstOf entries owes more t (sooner first place)
+    pub first-more : (first place : Option ℕ) → IsFirstPaying entries owes few t first → IfSome place (IsFirstPayable entries owes message t) →
+        IfNone place ((k : ℕ) → owes k ≡ true → pays_at entries message t k ≡ false) → IsFirstPaying entries owes more t (sooner first place)
     first-more None None none found other = λ k owed. of-none k (none k owed) (other k owed)
     first-more None (Some q) none found other = (found.owed, of-last q found.pays, λ k early owed. of-none k (none k owed) (found.before k early owed))
     first-more (Some p) None is found other = (is.0, of-more p is.1, λ k early owed. of-none k (is.2 k early owed) (other k owed))
@@ -119,7 +119,7 @@ below-is held m from is low = ap (λ b. b && nat_lt m from) is ∙ lt-ltb m from
 module _ (gains : Gains) (strikes : List Strike) (a : Account) (pairs : List (ℕ × ℕ)) (key t : ℕ) where
   -- the place is the first of which a send of a message that passes the test pays a debt
   abbrev IsFirst : (ℕ → Bool) → Option ℕ → Type 0
-  IsFirst test first = IsFirstOf (entries_of gains) (owes_at gains strikes a) test t first
+  IsFirst test first = IsFirstPaying (entries_of gains) (owes_at gains strikes a) test t first
 
   -- the first place stays from one number up to where each number that is owed and stands under the key is below it
   goes-to : (from : ℕ) (more : ℕ → Bool) (first : Option ℕ) → ((m : ℕ) → below pairs key from m ≡ true → more m ≡ true) → ((m : ℕ) → more m ≡ true → holds pairs key m ≡ true) →
@@ -140,12 +140,12 @@ module _ (gains : Gains) (strikes : List Strike) (a : Account) (pairs : List (�
     -- What follows is of `message`, the next message under the key from the number `from` on.
     module _ (message : ℕ) (next : IsNextUnder pairs key from message) where
       -- nothing is left from the next message on
-      pub none-left : NoneFrom gains.messages message 0 → IsFirst (holds pairs key) first
+      pub none-left : ((m k : ℕ) → message ≤ m → holds gains.messages m k ≡ false) → IsFirst (holds pairs key) first
       none-left none = grind (arith, nat_tests, goes-to, below-parts, cases_lt, true≢false)
 
       -- nothing is left from the next message up to another one
-      pub left-next : (found place : ℕ) → IsFirstFrom gains.messages message 0 (found, place) → IsFirst (below pairs key found) first
-      left-next found place at = grind (arith, nat_tests, goes-to, below-parts, below-is, cases_lt, true≢false)
+      pub left-next : (found : ℕ) → message ≤ found → ((m k : ℕ) → message ≤ m → m < found → holds gains.messages m k ≡ false) → IsFirst (below pairs key found) first
+      left-next found low before = grind (arith, nat_tests, goes-to, below-parts, below-is, cases_lt, true≢false)
 
   -- What follows is of one more message under the key, and of `place`, its first place that a send at t pays: `first` is the first place so far.
   module _ (message : ℕ) (first place : Option ℕ) (held : holds pairs key message ≡ true) (is : IsFirst (below pairs key message) first)
@@ -155,31 +155,30 @@ module _ (gains : Gains) (strikes : List Strike) (a : Account) (pairs : List (�
     pub one-more : IsFirst (below pairs key (message + 1)) (sooner first place)
     one-more = grind (arith, nat_tests, first-more, below-parts, below-is, cases_lt)
 
-  -- where the next message under the key is the next one that is left, it is gone through too with the place that is found for it
-  pub one-found : (from message left at : ℕ) (first place : Option ℕ) → IsFirst (below pairs key from) first → IsNextUnder pairs key from message → IsFirstFrom gains.messages message 0 (left, at) →
-      left ≡ message → IfSome place (IsFirstPayable (entries_of gains) (owes_at gains strikes a) message t) →
+  -- the next message under the key is gone through too with the place that is found for it
+  pub one-found : (from message : ℕ) (first place : Option ℕ) → IsFirst (below pairs key from) first → IsNextUnder pairs key from message → IfSome place (IsFirstPayable (entries_of gains) (owes_at gains strikes a) message t) →
       IfNone place ((k : ℕ) → owes_at gains strikes a k ≡ true → pays_at (entries_of gains) message t k ≡ false) → IsFirst (below pairs key (message + 1)) (sooner first place)
-  one-found from message left at first place is next found here some none =
-      one-more message first place next.is (subst (λ n. IsFirst (below pairs key n) first) here (left-next from first is message next left at found)) some none
+  one-found from message first place is next some none =
+      one-more message first place next.is (left-next from first is message next message (omega arith) (λ m k from low. absurd (omega (arith, from, low)))) some none
 
 -- What follows is of one message under the key of the pairs of an index, and what a send of it at the moment t pays of the account.
 module _ (gains : Gains) (strikes : List Strike) (a : Account) (pairs : List (ℕ × ℕ)) (key t message : ℕ) (gained : AreGains gains) where
   -- the place of a debt that is found is kept
-  pub found-kept : (place : Option ℕ) → IfSome place (IsFirstPayable (entries_of gains) (owes_at gains strikes a) message t) → IfSome place (IsKept gains)
+  pub found-kept : (place : Option ℕ) → IfSome place (IsFirstPayable (entries_of gains) (owes_at gains strikes a) message t) → IfSome place (IsUndropped gains)
   found-kept None found = tt
   found-kept (Some p) found = left-kept gains p gained (owed-left gains strikes a p found.owed)
 
   -- where no gain before the place of the message has a greater one, nothing greater comes before what is found
   pub newest-first : (first place : Option ℕ) → IfSome place (IsFirstPayable (entries_of gains) (owes_at gains strikes a) message t) →
-      MatchOption place ⊥ (λ p. (k : ℕ) → k ≤ p → IsKept gains k → (entry_at (entries_of gains) k).message ≤ (entry_at (entries_of gains) p).message) →
-      IsFirstOf (entries_of gains) (owes_at gains strikes a) (below pairs key (message + 1)) t (sooner first place) →
-      IsFirstOf (entries_of gains) (owes_at gains strikes a) (holds pairs key) t (sooner first place)
+      MatchOption place ⊥ (λ p. (k : ℕ) → k ≤ p → IsUndropped gains k → (entry_at (entries_of gains) k).message ≤ (entry_at (entries_of gains) p).message) →
+      IsFirstPaying (entries_of gains) (owes_at gains strikes a) (below pairs key (message + 1)) t (sooner first place) →
+      IsFirstPaying (entries_of gains) (owes_at gains strikes a) (holds pairs key) t (sooner first place)
   newest-first first None found newest is = absurd newest
   newest-first first (Some p) found newest is = grind (arith, nat_tests, pays-parts, first-same, below-parts, left-kept, owed-left, below-is)
 
   -- where no gain that is kept has a greater message, nothing greater is owed
-  pub highest-first : (first : Option ℕ) → gains.highest ≤ message → IsFirstOf (entries_of gains) (owes_at gains strikes a) (below pairs key (message + 1)) t first →
-      IsFirstOf (entries_of gains) (owes_at gains strikes a) (holds pairs key) t first
+  pub highest-first : (first : Option ℕ) → gains.highest ≤ message → IsFirstPaying (entries_of gains) (owes_at gains strikes a) (below pairs key (message + 1)) t first →
+      IsFirstPaying (entries_of gains) (owes_at gains strikes a) (holds pairs key) t first
   highest-first first top is =
       first-same (entries_of gains) (owes_at gains strikes a) (below pairs key (message + 1)) (holds pairs key) t (λ m passes. (below-parts (holds pairs key m) m (message + 1) passes).0) first
       (λ k early owed passes.
@@ -194,7 +193,7 @@ module _ (gains : Gains) (strikes : List Strike) (a : Account) (test : ℕ → B
   owed = owes_at gains strikes a
 
   -- a send of the message at the first place takes out the first debt that a message that passes the test pays
-  pub first-account : (place : ℕ) → IsAccount gains strikes a → IsFirstOf (entries_of gains) owed test t (Some place) →
+  pub first-account : (place : ℕ) → IsAccount gains strikes a → IsFirstPaying (entries_of gains) owed test t (Some place) →
       IsFirstPaid (PaysSome test t) t (account_debts gains strikes a) (Some (entry_at (entries_of gains) place).message)
   unfolding account_debts
   first-account place is found =
@@ -226,6 +225,6 @@ module _ (gains : Gains) (strikes : List Strike) (a : Account) (test : ℕ → B
       )
 
   -- where no message that passes the test pays a gain that is owed, none pays a debt
-  pub none-account : IsFirstOf (entries_of gains) owed test t None → All (λ debt. ¬ (PaysSome test t debt)) (account_debts gains strikes a)
+  pub none-account : IsFirstPaying (entries_of gains) owed test t None → All (λ debt. ¬ (PaysSome test t debt)) (account_debts gains strikes a)
   unfolding account_debts
   none-account none = listed-each (λ debt. ¬ (PaysSome test t debt)) owed (must_at gains a) (entries_of gains) (λ k below here. none k here)

@@ -1,14 +1,14 @@
 -- What an account owes, place by place: its debts, whether another account owes the same, and the least deadline of what it must send.
-use Rattle.sip_ledger.proofs.Words.{max, ◌≡◌, ◌≢◌, ℕ, ◌+◌, ◌<◌, ◌≤◌, ◌==◌, ◌&&◌, Bool, true, false, List, [], ◌∷◌, ◌++◌, length, take, drop, map, refl, sym, ap, ap₂, ◌∙◌, arith, append-nil, nat_tests, IsTrue, Option, Some, None, ◌↔◌, nat_le, option_to_list, OnTrue, and_left, and_right, cases_eq, cases_lt, eq-eqb, eqb-true, le-leb, true≢false, append_cancel_left, get_or-drop, get_or_default, length-append, length-drop, length-take-le, map-append, take-append-le, take_all, All-map, Debt, Entry, Account, Gains, Strike, debt_deadlines, earliest, debt_of, debts_from, IsGap, AreGains, IsAccount, SharesRest, account_debts, entries_of, entry_at, is_struck, must_at, owes_at, strikes_of, holds}
+use Rattle.sip_ledger.proofs.Words.{max, ◌≡◌, ◌≢◌, ℕ, ◌+◌, ◌<◌, ◌≤◌, ◌==◌, ◌&&◌, Bool, true, false, List, [], ◌∷◌, ◌++◌, length, take, drop, map, slice_get, refl, sym, ap, ap₂, ◌∙◌, arith, append-nil, nat_tests, IsTrue, Option, Some, None, ◌↔◌, nat_le, option_to_list, OnTrue, and_left, and_right, cases_eq, cases_lt, eq-eqb, eqb-true, le-leb, false_from_ne_true, true≢false, append_cancel_left, get_or-drop, get_or_default, length-append, length-drop, length-take-le, map-append, All-map, Debt, Entry, Account, Gains, Strike, debt_deadlines, earliest, debt_of, debts_from, IsGap, AreGains, IsAccount, SharesNext, account_debts, entries_of, entry_at, is_left, is_struck, must_at, owes_at, strikes_of, holds}
 use Rattle.sip_ledger.proofs.gains.LeftLemmas.{entries_long, gone-same, left-kept, owed-left, rising_kept}
-use Rattle.sip_ledger.proofs.debts.ListedLemmas.{back, back-none, back-same, back-set, earliest-first, earliest-push, front, front-gap, front-next, listed-All, listed-must, listed-none, no_entry, parts}
-use Rattle.sip_ledger.proofs.account.AccountLemmas.{must-below, must-from, past-end, soft-must}
+use Rattle.sip_ledger.proofs.debts.ListedLemmas.{back, back-none, back-set, earliest-first, earliest-push, front, front-gap, front-next, front-on, listed-All, listed-must, listed-none, no_entry, parts}
+use Rattle.sip_ledger.proofs.account.AccountLemmas.{must-below, must-from, past-end}
 use Rattle.sip_ledger.proofs.account.WithoutLemmas.{before-start}
 
--- `next` is the next place after `at` at which the account owes something, or its end
-pub record IsAfter (gains : Gains) (strikes : List Strike) (a : Account) (at next : ℕ) : Type 0 where
-  pub within : (at + 1 ≤ next) × (next ≤ a.end)
-  pub before : (k : ℕ) → at + 1 ≤ k → k < next → owes_at gains strikes a k ≡ false
+-- `next` is the first place from `from` on at which the account owes something, or its end
+pub record IsAfter (gains : Gains) (strikes : List Strike) (a : Account) (from next : ℕ) : Type 0 where
+  pub within : (from ≤ next) × (next ≤ a.end)
+  pub before : (k : ℕ) → from ≤ k → k < next → owes_at gains strikes a k ≡ false
   pub is : next < a.end → owes_at gains strikes a next ≡ true
 
 -- the debts are what an account owes before a place, at which it owes something or ends
@@ -25,9 +25,14 @@ module _ {gains : Gains} {strikes : List Strike} {a : Account} where
   told-none is none = grind (arith, nat_tests, listed-none, before-start, length-take-le)
 
   -- before the next place it owes one debt more: that of this place
-  pub told-more : {place next : ℕ} {debt : Debt} {debts more : List Debt} → IsAccount gains strikes a → IsToldTo gains strikes a place debts → place < a.end → IsAfter gains strikes a place next →
+  pub told-more : {place next : ℕ} {debt : Debt} {debts more : List Debt} → IsAccount gains strikes a → IsToldTo gains strikes a place debts → place < a.end → IsAfter gains strikes a (place + 1) next →
       debt ≡ debt_of (entry_at (entries_of gains) place) (must_at gains a place) → more ≡ debts ++ debt ∷ [] → IsToldTo gains strikes a next more
   told-more {place} {next} is was inside after debt_is more_is = grind (arith, nat_tests, front-gap, front-next)
+
+  -- before the place after this one it owes one debt more: that of this place
+  told-push : {place : ℕ} {debt : Debt} {debts : List Debt} → IsAccount gains strikes a → IsToldTo gains strikes a place debts → place < a.end →
+      debt ≡ debt_of (entry_at (entries_of gains) place) (must_at gains a place) → debts ++ debt ∷ [] ≡ front (owes_at gains strikes a) (must_at gains a) (entries_of gains) (place + 1)
+  told-push {place} is was inside debt_is = grind (arith, was.told, debt_is, front-next (owes_at gains strikes a) (must_at gains a) (entries_of gains) place place no_entry)
 
   -- what it owes is what it owes before a place and from there on
   pub told-split : {place : ℕ} {debts : List Debt} → IsAccount gains strikes a → IsToldTo gains strikes a place debts →
@@ -47,9 +52,9 @@ module _ {gains : Gains} {strikes : List Strike} {a : Account} where
       let none : back (owes_at gains strikes a) (must_at gains a) (entries_of gains) place ≡ [] = grind (arith, back-none, past-end) in
       sym (told-split is was ∙ ap (λ l. debts ++ l) none ∙ append-nil debts)
 
-  -- before a place of it, it owes the first of its debts
-  pub told-first : {place n : ℕ} {debts : List Debt} → IsAccount gains strikes a → IsToldTo gains strikes a place debts → length debts ≡ n → debts ≡ take n (account_debts gains strikes a)
-  told-first {place} {n} {debts} is was long = grind (arith, told-split is was, take_all, take-append-le)
+  -- what it owes first is the debt of the place where it starts
+  pub told-start : IsAccount gains strikes a → a.start < a.end → slice_get (account_debts gains strikes a) 0 ≡ Some (debt_of (entry_at (entries_of gains) a.start) (must_at gains a a.start))
+  told-start is some = ap (λ l. slice_get l 0) (told-here is (told-none is refl) some)
 
 -- an account with something left does not owe what an account at its end owes
 longer : {gains : Gains} {strikes : List Strike} {one other : Account} {at beside : ℕ} {debts : List Debt} → IsAccount gains strikes one → IsAccount gains strikes other →
@@ -71,15 +76,18 @@ module _ {gains : Gains} {strikes : List Strike} {one other : Account} (is : IsA
   pub at-start : AreAt gains strikes one other one.start other.start
   at-start = record { debts = []; told = told-none is refl; told_beside = told-none is_other refl }
 
-  -- AreAt goes on with the next places of both accounts, where both owe the same debt at their places
-  pub at-more : {at beside next next_beside : ℕ} (d : Debt) → AreAt gains strikes one other at beside → at < one.end → beside < other.end →
+  -- AreAt goes on with the next places of both accounts after what they share, where both owe the same debt at their places
+  pub at-more : {at beside n next next_beside : ℕ} (d : Debt) → AreAt gains strikes one other at beside → at < one.end → beside < other.end →
       d ≡ debt_of (entry_at (entries_of gains) at) (must_at gains one at) → d ≡ debt_of (entry_at (entries_of gains) beside) (must_at gains other beside) →
-      IsAfter gains strikes one at next → IsAfter gains strikes other beside next_beside → AreAt gains strikes one other next next_beside
-  at-more d are inside inside_beside here there after after_beside = record {
-    debts = are.debts ++ d ∷ [];
-    told = told-more is are.told inside after here refl;
-    told_beside = told-more is_other are.told_beside inside_beside after_beside there refl;
-  }
+      SharesNext gains strikes one other (at + 1) (beside + 1) n → IsAfter gains strikes one (at + 1 + n) next → IsAfter gains strikes other (beside + 1 + n) next_beside →
+      AreAt gains strikes one other next next_beside
+  at-more {at} {beside} {n} {next} {next_beside} d are inside inside_beside here there shares after after_beside =
+      let same : front (owes_at gains strikes one) (must_at gains one) (entries_of gains) (at + 1 + n) ≡ front (owes_at gains strikes other) (must_at gains other) (entries_of gains) (beside + 1 + n) =
+      grind (arith, nat_tests, told-push is are.told inside here, told-push is_other are.told_beside inside_beside there, front-on) in record {
+        debts = front (owes_at gains strikes one) (must_at gains one) (entries_of gains) next;
+        told = record { told = refl; low = omega (arith, are.told.low, after.within); end = after.within.1; owed = after.is };
+        told_beside = record { told = grind (arith, same, front-gap); low = omega (arith, are.told_beside.low, after_beside.within); end = after_beside.within.1; owed = after_beside.is };
+      }
 
   -- accounts that owe different debts at their places do not owe the same
   pub at-apart : {at beside : ℕ} → AreAt gains strikes one other at beside → at < one.end → beside < other.end →
@@ -97,10 +105,6 @@ module _ {gains : Gains} {strikes : List Strike} {one other : Account} (is : IsA
       first : {d d' : Debt} {ds ds' : List Debt} → d ∷ ds ≡ d' ∷ ds' → d ≡ d'
       first equal = cc
 
-  -- accounts at one place that owe the same from there on owe the same
-  pub rest-same : {at beside : ℕ} → AreAt gains strikes one other at beside → at ≡ beside → SharesRest strikes one other at → account_debts gains strikes one ≡ account_debts gains strikes other
-  rest-same {at} are here shared = grind (arith, told-split is are.told, told-split is_other are.told_beside, back-same, soft-must)
-
   -- where one account is at its end, both owe the same exactly if the other one is at its end too
   pub end-same : {at beside : ℕ} → AreAt gains strikes one other at beside → at ≡ one.end → IsTrue (beside == other.end) ↔ (account_debts gains strikes one ≡ account_debts gains strikes other)
   end-same {at} {beside} are here = (
@@ -113,23 +117,13 @@ module _ {gains : Gains} {strikes : List Strike} {one other : Account} (is : IsA
       IsTrue (at == one.end) ↔ (account_debts gains strikes one ≡ account_debts gains strikes other)
   end-other {at} are short past = grind (arith, nat_tests, longer is is_other are.told are.told_beside)
 
--- accounts that end at one place, and have the same strikes, owe the same from a place on that neither begins after
-pub alike-rest : (strikes : List Strike) (one other : Account) (place : ℕ) → one.end ≡ other.end → one.soft ≡ other.soft → one.start ≤ place → other.start ≤ place →
-    strikes_of strikes one ≡ strikes_of strikes other → SharesRest strikes one other place
+-- accounts that strike alike what is left at a place, which is in both, owe it alike
+pub alike-struck : (gains : Gains) (strikes : List Strike) (one other : Account) (k : ℕ) → (one.start ≤ k) × (k < one.end) → (other.start ≤ k) × (k < other.end) →
+    (is_left gains k ≡ true → is_struck (strikes_of strikes one) (entry_at (entries_of gains) k).message k ≡ true → is_struck (strikes_of strikes other) (entry_at (entries_of gains) k).message k ≡ true) →
+    (is_left gains k ≡ true → is_struck (strikes_of strikes other) (entry_at (entries_of gains) k).message k ≡ true → is_struck (strikes_of strikes one) (entry_at (entries_of gains) k).message k ≡ true) →
+    owes_at gains strikes one k ≡ owes_at gains strikes other k
 unfolding owes_at
-alike-rest strikes one other place end soft start start_other same = grind (arith, nat_tests, gone-same, le-leb)
-
--- accounts that end at one place, and have no strike that goes past this one, owe the same from here on
-pub shares-rest : (strikes : List Strike) (one other : Account) (place : ℕ) → one.end ≡ other.end → one.soft ≡ other.soft → one.start ≤ place → other.start ≤ place →
-    ((m k : ℕ) → place ≤ k → is_struck (strikes_of strikes one) m k ≡ false) → ((m k : ℕ) → place ≤ k → is_struck (strikes_of strikes other) m k ≡ false) →
-    SharesRest strikes one other place
-unfolding owes_at
-shares-rest strikes one other place end soft start start_other free free_other = grind (arith, nat_tests, gone-same, le-leb)
-
--- what is said where a test is true may say less
-pub on-true : {P Q : Type 0} (b : Bool) → OnTrue b P → (P → Q) → OnTrue b Q
-on-true true p more = more p
-on-true false p more = p
+alike-struck gains strikes one other k in_one in_other too too_other = grind (arith, nat_tests, gone-same, false_from_ne_true)
 
 -- whether what stands at a place is owed and must be sent: o tells which places are owed, and m which must be sent
 abbrev pub due : (ℕ → Bool) → (ℕ → Bool) → ℕ → Bool
@@ -218,7 +212,7 @@ least-passed gains strikes a from at least was above inside gap unowed = grind (
 pub least-found : (gains : Gains) (strikes : List Strike) (a : Account) (from at moment : ℕ) (least : Option ℕ) → IsLeastTo gains strikes a from least → from ≤ at → at < length (entries_of gains) →
     ((k : ℕ) → from ≤ k → k < at → holds gains.musts 0 k ≡ false) → holds gains.musts 0 at ≡ true → owes_at gains strikes a at ≡ true →
     Some moment ≡ earliest ((entry_at (entries_of gains) at).deadline ∷ option_to_list least) → gains.rises ≡ false → IsLeastTo gains strikes a (at + 1) (Some moment)
-least-found gains strikes a from at moment least was above inside gap held owed is falls = grind (arith, nat_tests, least-more, gap-due, true≢false, must-from)
+least-found gains strikes a from at moment least was above inside gap held owed is falls = grind (arith, nat_tests, least-more, gap-due, false_from_ne_true, true≢false, must-from)
 
 -- where deadlines rise, the first one that is found is the least of all
 pub least-first_due : (gains : Gains) (strikes : List Strike) (a : Account) (from at moment : ℕ) (least : Option ℕ) → AreGains gains → IsLeastTo gains strikes a from least → from ≤ at →
@@ -236,7 +230,7 @@ least-last gains strikes a from at least was gap past = grind (arith, nat_tests,
 
 -- a gain that must be sent was gained so, at `soft` or after it
 must-parts : (gains : Gains) (a : Account) (k : ℕ) → must_at gains a k ≡ true → (holds gains.musts 0 k ≡ true) × (a.soft ≤ k)
-must-parts gains a k is = grind (arith, nat_tests, cases_lt, true≢false, must-below, must-from)
+must-parts gains a k is = grind (arith, nat_tests, cases_lt, false_from_ne_true, true≢false, must-below, must-from)
 
 -- where deadlines rise and the first debt must be sent, its deadline is the least
 pub leading : (gains : Gains) (strikes : List Strike) (a : Account) (moment : ℕ) → AreGains gains → IsAccount gains strikes a → a.start < a.end → gains.rises ≡ true →

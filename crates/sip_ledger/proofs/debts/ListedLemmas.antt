@@ -1,5 +1,5 @@
 -- The debts of a list of entries: `o` tells which places are owed, and `m` which of them must be sent.
-use Rattle.sip_ledger.proofs.Words.{common_steps, nat_tests, ◌≡◌, ℕ, zero, suc, ◌+◌, ◌-◌, ◌<◌, ◌≤◌, Bool, true, false, ◌&&◌, ◌||◌, cond, List, [], ◌∷◌, ◌++◌, length, take, drop, get_or, map, filter, refl, sym, ap, ◌∙◌, subst, arith, ap₂, All, nat_le, Some, option_to_list, min, fold, append_cancel_right, drop_more, length-take-le, take-append-drop, take_more, get_or_default, All-nil, All-cons, All-head, All-tail, Debt, Entry, counts_at, softened_debt, debt_deadlines, earliest, debt_of, debts_from, IsGap}
+use Rattle.sip_ledger.proofs.Words.{common_steps, nat_tests, ◌≡◌, ℕ, zero, suc, ◌+◌, ◌-◌, ◌<◌, ◌≤◌, Bool, true, false, ◌&&◌, ◌||◌, cond, List, [], ◌∷◌, ◌++◌, length, take, drop, get_or, map, filter, refl, sym, ap, ◌∙◌, subst, arith, ap₂, All, nat_le, Some, option_to_list, min, fold, append-nil, append_cancel_right, drop_more, length-drop, length-take-le, take-append-drop, take-take, take_more, get_or_default, All-nil, All-cons, All-head, All-tail, Debt, Entry, counts_at, softened_debt, debt_deadlines, earliest, debt_of, debts_from, IsGap}
 
 -- what stands where there is no entry
 abbrev pub no_entry : Entry
@@ -25,11 +25,6 @@ listed-same o m o' m' i (x ∷ xs) agree = grind (arith, nat_tests, listed-same 
 pub listed-none : (o m : ℕ → Bool) (i : ℕ) (xs : List Entry) → ((k : ℕ) → i ≤ k → k < i + length xs → o k ≡ false) → debts_from o m i xs ≡ []
 listed-none o m i [] none = refl
 listed-none o m i (x ∷ xs) none = grind (arith, nat_tests, listed-none o m (i + 1) xs)
-
--- there are no more debts than entries
-pub listed-few : (o m : ℕ → Bool) (i : ℕ) (xs : List Entry) → length (debts_from o m i xs) ≤ length xs
-listed-few o m i [] = omega arith
-listed-few o m i (x ∷ xs) = grind (arith, listed-few o m (i + 1) xs)
 
 -- where P holds of the debt of each place that is owed, it holds of all debts
 pub listed-All : (P : Debt → Type 0) (o m : ℕ → Bool) (i : ℕ) (xs : List Entry) →
@@ -83,6 +78,10 @@ back-unset o m entries k within is =
 pub back-none : (o m : ℕ → Bool) (entries : List Entry) (k : ℕ) → ((j : ℕ) → k ≤ j → o j ≡ false) → back o m entries k ≡ []
 back-none o m entries k none = listed-none o m k (drop k entries) (λ j from below. none j from)
 
+-- where nothing is owed from a place on, the debts are those before it
+pub listed-front : (o m : ℕ → Bool) (entries : List Entry) (at : ℕ) → at ≤ length entries → ((k : ℕ) → at ≤ k → o k ≡ false) → debts_from o m 0 entries ≡ front o m entries at
+listed-front o m entries at within last = parts o m entries at within ∙ ap (λ l. front o m entries at ++ l) (back-none o m entries at last) ∙ append-nil (front o m entries at)
+
 -- where the same places before k are owed and must be sent, the debts before k are the same
 pub front-same : (o m o' m' : ℕ → Bool) (entries : List Entry) (k : ℕ) → k ≤ length entries → ((j : ℕ) → j < k → (o j ≡ o' j) × (m j ≡ m' j)) →
     front o m entries k ≡ front o' m' entries k
@@ -131,6 +130,14 @@ front-gap o m entries from at order within gap =
 pub front-next : (o m : ℕ → Bool) (entries : List Entry) (from at : ℕ) (e : Entry) → from ≤ at → at < length entries → IsGap o from at → o at ≡ true →
     front o m entries (at + 1) ≡ front o m entries from ++ debt_of (get_or entries at e) (m at) ∷ []
 front-next o m entries from at e order within gap set = grind (arith, nat_tests, common_steps, length-take-le, take_more, listed-append, front-gap)
+
+-- where the debts before a place are the same, and the same of the next n places are owed and must be sent, the debts before these n are the same
+pub front-on : (o m o' m' : ℕ → Bool) (entries : List Entry) (at n : ℕ) → at + n ≤ length entries → front o m entries at ≡ front o' m' entries at →
+    ((k : ℕ) → at ≤ k → k < at + n → (o k ≡ o' k) × (m k ≡ m' k)) → front o m entries (at + n) ≡ front o' m' entries (at + n)
+front-on o m o' m' entries at n within same agree =
+    let xs = take (at + n) entries in
+    let rest : back o m xs at ≡ back o' m' xs at = grind (arith, listed-same, length-take-le, length-drop) in
+    grind (arith, parts o m xs at, parts o' m' xs at, rest, take-take, length-take-le)
 
 -- where what must be sent is owed, the deadlines of the debts that must be sent are those of the places that must be sent
 pub listed-must : (o m : ℕ → Bool) (i : ℕ) (xs : List Entry) → ((k : ℕ) → m k ≡ true → o k ≡ true) →

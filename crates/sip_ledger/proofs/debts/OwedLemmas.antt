@@ -1,6 +1,6 @@
 -- What is owed once one place changes (o and m say which places are owed and which must be, o' and m' which then), what a payment leaves, and longer runs.
 use Rattle.sip_ledger.proofs.Words.{◌≡◌, ◌+◌, ◌-◌, List, [], ◌∷◌, ◌++◌, length, get_or, set, arith, nat_tests, cases_eq, flat_map-append, append-nil, append_assoc, drop_all, get_or_default, get_or-set_same, get_or-set_other, length-set, replicate_more, set_split, take-append-drop, drop_more, All-set, Debt, Run, debts_in, AreRuns, ◌∙◌, ℕ, All, refl, sym, ap, cond, IsTrue, false_from_ne_true, All-head, All-tail, IsWithoutFirst, is_payable, paid_by, ◌≢◌, ◌<◌, ◌≤◌, Bool, true, false, take, ap₂, subst, list_any, list_any-append, get_or-take, length-append, length-take-le, Entry, debt_of, debts_from, IsWithout, EndsWith}
-use Rattle.sip_ledger.proofs.debts.ListedLemmas.{no_entry, front, back, parts, back-set, back-unset, back-same, back-none, front-same, listed-each}
+use Rattle.sip_ledger.proofs.debts.ListedLemmas.{listed-front, no_entry, front, back, parts, back-set, back-unset, back-same, back-none, front-same, listed-each}
 
 -- the new debts are the old ones without `debt`, which stood between those of `before` and those of `after`
 pub record IsCut (before : List Debt) (debt : Debt) (after old new : List Debt) : Type 0 where
@@ -49,8 +49,7 @@ gained-debts entries o m o' m' at inside last here others must_others =
     let debt = debt_of (get_or entries at no_entry) (m' at) in
     let less : at ≤ length entries = omega (arith, inside) in
     -- before the place was owed, it had nothing after it
-    let old : debts_from o m 0 entries ≡ front o m entries at =
-    parts o m entries at less ∙ ap (λ l. front o m entries at ++ l) (back-none o m entries at last) ∙ append-nil (front o m entries at) in
+    let old = listed-front o m entries at less last in
     parts o' m' entries at less
     ∙ ap₂ (λ a b. a ++ b)
     (front-same o' m' o m entries at less (λ j below. let not : j ≢ at = omega (arith, below) in (others j not, must_others j not)) ∙ sym old)

@@ -1,5 +1,5 @@
 -- Which gains are left, whether their deadlines rise, what is known beside each by its flags, and what changes of that when gains come, are let go or are dropped.
-use Rattle.sip_ledger.proofs.Words.{nat_tests, ◌-◌, ◌<◌, ◌≤◌, List, [], ◌∷◌, ◌++◌, length, get_or, arith, cases_lt, cases_eq, get_or_append_left, get_or_push, length_push, Entry, AreRising, ◌≡◌, ℕ, Bool, ◌+◌, true, false, drop, set, ap, ◌∙◌, get_or-drop, get_or-set_other, get_or-set_same, length-append, length-drop, length-set, Debt, Gains, AreFlags, AreSameGains, IsDropped, IsGain, IsKept, IsLetGo, blank, entries_of, entry_at, is_left, no_flags, holds, suc, ◌^◌, ◌==◌, ◌&&◌, ◌||◌, cond, not, refl, sym, ap₂, replicate, eq-eqb, false_from_ne_true, ne_eqb, true≢false, and-false, append_assoc, get_or-append_right, get_or_default, get_or_past, length-replicate, Account, Strike, debts_from, AreGains, IsNoted, IsPlaceOf, is_gone, is_struck, owes_at}
+use Rattle.sip_ledger.proofs.Words.{nat_tests, ◌-◌, ◌<◌, ◌≤◌, List, [], ◌∷◌, ◌++◌, length, get_or, arith, cases_lt, cases_eq, get_or_append_left, get_or_push, length_push, Entry, AreRising, ◌≡◌, ℕ, Bool, ◌+◌, true, false, drop, set, ap, ◌∙◌, get_or-drop, get_or-set_other, get_or-set_same, length-append, length-drop, length-set, Debt, Gains, AreFlags, AreSameGains, IsDropped, IsGain, IsUndropped, IsLetGo, blank, entries_of, entry_at, is_left, no_flags, holds, suc, ◌^◌, ◌==◌, ◌&&◌, ◌||◌, cond, not, refl, sym, ap₂, replicate, eq-eqb, false_from_ne_true, ne_eqb, true≢false, and-false, append_assoc, get_or-append_right, get_or_default, get_or_past, length-replicate, Account, Strike, debts_from, AreGains, IsNoted, IsPlaceOf, is_gone, is_struck, owes_at}
 use Rattle.sip_ledger.proofs.debts.ListedLemmas.{no_entry}
 
 -- there are as many entries as there were gains
@@ -8,13 +8,13 @@ unfolding entries_of
 entries_long gains long = grind (arith, nat_tests, length-append, length-replicate)
 
 -- a gain that is kept stands after the blanks, at the index of its place
-pub entry-kept : (gains : Gains) (k : ℕ) → length gains.entries.items ≤ gains.end → IsKept gains k →
+pub entry-kept : (gains : Gains) (k : ℕ) → length gains.entries.items ≤ gains.end → IsUndropped gains k →
     entry_at (entries_of gains) k ≡ get_or gains.entries.items (k - (gains.end - length gains.entries.items)) blank
 unfolding entries_of
 entry-kept gains k long kept = grind (arith, get_or-append_right, length-replicate)
 
 -- the entry at an index of the kept gains is the one at its place
-pub entry_index : (gains : Gains) (k i : ℕ) (e : Entry) → length gains.entries.items ≤ gains.end → IsKept gains k → i + (gains.end - length gains.entries.items) ≡ k →
+pub entry_index : (gains : Gains) (k i : ℕ) (e : Entry) → length gains.entries.items ≤ gains.end → IsUndropped gains k → i + (gains.end - length gains.entries.items) ≡ k →
     e ≡ get_or gains.entries.items i e → e ≡ entry_at (entries_of gains) k
 entry_index gains k i e long kept here is = grind (arith, get_or_default, entry-kept)
 
@@ -24,7 +24,7 @@ unfolding is_left
 left-place gains k are left = are.messages (entry_at (entries_of gains) k).message k left
 
 -- a gain that is left is kept
-pub left-kept : (gains : Gains) (k : ℕ) → AreGains gains → is_left gains k ≡ true → IsKept gains k
+pub left-kept : (gains : Gains) (k : ℕ) → AreGains gains → is_left gains k ≡ true → IsUndropped gains k
 left-kept gains k are left = (left-place gains k are left).kept
 
 -- a gain stands under its message exactly if it is left
@@ -47,7 +47,7 @@ unfolding entries_of
 none-entries gains entries end = ap₂ (λ (n : ℕ) (l : List Entry). replicate (n - length l) blank ++ l) end entries
 
 -- deadlines rise over what is kept
-pub rising_kept : (gains : Gains) (i k : ℕ) → AreGains gains → gains.rises ≡ true → IsKept gains i → i ≤ k → k < gains.end →
+pub rising_kept : (gains : Gains) (i k : ℕ) → AreGains gains → gains.rises ≡ true → IsUndropped gains i → i ≤ k → k < gains.end →
     (entry_at (entries_of gains) i).deadline ≤ (entry_at (entries_of gains) k).deadline
 rising_kept gains i k are rises kept order within = grind (arith, nat_tests, entry-kept)
 
@@ -143,7 +143,7 @@ pub flags-same : (old new : Gains) → AreFlags old → new.entries.items ≡ ol
 flags-same old new are entries flags end same = grind (arith, nat_tests, left-as)
 
 -- where a gain is put after the others, with flags of its own, the flags are right still
-pub flags-more : (old new : Gains) (debt : Debt) (newest : Bool) → AreFlags old → (newest ≡ true → (k : ℕ) → IsKept old k → (entry_at (entries_of old) k).message ≤ debt.message) →
+pub flags-more : (old new : Gains) (debt : Debt) (newest : Bool) → AreFlags old → (newest ≡ true → (k : ℕ) → IsUndropped old k → (entry_at (entries_of old) k).message ≤ debt.message) →
     length old.entries.items ≤ old.end → length (entries_of old) ≡ old.end →
     new.entries.items ≡ old.entries.items ++ (record { message = debt.message; deadline = debt.deadline }) ∷ [] →
     new.flags.items ≡ old.flags.items ++ (record { must = debt.must; left = true; newest = newest }) ∷ [] → new.end ≡ old.end + 1 → IsGain debt old new → AreFlags new
@@ -151,7 +151,7 @@ unfolding is_left
 flags-more old new debt newest are above long count entries flags end gain = grind (arith, nat_tests, length-append, get_or_push, get_or_append_left, cases_eq, left-as)
 
 -- where a gain is let go, and its flags are blank then, the flags are right still
-pub flags-let_go : (old new : Gains) (place : ℕ) → AreFlags old → length old.entries.items ≤ old.end → IsKept old place → new.entries.items ≡ old.entries.items →
+pub flags-let_go : (old new : Gains) (place : ℕ) → AreFlags old → length old.entries.items ≤ old.end → IsUndropped old place → new.entries.items ≡ old.entries.items →
     new.flags.items ≡ set old.flags.items (place - (old.end - length old.entries.items)) no_flags → holds new.musts 0 place ≡ false → IsLetGo place old new → AreFlags new
 unfolding is_left
 flags-let_go old new place are long kept entries flags must gone = grind (arith, nat_tests, get_or-set_same, get_or-set_other, length-set, cases_eq, left-as)

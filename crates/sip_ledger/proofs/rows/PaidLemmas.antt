@@ -1,6 +1,6 @@
 -- Many rows gain a debt, lose what is past, place by place, or are paid and put after the others.
 -- Of places o tells which are owed at first, o' and o'' which later, and m which must be sent; t is a moment.
-use Rattle.sip_ledger.proofs.Words.{◌≡◌, ℕ, ◌+◌, ◌<◌, ◌≤◌, ◌&&◌, ◌||◌, Bool, true, false, List, length, take, filter, arith, nat_tests, nat_le, and-false, cases_eq, cases_lt, lt-leb, take-length, get_or_default, Entry, Account, Gains, Strike, counts_at, AreGains, IsAccount, IsExpiredTo, IsKept, IsWithout, account_debts, entries_of, entry_at, must_at, owes_at, [], ◌∷◌, ◌++◌, drop, get_or, set, map, refl, sym, ap, ◌∙◌, All, fold, min, le-leb, or_right, All-filter, All-get_or, All-head, All-map, All-tail, All-weaker, Debt, debt_deadlines, earliest, is_timely, is_within, AreAccounts, KeepsAccounts, accounts_debts, common_steps, cond, Option, Some, None, IfSome, option_to_list, list_any, take-append_seam, append-nil, append_assoc, get_or_append_left, length-append, map-append, owed_in, paid_rows, is_payable, paid_by, from_to}
+use Rattle.sip_ledger.proofs.Words.{◌≡◌, ℕ, ◌+◌, ◌<◌, ◌≤◌, ◌&&◌, ◌||◌, Bool, true, false, List, length, take, filter, arith, nat_tests, nat_le, and-false, cases_eq, cases_lt, lt-leb, take-length, get_or_default, Entry, Account, Gains, Strike, counts_at, AreGains, IsAccount, IsExpiredTo, IsUndropped, IsWithout, account_debts, entries_of, entry_at, must_at, owes_at, [], ◌∷◌, ◌++◌, drop, get_or, set, map, refl, sym, ap, ◌∙◌, All, fold, min, le-leb, or_right, All-filter, All-get_or, All-head, All-map, All-tail, All-weaker, Debt, debt_deadlines, earliest, is_timely, is_within, AreAccounts, KeepsAccounts, accounts_debts, common_steps, cond, Option, Some, None, IfSome, option_to_list, list_any, take-append_seam, append-nil, append_assoc, get_or_append_left, length-append, map-append, owed_in, paid_rows, is_payable, paid_by, from_to}
 use Rattle.sip_ledger.proofs.gains.LeftLemmas.{entries_long, rising_kept, left-kept, owed-left}
 use Rattle.sip_ledger.proofs.debts.ListedLemmas.{listed-counting, listed-same, listed-each}
 use Rattle.sip_ledger.proofs.account.AccountLemmas.{empty-debts, kept-passed, past-end, soft-must, debts_length}
@@ -52,21 +52,21 @@ kept-each t [] all = refl
 kept-each t (x ∷ xs) all = grind (arith, nat_tests, All-head (λ d. counts_at t d ≡ true) x xs all, kept-each t xs (All-tail (λ d. counts_at t d ≡ true) x xs all))
 
 -- where no gain that is kept is past, no debt of an account is
-debts-late : (gains : Gains) (strikes : List Strike) (a : Account) (t : ℕ) → AreGains gains → ((k : ℕ) → IsKept gains k → t ≤ (entry_at (entries_of gains) k).deadline) →
+debts-late : (gains : Gains) (strikes : List Strike) (a : Account) (t : ℕ) → AreGains gains → ((k : ℕ) → IsUndropped gains k → t ≤ (entry_at (entries_of gains) k).deadline) →
     All (λ (d : Debt). t ≤ d.deadline) (account_debts gains strikes a)
 unfolding account_debts
 debts-late gains strikes a t are late =
     listed-each (λ (d : Debt). t ≤ d.deadline) (owes_at gains strikes a) (must_at gains a) (entries_of gains) (λ k below owed. late k (left-kept gains k are (owed-left gains strikes a k owed)))
 
 -- where no gain that is kept is past, an account has no debt that goes
-pub none-goes : (gains : Gains) (strikes : List Strike) (a : Account) (t : ℕ) → AreGains gains → ((k : ℕ) → IsKept gains k → t ≤ (entry_at (entries_of gains) k).deadline) →
+pub none-goes : (gains : Gains) (strikes : List Strike) (a : Account) (t : ℕ) → AreGains gains → ((k : ℕ) → IsUndropped gains k → t ≤ (entry_at (entries_of gains) k).deadline) →
     filter (counts_at t) (account_debts gains strikes a) ≡ account_debts gains strikes a
 none-goes gains strikes a t are late =
     let debts = account_debts gains strikes a in
     kept-each t debts (All-weaker (λ (d : Debt). t ≤ d.deadline) (λ d. counts_at t d ≡ true) (λ d late. or_right d.must (nat_le t d.deadline) (le-leb t d.deadline late)) debts (debts-late gains strikes a t are late))
 
 -- where no gain that is kept is past, no row has a debt that goes
-rows-same : (gains : Gains) (strikes : List Strike) (rows : List Account) (t : ℕ) → AreGains gains → ((k : ℕ) → IsKept gains k → t ≤ (entry_at (entries_of gains) k).deadline) →
+rows-same : (gains : Gains) (strikes : List Strike) (rows : List Account) (t : ℕ) → AreGains gains → ((k : ℕ) → IsUndropped gains k → t ≤ (entry_at (entries_of gains) k).deadline) →
     All (λ owes. filter (counts_at t) owes ≡ owes) (accounts_debts gains strikes rows)
 unfolding accounts_debts
 rows-same gains strikes rows t are late =
@@ -74,7 +74,7 @@ rows-same gains strikes rows t are late =
 
 -- where no gain that is kept is past, what many rows owe is as it is once what is past is dropped from some
 pub none-past : (gains : Gains) (strikes : List Strike) (rows : List Account) (seen : List (List Debt)) (from t : ℕ) → AreGains gains → accounts_debts gains strikes rows ≡ seen →
-    ((k : ℕ) → IsKept gains k → t ≤ (entry_at (entries_of gains) k).deadline) → seen ≡ take from seen ++ map (filter (counts_at t)) (drop from seen)
+    ((k : ℕ) → IsUndropped gains k → t ≤ (entry_at (entries_of gains) k).deadline) → seen ≡ take from seen ++ map (filter (counts_at t)) (drop from seen)
 none-past gains strikes rows seen from t are view late = grind (arith, rows-same, unchanged-each, All-get_or)
 
 -- the least of moments that are not before t is not before it
@@ -88,7 +88,7 @@ within-all t [] all = refl
 within-all t (m ∷ ms) all = le-leb t (fold min m ms) (least-late t m ms (All-head (λ n. t ≤ n) m ms all) (All-tail (λ n. t ≤ n) m ms all))
 
 -- where no gain is past, a row is timely
-pub none_late : (gains : Gains) (strikes : List Strike) (a : Account) (t : ℕ) → AreGains gains → ((k : ℕ) → IsKept gains k → t ≤ (entry_at (entries_of gains) k).deadline) →
+pub none_late : (gains : Gains) (strikes : List Strike) (a : Account) (t : ℕ) → AreGains gains → ((k : ℕ) → IsUndropped gains k → t ≤ (entry_at (entries_of gains) k).deadline) →
     is_timely t (account_debts gains strikes a) ≡ true
 none_late gains strikes a t are late =
     let must = filter (λ (d : Debt). d.must) (account_debts gains strikes a) in
@@ -190,7 +190,7 @@ expired-end gains old new a b t place soft end is =
     finished gains old new a b t soft (λ k within. grind (arith, nat_tests, cases_lt, past-end, is.gone k, is.later k))
 
 -- where deadlines rise, and that of this place is not past, the account has expired whole
-pub expired-rising : (gains : Gains) (old new : List Strike) (a b : Account) (t place : ℕ) → b.soft ≡ a.soft → AreGains gains → gains.rises ≡ true → IsKept gains place →
+pub expired-rising : (gains : Gains) (old new : List Strike) (a b : Account) (t place : ℕ) → b.soft ≡ a.soft → AreGains gains → gains.rises ≡ true → IsUndropped gains place →
     t ≤ (entry_at (entries_of gains) place).deadline → IsExpiredTo t (entries_of gains) (must_at gains a) (owes_at gains old a) (owes_at gains new b) place →
     account_debts gains new b ≡ filter (counts_at t) (account_debts gains old a)
 expired-rising gains old new a b t place soft gained rises kept early is =

@@ -1,7 +1,7 @@
 -- Accounts as contracts see them: a list of what each row owes, and the messages that rows owe.
-use Rattle.sip_ledger.proofs.Words.{◌≡◌, ℕ, ◌+◌, ◌<◌, ◌≤◌, ◌==◌, true, false, List, [], ◌∷◌, ◌++◌, length, get_or, map, refl, sym, ap, ◌∙◌, subst, inl, inr, arith, nat_tests, All, Contains, list_any, and-true, cases_eq, cases_lt, eqb-true, false_from_ne_true, le-leb, true≢false, append_assoc, get_or_append_left, get_or_default, get_or_push, length_push, All-map, Contains-append_left, Contains-push, Contains-push_cases, list_any_at, list_any_none, Debt, Account, Gains, Strike, AppendsOwed, owes_message, some_owes, is_payable, Rise, account_debts, accounts_debts, entries_of, entry_at, must_at, owes_at, holds, common_steps, ◌≢◌, take, set, IsTrue, Option, Some, None, IfSome, IfNone, Result, Ok, Err, IsErr, OnErr, ◌↔◌, is_err, is_some, eq-eqb, drop_min, All-weaker, sum_by-cons, debts_print, owed_in, softened_debt, AreAccounts, AreGains, IsAccount, IsFirstPayable, KeepsAccounts, pays_at, map-append, All-push, ◌^◌}
-use Rattle.sip_ledger.proofs.debts.ListedLemmas.{listed-each, listed-few, listed-same, listed-softened}
-use Rattle.sip_ledger.proofs.account.AccountLemmas.{debts_length, row-debts, changed, empty-debts, kept-all, must-below, over, owed-within, row-account, truncated, without-first_rows}
+use Rattle.sip_ledger.proofs.Words.{◌≡◌, ℕ, ◌+◌, ◌<◌, ◌≤◌, ◌==◌, true, false, List, [], ◌∷◌, ◌++◌, length, get_or, map, refl, sym, ap, ◌∙◌, subst, inl, inr, arith, nat_tests, All, Contains, list_any, and-true, cases_eq, cases_lt, eqb-true, false_from_ne_true, le-leb, true≢false, append_assoc, get_or_append_left, get_or_default, get_or_push, length_push, All-map, Contains-append_left, Contains-push, Contains-push_cases, list_any_at, list_any_none, All-cons, All-nil, Debt, Account, Gains, Strike, AppendsOwed, owes_message, some_owes, is_payable, Rise, account_debts, accounts_debts, entries_of, entry_at, must_at, owes_at, holds, common_steps, ◌≢◌, take, set, IsTrue, Option, Some, None, IfSome, IfNone, Result, Ok, Err, IsErr, OnErr, ◌↔◌, is_err, is_some, eq-eqb, drop_min, All-weaker, sum_by-cons, debts_print, owed_in, softened_account, softened_debt, debt_deadlines, earliest, filter, IsNextGain, AreAccounts, AreGains, IsAccount, IsFirstPayable, KeepsAccounts, pays_at, map-append, All-push, ◌^◌}
+use Rattle.sip_ledger.proofs.debts.ListedLemmas.{front-same, listed-each, listed-front, listed-same, listed-softened}
+use Rattle.sip_ledger.proofs.account.AccountLemmas.{debts_length, row-debts, changed, empty-debts, kept-all, must-below, over, owed-within, past-end, row-account, truncated, without-first_rows}
 use Rattle.sip_ledger.proofs.gains.LeftLemmas.{held_left, owed-left, entries_long}
 use Rattle.sip_ledger.proofs.debts.OwedLemmas.{listed-any, some-debt}
 use Rattle.sip_ledger.proofs.account.FindLemmas.{unpaid-account}
@@ -30,14 +30,13 @@ module _ {gains : Gains} {strikes : List Strike} {rows : List Account} {seen : L
       let debts = row-debts gains strikes rows row a within is in
       grind (arith, row-account, debts)
 
-  -- a row owes no more debts than were gained
-  pub row-few : (row : ℕ) → AreAccounts gains strikes rows → accounts_debts gains strikes rows ≡ seen → row < length seen → length (owed_in seen row) < 2 ^ 64
-  unfolding account_debts
-  row-few row are view inside =
-      -- `none` stands for no account
-      let none : Account = record { start = 0; end = 0; soft = 0; first = 0; last = 0; print = 0 } in
-      let at = account-at row (get_or rows row none) are view inside (get_or_default rows row none (get_or rows row none) (row-inside row are view inside)) in
-      grind (arith, at, listed-few, entries_long)
+  -- the account of a row, alone, is seen as what the row owes
+  pub alone : (row : ℕ) (a : Account) → AreAccounts gains strikes rows → accounts_debts gains strikes rows ≡ seen → row < length seen → a ≡ get_or rows row a →
+      AreAccounts gains strikes (a ∷ []) × (accounts_debts gains strikes (a ∷ []) ≡ owed_in seen row ∷ [])
+  unfolding accounts_debts
+  alone row a are view inside is =
+      let at = account-at row a are view inside is in
+      (record { gained = are.gained; each = All-cons (IsAccount gains strikes) a [] at.0 (All-nil (IsAccount gains strikes)) }, ap (λ debts. debts ∷ []) at.1)
 
   -- where one of the accounts changes, contracts see its row changed
   pub changed-to : (new : List Strike) (row : ℕ) (a : Account) (debts : List Debt) → take (length strikes) new ≡ strikes →
@@ -70,10 +69,6 @@ module _ {gains : Gains} {strikes : List Strike} {rows : List Account} {seen : L
   unfolding accounts_debts
   pushed-to a debts are view is owes = grind (arith, nat_tests, common_steps, All-push, map-append)
 
--- the account, of which no gain below the place must be sent any more
-abbrev pub softened_account : ℕ → Account → Account
-softened_account place a = record { start = a.start; end = a.end; soft = place; first = a.first; last = a.last; print = a.print }
-
 -- a softened account owes the same at each place
 soft-owes : (gains : Gains) (strikes : List Strike) (a : Account) (place k : ℕ) →
     owes_at gains strikes (softened_account place a) k ≡ owes_at gains strikes a k
@@ -81,18 +76,38 @@ unfolding owes_at
 soft-owes gains strikes a place k = refl
 
 -- the debts of a softened account are the softened ones
-soft-debts : (gains : Gains) (strikes : List Strike) (a : Account) (place : ℕ) → length (entries_of gains) ≡ place →
+soft-debts : (gains : Gains) (strikes : List Strike) (a : Account) (place : ℕ) → place ≤ length (entries_of gains) → a.end ≤ place →
     account_debts gains strikes (softened_account place a) ≡ map softened_debt (account_debts gains strikes a)
 unfolding account_debts
-soft-debts gains strikes a place long =
+soft-debts gains strikes a place within end =
     let b = softened_account place a in
-    grind (arith, listed-same (owes_at gains strikes b) (must_at gains b) (owes_at gains strikes a) (λ _. false) 0, soft-owes, must-below, listed-softened (owes_at gains strikes a) (must_at gains a) (λ _. false) 0)
+    let e = entries_of gains in
+    let o = owes_at gains strikes a in
+    -- nothing is owed from the place on
+    let last : (k : ℕ) → place ≤ k → o k ≡ false = λ k past. past-end gains strikes a k (omega (arith, end, past)) in
+    listed-front (owes_at gains strikes b) (must_at gains b) e place within (λ k past. soft-owes gains strikes a place k ∙ last k past)
+    ∙ front-same (owes_at gains strikes b) (must_at gains b) o (λ _. false) e place within (λ k below. (soft-owes gains strikes a place k, sym (must-below gains b k below)))
+    ∙ sym (listed-front o (λ _. false) e place within last)
+    ∙ listed-softened o (must_at gains a) (λ _. false) 0 e (λ _. refl)
 
 -- a softened account is an account, and has the softened debts
-pub softened-account : (gains : Gains) (strikes : List Strike) (a : Account) (place : ℕ) → length (entries_of gains) ≡ place → IsAccount gains strikes a →
+pub softened-account : (gains : Gains) (strikes : List Strike) (a : Account) (place : ℕ) → place ≤ length (entries_of gains) → a.end ≤ place → IsAccount gains strikes a →
     IsAccount gains strikes (softened_account place a) × (account_debts gains strikes (softened_account place a) ≡ map softened_debt (account_debts gains strikes a))
 unfolding debts_print
-softened-account gains strikes a place long is = grind (arith, nat_tests, soft-debts, soft-owes, common_steps, sum_by-cons)
+softened-account gains strikes a place within end is = grind (arith, nat_tests, soft-debts, soft-owes, common_steps, sum_by-cons)
+
+-- where no debt must be sent, the softened ones are the same
+softened-same : (debts : List Debt) → earliest (debt_deadlines debts) ≡ None → map softened_debt debts ≡ debts
+softened-same [] none = refl
+softened-same (debt ∷ debts) none = grind (arith, nat_tests, softened-same debts)
+
+-- an account that owes nothing that must be sent owes the same where this is looked for from the place on at which it gains next, and can gain there
+pub eased-account : (gains : Gains) (strikes : List Strike) (a : Account) (debt : Debt) (place : ℕ) → AreGains gains → IsAccount gains strikes a → IsNextGain gains strikes a debt place →
+    None ≡ earliest (debt_deadlines (account_debts gains strikes a)) → IsAccount gains strikes (softened_account place a) × IsNextGain gains strikes (softened_account place a) debt place
+    × (account_debts gains strikes (softened_account place a) ≡ account_debts gains strikes a)
+eased-account gains strikes a debt place gained is next none =
+    let soft = softened-account gains strikes a place (omega (arith, next.gain.within)) next.end is in
+    (soft.0, record { gain = next.gain; end = next.end; soft = omega arith; free = next.free }, soft.1 ∙ softened-same (account_debts gains strikes a) (sym none))
 
 -- an account that does not end where it starts owes something
 nothing-owed : (gains : Gains) (strikes : List Strike) (a : Account) → IsAccount gains strikes a → a.start ≢ a.end → account_debts gains strikes a ≢ []

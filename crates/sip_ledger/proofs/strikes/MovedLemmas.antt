@@ -1,6 +1,6 @@
 -- Which gains the strikes of an account strike, once strikes are longer, written anew or looked for, and gains are let go: m is a message, and k a place.
 -- sm is the message of a strike, and mp that of the gain at a place.
-use Rattle.sip_ledger.proofs.Words.{◌≡◌, ◌≢◌, ℕ, zero, suc, ◌+◌, ◌-◌, ◌<◌, ◌≤◌, ◌==◌, ◌&&◌, ◌||◌, Bool, true, false, List, [], ◌∷◌, ◌++◌, length, take, drop, get_or, set, filter, refl, sym, ap, ap₂, ◌∙◌, subst, arith, nat_le, nat_lt, list_any, or-false, or_assoc, true≢false, nat_tests, list_any-append, list_any_at, take-append_seam, drop-append_seam, drop-append-le, drop-set-add, get_or_default, get_or-drop, length-drop, take-append-le, take-set-le, take_more, Account, Strike, Gains, IsWritten, Lengthens, Reaches, StrikeToo, entries_of, entry_at, is_left, is_struck, strikes_of, is_out, All, cases_eq, cases_lt, All-push, All-weaker, AreGains, AreKept, IsClearedTo, IsDropped, IsLetGo, StartFrom, owes_at, common_steps, map, max, false_from_ne_true, or_parts, append_assoc, map-append, All-get_or, All-nil, AreAppended, AreMoved, IsAccount, IsMoved, StrikesNoneFrom, account_debts, accounts_debts, holds}
+use Rattle.sip_ledger.proofs.Words.{◌≡◌, ◌≢◌, ℕ, zero, suc, ◌+◌, ◌-◌, ◌<◌, ◌≤◌, ◌==◌, ◌&&◌, ◌||◌, Bool, true, false, List, [], ◌∷◌, ◌++◌, length, take, drop, get_or, set, filter, refl, sym, ap, ap₂, ◌∙◌, subst, arith, nat_le, nat_lt, list_any, or-false, or_assoc, true≢false, nat_tests, list_any-append, list_any_at, take-append_seam, drop-append_seam, drop-append-le, drop-set-add, get_or_default, get_or-drop, length-drop, take-append-le, take-set-le, take_more, Account, Strike, Gains, IsWritten, Lengthens, Reaches, StrikeToo, entries_of, entry_at, is_left, is_struck, strikes_of, is_out, All, cases_eq, cases_lt, All-push, All-weaker, AreGains, AreKept, IsClearedTo, IsDropped, IsLetGo, StartFrom, owes_at, common_steps, map, max, min, false_from_ne_true, or_parts, append_assoc, map-append, All-get_or, All-nil, AreAppended, AreMoved, AreStruckToo, IsAccount, IsMoved, StrikesNoneFrom, account_debts, accounts_debts, holds}
 use Rattle.sip_ledger.proofs.gains.LeftLemmas.{held_left, gone-same}
 use Rattle.sip_ledger.proofs.account.AccountLemmas.{OwesAlike, dropped-alike, let_go-alike, over-all, past-end, kept-all, soft-must}
 use Rattle.sip_ledger.proofs.account.WithoutLemmas.{before-start}
@@ -144,6 +144,26 @@ pub out-struck : (xs : List Strike) (i m k : ℕ) (s : Strike) → i < length xs
     (k < (get_or xs i s).to) × ((j : ℕ) → k ≤ j → j < (get_or xs i s).to → is_struck xs m j ≡ true)
 unfolding is_struck
 out-struck xs i m k s within out = grind (arith, nat_tests, list_any_at, out-parts m (get_or xs i s).message (get_or xs i s).from (get_or xs i s).to k out)
+
+-- what a strike strikes of what is left up to the place `to`, others strike too, where they do so before an earlier place, from which on nothing of its
+-- message is left up to another one, from which on they strike it
+pub alone-on : (gains : Gains) (s : Strike) (others : List Strike) (from place at to : ℕ) → AreStruckToo gains (λ m k. is_out m k s) others from place →
+    ((k : ℕ) → place ≤ k → k < at → holds gains.messages s.message k ≡ false) → ((k : ℕ) → at ≤ k → k < to → k < s.to → is_struck others s.message k ≡ true) →
+    AreStruckToo gains (λ m k. is_out m k s) others from to
+unfolding is_left
+alone-on gains s others from place at to was none struck = λ k low high left out.
+    let parts = out-parts (entry_at (entries_of gains) k).message s.message s.from s.to k out in
+    grind (arith, nat_tests, cases_lt, true≢false, parts, was k low, none k, struck k)
+
+-- what one strike more strikes, others strike too
+pub alone-more : (gains : Gains) (xs others : List Strike) (at from to to' : ℕ) (d : Strike) → at < length xs → AreStruckToo gains (is_struck (take at xs)) others from to → to' ≤ to →
+    AreStruckToo gains (λ m k. is_out m k (get_or xs at d)) others from to' → AreStruckToo gains (is_struck (take (at + 1) xs)) others from to'
+alone-more gains xs others at from to to' d within was less more = λ k low high left struck.
+    grind (arith, nat_tests, or_parts, struck-next xs at (entry_at (entries_of gains) k).message k d within, was k, more k)
+
+-- what one of the others strikes, they strike
+pub alone-none : (gains : Gains) (others : List Strike) (at from to : ℕ) (d : Strike) → at < length others → AreStruckToo gains (λ m k. is_out m k (get_or others at d)) others from to
+alone-none gains others at from to d within = λ k low high left out. (out-struck others at (entry_at (entries_of gains) k).message k d within out).1 k (omega arith) (out-struck others at (entry_at (entries_of gains) k).message k d within out).0
 
 -- lemmas for the prover under one name: what some of the strikes strike
 pub ruleset struck_by_some = (none-struck, out-struck, struck-more)

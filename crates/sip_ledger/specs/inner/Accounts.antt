@@ -1,5 +1,7 @@
 use Rattle.std.specs.Prelude.{◌≡◌, ◌≢◌, ◌==◌, ◌&&◌, ◌||◌, ◌<◌, ◌≤◌, ◌+◌, ◌-◌, ◌^◌, ℕ, Bool, true, false, not, cond, Option, Some, None, IfSome, IfNone, List, [], ◌∷◌, ◌++◌, All, drop, get_or, length, map, min, nat_le, nat_lt, replicate, set, take}
 use Rattle.std.specs.List.{list_any}
+use Rattle.std.specs.declared.ops.Bound.{Bound}
+use Rattle.std.specs.declared.ops.Bound.TheVariants.{Excluded, Included, Unbounded}
 use Rattle.sip_ledger.specs.declared.debt.Debt.{Debt}
 use Rattle.sip_ledger.specs.declared.debt.Entry.{Entry}
 use Rattle.sip_ledger.specs.declared.run.Run.{Run}
@@ -31,19 +33,20 @@ entries_of gains = replicate (gains.end - length gains.entries.items) blank ++ g
 unfoldable pub is_left : Gains → ℕ → Bool
 is_left gains k = holds gains.messages (entry_at (entries_of gains) k).message k
 
--- the first number after this one, or the first of all
-abbrev pub first_after : Option ℕ → ℕ
-first_after None = 0
-first_after (Some last) = last + 1
+-- the least number in the bound
+abbrev pub least_in : Bound ℕ → ℕ
+least_in Unbounded = 0
+least_in (Included message) = message
+least_in (Excluded message) = message + 1
 
 -- the gain at the place is kept
-pub record IsKept (gains : Gains) (k : ℕ) : Type 0 where
+pub record IsUndropped (gains : Gains) (k : ℕ) : Type 0 where
   pub from : gains.end ≤ k + length gains.entries.items
   pub within : k < gains.end
 
 -- the gain at the place is kept, and is of this message
 pub record IsPlaceOf (gains : Gains) (m k : ℕ) : Type 0 where
-  pub kept : IsKept gains k
+  pub kept : IsUndropped gains k
   pub message : (entry_at (entries_of gains) k).message ≡ m
 
 -- the deadlines of the entries never fall
@@ -61,9 +64,9 @@ flags_at gains k = get_or gains.flags.items (k - (gains.end - length gains.entri
 -- each gain that is kept has its flags, and they are right; where one is newest, no gain that is kept before it has a greater message
 pub record AreFlags (gains : Gains) : Type 0 where
   pub many : length gains.flags.items ≡ length gains.entries.items
-  pub left : (k : ℕ) → IsKept gains k → (flags_at gains k).left ≡ is_left gains k
-  pub must : (k : ℕ) → IsKept gains k → (flags_at gains k).must ≡ holds gains.musts 0 k
-  pub newest : (j k : ℕ) → j ≤ k → IsKept gains j → IsKept gains k → (flags_at gains k).newest ≡ true → (entry_at (entries_of gains) j).message ≤ (entry_at (entries_of gains) k).message
+  pub left : (k : ℕ) → IsUndropped gains k → (flags_at gains k).left ≡ is_left gains k
+  pub must : (k : ℕ) → IsUndropped gains k → (flags_at gains k).must ≡ holds gains.musts 0 k
+  pub newest : (j k : ℕ) → j ≤ k → IsUndropped gains j → IsUndropped gains k → (flags_at gains k).newest ≡ true → (entry_at (entries_of gains) j).message ≤ (entry_at (entries_of gains) k).message
 
 -- what holds of the gains at all times: no more are kept than there were, and a place is a number of the code; what stands under a message are gains
 -- of it that are kept; what must be sent was gained; deadlines never fall where `rises` says so; no message is above the highest; the flags are right
@@ -73,7 +76,7 @@ pub record AreGains (gains : Gains) : Type 0 where
   pub messages : (m k : ℕ) → holds gains.messages m k ≡ true → IsPlaceOf gains m k
   pub musts : (k : ℕ) → holds gains.musts 0 k ≡ true → k < gains.end
   pub rises : gains.rises ≡ true → AreRising gains.entries.items
-  pub highest : (k : ℕ) → IsKept gains k → (entry_at (entries_of gains) k).message ≤ gains.highest
+  pub highest : (k : ℕ) → IsUndropped gains k → (entry_at (entries_of gains) k).message ≤ gains.highest
   pub flags : AreFlags gains
 
 -- the place stands under the debt's message, and among those of what must be sent if it must; no other place moves
@@ -157,6 +160,10 @@ pub record IsWithout (place : ℕ) (owes owes' : ℕ → Bool) : Type 0 where
   pub gone : owes' place ≡ false
   pub others : (k : ℕ) → k ≢ place → owes' k ≡ owes k
 
+-- the account, of which no gain below the place must be sent any more
+abbrev pub softened_account : ℕ → Account → Account
+softened_account place a = record { start = a.start; end = a.end; soft = place; first = a.first; last = a.last; print = a.print }
+
 -- all accounts, over gains and strikes
 pub record AreAccounts (gains : Gains) (strikes : List Strike) (accounts : List Account) : Type 0 where
   pub gained : AreGains gains
@@ -213,9 +220,9 @@ abbrev pub PaysSomeAt : List Entry → (ℕ → Bool) → ℕ → ℕ → Type 0
 PaysSomeAt entries test t k = (test (entry_at entries k).message ≡ true) × (t ≤ (entry_at entries k).deadline)
 
 -- the first place that is owed and whose gain a send at t of a message that passes the test pays, if there is one
-abbrev pub IsFirstOf : List Entry → (ℕ → Bool) → (ℕ → Bool) → ℕ → Option ℕ → Type 0
-IsFirstOf entries owes test t None = (k : ℕ) → owes k ≡ true → ¬ (PaysSomeAt entries test t k)
-IsFirstOf entries owes test t (Some place) =
+abbrev pub IsFirstPaying : List Entry → (ℕ → Bool) → (ℕ → Bool) → ℕ → Option ℕ → Type 0
+IsFirstPaying entries owes test t None = (k : ℕ) → owes k ≡ true → ¬ (PaysSomeAt entries test t k)
+IsFirstPaying entries owes test t (Some place) =
     (owes place ≡ true) × PaysSomeAt entries test t place × ((k : ℕ) → k < place → owes k ≡ true → ¬ (PaysSomeAt entries test t k))
 
 -- the lesser of two places, where there are some
@@ -294,10 +301,17 @@ pub record IsClearedTo (place : ℕ) (strikes : List Strike) (rows : List Accoun
 abbrev pub StartFrom : ℕ → List Account → Type 0
 StartFrom place rows = All (λ a. a.start < a.end → place ≤ a.start) rows
 
--- two accounts owe the same from a place on
-pub record SharesRest (strikes : List Strike) (one other : Account) (place : ℕ) : Type 0 where
-  pub soft : one.soft ≡ other.soft
-  pub owes : (gains : Gains) (k : ℕ) → place ≤ k → owes_at gains strikes one k ≡ owes_at gains strikes other k
+-- what a test says is struck of what is left from one place up to another, the strikes strike too
+abbrev pub AreStruckToo : Gains → (ℕ → ℕ → Bool) → List Strike → ℕ → ℕ → Type 0
+AreStruckToo gains test strikes from to = (k : ℕ) → from ≤ k → k < to → is_left gains k ≡ true → test (entry_at (entries_of gains) k).message k ≡ true
+    → is_struck strikes (entry_at (entries_of gains) k).message k ≡ true
+
+-- two accounts owe the same at the next n places of each, which are none but where both are at one place
+pub record SharesNext (gains : Gains) (strikes : List Strike) (one other : Account) (at beside n : ℕ) : Type 0 where
+  pub end : at + n ≤ one.end
+  pub end_beside : beside + n ≤ other.end
+  pub place : 0 < n → at ≡ beside
+  pub same : (k : ℕ) → at ≤ k → k < at + n → (owes_at gains strikes one k ≡ owes_at gains strikes other k) × (must_at gains one k ≡ must_at gains other k)
 
 -- the new strikes strike what the old ones strike of what is left from a place on, and strike nothing that the old ones do not
 pub record AreThinned (gains : Gains) (from : ℕ) (old new : List Strike) : Type 0 where

@@ -4,7 +4,7 @@ pub use Rattle.std.specs.BTreeSet.{BTreeSet, IsKeyRangeOf, IsLowerBound, IsUpper
 pub use Rattle.std.specs.Bool.{OnFalse, OnTrue}
 pub use Rattle.std.specs.List.{copy_within, count_by, list_any, sum_by}
 pub use Rattle.std.specs.Ordering.{is_eq, is_gt}
-pub use Rattle.std.specs.Prelude.{All, Bool, Contains, Err, IfNone, IfOk, IfSome, IsErr, IsTrue, List, MatchOption, None, Ok, OnErr, OnOk, Option, Result, Some, [], bit_xor, cond, drop, false, filter, fold, get_or, is_err, is_some, length, map, max, min, nat_le, nat_lt, option_to_list, replicate, take, true, ℕ, ◌%◌, ◌&&◌, ◌*◌, ◌++◌, ◌+◌, ◌-◌, ◌<◌, ◌==◌, ◌^◌, ◌↔◌, ◌∷◌, ◌≡◌, ◌≢◌, ◌≤◌, ◌⊎◌}
+pub use Rattle.std.specs.Prelude.{All, Bool, Contains, Err, IfNone, IfOk, IfSome, IsErr, IsTrue, List, MatchOption, None, Ok, OnErr, OnOk, Option, Result, Some, [], bit_xor, cond, drop, false, filter, fold, get_or, is_err, is_some, length, map, max, min, nat_le, nat_lt, option_to_list, replicate, slice_get, take, true, ℕ, ◌%◌, ◌&&◌, ◌*◌, ◌++◌, ◌+◌, ◌-◌, ◌<◌, ◌==◌, ◌^◌, ◌↔◌, ◌∷◌, ◌≡◌, ◌≢◌, ◌≤◌, ◌⊎◌}
 pub use Rattle.std.specs.Vec.{vec_capacity}
 pub use Rattle.std.specs.declared.ops.Bound.TheVariants.{Included, Unbounded}
 pub use Rattle.sip_standard.specs.Debts.{IsWithoutFirst}
@@ -23,5 +23,5 @@ pub use Rattle.sip_ledger.specs.declared.accounts.strikes.Strike.{Strike}
 pub use Rattle.sip_ledger.specs.declared.debt.Debt.{Debt}
 pub use Rattle.sip_ledger.specs.declared.debt.Entry.{Entry}
 pub use Rattle.sip_ledger.specs.declared.run.Run.{Run}
-pub use Rattle.sip_ledger.specs.inner.Accounts.{AreAccounts, AreAppended, AreFlags, AreGains, AreKept, AreMoved, AreRising, AreSameGains, EndsWith, IsAccount, IsClearedTo, IsDropped, IsExpiredTo, IsFirstOf, IsFirstPayable, IsGain, IsGainAt, IsKept, IsLetGo, IsMoved, IsNext, IsNextGain, IsNoneBetween, IsNoted, IsPlaceOf, IsSeek, IsStruck, IsWithout, IsWritten, KeepsAccounts, Lengthens, PaysSomeAt, Reaches, SharesRest, StartFrom, StrikeToo, StrikesNoneFrom, blank, entry_at, first_after, flags_at, is_out, no_flags, pays_at, sooner, strikes_of}
+pub use Rattle.sip_ledger.specs.inner.Accounts.{AreAccounts, AreAppended, AreFlags, AreGains, AreKept, AreMoved, AreRising, AreSameGains, AreStruckToo, EndsWith, IsAccount, IsClearedTo, IsDropped, IsExpiredTo, IsFirstPaying, IsFirstPayable, IsGain, IsGainAt, IsUndropped, IsLetGo, IsMoved, IsNext, IsNextGain, IsNoneBetween, IsNoted, IsPlaceOf, IsSeek, IsStruck, IsWithout, IsWritten, KeepsAccounts, Lengthens, PaysSomeAt, Reaches, SharesNext, StartFrom, StrikeToo, StrikesNoneFrom, blank, entry_at, flags_at, is_out, least_in, no_flags, pays_at, softened_account, sooner, strikes_of}
 unfoldable pub use Rattle.sip_ledger.specs.inner.Accounts.{account_debts, accounts_debts, entries_of, is_gone, is_left, is_struck, must_at, owes_at}

@@ -1,13 +1,14 @@
 //! What one row owes of what was gained.
 ghost use Rattle.std.specs.Prelude.{◌≡◌, ◌≢◌, ◌↔◌, ◌<◌, ◌≤◌, ◌*◌, ◌%◌, ◌^◌, ◌++◌, ◌∷◌, ◌+◌};
-ghost use Rattle.sip_ledger.specs.inner.Words.{[], ℕ, Bool, true, false, Some, IfOk, IfSome, IfNone, IsTrue, OnOk, OnErr, bit_xor, filter, length, option_to_list, take, OnTrue, counts_at, debt_deadlines, earliest, is_timely, paid_by, worth_of, debt_of, Account, AreGains, IsAccount, IsExpiredTo, IsFirstOf, IsFirstPayable, IsGainAt, IsKept, IsNextGain, IsPlaceOf, IsSeek, IsStruck, IsWithout, KeepsAccounts, SharesRest, account_debts, entries_of, entry_at, is_gone, is_struck, must_at, owes_at, pays_at, sooner, strikes_of, count_under, holds};
+ghost use Rattle.sip_ledger.specs.inner.Words.{[], ℕ, Bool, true, false, Some, IfOk, IfSome, IfNone, IsTrue, OnOk, OnErr, bit_xor, filter, length, option_to_list, take, OnTrue, counts_at, debt_deadlines, earliest, is_timely, paid_by, worth_of, debt_of, Account, AreGains, IsAccount, IsExpiredTo, IsFirstPaying, IsFirstPayable, IsGainAt, IsUndropped, IsNextGain, IsPlaceOf, IsSeek, IsStruck, IsWithout, KeepsAccounts, SharesNext, account_debts, entries_of, entry_at, is_gone, is_struck, must_at, owes_at, pays_at, softened_account, sooner, strikes_of, count_under, holds};
 
 use crate::accounts::gains::Gains;
 use crate::accounts::seek::Seek;
-use crate::accounts::strikes::{Strike, Strikes, are_same, end_by, put, struck_to};
+use crate::accounts::strikes::{Strike, Strikes, first_alone, put, struck_to};
 use crate::debt::Debt;
 use crate::index::Index;
 use std::alloc::{AllocError, Global};
+use std::ops::Bound;
 
 /// What a row owes: what was gained at the places from `start` up to `end`, but for what its strikes say. What was gained below
 /// `soft` has not to be sent.
@@ -191,7 +192,7 @@ pub(crate) fn find_under(
 ) -> Option<Option<usize>>
     requires gained { AreGains gains.now }
     requires account { IsAccount gains.now strikes.now account }
-    ensures first { IfSome result (IsFirstOf (entries_of gains.now) (owes_at gains.now strikes.now account) (holds index.now key) moment) }
+    ensures first { IfSome result (IsFirstPaying (entries_of gains.now) (owes_at gains.now strikes.now account) (holds index.now key) moment) }
     ensures told { IfNone result (most ≤ count_under index.now key) }
 {
     let mut first = None;
@@ -201,13 +202,12 @@ pub(crate) fn find_under(
         let Some(message) = index.next(key, from) else {
             return Some(first);
         };
-        let Some(left) = gains.message_from(message, 0) else {
+        let Some((left, mut seek)) = gains.next_message(Bound::Included(message)) else {
             return Some(first);
         };
         from = left;
         // Where they are the same, a gain of a message under the key is left; otherwise the search goes on from the greater one.
         if left == message {
-            let mut seek = Seek::new(gains, message, account.start);
             let place = find(gains, strikes, account, &mut seek, message, moment);
             first = sooner(first, place);
             // Up to this place no greater message was gained, so none is found sooner.
@@ -239,7 +239,7 @@ fn sooner(one: Option<usize>, other: Option<usize>) -> Option<usize>
 #[tactic(auto, using(crate::proofs::account::AccountLemmas::must_by_place))]
 fn must(gains: &Gains, account: Account, place: usize) -> bool
     requires gained { AreGains gains.now }
-    requires kept { IsKept gains.now place }
+    requires kept { IsUndropped gains.now place }
     ensures { result ≡ must_at gains.now account place }
 {
     if place < account.soft {
@@ -254,7 +254,7 @@ fn must(gains: &Gains, account: Account, place: usize) -> bool
 fn expire(gains: &Gains, strikes: &mut Strikes, account: Account, place: usize, moment: u64) -> Made
     requires gained { AreGains gains.now }
     requires account { IsAccount gains.now strikes.old.items account }
-    requires kept { IsKept gains.now place }
+    requires kept { IsUndropped gains.now place }
     ensures kept { take (length strikes.old.items) strikes.new.items ≡ strikes.old.items }
     ensures account { IfOk result (IsAccount gains.now strikes.new.items) }
     ensures soft { IfOk result (λ new. new.soft ≡ account.soft) }
@@ -431,6 +431,25 @@ fn pass_to(gains: &Gains, strikes: &mut Strikes, account: Account, place: usize)
     put(gains, strikes, account, account.end, place)
 }
 
+/// The account before it gains at the place: where it owes nothing that must be sent, and gains nothing such, what must be sent is looked for from the place on.
+fn eased(gains: &Gains, strikes: &[Strike], account: Account, debt: Debt, place: usize) -> Account
+    requires gained { AreGains gains.now }
+    requires account { IsAccount gains.now strikes.now account }
+    requires next { IsNextGain gains.now strikes.now account debt place }
+    ensures account { IsAccount gains.now strikes.now result }
+    ensures next { IsNextGain gains.now strikes.now result debt place }
+    ensures debts { account_debts gains.now strikes.now result ≡ account_debts gains.now strikes.now account }
+    ensures rest { result ≡ softened_account result.soft account }
+{
+    if debt.must || earliest_must(gains, strikes, account).is_some() {
+        return account;
+    }
+    Account {
+        soft: place,
+        ..account
+    }
+}
+
 /// The account with what was gained at the place, after all that it owes.
 pub(crate) fn gained(
     gains: &Gains,
@@ -460,7 +479,8 @@ pub(crate) fn gained(
             print,
         });
     }
-    let passed = pass_to(gains, strikes, account, place)?;
+    let eased = eased(gains, strikes, account, debt, place);
+    let passed = pass_to(gains, strikes, eased, place)?;
     Ok(Account {
         end: place + 1,
         print,
@@ -555,9 +575,9 @@ fn earlier(moment: u64, other: Option<u64>) -> u64
 }
 
 /// What the account owes at a place, as far as it owes something there.
-fn debt_for(gains: &Gains, account: Account, place: usize) -> Debt
+pub(crate) fn debt_for(gains: &Gains, account: Account, place: usize) -> Debt
     requires gained { AreGains gains.now }
-    requires kept { IsKept gains.now place }
+    requires kept { IsUndropped gains.now place }
     ensures { result ≡ debt_of (entry_at (entries_of gains.now) place) (must_at gains.now account place) }
 {
     let entry = gains.entry(place);
@@ -568,24 +588,36 @@ fn debt_for(gains: &Gains, account: Account, place: usize) -> Debt
     }
 }
 
-/// Whether the accounts are known to owe the same from the place on: they end alike, have the same `soft`, and the same strikes or none that
-/// goes past the place.
-fn shares_rest(strikes: &[Strike], one: Account, other: Account, place: usize) -> bool
-    requires first { one.first ≤ one.last }
-    requires last { one.last ≤ length strikes.now }
-    requires first_other { other.first ≤ other.last }
-    requires last_other { other.last ≤ length strikes.now }
-    requires start { one.start ≤ place }
-    requires start_other { other.start ≤ place }
-    ensures { OnTrue result (SharesRest strikes.now one other place) }
+/// At how many places from these on it is known that both accounts owe the same: none, where they are not one place.
+fn shared(
+    gains: &Gains,
+    strikes: &[Strike],
+    one: Account,
+    other: Account,
+    at: usize,
+    beside: usize,
+) -> usize
+    requires gained { AreGains gains.now }
+    requires one { IsAccount gains.now strikes.now one }
+    requires other { IsAccount gains.now strikes.now other }
+    requires at { (one.start ≤ at) × (at ≤ one.end) }
+    requires beside { (other.start ≤ beside) × (beside ≤ other.end) }
+    ensures { SharesNext gains.now strikes.now one other at beside result }
 {
-    if one.end != other.end || one.soft != other.soft {
-        return false;
+    if at != beside {
+        return 0;
     }
-    if are_same(own(strikes, one), own(strikes, other)) {
-        return true;
+    // Where one of them alone is soft from here on, they may differ at once.
+    let end = one.end.min(other.end);
+    let soft = one.soft.max(at).min(end);
+    let soft_beside = other.soft.max(at).min(end);
+    if soft != soft_beside {
+        return 0;
     }
-    end_by(own(strikes, one), place) && end_by(own(strikes, other), place)
+    let own_one = own(strikes, one);
+    let own_other = own(strikes, other);
+    let first = first_alone(gains, own_one, own_other, at, end);
+    first_alone(gains, own_other, own_one, at, first) - at
 }
 
 /// Whether two accounts owe the same.
@@ -598,40 +630,34 @@ pub(crate) fn same(gains: &Gains, strikes: &[Strike], one: Account, other: Accou
     if one.print != other.print {
         return false;
     }
-    // Both are walked side by side, from debt to debt.
+    // Both are walked side by side, from debt to debt, but for what they share.
     let mut at = one.start;
     let mut beside = other.start;
     while at < one.end && beside < other.end {
-        if at == beside && shares_rest(strikes, one, other, at) {
-            return true;
-        }
         if debt_for(gains, one, at) != debt_for(gains, other, beside) {
             return false;
         }
-        at = next(gains, strikes, one, at + 1);
-        beside = next(gains, strikes, other, beside + 1);
+        let count = shared(gains, strikes, one, other, at + 1, beside + 1);
+        at = next(gains, strikes, one, at + 1 + count);
+        beside = next(gains, strikes, other, beside + 1 + count);
     }
     at == one.end && beside == other.end
 }
 
-/// What the account owes first: this many debts, or all where it owes fewer.
-pub(crate) fn first_debts(
+/// What the account owes.
+pub(crate) fn debts(
     alloc: Global,
     gains: &Gains,
     strikes: &[Strike],
     account: Account,
-    most: usize,
 ) -> Result<Vec<Debt>, AllocError>
     requires gained { AreGains gains.now }
     requires account { IsAccount gains.now strikes.now account }
-    ensures { IfOk result (λ debts. debts.items ≡ take most (account_debts gains.now strikes.now account)) }
+    ensures { IfOk result (λ debts. debts.items ≡ account_debts gains.now strikes.now account) }
 {
     let mut debts = Vec::new(alloc);
     let mut place = account.start;
     while place < account.end {
-        if debts.len() == most {
-            return Ok(debts);
-        }
         debts.push(debt_for(gains, account, place))?;
         place = next(gains, strikes, account, place + 1);
     }

@@ -1,11 +1,13 @@
 //! What the rows gained: one list for all.
 ghost use Rattle.std.specs.Prelude.{◌≡◌, ◌<◌, ◌≤◌, ◌+◌, ◌==◌, ◌&&◌, ◌++◌, ◌∷◌};
-ghost use Rattle.sip_ledger.specs.inner.Words.{ℕ, [], IfSome, IfNone, MatchOption, OnOk, OnErr, cond, length, true, false, OnTrue, AreGains, AreRising, AreSameGains, IsDropped, IsGain, IsKept, IsLetGo, IsNext, IsNoted, IsPlaceOf, entries_of, entry_at, first_after, flags_at, holds, IsFirstFrom, NoneFrom};
+ghost use Rattle.sip_ledger.specs.inner.Words.{ℕ, [], IfSome, IfNone, MatchOption, OnOk, OnErr, cond, length, true, false, OnTrue, AreGains, AreRising, AreSameGains, IsDropped, IsGain, IsUndropped, IsLetGo, IsNext, IsNoted, IsPlaceOf, IsSeek, entries_of, entry_at, flags_at, holds, least_in};
 
+use crate::accounts::seek::Seek;
 use crate::debt::{Debt, Entry};
 use crate::front;
 use crate::index::Index;
 use std::alloc::{AllocError, Global};
+use std::ops::Bound;
 
 /// What is asked of a gain most often.
 #[derive(Clone, Copy, Debug)]
@@ -66,7 +68,7 @@ impl Gains {
     #[tactic(auto, using(crate::proofs::gains::LeftLemmas::entry_index))]
     pub(crate) fn entry(&self, place: usize) -> Entry
         requires gained { AreGains self.now }
-        requires kept { IsKept self.now place }
+        requires kept { IsUndropped self.now place }
         ensures { result ≡ entry_at (entries_of self.now) place }
     {
         self.entries[place - (self.end - self.entries.len())]
@@ -75,7 +77,7 @@ impl Gains {
     /// The flags of the gain at the place.
     pub(crate) fn flags(&self, place: usize) -> Flags
         requires gained { AreGains self.now }
-        requires kept { IsKept self.now place }
+        requires kept { IsUndropped self.now place }
         ensures { result ≡ flags_at self.now place }
     {
         self.flags[place - (self.end - self.entries.len())]
@@ -103,7 +105,7 @@ impl Gains {
     #[tactic(auto, using(crate::proofs::gains::LeftLemmas::rising_kept))]
     pub(crate) fn all_count(&self, moment: u64) -> bool
         requires { AreGains self.now }
-        ensures { OnTrue result ((k : ℕ) → IsKept self.now k → moment ≤ (entry_at (entries_of self.now) k).deadline) }
+        ensures { OnTrue result ((k : ℕ) → IsUndropped self.now k → moment ≤ (entry_at (entries_of self.now) k).deadline) }
     {
         if self.entries.is_empty() {
             return true;
@@ -157,34 +159,29 @@ impl Gains {
         Some(at as usize)
     }
 
-    /// The first message after this one of which something is left, or the first of all where none is given.
-    pub(crate) fn next_message(&self, last: Option<u64>) -> Option<u64>
+    /// The first message from this bound on of which something is left, and the first place where it is.
+    pub(crate) fn next_message(&self, from: Bound<u64>) -> Option<(u64, Seek)>
         requires { AreGains self.now }
-        ensures low { IfSome result (λ message. first_after last ≤ message) }
-        ensures before { IfSome result (λ message. (m k : ℕ) → first_after last ≤ m → m < message → holds self.now.messages m k ≡ false) }
-        ensures none { IfNone result ((m k : ℕ) → first_after last ≤ m → holds self.now.messages m k ≡ false) }
+        ensures low { IfSome result (λ found. least_in from ≤ found.0) }
+        ensures before { IfSome result (λ found. (m k : ℕ) → least_in from ≤ m → m < found.0 → holds self.now.messages m k ≡ false) }
+        ensures seek { IfSome result (λ found. IsSeek self.now found.0 found.1) }
+        ensures none { IfNone result ((m k : ℕ) → least_in from ≤ m → holds self.now.messages m k ≡ false) }
     {
-        match last {
+        let (message, place) = match from {
+            Bound::Unbounded => self.messages.first_from(0, 0)?,
+            Bound::Included(message) => self.messages.first_from(message, 0)?,
             // No place is `u64::MAX`, so from there on the next message is a greater one.
-            Some(message) => self.message_from(message, u64::MAX),
-            None => self.message_from(0, 0),
-        }
-    }
-
-    /// The message of the first pair from this one on, in the order of messages and then of places.
-    pub(crate) fn message_from(&self, message: u64, place: u64) -> Option<u64>
-        ensures found { IfSome result (λ found. (k : ℕ) × IsFirstFrom self.now.messages message place (found, k)) }
-        ensures none { IfNone result (NoneFrom self.now.messages message place) }
-    {
-        let found = self.messages.first_from(message, place)?;
-        Some(found.0)
+            Bound::Excluded(message) => self.messages.first_from(message, u64::MAX)?,
+        };
+        let place = Some(place as usize);
+        Some((message, Seek { low: 0, place }))
     }
 
     /// Whether there is a place, and no gain that is kept up to it has a greater message than the one there.
     pub(crate) fn is_newest(&self, place: Option<usize>) -> bool
         requires gained { AreGains self.now }
-        requires kept { IfSome place (IsKept self.now) }
-        ensures { OnTrue result (MatchOption place ⊥ (λ at. (k : ℕ) → k ≤ at → IsKept self.now k → (entry_at (entries_of self.now) k).message ≤ (entry_at (entries_of self.now) at).message)) }
+        requires kept { IfSome place (IsUndropped self.now) }
+        ensures { OnTrue result (MatchOption place ⊥ (λ at. (k : ℕ) → k ≤ at → IsUndropped self.now k → (entry_at (entries_of self.now) k).message ≤ (entry_at (entries_of self.now) at).message)) }
     {
         match place {
             Some(place) => self.flags(place).newest,
@@ -213,7 +210,7 @@ impl Gains {
     /// Lets the gain at the place go: it is not left any more.
     pub(crate) fn let_go(&mut self, place: usize)
         requires gained { AreGains self.old }
-        requires kept { IsKept self.old place }
+        requires kept { IsUndropped self.old place }
         ensures gained { AreGains self.new }
         ensures gone { IsLetGo place self.old self.new }
     {

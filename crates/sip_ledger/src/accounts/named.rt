@@ -1,12 +1,13 @@
 //! Which messages the accounts owe.
 ghost use Rattle.std.specs.Prelude.{◌≡◌};
-ghost use Rattle.sip_ledger.specs.inner.Words.{OnOk, OnErr, length, take, AppendsOwed, some_owes, AreAccounts, accounts_debts};
+ghost use Rattle.sip_ledger.specs.inner.Words.{OnOk, OnErr, length, take, AppendsOwed, some_owes, AreAccounts, IsSeek, accounts_debts};
 
 use crate::accounts::account::{Account, find};
 use crate::accounts::gains::Gains;
 use crate::accounts::seek::Seek;
 use crate::accounts::strikes::Strike;
 use std::alloc::AllocError;
+use std::ops::Bound;
 
 /// Puts the numbers of the messages that accounts owe after the others, from the least on, each once. On an error some of them are there.
 #[tactic(auto, using(crate::proofs::rows::SeenLemmas::named_by_message))]
@@ -20,23 +21,24 @@ pub(crate) fn name_all(
     ensures ok { OnOk result (AppendsOwed (accounts_debts gains.now strikes.now rows.now) numbers.old.items numbers.new.items) }
     ensures err { OnErr result (take (length numbers.old.items) numbers.new.items ≡ numbers.old.items) }
 {
-    let mut last: Option<u64> = None;
-    while let Some(message) = gains.next_message(last) {
-        if is_named(gains, strikes, rows, message) {
-            numbers.push(message)?;
+    let mut from = Bound::Unbounded;
+    while let Some(left) = gains.next_message(from) {
+        if is_named(gains, strikes, rows, left) {
+            numbers.push(left.0)?;
         }
-        last = Some(message);
+        from = Bound::Excluded(left.0);
     }
     Ok(())
 }
 
-/// Whether one of the accounts owes the message.
+/// Whether one of the accounts owes the message that is left.
 #[tactic(auto, using(crate::proofs::rows::SeenLemmas::named_by_message))]
-fn is_named(gains: &Gains, strikes: &[Strike], rows: &[Account], message: u64) -> bool
-    requires { AreAccounts gains.now strikes.now rows.now }
-    ensures { result ≡ some_owes message (accounts_debts gains.now strikes.now rows.now) }
+fn is_named(gains: &Gains, strikes: &[Strike], rows: &[Account], left: (u64, Seek)) -> bool
+    requires accounts { AreAccounts gains.now strikes.now rows.now }
+    requires seek { IsSeek gains.now left.0 left.1 }
+    ensures { result ≡ some_owes left.0 (accounts_debts gains.now strikes.now rows.now) }
 {
-    let mut seek = Seek::new(gains, message, 0);
+    let (message, mut seek) = left;
     for at in 0..rows.len() {
         // No deadline is below the moment 0, so at that moment a send pays whatever is owed of the message.
         if find(gains, strikes, rows[at], &mut seek, message, 0).is_some() {

@@ -1,6 +1,6 @@
 //! What is not owed of what was gained.
 ghost use Rattle.std.specs.Prelude.{◌≡◌, ◌<◌, ◌≤◌, ◌+◌, ◌++◌};
-ghost use Rattle.sip_ledger.specs.inner.Words.{ℕ, true, false, IfOk, IfSome, IfNone, OnOk, OnErr, filter, length, take, nat_lt, OnTrue, OnFalse, from_to, AreGains, IsKept, IsNoneBetween, IsStruck, IsWritten, Lengthens, Reaches, StrikeToo, is_out, is_struck};
+ghost use Rattle.sip_ledger.specs.inner.Words.{ℕ, true, false, IfOk, IfSome, IfNone, OnOk, OnErr, filter, length, take, nat_lt, OnTrue, OnFalse, from_to, AreGains, AreStruckToo, IsUndropped, IsNoneBetween, IsStruck, IsWritten, Lengthens, Reaches, StrikeToo, is_out, is_struck};
 
 use crate::accounts::account::{Account, Made};
 use crate::accounts::gains::Gains;
@@ -44,32 +44,49 @@ fn strikes_out(strike: Strike, message: u64, place: usize) -> bool
     strike.message == message && strike.from <= place && place < strike.to
 }
 
-/// Whether the strikes are the same, in the same order.
-pub(crate) fn are_same(one: &[Strike], other: &[Strike]) -> bool
-    ensures { OnTrue result (one.now ≡ other.now) }
+/// The first place from one on, and below an end, at which a gain is left that the strike strikes and the others do not; or that end.
+fn struck_alone(gains: &Gains, strike: Strike, others: &[Strike], from: usize, end: usize) -> usize
+    requires gained { AreGains gains.now }
+    requires order { from ≤ end }
+    ensures within { (from ≤ result) × (result ≤ end) }
+    ensures before { AreStruckToo gains.now (λ m k. is_out m k strike) others.now from result }
 {
-    if one.len() != other.len() {
-        return false;
-    }
-    for at in 0..one.len() {
-        if one[at] != other[at] {
-            return false;
+    let to = strike.to.min(end);
+    let mut place = from.max(strike.from);
+    while let Some(at) = gains.next(strike.message, place) {
+        if to <= at {
+            return end;
         }
+        // Where the others strike it too, the search goes on from the end of their strike.
+        let Some(after) = struck_to(others, strike.message, at) else {
+            return at;
+        };
+        place = after;
     }
-    true
+    end
 }
 
-/// Whether none of the strikes goes past the place.
-#[tactic(auto, using(crate::proofs::strikes::MovedLemmas::struck_by_some))]
-pub(crate) fn end_by(strikes: &[Strike], place: usize) -> bool
-    ensures { OnTrue result ((m k : ℕ) → place ≤ k → is_struck strikes.now m k ≡ false) }
+/// The first place from one on, and below an end, at which a gain is left that the strikes strike and the others do not; or that end.
+pub(crate) fn first_alone(
+    gains: &Gains,
+    strikes: &[Strike],
+    others: &[Strike],
+    from: usize,
+    end: usize,
+) -> usize
+    requires gained { AreGains gains.now }
+    requires order { from ≤ end }
+    ensures within { (from ≤ result) × (result ≤ end) }
+    ensures before { AreStruckToo gains.now (is_struck strikes.now) others.now from result }
 {
-    for strike in strikes {
-        if place < strike.to {
-            return false;
+    let mut first = end;
+    for at in 0..strikes.len() {
+        // A strike that both have at one index is no difference.
+        if others.len() <= at || strikes[at] != others[at] {
+            first = struck_alone(gains, strikes[at], others, from, first);
         }
     }
-    true
+    first
 }
 
 /// Writes the strikes from one up to another after all others, but for those that end at a place or before it. On an error some of them are there.
@@ -92,7 +109,7 @@ fn copy_some(strikes: &mut Strikes, first: usize, last: usize, start: usize) -> 
 /// there is one of its message that reaches up to it.
 fn lengthen(gains: &Gains, strikes: &mut [Strike], first: usize, place: usize) -> bool
     requires gained { AreGains gains.now }
-    requires kept { IsKept gains.now place }
+    requires kept { IsUndropped gains.now place }
     ensures found { OnTrue result (Lengthens gains.now place first strikes.old strikes.new) }
     ensures none { OnFalse result (strikes.new ≡ strikes.old) }
 {
@@ -108,7 +125,7 @@ fn lengthen(gains: &Gains, strikes: &mut [Strike], first: usize, place: usize) -
 /// Whether the strike is of the message that was gained at the place, and ends where nothing else of it is left before the place.
 fn reaches(gains: &Gains, strike: Strike, place: usize) -> bool
     requires gained { AreGains gains.now }
-    requires kept { IsKept gains.now place }
+    requires kept { IsUndropped gains.now place }
     ensures { OnTrue result (Reaches gains.now place strike) }
 {
     if strike.message != gains.entry(place).message || place < strike.from {
@@ -163,7 +180,7 @@ pub(crate) fn put(
 ) -> Made
     requires gained { AreGains gains.now }
     requires order { from ≤ to }
-    requires kept { (k : ℕ) → from ≤ k → k < to → IsKept gains.now k }
+    requires kept { (k : ℕ) → from ≤ k → k < to → IsUndropped gains.now k }
     requires first { account.first ≤ account.last }
     requires last { account.last ≤ length strikes.old.items }
     ensures kept { take (length strikes.old.items) strikes.new.items ≡ strikes.old.items }
@@ -185,7 +202,7 @@ pub(crate) fn put(
 /// new one is put after them. On an error the strikes are as before.
 fn strike_too(gains: &Gains, strikes: &mut Strikes, first: usize, place: usize) -> Written
     requires gained { AreGains gains.now }
-    requires kept { IsKept gains.now place }
+    requires kept { IsUndropped gains.now place }
     requires first { first ≤ length strikes.old.items }
     ensures ok { OnOk result (StrikeToo gains.now place first strikes.old.items strikes.new.items) }
     ensures err { OnErr result (strikes.new.items ≡ strikes.old.items) }

@@ -1,11 +1,11 @@
 -- Which messages states name: what their phases name, and what they owe.
 use Prim.Native.Nat.{suc, zero}
-use Rattle.std.specs.Prelude.{◌≡◌, ◌||◌, ◌<◌, ◌≤◌, ◌==◌, ℕ, Bool, true, false, List, [], ◌∷◌, ◌++◌, All, Contains, flat_map, length, take}
+use Rattle.std.specs.Prelude.{◌≡◌, ◌||◌, ◌<◌, ◌≤◌, ◌==◌, ℕ, Bool, true, false, List, [], ◌∷◌, ◌++◌, All, Contains, flat_map, get_or, length, take, ◌↔◌}
 use Rattle.std.proofs.Common.{refl, sym, ◌∙◌, ap, subst, inl, inr, arith, append-nil, append_assoc, take-append-drop, true≢false}
 use Rattle.std.proofs.lemmas.Bool.{cases_eq, eq-eqb, ne_eqb, or_left, or_right}
 use Rattle.std.proofs.lemmas.List.{length-drop, length-take-le, take-take}
 use Rattle.std.proofs.lemmas.List.Concat.{flat_map-append}
-use Rattle.std.proofs.lemmas.List.Elements.{All-head, All-tail, Contains-append_cases, Contains-append_left, Contains-append_right, Contains-get_or}
+use Rattle.std.proofs.lemmas.List.Elements.{All-contains, All-head, All-tail, Contains-append_cases, Contains-append_left, Contains-append_right, Contains-get_or}
 use Rattle.sip_ledger.specs.declared.debt.Debt.{Debt}
 use Rattle.sip_ledger.specs.Accounts.{AppendsOwed, owes_message, some_owes}
 use Rattle.sip_ledger.specs.Lists.{from_to}
@@ -54,6 +54,22 @@ some-named m (owes ∷ rows) is = some-step m owes rows (owes_message m owes) re
 -- to append the messages that rows owe is to append the names of their debts
 pub owed-appends : (rows : List (List Debt)) (old new : List ℕ) → AppendsOwed rows old new → AppendsAll (flat_map owes_names rows) old new
 owed-appends rows old new a = (a.names, a.whole, λ m. (λ there. some-named m rows ((a.each m).0 there), λ there. (a.each m).1 (named-some m rows there)))
+
+-- What follows is of the messages that one row owes, each once.
+module _ (P : ℕ → Type 0) (debts : List Debt) (names : List ℕ) (owed : AppendsOwed (debts ∷ []) [] names) where
+  -- the names are those of the debts
+  same : (n : ℕ) → Contains names n ↔ Contains (owes_names debts) n
+  same =
+      let all = owed-appends (debts ∷ []) [] names owed in
+      subst (λ ns. (n : ℕ) → Contains ns n ↔ Contains (owes_names debts) n) (sym all.1) (subst (λ ds. (n : ℕ) → Contains all.0 n ↔ Contains ds n) (append-nil (owes_names debts)) all.2)
+
+  -- what holds of each debt's message holds of each name
+  pub all-named : All P (owes_names debts) → All P names
+  all-named all = λ k n within. All-contains P (owes_names debts) (get_or names k n) all ((same (get_or names k n)).0 (Contains-get_or names k n within))
+
+  -- what holds of each name holds of each debt's message
+  pub all-owed : All P names → All P (owes_names debts)
+  all-owed all = λ k n within. let m = get_or (owes_names debts) k n in All-contains P names m all ((same m).1 (Contains-get_or (owes_names debts) k n within))
 
 -- rows that owe nothing name nothing
 none-named : (count : ℕ) → flat_map owes_names (blank_rows count) ≡ []

@@ -48,7 +48,7 @@ module _ {X : Type 0} (xs : List X) where
         (low, omega arith);
     -- the new row is above all others
     rising = all_pairs_push (λ a b. a < b) rows at first.rising (λ k d low. (first.within k d low).1);
-    -- an element before `at` has its first one among the rows, and the one at `at` is one itself
+    -- an element before `at` is the same as that of one of the old rows, and the element at `at` is that of the new row
     each = λ k x low_k high_k. elim (cases_lt k at) [
       | inl before ↦ Any-more (λ row. get_or xs row x ≡ get_or xs k x) rows at (first.each k x low_k before)
       | inr behind ↦

@@ -8,7 +8,7 @@ use Rattle.std.proofs.lemmas.List.{map-append, append-nil}
 use Rattle.std.proofs.lemmas.List.Elements.{filter_map-append}
 use Rattle.sip_standard.specs.declared.kind.Kind.{Kind}
 use Rattle.sip_standard.specs.declared.kind.Kind.TheVariants.{Request, Response}
-use Rattle.sip_machine.specs.declared.invite_server.InviteServerPhase.{InviteServerPhase as CodePhase}
+use Rattle.sip_phases.specs.declared.invite_server.InviteServerPhase.{InviteServerPhase as CodePhase}
 use Rattle.sip_machine.specs.declared.told.ToldField.{ToldField as CodeField}
 use Rattle.sip_machine.specs.declared.phases.Turn.{Turn}
 use Rattle.sip_standard.specs.Times.{Times}
@@ -22,14 +22,13 @@ use Rattle.sip_standard.specs.InviteClient.{InviteClientPhase, Calling, Proceedi
 use Rattle.sip_standard.specs.InviteClient3261 as client_3261
 use Rattle.sip_standard.specs.InviteServer as server
 use Rattle.sip_standard.specs.InviteServer.{InviteServerPhase}
-use Rattle.sip_machine.specs.inner.InviteServer.{invite_server_seen, invite_server_names, InviteServerInRange}
+use Rattle.sip_phases.specs.inner.InviteServer.{invite_server_seen, invite_server_names, InviteServerInRange}
 use Rattle.sip_standard.specs.InviteServer3261 as server_3261
 use Rattle.sip_standard.specs.InviteServer3261.{InviteServer3261Phase, In, Within}
-use Rattle.sip_machine.specs.inner.InviteServer3261.{invite_server_3261_seen, invite_server_3261_names, InviteServer3261InRange}
+use Rattle.sip_phases.specs.inner.InviteServer3261.{invite_server_3261_seen, invite_server_3261_names, InviteServer3261InRange}
 use Rattle.sip_machine.specs.inner.Turns.{turn_seen, turn_names, TurnInRange}
 use Rattle.sip_machine.specs.inner.Single.{AnswersOne}
-use Rattle.sip_machine.specs.inner.InviteClient3261.Laws.{IsEndedBy}
-use Rattle.sip_machine.specs.inner.InviteServer3261.Laws.{turn_within}
+use Rattle.sip_machine.specs.inner.Rows3261.{IsEndedBy, turn_within}
 
 -- any other message has the rows of RFC 6026 in a client of RFC 3261
 -- x is the phase, k the kind of the message e, and y where the row leads

@@ -28,8 +28,8 @@ use Rattle.sip_machine.specs.FigureRules.{TakeOf, closes_at, until_of}
 use Rattle.sip_machine.specs.Owing.{CodeOwing, owing_seen, owing_names, OwingInRange, at_rest}
 use Rattle.sip_machine.specs.inner.Turns.{turn_seen, turn_names, TurnInRange}
 use Rattle.sip_machine.specs.inner.Single.{AnswersOne}
-use Rattle.sip_machine.specs.inner.DebtLaws.{IsWithin-earliest, All-front, All-back}
-use Rattle.sip_machine.specs.inner.OwesLaws.{must_deadlines-seen, unexpired-seen, All-names}
+use Rattle.sip_phases.proofs.debts.DebtLaws.{IsWithin-earliest, All-front, All-back}
+use Rattle.sip_phases.proofs.debts.OwesLaws.{must_deadlines-seen, unexpired-seen, All-names}
 use Rattle.sip_machine.specs.inner.Paying.{PaysFor}
 use Rattle.sip_machine.specs.inner.Effects.{Leads, LeadsFrom, Rests, RestsFrom, led_by, repaid_at, unexpired_at}
 use Rattle.sip_machine.specs.inner.Pools.{beside}

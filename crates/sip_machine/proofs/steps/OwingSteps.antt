@@ -33,8 +33,8 @@ use Rattle.sip_machine.specs.inner.Single.{IsTheOne, AnswersOne}
 use Rattle.sip_machine.specs.inner.Both.{AnswersBoth}
 use Rattle.sip_ledger.specs.Debts.{counts_at, softened_debt, paid_by}
 use Rattle.sip_machine.specs.inner.Paying.{PaysFor, FindsFirst}
-use Rattle.sip_machine.specs.inner.DebtLaws.{IsWithoutFirst-none, IsWithoutFirst-map, IsWithoutFirst-same, All-without, All-front, All-back}
-use Rattle.sip_machine.specs.inner.OwesLaws.{unexpired-seen, softened-seen, All-names}
+use Rattle.sip_phases.proofs.debts.DebtLaws.{IsWithoutFirst-none, IsWithoutFirst-map, IsWithoutFirst-same, All-without, All-front, All-back}
+use Rattle.sip_phases.proofs.debts.OwesLaws.{unexpired-seen, softened-seen, All-names}
 use Rattle.sip_machine.proofs.texts.TextLaws.{Contains-nil}
 use Rattle.sip_machine.proofs.steps.SingleLemmas.{StandFor-none, StandFor-one}
 use Rattle.sip_machine.proofs.steps.BothLemmas.{StandFor-same, AnswersBoth-one, AnswersBoth-two, OrStays-one}

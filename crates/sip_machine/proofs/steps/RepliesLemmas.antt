@@ -15,7 +15,7 @@ use Rattle.sip_machine.specs.inner.Turns.{turn_seen, turn_names, TurnInRange}
 use Rattle.sip_machine.specs.inner.Single.{IsTheOne}
 use Rattle.sip_ledger.specs.Debts.{is_payable}
 use Rattle.sip_machine.specs.inner.Paying.{PaysFor, FindsFirst}
-use Rattle.sip_machine.specs.inner.OwesLaws.{payables-seen}
+use Rattle.sip_phases.proofs.debts.OwesLaws.{payables-seen}
 use Rattle.sip_machine.proofs.acks.HolderLemmas.{FindsFirst-same}
 
 -- a turn with a new debt is the only one, where the book keeps its message beside what the phase names

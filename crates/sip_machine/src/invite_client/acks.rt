@@ -1,17 +1,23 @@
 //! The response to which an ACK belongs: the INVITE and the ACK are read anew, and tell all but the response, which is told by its To alone.
-ghost use Rattle.std.specs.Prelude.{◌≡◌, ◌<◌, IfOk, IfSome, All, length};
+ghost use Rattle.std.specs.Prelude.{◌≡◌, ◌<◌, ◌↔◌, IfOk, IfSome, IsTrue, All, length};
+ghost use Rattle.sip_ledger.specs.Debts.{IsFirstPaid, PaysSome};
+ghost use Rattle.sip_ledger.specs.Indexes.{holds};
 ghost use Rattle.sip_machine.specs.Owes.{owed_in, owes_names};
 ghost use Rattle.sip_machine.specs.Texts.{Keeps, text_of};
 ghost use Rattle.sip_machine.specs.inner.Acks.{HasTo, PaysDebt};
 ghost use Rattle.sip_machine.specs.inner.Paying.{FindsFirst};
+ghost use Rattle.sip_machine.specs.inner.Tos.{IsToOf};
 
 use crate::book::Book;
 use crate::dues::Dues;
 use crate::event::Event;
 use crate::hashed::Hashed;
 use sip_key::{is_ack_for, solid_of};
-use sip_ledger::{Accounts, Debt};
+use sip_ledger::{Accounts, Index};
 use std::alloc::{AllocError, Global};
+
+/// In how many steps a debt is looked for among the messages under a hash: in so many first, and in the next of these where they do not tell.
+const STEPS: [usize; 6] = [64, 512, 4096, 32_768, 262_144, usize::MAX];
 
 /// The message of the first debt of the row that is a response to the INVITE to which the event's ACK belongs (RFC 3261,
 /// section 17.1.1.3), and whose deadline has not passed; None if there is none.
@@ -55,8 +61,8 @@ pub(crate) fn first_acked(
 }
 
 /// The message of the first debt of the row whose message has this To, from which the blanks were taken, and whose deadline has
-/// not passed. First the 8 oldest debts are looked at. Where none of their messages has the To, it is looked for among the messages that the
-/// book keeps under the hash of the To, in eight times as many steps; where that is not enough, so many debts are looked at.
+/// not passed. The oldest debt is looked at first. Where it is another one, it is looked for among the messages that the book keeps
+/// under the hash of the To, and where that does not tell it, among all different messages that the row owes.
 fn first_with_to(
     alloc: Global,
     book: &Book,
@@ -69,26 +75,21 @@ fn first_with_to(
     requires owed { All (Keeps book.now) (owes_names (owed_in accounts.now row)) }
     ensures { IfOk result (FindsFirst (HasTo book.now to.now moment) moment (owed_in accounts.now row)) }
 {
-    let mut most = 8;
-    loop {
-        let debts = accounts.first_debts(alloc, row, most)?;
-        let found = first_of(alloc, book, to, &debts, moment)?;
-        if found.is_some() {
-            return Ok(found);
-        }
-        // All debts were looked at, and none that can still be paid has the To.
-        if debts.len() < most {
-            return Ok(None);
-        }
-        most = most.saturating_mul(8);
-        if let Some(found) = first_under(alloc, book, to, moment, accounts, row, most)? {
-            return Ok(found);
-        }
+    let Some(debt) = accounts.first_debt(row) else {
+        return Ok(None);
+    };
+    let message = debt.message;
+    if moment <= debt.deadline && book.has_to(alloc, message, to, &mut 0)? {
+        return Ok(Some(message));
     }
+    if let Some(found) = first_under(alloc, book, to, moment, accounts, row)? {
+        return Ok(found);
+    }
+    first_named(alloc, book, to, moment, accounts, row)
 }
 
-/// What `first_with_to` finds, where the hash of the To tells it in `most` steps: where all messages that are owed stand under the hashes of
-/// their Tos, and the first of them that stands under this hash has this To. Steps that do not tell it are counted.
+/// What `first_with_to` finds, where the hash of the To tells it: where all messages that are owed stand under the hashes of their Tos, and
+/// the first of them that stands under this hash has this To.
 fn first_under(
     alloc: Global,
     book: &Book,
@@ -96,7 +97,6 @@ fn first_under(
     moment: u64,
     accounts: &Accounts,
     row: usize,
-    most: usize,
 ) -> Result<Option<Option<u64>>, AllocError>
     requires row { row < length accounts.now }
     requires owed { All (Keeps book.now) (owes_names (owed_in accounts.now row)) }
@@ -107,9 +107,7 @@ fn first_under(
     let Some(hashes) = book.hashes(low, high) else {
         return Ok(None);
     };
-    // So many messages stand under the hash that a look at each debt may cost less.
-    let Some(first) = accounts.first_payable(row, hashes, to.hash(), moment, most) else {
-        book.count_steps(most);
+    let Some(first) = first_told(book, hashes, to.hash(), moment, accounts, row) else {
         return Ok(None);
     };
     // No debt that can still be paid is of a message under the hash, and so none is of one with the To.
@@ -123,24 +121,63 @@ fn first_under(
     Ok(Some(Some(message)))
 }
 
-/// The message of the first of these debts whose message has this To and whose deadline has not passed, found by a look at each in
-/// their order, in which the messages mostly came.
-fn first_of(
+/// The message of the first debt that a send of one of the messages under the key pays, found in as few steps as tell it. Those that do not
+/// tell it are counted.
+fn first_told(
+    book: &Book,
+    index: &Index,
+    key: u64,
+    moment: u64,
+    accounts: &Accounts,
+    row: usize,
+) -> Option<Option<u64>>
+    requires { row < length accounts.now }
+    ensures { IfSome result (IsFirstPaid (PaysSome (holds index.now key) moment) moment (owed_in accounts.now row)) }
+{
+    for most in STEPS {
+        let first = accounts.first_payable(row, index, key, moment, most);
+        if first.is_some() {
+            return first;
+        }
+        book.count_steps(most);
+    }
+    None
+}
+
+/// What `first_with_to` finds, by a look at each message that the row owes, once.
+fn first_named(
     alloc: Global,
     book: &Book,
     to: &Hashed,
-    debts: &[Debt],
     moment: u64,
+    accounts: &Accounts,
+    row: usize,
 ) -> Result<Option<u64>, AllocError>
-    requires { All (λ debt. Keeps book.now debt.message) debts.now }
-    ensures { IfOk result (FindsFirst (HasTo book.now to.now moment) moment debts.now) }
+    requires row { row < length accounts.now }
+    requires owed { All (Keeps book.now) (owes_names (owed_in accounts.now row)) }
+    ensures { IfOk result (FindsFirst (HasTo book.now to.now moment) moment (owed_in accounts.now row)) }
 {
+    let mut messages = Vec::new(alloc);
+    accounts.names_once(row, &mut messages)?;
+    let index = with_to(alloc, book, to, &messages)?;
+    let Some(found) = accounts.first_payable(row, &index, 0, moment, usize::MAX) else {
+        // No memory has room for as many messages as a number can count.
+        return Err(AllocError);
+    };
+    Ok(found)
+}
+
+/// Those of the messages that have this To, under the key 0.
+fn with_to(alloc: Global, book: &Book, to: &Hashed, messages: &[u64]) -> Result<Index, AllocError>
+    requires { All (Keeps book.now) messages.now }
+    ensures { IfOk result (λ index. All (λ message. IsTrue (holds index 0 message) ↔ IsToOf (text_of book.now message) to.now) messages.now) }
+{
+    let mut index = Index::new(alloc);
     let mut near = 0;
-    for debt in debts {
-        let message = debt.message;
-        if moment <= debt.deadline && book.has_to(alloc, message, to, &mut near)? {
-            return Ok(Some(message));
+    for message in messages {
+        if book.has_to(alloc, *message, to, &mut near)? {
+            index.put(0, *message)?;
         }
     }
-    Ok(None)
+    Ok(index)
 }

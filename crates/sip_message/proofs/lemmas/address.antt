@@ -1,2 +1,3 @@
+-- How an address of From or To is read.
 pub mod Uri
 pub mod Reading

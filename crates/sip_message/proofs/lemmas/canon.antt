@@ -1,3 +1,4 @@
+-- The canonical form in which a message is written.
 pub mod Unfolding
 pub mod Fields
 pub mod Spelling

@@ -1,3 +1,4 @@
+-- How a field line is read, and the names of fields.
 pub mod OneWay
 pub mod Name
 pub mod Spelled

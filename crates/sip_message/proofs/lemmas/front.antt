@@ -1,3 +1,4 @@
+-- What is read from the front of a text.
 pub mod Prefix
 pub mod Cuts
 pub mod OneWay

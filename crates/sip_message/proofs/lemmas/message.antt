@@ -1,3 +1,4 @@
+-- How a whole message is read, stage by stage.
 pub mod Stages
 pub mod Ordinary
 pub mod Body

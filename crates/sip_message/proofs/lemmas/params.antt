@@ -1,3 +1,4 @@
+-- How the parameters of a value are read, one after another.
 pub mod Closed
 pub mod Reading
 pub mod Value

@@ -1,3 +1,4 @@
+-- What bytes say by the definitions is what their reading says.
 pub mod Alike
 pub mod Names
 pub mod Bytes

@@ -1,2 +1,3 @@
+-- How a start line is read.
 pub mod OneWay
 pub mod Reading

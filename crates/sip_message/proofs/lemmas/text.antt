@@ -1,3 +1,4 @@
+-- Sets of texts: those without blanks, repetitions, and what a set keeps where blanks change.
 pub mod Cuts
 pub mod Each
 pub mod Closed

@@ -1,3 +1,4 @@
+-- How the values of fields are read.
 pub mod Trimmed
 pub mod Number
 pub mod CSeq

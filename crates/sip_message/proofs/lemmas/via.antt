@@ -1,3 +1,4 @@
+-- How an element of Via is read, one part after another.
 pub mod Transport
 pub mod Closed
 pub mod Steps

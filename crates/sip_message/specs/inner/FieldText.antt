@@ -4,13 +4,11 @@ use Rattle.sip_standard.specs.Text.{One, Exactly, ◌then◌, Many}
 use Rattle.sip_standard.specs.Profile.{Token, Sws}
 use Rattle.sip_text.specs.Bytes.{colon, Byte}
 use Rattle.sip_text.specs.inner.Blanks.{is_wsp}
-use Rattle.sip_standard.specs.Field.{is_lws_byte}
-use Rattle.sip_message.specs.declared.name.Known.TheVariants as known_name
-use Rattle.sip_message.specs.Name.{FieldName, known, name_of}
+use Rattle.sip_standard.specs.Case.{folded}
+use Rattle.sip_standard.specs.Field.{is_lws_byte, RowSays}
+use Rattle.sip_message.specs.Name.{FieldName, known, other, long_name, name_of}
 use Rattle.sip_message.specs.Field.{Field}
-use Rattle.sip_standard.specs.Via.{SaidVia, ViasSay}
-use Rattle.sip_standard.specs.Values.{Address, CallId, CSeqSays}
-use Rattle.sip_message.specs.inner.Values.{Digits, OtherText}
+use Rattle.sip_message.specs.inner.Values.{OtherText}
 
 -- the text does not begin with a byte of a blank run
 abbrev pub OpensSolid : List ℕ → Type 0
@@ -25,13 +23,8 @@ EndsSolid (byte ∷ next ∷ text) = EndsSolid (next ∷ text)
 
 -- the values that a field of the name may have: its row
 abbrev pub Row : FieldName → List ℕ → Type 0
-Row (known known_name.Via) value = (vias : List SaidVia) × ViasSay vias value
-Row (known known_name.From) value = Address value
-Row (known known_name.To) value = Address value
-Row (known known_name.CallId) value = CallId value
-Row (known known_name.CSeq) value = (said : ℕ × List ℕ) × CSeqSays said value
-Row (known known_name.ContentLength) value = Digits value
-Row _ value = OtherText value
+Row (known name) = RowSays (folded (long_name name))
+Row (other text) = OtherText
 
 -- header-name HCOLON: a token, any SP and HTAB, a colon, and the rest of the line
 pub record NameText (line : List ℕ) (name : FieldName) (rest : List ℕ) : Type 0 where

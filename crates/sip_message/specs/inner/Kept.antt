@@ -1,13 +1,14 @@
 -- What is kept of fields as they are read.
 use Rattle.std.specs.Prelude.{◌≡◌, ℕ, List, [], ◌∷◌, ◌++◌, Option, None, Some}
 use Rattle.std.specs.Option.{option_map}
+use Rattle.sip_message.specs.inner.Parts.{HasParts}
+use Rattle.sip_message.specs.inner.Only.{IsOnly}
 use Rattle.sip_message.specs.declared.kept.Kept.{Kept}
 use Rattle.sip_message.specs.declared.name.Known.TheVariants as known_name
 use Rattle.sip_message.specs.Field.{Field, values}
 use Rattle.sip_message.specs.Message.{Message}
 use Rattle.sip_message.specs.inner.Values.{CSeqValue}
-use Rattle.sip_message.specs.Reading.{Parts, HasParts}
-use Rattle.sip_message.specs.Only.{IsOnly}
+use Rattle.sip_message.specs.Reading.{Parts}
 use Rattle.sip_standard.specs.Via.{SaidVia}
 use Rattle.sip_standard.specs.Says.{IsFirstOf}
 use Rattle.sip_message.specs.inner.MessageText.{MessageText}

@@ -1,9 +1,10 @@
 -- The one value of which a fact holds: what a reader finds, and the value without a choice of its proof.
 use Rattle.std.specs.Prelude.{◌≡◌, ℕ, List, Option, None, Some}
-use Rattle.std.specs.Coded.{Coded, Coded-set}
-use Rattle.std.proofs.Math.Logic.{∥∥₁_elim, ∥∥₁_prop}
-use mathlib.Core.HLevel.{Σ_prop_path}
-use Rattle.sip_message.specs.Only.{IsOnly}
+
+-- R holds of this value, and of no other
+pub record IsOnly {X : Type 0} (R : X → Type 0) (x : X) : Type 0 where
+  pub is : R x
+  pub only : (y : X) → R y → y ≡ x
 
 -- ∥ P ∥₁ says that P holds, and leaves open by which proof.
 -- there is a value of which R holds, and R holds of no other
@@ -13,12 +14,6 @@ ExactlyOne {X = X} R = (x : X) × ∥ IsOnly R x ∥₁
 -- the value of which R holds
 unfoldable pub the : {X : Type 0} {R : X → Type 0} → ExactlyOne R → X
 the one = one.0
-
--- there is at most one value of which alone R holds, where values are coded
--- two such values are the same, and by which proofs makes no difference
-pub One-prop : {X : Type 0} → Coded X → (R : X → Type 0) → IsProp (ExactlyOne R)
-One-prop c R u v =
-    Σ_prop_path (λ _. ∥∥₁_prop) (∥∥₁_elim u.1 (Coded-set c u.0 v.0) (λ p. ∥∥₁_elim v.1 (Coded-set c u.0 v.0) (λ q. q.only u.0 p.is)))
 
 -- the one value, seen as its parts, that R relates to the text, or None if R relates none to it
 abbrev pub IsOnlyValue : {A X : Type 0} → (List ℕ → X → Type 0) → (A → X) → List ℕ → Option A → Type 0

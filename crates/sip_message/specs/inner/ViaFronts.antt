@@ -1,12 +1,15 @@
 -- An element of Via at the front of a text, in the steps by which it is read.
 use Rattle.std.specs.Prelude.{◌≡◌, ◌⊎◌, ℕ, List, [], ◌∷◌, ◌++◌, Option, None, Some}
-use Rattle.sip_standard.specs.Chars.{AnyCase}
+use Rattle.std.specs.Option.{option_or}
+use Rattle.sip_standard.specs.Text.{◌then◌}
+use Rattle.sip_standard.specs.Chars.{AnyCase, EachSays}
 use Rattle.sip_standard.specs.Profile.{Token, Host, Port}
-use Rattle.sip_standard.specs.Via.{SaidVia}
-use Rattle.sip_text.specs.Bytes.{colon}
+use Rattle.sip_standard.specs.Via.{SaidVia, ParamSays, first_some}
+use Rattle.sip_text.specs.Bytes.{colon, semicolon}
+use Rattle.sip_message.specs.inner.Marks.{Mark}
 use Rattle.sip_message.specs.inner.Fronts.{TokenFront, Seq, ProtocolFront}
 use Rattle.sip_message.specs.inner.ElementFronts.{EndsElement}
-use Rattle.sip_message.specs.inner.ParamFronts.{Param, ParamsText, BracketFront, LedFront, AllParamsFront}
+use Rattle.sip_message.specs.inner.ParamFronts.{Param, BracketFront, LedFront, AllParamsFront}
 
 -- what may be a host at the front of the text, from "[" to the first "]" or else the longest token, and what is left
 abbrev pub HostCut : List ℕ → List ℕ × List ℕ → Type 0
@@ -25,17 +28,17 @@ abbrev pub BranchOf : Param → Option (List ℕ) → Type 0
 BranchOf (name, value) None = ¬ (AnyCase "branch" name)
 BranchOf (name, value) (Some branch) = AnyCase "branch" name × Token branch × (value ≡ Some branch)
 
--- the branch is that of the first parameter that is named branch, if there is one, and each such parameter has a token for value
+-- each parameter gives a branch or None, and the branch is the first that one gives
 abbrev pub IsBranch : List Param → Option (List ℕ) → Type 0
 IsBranch [] branch = branch ≡ None
-IsBranch ((name, value) ∷ params) branch =
-    (AnyCase "branch" name × (v : List ℕ) × Token v × (value ≡ Some v) × (branch ≡ Some v)
-    × (later : Option (List ℕ)) × IsBranch params later)
-    ⊎ (¬ (AnyCase "branch" name) × IsBranch params branch)
+IsBranch (param ∷ params) branch =
+    (found : Option (List ℕ)) × BranchOf param found
+    × (later : Option (List ℕ)) × IsBranch params later × (branch ≡ option_or found later)
 
--- *( SEMI via-params ): parameters of which this branch counts
+-- *( SEMI via-params ), of which this branch counts
 abbrev pub BranchText : List ℕ → Option (List ℕ) → Type 0
-BranchText text branch = (params : List Param) × ParamsText params text × IsBranch params branch
+BranchText text branch =
+    (said : List (Option (List ℕ))) × (branch ≡ first_some said) × EachSays (λ param. Mark semicolon then ParamSays param) said text
 
 -- *( SEMI via-params ) at the front of the text with the branch, and what is left
 abbrev pub BranchFront : List ℕ → Option (List ℕ) × List ℕ → Type 0

@@ -8,9 +8,9 @@ use Rattle.sip_machine.specs.Texts.{Texts, IsBook}
 use Rattle.sip_machine.specs.Rules.{StandFor}
 use Rattle.sip_standard.specs.VerdictOf.{widest}
 use Rattle.sip_states.specs.Held.{Held}
-use Rattle.sip_states.specs.inner.KeySets.{StateOf, set_of, each_set, by_machine, held_at_start, start_of_machine, meaning_of}
+use Rattle.sip_states.specs.inner.KeySets.{CodeOwingOf, set_of, each_set, by_machine, held_at_start, start_of_machine, meaning_of}
 use Rattle.sip_states.proofs.keyed.KeySetLaws.{by_machine_is, of_machine}
-use Rattle.sip_states.specs.Meaning.{IsKnown, Waiting, Given, HasWaited, HasTaken}
+use Rattle.sip_states.specs.Meaning.{IsKnown, Waited, Given, HasWaited, HasTaken}
 use Rattle.sip_states.specs.AnySet.{start_of, IsSetOf}
 use Rattle.sip_states.specs.declared.any_set.AnySet.{AnySet}
 
@@ -28,12 +28,12 @@ has_started p key set of_key at_start =
     set of_key at_start
 
 -- What follows is of a set of one machine: `old` is what it holds before a call, and `new` after it.
-module _ {T E : Type 0} (machine : MachineKind) (old new : Held Times (StateOf machine)) where
+module _ {T E : Type 0} (machine : MachineKind) (old new : Held Times (CodeOwingOf machine)) where
   -- the clauses of `StateSet::advance`, taken together, say that the set has waited
   pub has_waited : (moment : ℕ) (r : Result T E)
       → OnOk r ((new.machine ≡ old.machine) × (new.moment ≡ moment))
       → OnOk r ((texts : Texts) → IsBook texts → IsKnown (meaning_of machine) texts old →
-      StandFor (meaning_of machine).names (meaning_of machine).in_range (meaning_of machine).seen texts (Waiting (meaning_of machine) texts old moment) new.states)
+      StandFor (meaning_of machine).names (meaning_of machine).in_range (meaning_of machine).seen texts (Waited (meaning_of machine) texts old moment) new.states)
       → OnOk r (length new.states ≤ length old.states + 1)
       → OnOk r (IsSetOf machine (λ t. HasWaited (meaning_of machine) moment old t) (set_of machine new))
   has_waited moment (Ok x) at states one_more =

@@ -10,8 +10,8 @@ use Rattle.sip_standard.specs.Figure.{Figure, Owing, quiet, Restarts, Steps}
 use Rattle.sip_states.specs.Waits.{Wait, RunGives}
 use Rattle.sip_states.specs.Held.{Held}
 use Rattle.sip_standard.specs.KeyMachine.{MachineKind, transaction_of}
-use Rattle.sip_states.specs.inner.KeySets.{StateOf, meaning_of}
-use Rattle.sip_states.specs.KeyRules.{PhaseOf, key_rules}
+use Rattle.sip_states.specs.inner.KeySets.{CodeOwingOf, meaning_of}
+use Rattle.sip_states.specs.KeyRules.{OwingOf, key_rules}
 use Rattle.sip_states.proofs.keyed.KeySetLaws.{coded_holds}
 use Rattle.sip_states.specs.AnySet.{IsQuietIn}
 use Rattle.sip_states.proofs.sets.Waiting.{IsWithin-none, IsOpenAt-none}
@@ -59,14 +59,14 @@ module _ (p : Times) (machine : MachineKind) (e : MachineEvent) (is : e.action �
   f = (transaction_of machine).figure
 
   -- by the rules a restart leads from the idle state to itself alone
-  idle_takes : (y : PhaseOf machine) → (key_rules p machine).Take (quiet f.idle) e y ↔ (y ≡ quiet f.idle)
+  idle_takes : (y : OwingOf machine) → (key_rules p machine).Take (quiet f.idle) e y ↔ (y ≡ quiet f.idle)
   idle_takes y =
       let stays = IsWithin-none e.moment ((key_rules p machine).until (quiet f.idle)) (lawful_of machine p).first_stays in
       let steps = subst (λ a. Steps f p a e (quiet f.idle) y ↔ (y ≡ quiet f.idle)) (sym is) (idle_restarts f y) in
       (λ h. steps.0 h.1, λ same. (stays, steps.1 same))
 
   -- by the rules a restart leads from the ended state to itself alone
-  ended_takes : (y : PhaseOf machine) → (key_rules p machine).Take (quiet f.ended) e y ↔ (y ≡ quiet f.ended)
+  ended_takes : (y : OwingOf machine) → (key_rules p machine).Take (quiet f.ended) e y ↔ (y ≡ quiet f.ended)
   ended_takes y =
       let stays = IsWithin-none e.moment ((key_rules p machine).until (quiet f.ended)) (lawful_of machine p).ended_stays in
       let steps = subst (λ a. Steps f p a e (quiet f.ended) y ↔ (y ≡ quiet f.ended)) (sym is) (ended_restarts f (coded_holds machine).ended_decided y) in
@@ -82,10 +82,10 @@ last_in_range machine = ((coded_holds machine).ended_fits.1, All-nil (λ debt. d
 
 -- the state of the code stands for one that has no end and no last moment, and that a restart leaves as it is; every book has what it
 -- names, and its moments are in range
-pub record IsStill (p : Times) (machine : MachineKind) (texts : Texts) (x : StateOf machine) : Type 0 where
+pub record IsStill (p : Times) (machine : MachineKind) (texts : Texts) (x : CodeOwingOf machine) : Type 0 where
   pub endless : ((meaning_of machine).rules p).window ((meaning_of machine).seen texts x) ≡ None
   pub stays : ((meaning_of machine).rules p).until ((meaning_of machine).seen texts x) ≡ None
-  pub takes : (e : MachineEvent) → e.action ≡ Restart → (y : PhaseOf machine) → ((meaning_of machine).rules p).Take ((meaning_of machine).seen texts x) e y ↔ (y ≡ (meaning_of machine).seen texts x)
+  pub takes : (e : MachineEvent) → e.action ≡ Restart → (y : OwingOf machine) → ((meaning_of machine).rules p).Take ((meaning_of machine).seen texts x) e y ↔ (y ≡ (meaning_of machine).seen texts x)
   pub known : Knows (meaning_of machine).names texts x
   pub in_range : (meaning_of machine).in_range x
 
@@ -120,27 +120,27 @@ last_still p machine texts =
     }
 
 -- a quiet set has one state, which is still
-pub quiet_still : (p : Times) (machine : MachineKind) (texts : Texts) (s : Held Times (StateOf machine)) → IsQuietIn machine s → (x : StateOf machine) × (s.states ≡ x ∷ []) × IsStill p machine texts x
+pub quiet_still : (p : Times) (machine : MachineKind) (texts : Texts) (s : Held Times (CodeOwingOf machine)) → IsQuietIn machine s → (x : CodeOwingOf machine) × (s.states ≡ x ∷ []) × IsStill p machine texts x
 quiet_still p machine texts s (inl is) = (first_of machine, is, first_still p machine texts)
 quiet_still p machine texts s (inr is) = (last_of machine, is, last_still p machine texts)
 
 -- What follows is of x, a state of a machine with the times p, in which it can rest for ever.
-module _ (p : Times) (machine : MachineKind) (texts : Texts) (x : StateOf machine) (still : IsStill p machine texts x) where
+module _ (p : Times) (machine : MachineKind) (texts : Texts) (x : CodeOwingOf machine) (still : IsStill p machine texts x) where
   -- the rules of the machine, for states as texts have them
-  abbrev r : MachineRules (PhaseOf machine)
+  abbrev r : MachineRules (OwingOf machine)
   r = (meaning_of machine).rules p
 
   -- the state, as texts have it
-  abbrev q : PhaseOf machine
+  abbrev q : OwingOf machine
   q = (meaning_of machine).seen texts x
 
   -- y is what the one state x stands for
-  abbrev Alone : PhaseOf machine → Type 0
+  abbrev Alone : OwingOf machine → Type 0
   Alone y = Contains (map ((meaning_of machine).seen texts) (x ∷ [])) y
 
   -- where one stands in a still state alone, one stands in it alone at any later moment
   -- h and n are the moments, and y is a state at the later one
-  pub waits_still : (h n : ℕ) → h ≤ n → (y : PhaseOf machine) → Wait r Alone h n y ↔ (y ≡ q)
+  pub waits_still : (h n : ℕ) → h ≤ n → (y : OwingOf machine) → Wait r Alone h n y ↔ (y ≡ q)
   waits_still h n low y = wait_still r (lawful_of machine p) q still.endless still.stays Alone (λ z. Contains-single q z) h n low y
 
   -- a restart leads from a wait in a still state to that state alone

@@ -9,7 +9,7 @@ use Rattle.sip_standard.specs.Times.{Times}
 use Rattle.sip_states.specs.declared.any_set.AnySet.{AnySet}
 use Rattle.sip_states.specs.AnySet.{start_of}
 use Rattle.sip_states.specs.inner.Touching.{FindsOrStarts}
-use Rattle.sip_key.specs.inner.KeyLaws.{same_key-decides}
+use Rattle.sip_standard.proofs.SameKey.{same_key-decides}
 
 -- an option that has a value is not None
 some-is-none : {X : Type 0} (x : X) → Some x ≡ None → ⊥

@@ -27,8 +27,8 @@ use Rattle.sip_machine.specs.inner.Turns.{led_to}
 use Rattle.sip_standard.specs.InviteClient as invite
 use Rattle.sip_standard.specs.PlainClient as plain
 use Rattle.sip_states.proofs.runs.Steps.{Step, Hides, Takes, Does, Goes, taken, AfterRun}
-use Rattle.sip_standard.specs.KeyMachine.{OfInviteClient, OfPlainClient, machine_of}
-use Rattle.sip_states.specs.KeyRules.{PhaseOf, key_rules}
+use Rattle.sip_standard.specs.KeyMachine.{OfInvite, OfPlain, machine_of}
+use Rattle.sip_states.specs.KeyRules.{OwingOf, key_rules}
 use Rattle.sip_states.proofs.runs.RunLemmas.{Goes-last}
 use Rattle.sip_states.proofs.runs.FewerLemmas.{Goes-through}
 
@@ -252,7 +252,7 @@ invite_sends p e x y (inr (inl (left, pays, to))) low = inl (pays_ack x.phase e.
 -- by the rules of RFC 6026 an INVITE client that has received a final response to its INVITE sends only an ACK or a CANCEL
 pub invite_after_final : (p : Times) (before between later : List MachineEvent) (request final e : MachineEvent) (code : ℕ) (y : Owing invite.InviteClientPhase) → request.action ≡ Sent → request.kind ≡ Request Invite →
     final.action ≡ Received → final.kind ≡ Response code → IsFinal code → e.action ≡ Sent →
-    AfterRun (key_rules p OfInviteClient) (before ++ request ∷ (between ++ final ∷ later)) e y → (e.kind ≡ Request Ack) ⊎ (e.kind ≡ Request Cancel)
+    AfterRun (key_rules p (OfInvite R6026 Client)) (before ++ request ∷ (between ++ final ∷ later)) e y → (e.kind ≡ Request Ack) ⊎ (e.kind ≡ Request Cancel)
 invite_after_final p =
     after_final invite.invite_client p invite_rank (invite_ranked p) (λ k. k ≡ Request Invite) (λ k. (k ≡ Request Ack) ⊎ (k ≡ Request Cancel)) (invite_opens p)
     (λ code e x y h is final low. invite_finishes p code e y is final x.phase x.owes low h) (invite_sends p)
@@ -326,7 +326,7 @@ module _ (p : Times) (one : MachineEvent) where
   -- Awaits holds after the steps of a run that begins with `one`
   -- the steps begin at the moment h, and lead to y at the moment m
   from_first : (h : ℕ) (steps : List Step) (y : Owing invite.InviteClientPhase) (m : ℕ) (between : List MachineEvent) → one.action ≡ Sent → one.kind ≡ Request Invite →
-      Goes (key_rules p OfInviteClient) (record { phase = invite.Idle; owes = [] }) h steps y m → taken steps ≡ one ∷ between → Awaits y.phase
+      Goes (key_rules p (OfInvite R6026 Client)) (record { phase = invite.Idle; owes = [] }) h steps y m → taken steps ≡ one ∷ between → Awaits y.phase
   -- some step takes the first event, and nothing can end from idle before it
   from_first h [] y m between sent is goes takes = absurd (cc)
   from_first h (Hides t ∷ steps) y m between sent is (z, low, hides, goes) takes = absurd hides.opened
@@ -339,9 +339,9 @@ module _ (p : Times) (one : MachineEvent) where
 
   -- by the rules of RFC 6026 the INVITE that begins a run is sent again byte for byte, over an unreliable transport, and T1 after it, less early, or later
   pub invite_again : (between : List MachineEvent) (e : MachineEvent) (y : Owing invite.InviteClientPhase) → one.action ≡ Sent → one.kind ≡ Request Invite → e.action ≡ Sent → e.kind ≡ Request Invite →
-      AfterRun (key_rules p OfInviteClient) (one ∷ between) e y → (e.text ≡ one.text) × (one.reliable ≡ false) × (open_at p one.moment p.t1 ≤ e.moment)
+      AfterRun (key_rules p (OfInvite R6026 Client)) (one ∷ between) e y → (e.text ≡ one.text) × (one.reliable ≡ false) × (open_at p one.moment p.t1 ≤ e.moment)
   invite_again between e y one_sent one_is e_sent e_is after =
-      let r = key_rules p OfInviteClient in
+      let r = key_rules p (OfInvite R6026 Client) in
       let last = Goes-last r r.first 0 after.steps (Takes e) y after.goes in
       let awaits = from_first 0 after.steps last.before last.at between one_sent one_is last.goes after.takes in
       again_emits e (when invite.invite_client p e last.before) y (step_of invite.invite_client p Sent e last.before y e_sent last.does) e_is awaits
@@ -431,13 +431,13 @@ plain_sends p e x y (inr (inl (left, pays, to))) low = pays.holds.0
 -- a client that has received a final response to a request that is no INVITE sends nothing
 plain_silent : (p : Times) (before between later : List MachineEvent) (request final e : MachineEvent) (code : ℕ) (y : Owing plain.PlainClientPhase) → request.action ≡ Sent → IsRequest request.kind →
     final.action ≡ Received → final.kind ≡ Response code → IsFinal code → e.action ≡ Sent →
-    AfterRun (key_rules p OfPlainClient) (before ++ request ∷ (between ++ final ∷ later)) e y → ⊥
+    AfterRun (key_rules p (OfPlain Client)) (before ++ request ∷ (between ++ final ∷ later)) e y → ⊥
 plain_silent p =
     after_final plain.plain_client p plain_rank (plain_ranked p) IsRequest (λ k. ⊥) (plain_opens p)
     (λ code e x y h is final low. plain_finishes p code e y is final x.phase x.owes low h) (plain_sends p)
 
 -- a client that has received a final response to a request that is no INVITE sends nothing, by the rules of RFC 3261 and of RFC 6026
-pub plain_after_final : (p : Times) (rules : Rules) (before between later : List MachineEvent) (request final e : MachineEvent) (code : ℕ) (y : PhaseOf (machine_of rules Client false)) →
+pub plain_after_final : (p : Times) (rules : Rules) (before between later : List MachineEvent) (request final e : MachineEvent) (code : ℕ) (y : OwingOf (machine_of rules Client false)) →
     request.action ≡ Sent → IsRequest request.kind → final.action ≡ Received → final.kind ≡ Response code → IsFinal code → e.action ≡ Sent →
     AfterRun (key_rules p (machine_of rules Client false)) (before ++ request ∷ (between ++ final ∷ later)) e y → ⊥
 plain_after_final p R6026 = plain_silent p

@@ -20,7 +20,7 @@ use Rattle.sip_standard.specs.Figure.{Figure, Owing, quiet, Emits, Fails, Steps}
 use Rattle.sip_machine.specs.FigureRules.{After as Row, rules_of as rules_of_figure}
 use Rattle.sip_states.proofs.runs.Steps.{Step, Hides, Takes, Goes, taken, AfterRun}
 use Rattle.sip_standard.specs.KeyMachine.{machine_of, transaction_of}
-use Rattle.sip_states.specs.KeyRules.{PhaseOf, key_rules}
+use Rattle.sip_states.specs.KeyRules.{OwingOf, key_rules}
 use Rattle.sip_states.proofs.sets.Waiting.{IsOpenAt-none}
 use Rattle.sip_states.proofs.runs.RunLemmas.{Goes-last}
 
@@ -123,6 +123,6 @@ asleep R3261 true p = record { no_end = refl; silent = λ k e y h. h; woken = wo
 asleep R3261 false p = record { no_end = refl; silent = λ k e y h. h; woken = woken R3261 false p; unmoved = λ k stays. stays }
 
 -- by each of the rules a server sends nothing before it has received a request
-pub server_sends_when_asked : (p : Times) (rules : Rules) (invite : Bool) (events : List MachineEvent) (e : MachineEvent) (y : PhaseOf (machine_of rules Server invite)) →
+pub server_sends_when_asked : (p : Times) (rules : Rules) (invite : Bool) (events : List MachineEvent) (e : MachineEvent) (y : OwingOf (machine_of rules Server invite)) →
     AfterRun (key_rules p (machine_of rules Server invite)) events e y → e.action ≡ Sent → Any IsAsked events
 server_sends_when_asked p rules invite = sends_when_asked (server rules invite) p (asleep rules invite p)

@@ -10,9 +10,9 @@ use Rattle.sip_standard.specs.MachineEvent.{MachineEvent}
 use Rattle.sip_machine.specs.Rules.{Waits, Hide}
 use Rattle.sip_standard.specs.Figure.{Figure, Owing, quiet, Lasts, MayEnd}
 use Rattle.sip_machine.specs.FigureRules.{IsFigure, closes_of, closes_at, rules_of}
-use Rattle.sip_machine.specs.inner.DebtLaws.{All-front, All-back}
-use Rattle.sip_machine.specs.inner.OwesLaws.{IsWithin-owed}
-use Rattle.sip_machine.specs.inner.FigureLaws.{rules_lawful}
+use Rattle.sip_phases.proofs.debts.DebtLaws.{All-front, All-back}
+use Rattle.sip_phases.proofs.debts.OwesLaws.{IsWithin-owed}
+use Rattle.sip_phases.proofs.states.FigureLaws.{rules_lawful}
 use Rattle.sip_standard.specs.Stands.{Stands, begins, waits, ends, takes, StandsAfter}
 use Rattle.sip_standard.specs.KeyMachine.{MachineKind, transaction_of}
 use Rattle.sip_states.proofs.keyed.KeySetLaws.{coded_holds}

@@ -8,7 +8,7 @@ use Rattle.sip_machine.specs.Limits.{IsWithin}
 use Rattle.sip_machine.specs.Texts.{Texts}
 use Rattle.sip_standard.specs.MachineEvent.{MachineEvent}
 use Rattle.sip_machine.specs.Rules.{MachineRules, IsLawful, Waits, StandFor}
-use Rattle.sip_states.specs.Held.{IsKept}
+use Rattle.sip_states.specs.Held.{IsProper}
 use Rattle.sip_states.specs.inner.Ways.{Advances}
 use Rattle.sip_states.specs.Waits.{RunGives}
 use Rattle.sip_standard.specs.VerdictOf.{IsWide, widest}
@@ -60,7 +60,7 @@ module _ {X S : Type 0} (names : S → List ℕ) (InRange : S → Type 0) (seen 
 pub took_kept : {M X S : Type 0} (names : S → List ℕ) (InRange : S → Type 0) (seen : Texts → S → X) (r : M → MachineRules X) (ended : M → S) (window : M → S → Option (ℕ × Option ℕ)) (until : M → S → Option ℕ)
     (machine : M) → Follows names seen (r machine) (ended machine) (window machine) (until machine) → (texts : Texts) (P : X → Type 0) (e : MachineEvent) (new : List S) →
     StandFor names InRange seen texts (RunGives (r machine) P e) new → AllPairs (λ x y. x ≢ y) new → length new ≤ widest →
-    IsKept InRange until ended (record { machine = machine; moment = e.moment; states = new })
+    IsProper InRange until ended (record { machine = machine; moment = e.moment; states = new })
 took_kept names InRange seen r ended window until machine follows texts P e new s apart few =
     record {
       in_range = s.in_range;
@@ -75,8 +75,8 @@ took_kept names InRange seen r ended window until machine follows texts P e new 
 -- a set that has waited keeps its invariant
 pub advanced_kept : {M X S : Type 0} (names : S → List ℕ) (InRange : S → Type 0) (seen : Texts → S → X) (r : M → MachineRules X) (ended : M → S) (window : M → S → Option (ℕ × Option ℕ)) (until : M → S → Option ℕ)
     (machine : M) → Follows names seen (r machine) (ended machine) (window machine) (until machine) → (h m : ℕ) (xs ys : List S) →
-    IsKept InRange until ended (record { machine = machine; moment = h; states = xs }) → Advances InRange (window machine) (until machine) (ended machine) h m xs ys →
-    IsKept InRange until ended (record { machine = machine; moment = m; states = ys })
+    IsProper InRange until ended (record { machine = machine; moment = h; states = xs }) → Advances InRange (window machine) (until machine) (ended machine) h m xs ys →
+    IsProper InRange until ended (record { machine = machine; moment = m; states = ys })
 advanced_kept names InRange seen r ended window until machine follows h m xs ys kept a =
     let stays = ended_stays names InRange seen (r machine) (ended machine) (window machine) (until machine) follows in
     record {

@@ -30,7 +30,7 @@ use Rattle.sip_standard.specs.Observation.{Observation, direction_of, silent_obs
 use Rattle.sip_verdict.specs.Entries.{ConcernsNone}
 use Rattle.sip_standard.specs.VerdictOf.{keys_in, Sees}
 use Rattle.sip_verdict.specs.inner.Concerned.{each, is_all}
-use Rattle.sip_verdict.specs.inner.Observing.{IsObserved, IsHeard, IsKept, silent_told}
+use Rattle.sip_verdict.specs.inner.Observing.{IsObserved, IsHeard, KeepsHeard, silent_told}
 use Rattle.sip_verdict.proofs.verdicts.MessageUnique.{observes_one}
 
 -- what is observed of a message that went this way is observed of its entry
@@ -78,11 +78,11 @@ silent_none item stays = (silent_observation item.action item.moment [], observe
     go Restart = refl
 
 -- where an entry has no message, the book stays as it is, as what is told of the entry says
-pub silent_kept : (old new : Texts) (entry : Entry) → direction_of entry.action ≡ None → new ≡ old → IsKept old new entry (silent_told entry.action)
+pub silent_kept : (old new : Texts) (entry : Entry) → direction_of entry.action ≡ None → new ≡ old → KeepsHeard old new entry (silent_told entry.action)
 silent_kept old new entry stays same = go entry.action refl
   where
     -- the book stays as it is where an item has no message, whichever action it is
-    go : (a : Action) → entry.action ≡ a → IsKept old new entry (silent_told a)
+    go : (a : Action) → entry.action ≡ a → KeepsHeard old new entry (silent_told a)
     go Sent is = same
     go Received is = same
     go Failed is = same

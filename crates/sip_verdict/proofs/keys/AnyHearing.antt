@@ -9,8 +9,8 @@ use Rattle.sip_standard.specs.VerdictOf.{IsWide}
 use Rattle.sip_standard.specs.Stands.{Stands, StandsAfter}
 use Rattle.sip_states.specs.Held.{Held}
 use Rattle.sip_standard.specs.KeyMachine.{MachineKind, transaction_of}
-use Rattle.sip_states.specs.inner.KeySets.{StateOf, set_of, meaning_of}
-use Rattle.sip_states.specs.KeyRules.{PhaseOf}
+use Rattle.sip_states.specs.inner.KeySets.{CodeOwingOf, set_of, meaning_of}
+use Rattle.sip_states.specs.KeyRules.{OwingOf}
 use Rattle.sip_states.specs.Meaning.{IsKnown, Given, HasTaken}
 use Rattle.sip_states.specs.AnySet.{moment_of, IsEmpty, IsKnownSet, SetTakes, IsSetTooWide}
 use Rattle.sip_states.specs.declared.any_set.AnySet.{AnySet}
@@ -22,8 +22,8 @@ use Rattle.sip_verdict.proofs.keys.RunsStand.{stands_next, stands_given}
 use Rattle.sip_states.proofs.keyed.ByMachine.{lawful_of, moment_is, some_machine, of_set, to_set, of_sets}
 
 -- the set that is left after an event is a set of the same machine
-after_event : (texts : Texts) (e : NumberedEvent) (machine : MachineKind) (s : Held Times (StateOf machine)) (old new : AnySet) → old ≡ set_of machine s → SetTakes texts e old new
-    → (t : Held Times (StateOf machine)) × (new ≡ set_of machine t) × HasTaken (meaning_of machine) texts e s t
+after_event : (texts : Texts) (e : NumberedEvent) (machine : MachineKind) (s : Held Times (CodeOwingOf machine)) (old new : AnySet) → old ≡ set_of machine s → SetTakes texts e old new
+    → (t : Held Times (CodeOwingOf machine)) × (new ≡ set_of machine t) × HasTaken (meaning_of machine) texts e s t
 after_event texts e machine s old new is takes = of_sets (λ X M S m a b. HasTaken m texts e a b) machine s new (subst (λ set. SetTakes texts e set new) is takes)
 
 -- an event leaves a set that names only messages that the book keeps
@@ -34,11 +34,11 @@ takes_known texts e old new takes =
     subst (IsKnownSet texts) (sym n.1) (to_set (λ X M S m s. IsKnown m texts s) o.0 n.0 n.2.states.known)
 
 -- a set of a machine is empty where it has no state
-none_of : (machine : MachineKind) (t : Held Times (StateOf machine)) (new : AnySet) → new ≡ set_of machine t → IsEmpty new → t.states ≡ []
+none_of : (machine : MachineKind) (t : Held Times (CodeOwingOf machine)) (new : AnySet) → new ≡ set_of machine t → IsEmpty new → t.states ≡ []
 none_of machine t new is none = of_set (λ X M S m s. s.states ≡ []) machine t (subst IsEmpty is none)
 
 -- a set of a machine that is not empty has a state
-some_of : (machine : MachineKind) (t : Held Times (StateOf machine)) (new : AnySet) → new ≡ set_of machine t → ¬ IsEmpty new → t.states ≢ []
+some_of : (machine : MachineKind) (t : Held Times (CodeOwingOf machine)) (new : AnySet) → new ≡ set_of machine t → ¬ IsEmpty new → t.states ≢ []
 some_of machine t new is some none = some (subst IsEmpty (sym is) (to_set (λ X M S m s. s.states ≡ []) machine t none))
 
 -- What follows is of one transaction: `old` is its set, which leads to its runs over the events, and `new` its set after one event more.
@@ -54,11 +54,11 @@ module _ (texts : Texts) (p : Times) (machine : MachineKind) (events : List Mach
     f = event_in texts e
 
     -- where e leads from where the runs over the events stand at its moment
-    abbrev After : PhaseOf machine → Type 0
+    abbrev After : OwingOf machine → Type 0
     After = StandsAfter (transaction_of machine).figure p events f
 
     -- where the runs over the events and e stand
-    abbrev Next : ℕ → PhaseOf machine → Type 0
+    abbrev Next : ℕ → OwingOf machine → Type 0
     Next = Stands (transaction_of machine).figure p (events ++ f ∷ [])
 
     -- where no state is left, no run takes the event

@@ -15,8 +15,7 @@ use Rattle.sip_standard.specs.Times.{Times}
 use Rattle.sip_standard.specs.KeyMachine.{machine_of_key, transaction_of}
 use Rattle.sip_standard.specs.Observation.{Observation}
 use Rattle.sip_standard.specs.VerdictOf.{events_for, RunsOver}
-use Rattle.sip_verdict.specs.Entries.{newest_moment}
-use Rattle.sip_verdict.specs.inner.Keyed.{concerns}
+use Rattle.sip_verdict.specs.Entries.{concerns, newest_moment}
 
 -- the moment of the first entry is not after that of the second
 abbrev IsNotAfter : Observation KeyParts → Observation KeyParts → Type 0

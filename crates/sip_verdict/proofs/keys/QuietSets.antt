@@ -10,8 +10,8 @@ use Rattle.sip_states.specs.Waits.{Wait, RunGives}
 use Rattle.sip_states.specs.Held.{Held}
 use Rattle.sip_standard.specs.KeyMachine.{MachineKind, transaction_of}
 use Rattle.sip_standard.specs.Stands.{Stands, StandsAfter}
-use Rattle.sip_states.specs.inner.KeySets.{StateOf, meaning_of}
-use Rattle.sip_states.specs.KeyRules.{PhaseOf}
+use Rattle.sip_states.specs.inner.KeySets.{CodeOwingOf, meaning_of}
+use Rattle.sip_states.specs.KeyRules.{OwingOf}
 use Rattle.sip_states.specs.AnySet.{moment_of, IsQuietSet}
 use Rattle.sip_states.specs.declared.any_set.AnySet.{AnySet}
 use Rattle.sip_states.proofs.keyed.ByMachine.{lawful_of, moment_is, quiet_in}
@@ -33,15 +33,15 @@ leads_later texts p machine events from later set low (s, is, leads) =
 module _ (texts : Texts) (p : Times) (machine : MachineKind) (events : List MachineEvent) (from : ℕ) (set : AnySet) (leads : LeadsOf texts p machine events from set) (quiet : IsQuietSet set)
     (e : NumberedEvent) (is : e.action ≡ Restart) (late : from ≤ e.moment) (low : moment_of set ≤ e.moment) where
   -- the states of the set that lead to the runs
-  abbrev held : Held Times (StateOf machine)
+  abbrev held : Held Times (CodeOwingOf machine)
   held = leads.0
 
   -- the rules of the machine, for states as texts have them
-  abbrev r : MachineRules (PhaseOf machine)
+  abbrev r : MachineRules (OwingOf machine)
   r = (meaning_of machine).rules p
 
   -- the states of the set, at the moment of the restart
-  abbrev new : Held Times (StateOf machine)
+  abbrev new : Held Times (CodeOwingOf machine)
   new = record { machine = held.machine; moment = e.moment; states = held.states }
 
   -- the moment of the states is not after that of the restart
@@ -65,7 +65,7 @@ module _ (texts : Texts) (p : Times) (machine : MachineKind) (events : List Mach
       let h = heard_some m.names m.in_range m.seen m.rules (lawful_of machine) texts p (Stands (transaction_of machine).figure p events) from held new leads.2 (event_in texts e)
       (StandsAfter (transaction_of machine).figure p events (event_in texts e)) (Stands (transaction_of machine).figure p (events ++ event_in texts e ∷ []))
       (stands_given p machine events (event_in texts e)) (stands_next p machine events (event_in texts e)) late not_later own refl refl some (omega (arith, ap length one)) in
-      let same : (n : ℕ) → e.moment ≤ n → (y : PhaseOf machine) → Wait r (Contains (map (m.seen texts) held.states)) held.moment n y ↔ Wait r (Contains (map (m.seen texts) held.states)) e.moment n y
+      let same : (n : ℕ) → e.moment ≤ n → (y : OwingOf machine) → Wait r (Contains (map (m.seen texts) held.states)) held.moment n y ↔ Wait r (Contains (map (m.seen texts) held.states)) e.moment n y
       = λ n reached y. subst (λ xs. Wait r (Contains (map (m.seen texts) xs)) held.moment n y ↔ Wait r (Contains (map (m.seen texts) xs)) e.moment n y) (sym one)
       -- the set as it was stands where the new one does, since its state is still
       (iff_trans (waits_still p machine texts x still held.moment n (omega (arith, not_later, reached)) y) (iff_sym (waits_still p machine texts x still e.moment n reached y))) in (

@@ -6,12 +6,13 @@ use Rattle.std.specs.List.{list_any}
 use Rattle.sip_standard.specs.declared.action.Action.{Action}
 use Rattle.sip_standard.specs.declared.action.Action.TheVariants.{Sent, Received, Failed, Mark, Restart}
 use Rattle.sip_standard.specs.Seen.{AreSeen}
-use Rattle.sip_verdict.specs.inner.Keyed.{with_key, concerns}
+use Rattle.sip_verdict.specs.Entries.{concerns}
+use Rattle.sip_verdict.specs.inner.Keyed.{with_key}
 use Rattle.sip_standard.specs.VerdictOf.{keys_in, events_for, IsFirstKey, Sees}
 use Rattle.std.proofs.lemmas.List.{append-nil}
 use Rattle.std.proofs.lemmas.List.Elements.{All-nil, All-head, All-tail, All-push, Contains-get_or}
 use Rattle.sip_standard.specs.Key.{KeyParts, same_key}
-use Rattle.sip_key.specs.inner.KeyLaws.{same_key-decides}
+use Rattle.sip_standard.proofs.SameKey.{same_key-decides}
 use Rattle.sip_standard.specs.declared.role.Direction.{Direction}
 use Rattle.sip_standard.specs.Times.{Times}
 use Rattle.sip_machine.specs.Texts.{Texts}
@@ -24,7 +25,7 @@ use Rattle.sip_standard.specs.Observation.{Observation, direction_of, silent_obs
 use Rattle.sip_standard.specs.ListingOf.{IsKeyText, AreKeyTexts, IsEntryText}
 use Rattle.sip_verdict.specs.inner.Tracking.{IsJudged, IsStanding}
 use Rattle.sip_verdict.specs.inner.TablesTracking.{key_keeping, transactions_of, HaveNumbers}
-use Rattle.sip_verdict.specs.inner.Numbering.{Appends, AppendsEach, IsTextOf}
+use Rattle.sip_verdict.specs.inner.Numbering.{AppendsListing, AppendsEach, IsListingText}
 use Rattle.sip_verdict.proofs.keys.Keys.{contains-among, keys_in-push}
 use Rattle.sip_verdict.proofs.tables.TablesPassing.{All-place, zip-place, keys_are}
 use Rattle.sip_verdict.proofs.tables.TablesTouching.{same_place}
@@ -103,7 +104,7 @@ module _ (number : List ℕ → ℕ) (texts : Texts) (tells : TellsBook number t
     (known : All (IsKnownSet texts) t.sets) (long : length t.sets ≡ length t.keys) (apart : AllPairs (λ a b. a ≢ b) t.keys)
     (judged : IsJudged p (key_keeping texts p) es e (transactions_of t) None) where
   -- where the listing of one transaction was appended, the text has grown by what is asked for of its key
-  key_text : (key : KeyParts) (n : ℕ) (old new : List ℕ) → concerns key e ≡ true → IsAscii key.method → 0 < n → slice_get t.keys (n - 1) ≡ Some key → Appends t n old new
+  key_text : (key : KeyParts) (n : ℕ) (old new : List ℕ) → concerns key e ≡ true → IsAscii key.method → 0 < n → slice_get t.keys (n - 1) ≡ Some key → AppendsListing t n old new
       → (text : List ℕ) × IsKeyText p number es e key text × (new ≡ old ++ text)
   key_text key n old new concerned ascii low at (k, set, lines, key_at, set_at, lists, is) =
       let same : k ≡ key = (let both : Some k ≡ Some key = sym key_at ∙ at in cc) in
@@ -141,7 +142,7 @@ module _ (number : List ℕ → ℕ) (texts : Texts) (tells : TellsBook number t
 
   -- the text of the transactions with these numbers is what is asked for of an entry that concerns their keys
   -- where the entry concerns no key, the text says that there is no transaction; there are as many numbers as keys
-  texts_of : (ks : List KeyParts) (ns : List ℕ) (text : List ℕ) → All (λ k. (concerns k e ≡ true) × IsAscii k.method) ks → HaveNumbers t.keys ns ks → IsTextOf t ns text
+  texts_of : (ks : List KeyParts) (ns : List ℕ) (text : List ℕ) → All (λ k. (concerns k e ≡ true) × IsAscii k.method) ks → HaveNumbers t.keys ns ks → IsListingText t ns text
       → IsEntryText p number es e ks text
   texts_of [] [] text good have is = is
   texts_of [] (n ∷ ns) text good have is = absurd have
@@ -151,5 +152,5 @@ module _ (number : List ℕ → ℕ) (texts : Texts) (tells : TellsBook number t
       subst (AreKeyTexts p number es e (k ∷ ks)) (sym all.2) all.1
 
   -- the text of the transactions with the numbers of the entry's keys is the text that is asked for of the entry
-  pub entry_text : (ns : List ℕ) (text : List ℕ) → All (λ k. IsAscii k.method) e.keys → HaveNumbers t.keys ns e.keys → IsTextOf t ns text → IsEntryText p number es e e.keys text
+  pub entry_text : (ns : List ℕ) (text : List ℕ) → All (λ k. IsAscii k.method) e.keys → HaveNumbers t.keys ns e.keys → IsListingText t ns text → IsEntryText p number es e e.keys text
   entry_text ns text ascii have is = texts_of e.keys ns text (λ i d low. (contains-among _ e.keys (Contains-get_or e.keys i d low), ascii i d low)) have is

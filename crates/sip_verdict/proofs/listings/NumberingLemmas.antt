@@ -11,7 +11,7 @@ use Rattle.sip_standard.specs.LogEntry.{Item, has_message}
 use Rattle.sip_standard.specs.declared.verdict.Verdict.{Verdict}
 use Rattle.sip_standard.specs.ListingOf.{entry_from, first_entry}
 use Rattle.sip_verdict.specs.Entries.{ConcernsNone}
-use Rattle.sip_verdict.specs.inner.Numbering.{AreNumbered, StaysNumbered, Appends, AppendsEach, IsTextOf}
+use Rattle.sip_verdict.specs.inner.Numbering.{AreNumbered, StaysNumbered, AppendsListing, AppendsEach, IsListingText}
 use Rattle.sip_states.specs.Tables.{Tabled}
 use Rattle.sip_verdict.proofs.judges.ObservingLemmas.{none_alike}
 
@@ -131,11 +131,11 @@ unless_trouble P (Some v) p = tt
 
 -- where the listings of some transactions were appended, and then that of one more, the listings of all of these were
 -- ns are the numbers of the transactions, n is that of the one more, and t are the tables
-pub appends_more : (t : Tabled) (ns : List ℕ) (n : ℕ) (old mid new : List ℕ) → AppendsEach t ns old mid → Appends t n mid new → AppendsEach t (ns ++ n ∷ []) old new
-appends_more t [] n old mid new same one = (new, subst (λ x. Appends t n x new) same one, refl)
+pub appends_more : (t : Tabled) (ns : List ℕ) (n : ℕ) (old mid new : List ℕ) → AppendsEach t ns old mid → AppendsListing t n mid new → AppendsEach t (ns ++ n ∷ []) old new
+appends_more t [] n old mid new same one = (new, subst (λ x. AppendsListing t n x new) same one, refl)
 appends_more t (m ∷ ns) n old mid new (between, first, rest) one = (between, first, appends_more t ns n between mid new rest one)
 
 -- the listings of one transaction or more, appended to nothing, are the text of these transactions
-pub text_of_some : (t : Tabled) (ns : List ℕ) (text : List ℕ) → ns ≢ [] → AppendsEach t ns [] text → IsTextOf t ns text
+pub text_of_some : (t : Tabled) (ns : List ℕ) (text : List ℕ) → ns ≢ [] → AppendsEach t ns [] text → IsListingText t ns text
 text_of_some t [] text some appends = absurd (some refl)
 text_of_some t (n ∷ ns) text some appends = appends

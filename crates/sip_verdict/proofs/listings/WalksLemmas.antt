@@ -29,7 +29,7 @@ use Rattle.sip_verdict.specs.inner.Sweeping.{AreFollowedOn}
 use Rattle.sip_verdict.specs.inner.Tracking.{Tracks, IsJudged}
 use Rattle.sip_verdict.specs.inner.TablesTracking.{key_keeping, transactions_of, TablesTrack}
 use Rattle.sip_verdict.specs.inner.Numbering.{AreNumbered, StaysNumbered, IsListedEntry}
-use Rattle.sip_verdict.specs.inner.Walking.{HasRead, Follows, FollowsOn, JudgesOn, Walks, WalksTo, listed_after}
+use Rattle.sip_verdict.specs.inner.Walking.{HasRead, FollowsAim, FollowsOn, JudgesOn, Walks, WalksTo, listed_after}
 use Rattle.sip_verdict.proofs.sweeps.FollowedLemmas.{observed_moment, followed_none, followed_keys}
 use Rattle.sip_verdict.proofs.judges.JudgingLemmas.{seen-push, judges_front, judged_ends, judged_trouble}
 use Rattle.sip_verdict.proofs.listings.NumberingLemmas.{numbered_start}
@@ -39,7 +39,7 @@ use Rattle.sip_log.specs.Reading as log
 -- What follows is of what is kept of the entries.
 
 -- before the first entry, no messages and no transactions follow no entries
-follows_none : (way : Aim) (p : Times) (texts : Texts) (t : Tabled) → texts ≡ [] → t ≡ record { times = p; keys = []; sets = []; records = [] } → Follows way texts t 0 [] []
+follows_none : (way : Aim) (p : Times) (texts : Texts) (t : Tabled) → texts ≡ [] → t ≡ record { times = p; keys = []; sets = []; records = [] } → FollowsAim way texts t 0 [] []
 follows_none aim.End p texts t none empty = followed_none p texts t none empty
 follows_none (aim.Entry number) p texts t none empty = ((followed_none p texts t none empty).tracks, numbered_start texts none)
 
@@ -59,7 +59,7 @@ walks_start way start now p texts t none empty read = record {
 }
 
 -- whatever the aim is, the tables follow the entries
-tracks_of : (way : Aim) (texts : Texts) (t : Tabled) (left : ℕ) (items : List Item) (es : List (Observation KeyParts)) → Follows way texts t left items es → TablesTrack texts es t
+tracks_of : (way : Aim) (texts : Texts) (t : Tabled) (left : ℕ) (items : List Item) (es : List (Observation KeyParts)) → FollowsAim way texts t left items es → TablesTrack texts es t
 tracks_of aim.End texts t left items es follows = follows.tracks
 tracks_of (aim.Entry number) texts t left items es follows = follows.0
 
@@ -261,6 +261,6 @@ module _ (way : Aim) (start : Option (List ℕ)) (now : log.ReaderState) (count 
         → WalksTo way start (Ok listing)
     walks_listed listing here says =
         -- the aim is this entry, so what follows is told of a walk to it, and what is listed of it is the answer
-        let follows = subst (λ a. Follows a texts t left walks.items walks.es) here walks.follows in
+        let follows = subst (λ a. FollowsAim a texts t left walks.items walks.es) here walks.follows in
         subst (λ a. WalksTo a start (Ok listing)) (sym here)
         (listed_at listing (λ more. says walks.es walks.items more follows.0 follows.1 walks.observed walks.long number_is in_order))

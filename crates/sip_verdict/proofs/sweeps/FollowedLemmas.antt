@@ -55,20 +55,20 @@ book_few texts book number below = go (length texts) refl
 -- What follows is of the messages that are named.
 
 -- the messages that are named after all entries are among the counts of what was named
-pub now_named : (p : Times) (es : List (Observation KeyParts)) (count : ℕ) → AreMany (IsNamed p es) count → WereNamed p es count
-now_named p es count many = record { front = es; rest = []; whole = sym (append-nil es); many = many }
+pub now_named : (Named : List (Observation KeyParts) → List ℕ → Type 0) (es : List (Observation KeyParts)) (count : ℕ) → AreMany (Named es) count → WereNamed Named es count
+now_named Named es count many = record { front = es; rest = []; whole = sym (append-nil es); many = many }
 
 -- a count of what was named stays one when one entry more comes
-more_named : (p : Times) (es : List (Observation KeyParts)) (e : Observation KeyParts) (count : ℕ) → WereNamed p es count
-    → WereNamed p (es ++ e ∷ []) count
-more_named p es e count w = record { front = w.front; rest = w.rest ++ e ∷ []; whole = ap (λ xs. xs ++ e ∷ []) w.whole ∙ append_assoc w.front w.rest (e ∷ []); many = w.many }
+pub more_named : (Named : List (Observation KeyParts) → List ℕ → Type 0) (es : List (Observation KeyParts)) (e : Observation KeyParts) (count : ℕ) → WereNamed Named es count
+    → WereNamed Named (es ++ e ∷ []) count
+more_named Named es e count w = record { front = w.front; rest = w.rest ++ e ∷ []; whole = ap (λ xs. xs ++ e ∷ []) w.whole ∙ append_assoc w.front w.rest (e ∷ []); many = w.many }
 
 -- no message is named before the first entry
 none_named : (p : Times) → AreMany (IsNamed p []) 0
 none_named p = record {
   texts = [];
   distinct = λ i j d lt low. absurd (omega (arith, low));
-  just = λ text. (λ h. absurd (Contains-none text h), λ h. absurd (no_events_silent p 0 (machine_of_key p.rules h.key) [] text refl (h.state, h.stands, h.names)));
+  just = λ text. (λ h. absurd (Contains-none text h), λ h. absurd (no_events_silent p 0 (machine_of_key p.rules h.0) [] text refl h.1));
   counts = refl;
 }
 
@@ -105,7 +105,7 @@ pub followed_none : (p : Times) (texts : Texts) (t : Tabled) → texts ≡ [] �
 followed_none p texts t none empty =
     subst (λ b. AreFollowed b t 0 []) (sym none) (subst (λ u. AreFollowed [] u 0 []) (sym empty) (record {
       tracks = tracks_none p (key_keeping [] p);
-      named = now_named p [] 0 (none_named p);
+      named = now_named (IsNamed p) [] 0 (none_named p);
       few = omega arith;
     }))
 
@@ -134,7 +134,7 @@ module _ (old mid : Texts) (t u : Tabled) (times : u.times ≡ t.times) (number 
         -- few messages are kept still, as many as were left by the last sweep and as many again
         record {
           tracks = tracks_on es h.0 h.2;
-          named = subst (λ p. WereNamed p (es ++ h.0 ∷ []) left) (sym times) (more_named t.times es h.0 left follows.named);
+          named = subst (λ p. WereNamed (IsNamed p) (es ++ h.0 ∷ []) left) (sym times) (more_named (IsNamed t.times) es h.0 left follows.named);
           few = few;
         },
       )
@@ -154,8 +154,8 @@ module _ (old mid : Texts) (t u : Tabled) (times : u.times ≡ t.times) (number 
         h.1,
         record {
           tracks = tracks (es ++ h.0 ∷ []) on;
-          named = subst (λ n. WereNamed v.times (es ++ h.0 ∷ []) n) (sym is)
-              (subst (λ p. WereNamed p (es ++ h.0 ∷ []) (length texts)) (sym same) (now_named u.times (es ++ h.0 ∷ []) (length texts) many));
+          named = subst (λ n. WereNamed (IsNamed v.times) (es ++ h.0 ∷ []) n) (sym is)
+              (subst (λ p. WereNamed (IsNamed p) (es ++ h.0 ∷ []) (length texts)) (sym same) (now_named (IsNamed u.times) (es ++ h.0 ∷ []) (length texts) many));
           -- no more messages are kept than are named
           few = omega (arith, is);
         },

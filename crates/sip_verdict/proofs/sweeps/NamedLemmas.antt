@@ -9,7 +9,7 @@ use Rattle.sip_machine.specs.Owes.{owes_seen, owes_names}
 use Rattle.sip_machine.specs.Rules.{MachineRules, StandFor}
 use Rattle.sip_states.specs.Waits.{Wait}
 use Rattle.sip_standard.specs.KeyMachine.{MachineKind}
-use Rattle.sip_states.specs.inner.KeySets.{coded_of, StateOf, meaning_of}
+use Rattle.sip_states.specs.inner.KeySets.{coded_of, CodeOwingOf, meaning_of}
 use Rattle.sip_states.proofs.keyed.KeySetLaws.{coded_holds}
 use Rattle.sip_states.proofs.lists.Listed.{Contains-map, Contains-from_map, Contains-none}
 use Rattle.sip_states.proofs.keyed.NamesLemmas.{Contains-flat_map, Contains-from_flat_map}
@@ -72,7 +72,7 @@ owed_named texts [] = refl
 owed_named texts (debt ∷ owes) = ap (λ rest. text_of texts debt.message ∷ rest) (owed_named texts owes)
 
 -- what a state of the code names in the book is what the state that it stands for names
-pub named_of : (machine : MachineKind) (texts : Texts) (x : StateOf machine) → messages_of machine ((meaning_of machine).seen texts x) ≡ map (text_of texts) ((meaning_of machine).names x)
+pub named_of : (machine : MachineKind) (texts : Texts) (x : CodeOwingOf machine) → messages_of machine ((meaning_of machine).seen texts x) ≡ map (text_of texts) ((meaning_of machine).names x)
 named_of machine texts x =
     ap₂ (λ of_phase owed. of_phase ++ owed) ((coded_holds machine).named texts x.phase) (owed_named texts x.owes)
     ∙ sym (map-append (text_of texts) ((coded_of machine).names x.phase) (owes_names x.owes))

@@ -14,7 +14,7 @@ use Rattle.sip_machine.specs.Texts.{Texts, Keeps, text_of}
 use Rattle.sip_machine.specs.Rules.{Knows}
 use Rattle.sip_machine.proofs.rules.RuleLaws.{AgreeOn, StandFor-book}
 use Rattle.sip_machine.proofs.texts.TextLaws.{Keeps-grow, Keeps-grow_cases, text_of-grow}
-use Rattle.sip_states.specs.inner.KeySets.{StateOf, set_of, meaning_of}
+use Rattle.sip_states.specs.inner.KeySets.{CodeOwingOf, set_of, meaning_of}
 use Rattle.sip_standard.specs.Stands.{Stands, StandsAfter}
 use Rattle.sip_states.specs.Held.{Held}
 use Rattle.sip_states.specs.Meaning.{IsKnown}
@@ -59,7 +59,7 @@ module _ (number : ℕ) (bytes : List ℕ) (new : Texts) where
   old = new ++ (number, bytes) ∷ []
 
   -- a state of a set of this machine that does not name the dropped message names only messages that are kept still
-  agree : (machine : MachineKind) (s : Held Times (StateOf machine)) → ((n : ℕ) → Contains (flat_map (meaning_of machine).names s.states) n → n ≡ number → ⊥) → All (Knows (meaning_of machine).names old) s.states
+  agree : (machine : MachineKind) (s : Held Times (CodeOwingOf machine)) → ((n : ℕ) → Contains (flat_map (meaning_of machine).names s.states) n → n ≡ number → ⊥) → All (Knows (meaning_of machine).names old) s.states
       → All (AgreeOn (meaning_of machine).names old new) s.states
   agree machine s unnamed knows k d low n has =
       let names = (meaning_of machine).names in
@@ -74,7 +74,7 @@ module _ (number : ℕ) (bytes : List ℕ) (new : Texts) where
       go (inr same) = absurd (unnamed n (Contains-flat_map (meaning_of machine).names s.states (get_or s.states k d) n (Contains-get_or s.states k d low) has) (sym same))
 
   -- a set of this machine that does not name the dropped message has only states that do not name it
-  unnamed_of : (machine : MachineKind) (s : Held Times (StateOf machine)) (set : AnySet) → set ≡ set_of machine s → ¬ Contains (numbers_of set) number
+  unnamed_of : (machine : MachineKind) (s : Held Times (CodeOwingOf machine)) (set : AnySet) → set ≡ set_of machine s → ¬ Contains (numbers_of set) number
       → (n : ℕ) → Contains (flat_map (meaning_of machine).names s.states) n → n ≡ number → ⊥
   unnamed_of machine s set is unnamed n has same =
       unnamed (subst (λ ns. Contains ns number) (sym (ap numbers_of is ∙ numbers_are machine s)) (subst (Contains (flat_map (meaning_of machine).names s.states)) same has))

@@ -10,12 +10,12 @@ use Rattle.sip_machine.specs.Retained.{only}
 use Rattle.sip_standard.specs.MachineEvent.{MachineEvent}
 use Rattle.sip_machine.specs.Limits.{IsWithin, IsOpenAt}
 use Rattle.sip_machine.specs.Rules.{MachineRules, IsLawful, StandFor}
-use Rattle.sip_machine.specs.inner.OwingLaws.{window_same, until_same}
+use Rattle.sip_phases.proofs.states.OwingLaws.{window_same, until_same}
 use Rattle.sip_machine.proofs.texts.RetainLemmas.{only-Keeps, text_of-only}
 use Rattle.sip_states.specs.Waits.{Wait, IsAgenda}
 use Rattle.sip_standard.specs.KeyMachine.{MachineKind, transaction_of}
 use Rattle.sip_standard.specs.Stands.{Stands}
-use Rattle.sip_states.specs.inner.KeySets.{coded_of, StateOf, meaning_of}
+use Rattle.sip_states.specs.inner.KeySets.{coded_of, CodeOwingOf, meaning_of}
 use Rattle.sip_states.proofs.keyed.KeySetLaws.{coded_holds}
 use Rattle.sip_states.specs.Meaning.{IsKnown, HasWaited, HasAgenda}
 use Rattle.sip_states.specs.AnySet.{moment_of, SetWaits, IsKnownSet, IsAgendaOf}
@@ -145,11 +145,11 @@ agenda_waited {X} names InRange seen texts r lawful at moment old new low stand 
     (λ some. lasts.0 (some.0, (same some.0).0 some.1), λ within. let some = lasts.1 within in (some.0, (same some.0).1 some.1))
 
 -- the timers of a state do not depend on the book
-window_of : (machine : MachineKind) (p : Times) (a b : Texts) (x : StateOf machine) → ((meaning_of machine).rules p).window ((meaning_of machine).seen a x) ≡ ((meaning_of machine).rules p).window ((meaning_of machine).seen b x)
+window_of : (machine : MachineKind) (p : Times) (a b : Texts) (x : CodeOwingOf machine) → ((meaning_of machine).rules p).window ((meaning_of machine).seen a x) ≡ ((meaning_of machine).rules p).window ((meaning_of machine).seen b x)
 window_of machine p a b x = window_same (transaction_of machine).figure (coded_of machine).seen a b p x ((coded_holds machine).window_same a b p x.phase)
 
 -- until when a state can be waited in does not depend on the book
-until_of : (machine : MachineKind) (p : Times) (a b : Texts) (x : StateOf machine) → ((meaning_of machine).rules p).until ((meaning_of machine).seen a x) ≡ ((meaning_of machine).rules p).until ((meaning_of machine).seen b x)
+until_of : (machine : MachineKind) (p : Times) (a b : Texts) (x : CodeOwingOf machine) → ((meaning_of machine).rules p).until ((meaning_of machine).seen a x) ≡ ((meaning_of machine).rules p).until ((meaning_of machine).seen b x)
 until_of machine p a b x = until_same (transaction_of machine).figure (coded_of machine).seen a b p x ((coded_holds machine).closes_same a b p x.phase)
 
 -- where a last moment is on record of a set, it is that of the set after a sweep

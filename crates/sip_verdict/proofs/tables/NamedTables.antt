@@ -13,8 +13,8 @@ use Rattle.sip_machine.proofs.texts.RetainLemmas.{length-only}
 use Rattle.sip_states.specs.Waits.{Wait}
 use Rattle.sip_states.specs.Held.{Held}
 use Rattle.sip_standard.specs.KeyMachine.{MachineKind, machine_of_key, transaction_of}
-use Rattle.sip_states.specs.inner.KeySets.{StateOf, meaning_of}
-use Rattle.sip_states.specs.KeyRules.{PhaseOf, key_rules}
+use Rattle.sip_states.specs.inner.KeySets.{CodeOwingOf, meaning_of}
+use Rattle.sip_states.specs.KeyRules.{OwingOf, key_rules}
 use Rattle.sip_states.specs.Meaning.{HasWaited}
 use Rattle.sip_states.specs.AnySet.{moment_of, SetWaits}
 use Rattle.sip_states.specs.Sweep.{numbers_of, IsAdvanced}
@@ -38,7 +38,7 @@ use Rattle.sip_verdict.proofs.sweeps.NamedLemmas.{RunNames, IsNumberOf, waited_n
 
 -- a run over no event stands in the first state
 -- y is the state in which the run stands at the moment m
-stays_first : (p : Times) (machine : MachineKind) (m : ℕ) (y : PhaseOf machine) → Stands (transaction_of machine).figure p [] m y → y ≡ (key_rules p machine).first
+stays_first : (p : Times) (machine : MachineKind) (m : ℕ) (y : OwingOf machine) → Stands (transaction_of machine).figure p [] m y → y ≡ (key_rules p machine).first
 stays_first p machine m y run = go ((stands_first p machine m y).0 run)
   where
     -- a run over no event stays in the first state, which has no end
@@ -87,11 +87,11 @@ module _ (texts : Texts) (book : IsBook texts) (p : Times) (moment : ℕ) where
   -- What follows is of one key, whose runs name just what its set names: `old` is its set before the wait, and `new` after it; `text` is any message.
   module _ (machine : MachineKind) (events : List MachineEvent) (from : ℕ) (old new : AnySet) (leads : LeadsOf texts p machine events from old) (late : from ≤ moment) (low : moment_of old ≤ moment) (text : List ℕ) where
     -- what the code holds for the set
-    abbrev held : Held Times (StateOf machine)
+    abbrev held : Held Times (CodeOwingOf machine)
     held = leads.0
 
     -- the rules of the machine
-    abbrev r : MachineRules (PhaseOf machine)
+    abbrev r : MachineRules (OwingOf machine)
     r = (meaning_of machine).rules p
 
     -- the set has waited no longer than until the moment
@@ -157,17 +157,15 @@ module _ (texts : Texts) (book : IsBook texts) (p : Times) (moment : ℕ) where
     -- the texts that are named in the log are those of the messages that the sets name
     pub tables_named : (text : List ℕ) → IsNamed p es text ↔ IsNumberOf texts (flat_map numbers_of u.sets) text
     tables_named text = (
-      λ h. from_key h.key text (h.state, subst (λ n. Stands (transaction_of (machine_of_key p.rules h.key)).figure p (events_for h.key es) n h.state) newest h.stands, h.names)
-          (list_any (same_key h.key) (keys_in es)) refl,
+      λ h. from_key h.0 text (subst (λ n. StandsNaming p (machine_of_key p.rules h.0) (events_for h.0 es) n text) newest h.1) (list_any (same_key h.0) (keys_in es)) refl,
       -- a number that a set names is named by the runs of its key
       λ h. let (number, has, text_is) = h in
           let (new, (n, low, is), in_set) = Contains-from_flat_map numbers_of u.sets number has in
           let there : slice_get u.sets n ≡ Some new = slice_get-get_or u.sets n new low ∙ ap Some is in
           let (old, here) = at_place t.sets n (omega (arith, low, as_long)) in
           let (key, at) = at_place t.keys n (omega (arith, low, as_long, long)) in
-          -- a run of the key stands in a state y that names the text
-          let (y, run, names) = (at_key n key old new at here there text).1 (number, in_set, text_is) in
-          record { key = key; state = y; stands = subst (λ n. Stands (transaction_of (machine_of_key p.rules key)).figure p (events_for key es) n y) (sym newest) run; names = names },
+          -- a run of the key stands in a state that names the text
+          (key, subst (λ n. StandsNaming p (machine_of_key p.rules key) (events_for key es) n text) (sym newest) ((at_key n key old new at here there text).1 (number, in_set, text_is))),
     )
 
     -- as many messages are named after the entries as the book keeps under the numbers that the sets name

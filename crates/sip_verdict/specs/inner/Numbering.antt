@@ -27,20 +27,20 @@ abbrev pub StaysNumbered : Item → ℕ → Texts → Texts → Type 0
 StaysNumbered item number old new = (items : List Item) → AreNumbered items old → number ≡ length items + 1 → AreNumbered (items ++ item ∷ []) new
 
 -- the text has grown by the listing of the transaction with this number
-abbrev pub Appends : Tabled → ℕ → List ℕ → List ℕ → Type 0
-Appends t n old new =
+abbrev pub AppendsListing : Tabled → ℕ → List ℕ → List ℕ → Type 0
+AppendsListing t n old new =
     (key : KeyParts) × (set : AnySet) × (lines : List (List ℕ)) × (slice_get t.keys (n - 1) ≡ Some key) × (slice_get t.sets (n - 1) ≡ Some set) × Lists set lines
     × (IsAscii key.method → new ≡ old ++ transaction_text n key lines)
 
 -- the text has grown by the listings of the transactions with these numbers, one after another
 abbrev pub AppendsEach : Tabled → List ℕ → List ℕ → List ℕ → Type 0
 AppendsEach t [] old new = new ≡ old
-AppendsEach t (n ∷ ns) old new = (between : List ℕ) × Appends t n old between × AppendsEach t ns between new
+AppendsEach t (n ∷ ns) old new = (between : List ℕ) × AppendsListing t n old between × AppendsEach t ns between new
 
 -- this is the text of the transactions with these numbers; where there is no number it says that there is no transaction
-abbrev pub IsTextOf : Tabled → List ℕ → List ℕ → Type 0
-IsTextOf t [] text = text ≡ codes "no transaction\n"
-IsTextOf t (n ∷ ns) text = AppendsEach t (n ∷ ns) [] text
+abbrev pub IsListingText : Tabled → List ℕ → List ℕ → Type 0
+IsListingText t [] text = text ≡ codes "no transaction\n"
+IsListingText t (n ∷ ns) text = AppendsEach t (n ∷ ns) [] text
 
 -- what is listed of the entry e after these: the text of its transactions where it is in no trouble, and else its verdict
 abbrev pub IsListedEntry : Times → (List ℕ → ℕ) → List (Observation KeyParts) → Observation KeyParts → Listing → Type 0

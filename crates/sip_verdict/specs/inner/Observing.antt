@@ -56,10 +56,10 @@ IsHeard texts moment (Heard event concerned) =
     FitsBook texts event × (event.moment ≡ moment) × AllPairs (λ a b. a ≢ b) (each concerned) × (is_all concerned ≡ false)
 
 -- the book keeps the message of an entry that is heard under the number of its event, and neither keeps nor loses any other message
-abbrev pub IsKept : Texts → Texts → Entry → Observed → Type 0
-IsKept old new entry Unheard = new ≡ old
-IsKept old new entry (Fault fault) = new ≡ old
-IsKept old new entry Restart = (new ≡ old) × ConcernsNone (item entry)
-IsKept old new entry (Heard event concerned) =
+abbrev pub KeepsHeard : Texts → Texts → Entry → Observed → Type 0
+KeepsHeard old new entry Unheard = new ≡ old
+KeepsHeard old new entry (Fault fault) = new ≡ old
+KeepsHeard old new entry Restart = (new ≡ old) × ConcernsNone (item entry)
+KeepsHeard old new entry (Heard event concerned) =
     (has_message entry.action ≡ true) × ¬ ConcernsNone (item entry) × Keeps new event.number × (text_of new event.number ≡ entry.bytes.items)
     × ((new ≡ old) ⊎ (new ≡ old ++ (entry.number, entry.bytes.items) ∷ []))

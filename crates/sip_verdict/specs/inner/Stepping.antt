@@ -8,7 +8,7 @@ use Rattle.sip_standard.specs.VerdictOf.{IsWide}
 use Rattle.sip_machine.specs.Texts.{Texts}
 use Rattle.sip_machine.specs.Rules.{MachineRules}
 use Rattle.sip_states.specs.Held.{Held}
-use Rattle.sip_states.specs.KeyRules.{PhaseOf}
+use Rattle.sip_states.specs.KeyRules.{OwingOf}
 use Rattle.sip_verdict.specs.declared.passing.Outcome.{Outcome}
 use Rattle.sip_verdict.specs.declared.passing.Outcome.TheVariants as all
 use Rattle.sip_verdict.specs.inner.Leads.{Leads}
@@ -20,7 +20,7 @@ pub record LeadsTo {M X S : Type 0} (names : S → List ℕ) (seen : Texts → S
 
 -- some run of the machine over the events stands at the moment
 abbrev pub RunsUntil : Times → MachineKind → List MachineEvent → ℕ → Type 0
-RunsUntil p machine events moment = (y : PhaseOf machine) × Stands (transaction_of machine).figure p events moment y
+RunsUntil p machine events moment = (y : OwingOf machine) × Stands (transaction_of machine).figure p events moment y
 
 -- what the events, with one more, leave of the runs at the moment of the last: `Leads` says to which events the set leads then, and `Holds` that its states
 -- are just the last states of the runs that end with the one more

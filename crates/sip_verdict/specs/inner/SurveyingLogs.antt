@@ -3,7 +3,7 @@ use Rattle.std.specs.Prelude.{◌≡◌, ◌≤◌, ◌+◌, ◌++◌, [], ◌�
 use Rattle.std.specs.Io.KnownBytes.{Appends}
 use Rattle.sip_standard.specs.Key.{KeyParts}
 use Rattle.sip_standard.specs.LogEntry.{Item}
-use Rattle.sip_standard.specs.LogSays.{LogEnd, most_entries, line_feed}
+use Rattle.sip_standard.specs.LogSays.{LogEnd, most_entries}
 use Rattle.sip_part.specs.Part.{PartOf}
 use Rattle.sip_log.specs.Reading.{ProgressState, entries}
 use Rattle.sip_verdict.specs.declared.finding.Finding.{Finding}
@@ -14,16 +14,15 @@ use Rattle.sip_verdict.specs.declared.survey_error.SurveyError.{SurveyError}
 use Rattle.sip_verdict.specs.declared.survey_error.SurveyError.TheVariants.{Read, Memory}
 use Rattle.sip_verdict.specs.declared.surveying.Counts.{Counts}
 use Rattle.sip_standard.specs.Observation.{Observation}
-use Rattle.sip_verdict.specs.SurveyOf.{IsSurveyAfter, IsSurveyOf, IsFoundAt, verdict_of}
+use Rattle.sip_verdict.specs.SurveyOf.{IsSurveyAfter, IsSurveyOf, IsFoundAt}
 use Rattle.sip_verdict.specs.SurveyParts.{IsPartSurveyOf, IsPartToldOf, IsTaken}
-use Rattle.sip_verdict.specs.SurveyText.{SumsUp, is_undecided, IsFirstOf, IsLastOf, IsLineOf, IsToldOf, transaction_words}
+use Rattle.sip_verdict.specs.SurveyText.{SumsUp, is_undecided, IsFirstEntryOf, IsLastEntryOf, IsLineOf, IsToldOf}
 use Rattle.sip_verdict.specs.Surveys.{Surveying, SurveysFor}
 use Rattle.sip_verdict.specs.inner.Walking.{HasRead}
 use Rattle.sip_standard.specs.Times.{Times}
 use Rattle.sip_verdict.specs.declared.finding.Finding.TheVariants.{Malformed, Breach, Undecided}
 use Rattle.sip_verdict.specs.declared.transaction.Transaction.{Transaction}
 use Rattle.sip_standard.specs.Seen.{AreSeen}
-use Rattle.sip_standard.specs.Rendering.{rendered}
 use Rattle.sip_standard.specs.VerdictOf.{keys_in}
 use Rattle.sip_log.specs.Reading as log
 use Rattle.sip_standard.specs.declared.judge_error.JudgeError.TheVariants as judging
@@ -39,24 +38,15 @@ pub record AreCounted (found : List Finding) (old new : Counts) : Type 0 where
   pub undecided : new.undecided ≡ old.undecided + length (filter is_undecided found)
 
 -- the counts are those of these findings, and these lines were written
-pub record AreTold (found : List Finding) (lines : List ℕ) (counts : Counts) (before after : Option (List ℕ)) : Type 0 where
+pub record HasWritten (found : List Finding) (lines : List ℕ) (counts : Counts) (before after : Option (List ℕ)) : Type 0 where
   pub findings : counts.findings ≡ length found
   pub undecided : counts.undecided ≡ length (filter is_undecided found)
   pub written : Appends before after lines
 
--- the words for a transaction as a survey tells it
-abbrev pub words_of : Transaction → List ℕ
-words_of t = transaction_words t.key.now t.branch.now t.first t.last
-
--- the line of a finding, with the words for its transaction where the transaction is known
-abbrev pub line_with : Finding → Option Transaction → List ℕ
-line_with f None = rendered (verdict_of f) ++ line_feed ∷ []
-line_with f (Some t) = rendered (verdict_of f) ++ words_of t ++ line_feed ∷ []
-
 -- the survey tells the transaction with this number
 abbrev pub Tells : Surveying → ℕ → Option Transaction → Type 0
 Tells s number told = (es : List (Observation KeyParts)) → SurveysFor s es → 0 < number
-    → IfSome (slice_get (keys_in es) (number - 1)) (λ key. IsSomeAnd told (λ t. (t.key.now ≡ key) × IsFirstOf es key t.first t.branch.now × IsLastOf es key t.last))
+    → IfSome (slice_get (keys_in es) (number - 1)) (λ key. IsSomeAnd told (λ t. (t.key.now ≡ key) × IsFirstEntryOf es key t.first t.branch.now × IsLastEntryOf es key t.last))
 
 -- the survey tells the transaction of the finding; a fault of a message has no transaction
 abbrev pub TellsOf : Surveying → Finding → Option Transaction → Type 0

@@ -10,7 +10,7 @@ use Rattle.sip_machine.specs.Rules.{StandFor}
 use Rattle.sip_states.specs.Held.{Held}
 use Rattle.sip_standard.specs.KeyMachine.{MachineKind, machine_of_key, transaction_of}
 use Rattle.sip_standard.specs.Stands.{Stands, StandsAfter}
-use Rattle.sip_states.specs.inner.KeySets.{StateOf, set_of, meaning_of}
+use Rattle.sip_states.specs.inner.KeySets.{CodeOwingOf, set_of, meaning_of}
 use Rattle.sip_states.specs.Meaning.{Meaning}
 use Rattle.sip_states.specs.AnySet.{moment_of, IsKnownSet, IsQuietSet, IsAgendaOf}
 use Rattle.sip_states.specs.Sweep.{SetMayName, numbers_of}
@@ -22,7 +22,7 @@ use Rattle.sip_verdict.specs.declared.passing.Hearing.{Hearing}
 use Rattle.sip_verdict.specs.declared.passing.Outcome.{Outcome}
 use Rattle.sip_verdict.specs.declared.passing.Outcome.TheVariants as all
 use Rattle.sip_standard.specs.Observation.{Observation}
-use Rattle.sip_verdict.specs.inner.Keyed.{concerns}
+use Rattle.sip_verdict.specs.Entries.{concerns}
 use Rattle.sip_verdict.specs.inner.Stepping.{LeadsTo, IsStepped}
 use Rattle.sip_verdict.specs.inner.Tracking.{Keeping, Tracks, TracksBefore, IsOwnOutcome, first_of}
 use Rattle.sip_verdict.specs.inner.Concerned.{each, is_all}
@@ -33,12 +33,12 @@ LeadsBy m texts p Runs from s = LeadsTo m.names m.seen m.rules texts p s Runs fr
 
 -- the set is one of this machine, and leads to the runs over the events from the moment on
 abbrev pub LeadsOf : Texts → Times → MachineKind → List MachineEvent → ℕ → AnySet → Type 0
-LeadsOf texts p machine events from set = (s : Held Times (StateOf machine)) × (set ≡ set_of machine s)
+LeadsOf texts p machine events from set = (s : Held Times (CodeOwingOf machine)) × (set ≡ set_of machine s)
     × LeadsBy (meaning_of machine) texts p (Stands (transaction_of machine).figure p events) from s
 
 -- the set is one of this machine, and its states are just the last states of the runs over the events that end with one more event
 abbrev pub StandsOf : Texts → Times → MachineKind → List MachineEvent → MachineEvent → AnySet → Type 0
-StandsOf texts p machine events e set = (s : Held Times (StateOf machine)) × (set ≡ set_of machine s)
+StandsOf texts p machine events e set = (s : Held Times (CodeOwingOf machine)) × (set ≡ set_of machine s)
     × StandFor (meaning_of machine).names (meaning_of machine).in_range (meaning_of machine).seen texts (StandsAfter (transaction_of machine).figure p events e) s.states
 
 -- what is kept of a key is a set of its machine

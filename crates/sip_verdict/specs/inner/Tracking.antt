@@ -6,9 +6,8 @@ use Rattle.sip_verdict.specs.declared.passing.Outcome.{Outcome}
 use Rattle.sip_verdict.specs.declared.passing.Outcome.TheVariants as all
 use Rattle.sip_standard.specs.Observation.{Observation}
 use Rattle.sip_standard.specs.VerdictOf.{keys_in, events_for, RunsOver, IsWideAt, IsFirstKey, HasTrouble}
-use Rattle.sip_verdict.specs.Entries.{newest_moment}
+use Rattle.sip_verdict.specs.Entries.{concerns, newest_moment}
 use Rattle.sip_verdict.specs.LegalLog.{IsGood}
-use Rattle.sip_verdict.specs.inner.Keyed.{concerns}
 use Rattle.sip_standard.specs.Key.{KeyParts}
 use Rattle.sip_standard.specs.Times.{Times}
 

@@ -52,18 +52,18 @@ MovesOn old new (Fault reason) = ⊤
 -- What follows is of what was judged of a log.
 
 -- what is kept follows these entries: few messages where the aim is the end of the log, and each under its first entry's number where the aim is an entry
-abbrev pub Follows : Aim → Texts → Tabled → ℕ → List Item → List (Observation KeyParts) → Type 0
-Follows aim.End texts t left items es = AreFollowed texts t left es
-Follows (aim.Entry number) texts t left items es = TablesTrack texts es t × AreNumbered items texts
+abbrev pub FollowsAim : Aim → Texts → Tabled → ℕ → List Item → List (Observation KeyParts) → Type 0
+FollowsAim aim.End texts t left items es = AreFollowed texts t left es
+FollowsAim (aim.Entry number) texts t left items es = TablesTrack texts es t × AreNumbered items texts
 
 -- what is kept of the entries follows the entry e too, or the verdict of e is given
 abbrev pub FollowsOn : Aim → Texts → Tabled → ℕ → List Item → Item → List (Observation KeyParts) → Observation KeyParts → Option Verdict → Type 0
-FollowsOn way texts t left items i es e None = Follows way texts t left (items ++ i ∷ []) (es ++ e ∷ [])
+FollowsOn way texts t left items i es e None = FollowsAim way texts t left (items ++ i ∷ []) (es ++ e ∷ [])
 FollowsOn way texts t left items i es e (Some v) = HasTrouble t.times es e v
 
 -- what is judged of the entry that comes next, whatever entries came before
 abbrev pub JudgesOn : Aim → Texts → Tabled → ℕ → Texts → Tabled → ℕ → LogEntry → Option Verdict → Type 0
-JudgesOn way old t left new u rest entry verdict = (items : List Item) (es : List (Observation KeyParts)) → Follows way old t left items es
+JudgesOn way old t left new u rest entry verdict = (items : List Item) (es : List (Observation KeyParts)) → FollowsAim way old t left items es
     → length items ≡ length es → entry.number ≡ length es + 1 → newest_moment es ≤ entry.moment
     → (e : Observation KeyParts) × Sees es (item entry) e × FollowsOn way new u rest items (item entry) es e verdict
 
@@ -72,7 +72,7 @@ pub record Walks (way : Aim) (start : Option (List ℕ)) (now : log.ReaderState)
   pub items : List Item
   pub es : List (Observation KeyParts)
   pub observed : AreSeen [] items es
-  pub follows : Follows way texts t left items es
+  pub follows : FollowsAim way texts t left items es
   pub long : length items ≡ length es
   pub counts : count ≡ length es
   pub read : HasRead start t.times items now

@@ -11,7 +11,7 @@ use Rattle.sip_standard.specs.MachineEvent.{MachineEvent}
 use Rattle.sip_standard.specs.Times.{Times}
 use Rattle.sip_standard.specs.InviteClient as corrected
 use Rattle.sip_standard.specs.InviteClient3261 as without
-use Rattle.sip_standard.specs.KeyMachine.{OfInviteClient, OfInviteClient3261}
+use Rattle.sip_standard.specs.KeyMachine.{OfInvite}
 use Rattle.sip_standard.specs.Stands.{Stands, StandsAfter}
 use Rattle.consequences.specs.Events.{SendsRequest, GetsResponse, IsAnyCode}
 use Rattle.consequences.specs.Machines.{figure_of, StateOf}
@@ -25,18 +25,18 @@ over : (p : Times) (rules : Rules) (before after : List MachineEvent) (invite : 
     SendsRequest Invite invite → All (λ f. ¬ (GetsResponse IsAnyCode f)) after → Stands (figure_of rules Client true) p (before ++ invite ∷ after) m y →
     close_at p invite.moment (64 * p.t1) < m → y ≡ quiet (figure_of rules Client true).ended
 over p R6026 before after invite m y sent unanswered stands late =
-    over-by-timer-b corrected.Receives receives_6026 p (what_stands_lasts OfInviteClient p) before after invite m y sent unanswered stands late
+    over-by-timer-b corrected.Receives receives_6026 p (what_stands_lasts (OfInvite R6026 Client) p) before after invite m y sent unanswered stands late
 over p R3261 before after invite m y sent unanswered stands late =
-    over-by-timer-b without.Receives receives_3261 p (what_stands_lasts OfInviteClient3261 p) before after invite m y sent unanswered stands late
+    over-by-timer-b without.Receives receives_3261 p (what_stands_lasts (OfInvite R3261 Client) p) before after invite m y sent unanswered stands late
 
 -- by each of the rules, a client without a response sends nothing but a CANCEL once timer B has fired
 silent : (p : Times) (rules : Rules) (before after : List MachineEvent) (invite e : MachineEvent) (y : StateOf rules Client true) →
     SendsRequest Invite invite → All (λ f. ¬ (GetsResponse IsAnyCode f)) after → e.action ≡ Sent → StandsAfter (figure_of rules Client true) p (before ++ invite ∷ after) e y →
     close_at p invite.moment (64 * p.t1) < e.moment → e.kind ≡ Request Cancel
 silent p R6026 before after invite e y sent unanswered is_sent stands late =
-    silent-after-timer-b corrected.Receives receives_6026 p (what_stands_lasts OfInviteClient p) before after invite e y sent unanswered is_sent stands late
+    silent-after-timer-b corrected.Receives receives_6026 p (what_stands_lasts (OfInvite R6026 Client) p) before after invite e y sent unanswered is_sent stands late
 silent p R3261 before after invite e y sent unanswered is_sent stands late =
-    silent-after-timer-b without.Receives receives_3261 p (what_stands_lasts OfInviteClient3261 p) before after invite e y sent unanswered is_sent stands late
+    silent-after-timer-b without.Receives receives_3261 p (what_stands_lasts (OfInvite R3261 Client) p) before after invite e y sent unanswered is_sent stands late
 
 -- the transaction has ended by timer B, as was shown above
 pub returns-clause-over : goal.returns-clause-over

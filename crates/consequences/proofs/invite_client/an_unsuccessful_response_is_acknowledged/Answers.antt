@@ -11,7 +11,7 @@ use Rattle.sip_standard.specs.Kind.{IsFinal, IsSuccess, IsUnsuccessful}
 use Rattle.sip_standard.specs.Times.{Times}
 use Rattle.sip_standard.specs.InviteClient as corrected
 use Rattle.sip_standard.specs.InviteClient3261 as without
-use Rattle.sip_standard.specs.KeyMachine.{OfInviteClient, OfInviteClient3261}
+use Rattle.sip_standard.specs.KeyMachine.{OfInvite}
 use Rattle.sip_standard.specs.Stands.{Stands}
 use Rattle.consequences.specs.Acknowledged.{Acknowledges, GivesUp, Completes, IsAwaited, IsBeforeTimerD}
 use Rattle.consequences.specs.Events.{SendsRequest, GetsResponse, IsRefused, IsRestart}
@@ -51,8 +51,8 @@ module _ (p : Times) (before between after : List MachineEvent) (invite response
       -- the two rules, by one of which the element was built
       by_rules : (rules : Rules) (y : StateOf rules Client true) → Stands (figure_of rules Client true) p (before ++ invite ∷ (between ++ response ∷ after)) m y
           → Any (Acknowledges p invite response) after ⊎ Any (λ f. IsRefused f ⊎ IsRestart f) after
-      by_rules R6026 y stands = acknowledged corrected.Receives receives_6026 p invite response (what_stands_lasts OfInviteClient p) before between after m y none sent waiting gets stands late
-      by_rules R3261 y stands = acknowledged without.Receives receives_3261 p invite response (what_stands_lasts OfInviteClient3261 p) before between after m y none sent waiting gets stands late
+      by_rules R6026 y stands = acknowledged corrected.Receives receives_6026 p invite response (what_stands_lasts (OfInvite R6026 Client) p) before between after m y none sent waiting gets stands late
+      by_rules R3261 y stands = acknowledged without.Receives receives_3261 p invite response (what_stands_lasts (OfInvite R3261 Client) p) before between after m y none sent waiting gets stands late
 
   -- the first final response is acknowledged
   first : (rules : Rules) (y : StateOf rules Client true) → All (λ f. ¬ (GetsResponse IsFinal f) × ¬ (IsRefused f) × ¬ (IsRestart f)) between

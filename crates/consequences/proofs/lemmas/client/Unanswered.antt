@@ -24,7 +24,7 @@ use Rattle.sip_standard.specs.Figure.{Figure, keeps, gains, Owing, quiet, Emits,
 use Rattle.sip_standard.specs.InviteClient.{InviteClientPhase, Idle, Ended, Calling, Proceeding, Accepted, Completed, Sends, ends_refused}
 use Rattle.sip_standard.specs.Stands.{Stands, StandsAfter}
 use Rattle.consequences.specs.Events.{SendsRequest, GetsResponse, IsAnyCode, IsRefused, IsRestart}
-use Rattle.sip_machine.specs.inner.DebtLaws.{All-front}
+use Rattle.sip_phases.proofs.debts.DebtLaws.{All-front}
 use Rattle.consequences.proofs.lemmas.run.Lists.{any-last, any-earlier, any-none, All-last}
 use Rattle.consequences.proofs.lemmas.client.Once.{IsInvited, invites-once, over-emits, over-steps}
 use Rattle.consequences.proofs.lemmas.run.Running.{Runs, IsKept, left_at, step-of, stands-run, Cut, cut, run-keeps}

@@ -3,7 +3,7 @@ use Rattle.std.proofs.Common.{◌≡◌, ◌⊎◌, inl, inr, zero, suc, Bool, t
 use Rattle.std.specs.List.{Any}
 use Rattle.std.proofs.lemmas.List.Elements.{All-head, All-contains, Contains-append_left, Contains-append_right, Contains-append_cases}
 use Rattle.std.proofs.lemmas.List.Quantifiers.{Any-push}
-use Rattle.sip_machine.specs.inner.DebtLaws.{All-back}
+use Rattle.sip_phases.proofs.debts.DebtLaws.{All-back}
 use Rattle.sip_states.proofs.lists.Listed.{Contains-none, Contains-there}
 
 -- what each element has, the last one has

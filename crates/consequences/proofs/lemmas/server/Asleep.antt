@@ -18,7 +18,7 @@ use Rattle.sip_standard.specs.InviteServer as corrected
 use Rattle.sip_standard.specs.InviteServer3261 as without
 use Rattle.sip_standard.specs.PlainServer as plain
 use Rattle.consequences.specs.Events.{IsRestart}
-use Rattle.sip_machine.specs.inner.DebtLaws.{All-front}
+use Rattle.sip_phases.proofs.debts.DebtLaws.{All-front}
 use Rattle.consequences.proofs.lemmas.run.Lists.{All-last}
 use Rattle.consequences.proofs.lemmas.run.Running.{Runs, IsKept, step-of, run-keeps}
 

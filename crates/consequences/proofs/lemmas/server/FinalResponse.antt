@@ -25,7 +25,7 @@ use Rattle.sip_standard.specs.Stands.{StandsAfter}
 use Rattle.consequences.specs.Events.{GetsRequest, IsResponse, SendsResponse, IsRestart}
 use Rattle.consequences.specs.Servers.{BeginNoneAnew}
 use Rattle.consequences.proofs.lemmas.server.Asleep.{nothing-to-pay}
-use Rattle.sip_machine.specs.inner.DebtLaws.{All-front, All-without}
+use Rattle.sip_phases.proofs.debts.DebtLaws.{All-front, All-without}
 use Rattle.consequences.proofs.lemmas.run.Lists.{any-last, any-earlier, any-none, All-last}
 use Rattle.consequences.proofs.lemmas.server.Said.{IsOut, IsSaid, IsSaidLast, all-first, said-later, said-last-later, not-provisional, not-said, codes-are-one}
 use Rattle.consequences.proofs.lemmas.run.Running.{IsKept, left_at, step-of, stands-run, Cut, cut, run-keeps}

@@ -20,7 +20,7 @@ use Rattle.sip_standard.specs.Stands.{StandsAfter}
 use Rattle.consequences.specs.Events.{GetsRequest, IsResponse, SendsResponse}
 use Rattle.consequences.proofs.lemmas.server.Asleep.{IsInvite, nothing-to-pay, without-asleep, asleep-emits, asleep-steps}
 use Rattle.consequences.proofs.lemmas.server.InviteServers.{first_in, is-server-3261}
-use Rattle.sip_machine.specs.inner.DebtLaws.{All-front}
+use Rattle.sip_phases.proofs.debts.DebtLaws.{All-front}
 use Rattle.consequences.proofs.lemmas.run.Lists.{All-last}
 use Rattle.consequences.proofs.lemmas.run.Running.{IsKept, left_at, step-of, stands-run, Cut, cut, run-keeps}
 use Rattle.consequences.proofs.lemmas.server.FinalResponse.{HoldsIn, Opens, BeforeFinal, before-final-kept, opens-left, final-paid}

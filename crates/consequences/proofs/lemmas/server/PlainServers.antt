@@ -24,7 +24,7 @@ use Rattle.sip_standard.specs.PlainServer.{PlainServerPhase, Idle, Trying, Proce
 use Rattle.sip_standard.specs.Stands.{Stands}
 use Rattle.consequences.specs.Events.{GetsAnyRequest, SendsResponse, SendsBytes, IsRestart}
 use Rattle.consequences.proofs.lemmas.server.Asleep.{nothing-to-pay}
-use Rattle.sip_machine.specs.inner.DebtLaws.{All-front, All-without}
+use Rattle.sip_phases.proofs.debts.DebtLaws.{All-front, All-without}
 use Rattle.consequences.proofs.lemmas.run.Lists.{any-last, any-earlier, any-none, All-last}
 use Rattle.consequences.proofs.lemmas.server.Said.{IsOut, IsSaid, all-first, said-later, not-provisional, not-said}
 use Rattle.consequences.proofs.lemmas.run.MustSend.{still-owed, other-paid, more-owed, no-end, in-time}

@@ -10,7 +10,7 @@ use Rattle.sip_standard.specs.MachineEvent.{MachineEvent}
 use Rattle.sip_standard.specs.Kind.{IsProvisional, IsFinal}
 use Rattle.sip_standard.specs.Debts.{Owed, IsWithoutFirst}
 use Rattle.consequences.specs.Events.{IsResponse, SendsResponse}
-use Rattle.sip_machine.specs.inner.DebtLaws.{All-back}
+use Rattle.sip_phases.proofs.debts.DebtLaws.{All-back}
 use Rattle.consequences.proofs.lemmas.run.Lists.{any-earlier}
 
 -- a message is sent by the event, or refused by its transport

@@ -3,7 +3,9 @@ use Rattle.std.proofs.Common.{◌≡◌, ◌≤◌, ℕ, List}
 use Rattle.sip_standard.specs.Figure.{Owing}
 use Rattle.sip_standard.specs.MachineEvent.{MachineEvent}
 use Rattle.sip_standard.specs.Times.{Times}
-use Rattle.sip_standard.specs.KeyMachine.{MachineKind, OfInviteClient, OfPlainClient, OfInviteServer, OfPlainServer, OfInviteClient3261, OfInviteServer3261, transaction_of}
+use Rattle.sip_standard.specs.KeyMachine.{MachineKind, OfInvite, OfPlain, transaction_of}
+use Rattle.sip_standard.specs.declared.role.Role.TheVariants.{Client, Server}
+use Rattle.sip_standard.specs.declared.rules.Rules.TheVariants.{R3261, R6026}
 use Rattle.sip_standard.specs.Stands.{Stands}
 use Rattle.consequences.specs.Tolerance.{tolerant, AreOneKind}
 use Rattle.sip_states.proofs.runs.StandsLemmas.{what_stands_lasts}
@@ -16,12 +18,12 @@ use Rattle.consequences.proofs.lemmas.tolerance.PlainServer.{plain_server_keeps_
 
 -- each machine shows that a wider tolerance keeps its runs
 keeps_runs : (machine : MachineKind) → KeepsRuns (transaction_of machine).figure
-keeps_runs OfInviteClient = invite_client_keeps_runs
-keeps_runs OfPlainClient = plain_client_keeps_runs
-keeps_runs OfInviteServer = invite_server_keeps_runs
-keeps_runs OfPlainServer = plain_server_keeps_runs
-keeps_runs OfInviteClient3261 = invite_client_3261_keeps_runs
-keeps_runs OfInviteServer3261 = invite_server_3261_keeps_runs
+keeps_runs (OfInvite R6026 Client) = invite_client_keeps_runs
+keeps_runs (OfInvite R6026 Server) = invite_server_keeps_runs
+keeps_runs (OfInvite R3261 Client) = invite_client_3261_keeps_runs
+keeps_runs (OfInvite R3261 Server) = invite_server_3261_keeps_runs
+keeps_runs (OfPlain Client) = plain_client_keeps_runs
+keeps_runs (OfPlain Server) = plain_server_keeps_runs
 
 -- What follows is of the times p, and of a wider tolerance: how early and how late an element may act.
 module _ (p : Times) (early late : ℕ) where

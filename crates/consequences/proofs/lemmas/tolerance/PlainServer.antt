@@ -18,7 +18,7 @@ use Rattle.sip_standard.specs.declared.action.Action.TheVariants.{Sent, Received
 use Rattle.sip_standard.specs.Kind.{IsProvisional, IsFinal}
 use Rattle.sip_standard.specs.Provisional.{Is100}
 use Rattle.sip_standard.specs.Debts.{Owed, softened, IsWithoutFirst}
-use Rattle.sip_machine.specs.inner.DebtLaws.{All-without}
+use Rattle.sip_phases.proofs.debts.DebtLaws.{All-without}
 use Rattle.consequences.proofs.lemmas.server.Asleep.{nothing-to-pay}
 use Rattle.consequences.proofs.lemmas.run.Running.{IsKept, left_at, stands-run, run-keeps}
 use Rattle.std.specs.List.{Any}

@@ -14,7 +14,7 @@ use Rattle.std.proofs.lemmas.Slice.Eq.{bytes_eq-Decides}
 use Rattle.sip_standard.specs.declared.action.Action.{Action}
 use Rattle.sip_standard.specs.declared.action.Action.TheVariants.{Sent, Received, Failed, Mark, Restart}
 use Rattle.sip_standard.specs.Debts.{Owed}
-use Rattle.sip_machine.specs.inner.DebtLaws.{All-without}
+use Rattle.sip_phases.proofs.debts.DebtLaws.{All-without}
 use Rattle.consequences.proofs.lemmas.run.Running.{IsKept, left_at, stands-run, run-keeps}
 use Rattle.consequences.proofs.lemmas.tolerance.Wider.{IsSorted}
 

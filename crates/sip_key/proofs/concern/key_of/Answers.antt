@@ -5,6 +5,7 @@ use Rattle.sip_standard.specs.Via.{SaidVia}
 use Rattle.sip_message.specs.SaidOf.{said_of}
 use Rattle.sip_standard.specs.Branch.{cookie_branch}
 use Rattle.sip_standard.specs.Concerns.{role_of, sent_by_of}
+use Rattle.sip_message.proofs.lemmas.says.Reading.{reads-parts}
 use Rattle.sip_key.proofs.ConcernLemmas.{top-port, own-is}
 use Rattle.sip_key.proofs.concern.key_of.Goals as goal
 
@@ -12,7 +13,7 @@ use Rattle.sip_key.proofs.concern.key_of.Goals as goal
 pub key_with-requires : goal.key_with-requires
 key_with-requires c =
     let P : SaidVia → Type 0 = λ v. IfSome v.port Port in
-    subst P (sym c.top_via-via.ensures) (top-port _ _ c.known.ensures.1.parts.is)
+    subst P (sym c.top_via-via.ensures) (top-port _ _ (reads-parts _ _ c.known.ensures.1))
 
 -- the role, the branch, the sent-by and the method are those of the message, so the key is that of its own transaction
 pub returns : goal.returns

@@ -9,7 +9,7 @@ use Rattle.sip_machine.specs.NumberedEvent.{event_in}
 use Rattle.sip_machine.specs.FigureRules.{until_of}
 use Rattle.sip_machine.specs.Owing.{owing_seen}
 use Rattle.sip_machine.specs.inner.Turns.{state_in}
-use Rattle.sip_machine.specs.inner.DebtLaws.{All-front}
+use Rattle.sip_phases.proofs.debts.DebtLaws.{All-front}
 use Rattle.sip_machine.proofs.steps.OwingSteps.{taken}
 use Rattle.sip_machine.proofs.owing.effect_of.Goals as goal
 

@@ -3,7 +3,7 @@ use Rattle.std.proofs.Common.{sym, true≢false, ◌∙◌}
 use Rattle.sip_machine.specs.Texts.{Keeps}
 use Rattle.sip_machine.specs.NumberedEvent.{event_in}
 use Rattle.sip_machine.specs.Owes.{owed_in, owes_names}
-use Rattle.sip_machine.specs.inner.DebtLaws.{All-front, All-back}
+use Rattle.sip_phases.proofs.debts.DebtLaws.{All-front, All-back}
 use Rattle.sip_machine.proofs.steps.OwingSteps.{rested-stays, rested-pays}
 use Rattle.sip_machine.specs.inner.Turns.{state_in}
 use Rattle.sip_machine.proofs.owing.rests.Goals as goal

@@ -4,12 +4,13 @@ use Rattle.std.proofs.Common.{◌≡◌, ℕ, List, [], ◌∷◌, ◌++◌, ref
 use Rattle.sip_standard.specs.Values.{CSeqSays}
 use Rattle.sip_standard.specs.Via.{SaidVia, ViasSay}
 use Rattle.sip_standard.specs.Says.{ViasTell}
+use Rattle.sip_message.specs.inner.Parts.{HasParts}
 use Rattle.sip_message.specs.declared.name.Known.TheVariants as known_name
 use Rattle.sip_message.specs.inner.Marks.{comma}
 use Rattle.sip_message.specs.Field.{Field, values}
 use Rattle.sip_message.specs.inner.Fronts.{MarkFront}
 use Rattle.sip_message.specs.inner.ElementFronts.{MoreSay}
-use Rattle.sip_message.specs.Reading.{Parts, HasParts}
+use Rattle.sip_message.specs.Reading.{Parts}
 use Rattle.sip_message.proofs.lemmas.front.OneWay.{one-mark}
 use Rattle.sip_message.proofs.lemmas.via.Elements.{more-mark, no_mark-nil, says-front}
 use Rattle.sip_message.proofs.lemmas.message.Views.{same-value}

@@ -4,6 +4,7 @@ use Rattle.std.proofs.Common.{◌≡◌, ℕ, ◌+◌, Bool, true, false, List, 
 use Rattle.std.specs.List.{AllByRecursion}
 use Rattle.std.proofs.lemmas.Slice.Eq.{bytes_eq-Decides}
 use Rattle.std.proofs.lemmas.Bool.{both_ways}
+use Rattle.sip_message.specs.inner.Parts.{HasParts}
 use Rattle.sip_message.specs.declared.name.Known.{Known}
 use Rattle.sip_message.specs.declared.name.Known.TheVariants as known_name
 use Rattle.sip_message.specs.Name.{FieldName, known, other, name_of, long_name, is_name_of}
@@ -11,7 +12,7 @@ use Rattle.sip_message.specs.Field.{Field, values}
 use Rattle.sip_message.specs.inner.FieldText.{Row}
 use Rattle.sip_message.specs.Message.{Message}
 use Rattle.sip_message.specs.inner.MessageText.{found_from, IsFirstFound, MessageText}
-use Rattle.sip_message.specs.Reading.{Parts, HasParts}
+use Rattle.sip_message.specs.Reading.{Parts}
 use Rattle.sip_message.proofs.lemmas.canon.Law.{fields-rows, name-known}
 use Rattle.sip_standard.specs.Via.{SaidVia}
 use Rattle.sip_standard.specs.Says.{ViasTell, IsFirstOf}

@@ -7,6 +7,8 @@ use Rattle.std.specs.Prelude.{Result, Ok, Err, IsErr, IsErrAnd}
 use Rattle.std.proofs.lemmas.Bool.{both_ways}
 use Rattle.sip_standard.specs.declared.fault.Fault.{Fault}
 use Rattle.sip_standard.specs.Body.{BodySays}
+use Rattle.sip_message.specs.inner.Parts.{HasParts}
+use Rattle.sip_message.specs.inner.Only.{IsOnly}
 use Rattle.sip_message.specs.declared.fault.ReadError.{ReadError}
 use Rattle.sip_message.specs.declared.fault.ReadError.TheVariants as error
 use Rattle.sip_standard.specs.Lines.{CutSays, LinesSay}
@@ -18,8 +20,7 @@ use Rattle.sip_message.specs.inner.MessageText.{MessageText, content_length}
 use Rattle.sip_standard.specs.Outcome.{Outcome, gives, stops, passes}
 use Rattle.sip_message.specs.inner.Faults.{FieldsOf, NamesOf, LinesOf, ReadOf}
 use Rattle.sip_message.specs.inner.Settles.{Settles}
-use Rattle.sip_message.specs.Only.{IsOnly}
-use Rattle.sip_message.specs.Reading.{Reading, Parts, HasParts}
+use Rattle.sip_message.specs.Reading.{Reading, Parts}
 use Rattle.sip_message.specs.inner.Kept.{Keeps, KeepsRead}
 use Rattle.sip_message.specs.inner.Values.{CSeqValue}
 use Rattle.sip_standard.specs.Via.{SaidVia}
@@ -122,4 +123,4 @@ found-keeps {bytes = bytes} {n = n} e s f first said =
 -- the bytes are read as the message that was found
 pub found-reads : {bytes rest first body : List ℕ} {start : StartLine} {fields : List Field} {n : Names} (r : Reading) → Found bytes rest first start fields n body
     → ◌≡◌ {A = Message} r.message (record { start = start; fields = fields; body = body }) → IsOnly (HasParts r.message.fields) r.parts → Reads bytes r
-found-reads {bytes = bytes} r f is parts = text-reads bytes r (subst (MessageText bytes) (sym is) (found-text f)) parts
+found-reads {bytes = bytes} r f is parts = text-reads bytes r (subst (MessageText bytes) (sym is) (found-text f)) parts.is

@@ -14,7 +14,6 @@ use Rattle.sip_message.specs.Reads.{Reads}
 use Rattle.sip_message.proofs.lemmas.lines.OneWay.{head-lines}
 use Rattle.sip_message.proofs.lemmas.message.Faults.{read-text}
 use Rattle.sip_message.proofs.lemmas.asked.Parts.{has-parts}
-use Rattle.sip_message.proofs.lemmas.asked.OneWay.{parts-one}
 use Rattle.sip_message.proofs.lemmas.says.Reading.{text-reads, fault-says}
 use Rattle.sip_standard.specs.Says.{Says}
 
@@ -87,6 +86,6 @@ reading-or-fault bytes no_reading no_fault = comes-read bytes at
         -- the bytes are the text of m, which has parts, so that there is a reading
         let text = read-text bytes m is in
         let parts = has-parts bytes m text in
-        no_reading (record { message = m; parts = parts.0 }) (text-reads bytes (record { message = m; parts = parts.0 }) text (record { is = parts.1; only = λ q other. parts-one m.fields q parts.0 other parts.1 }))
+        no_reading (record { message = m; parts = parts.0 }) (text-reads bytes (record { message = m; parts = parts.0 }) text parts.1)
     -- the bytes say the fault
     at (stops fault) is = no_fault fault (fault-says bytes fault is)

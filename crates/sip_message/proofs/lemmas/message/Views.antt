@@ -3,6 +3,7 @@
 -- `Keeps` says that some bytes are the text of a message, that these are its parts, and that these are the first values of its named fields; `KeepsRead` says
 -- so of what was read of its first Via and its CSeq.
 use Rattle.std.proofs.Common.{◌≡◌, ℕ, List, [], ◌∷◌, ◌++◌, sym, ap, ◌∙◌, subst}
+use Rattle.sip_message.specs.inner.Parts.{HasParts}
 use Rattle.sip_message.specs.declared.name.Known.{Known}
 use Rattle.sip_message.specs.declared.name.Known.TheVariants as known_name
 use Rattle.sip_message.specs.Field.{Field, values}
@@ -12,17 +13,14 @@ use Rattle.sip_standard.specs.Via.{SaidVia, ViasSay}
 use Rattle.sip_standard.specs.Says.{ViasTell, IsFirstOf}
 use Rattle.sip_message.specs.Message.{Message}
 use Rattle.sip_message.specs.inner.MessageText.{MessageText}
-use Rattle.sip_message.specs.Only.{IsOnly}
-use Rattle.sip_message.specs.inner.Only.{ExactlyOne, the}
+use Rattle.sip_message.specs.inner.Only.{ExactlyOne, the, IsOnly}
 use Rattle.sip_message.specs.inner.ElementFronts.{FirstVia}
-use Rattle.sip_message.specs.Reading.{Reading, Parts, HasParts}
+use Rattle.sip_message.specs.Reading.{Parts}
 use Rattle.sip_message.specs.inner.Values.{CSeqValue}
 use Rattle.sip_message.specs.inner.Kept.{Keeps, KeepsRead}
 use Rattle.sip_message.specs.inner.Codes.{parts_code}
-use Rattle.sip_message.specs.Reads.{Reads}
 use Rattle.sip_message.proofs.lemmas.message.Faults.{text-read, one-read}
 use Rattle.sip_message.proofs.lemmas.via.Elements.{One-is}
-use Rattle.sip_message.proofs.lemmas.says.Told.{tells-text}
 
 -- a name has one first value in some fields
 pub same-value : (known : Known) (fields : List Field) {a b : List ℕ} → IsFirstOf (values known fields) a → IsFirstOf (values known fields) b → a ≡ b
@@ -93,14 +91,6 @@ same_text bytes m n one other =
     -- the bytes have one outcome
     let same : ◌≡◌ {A = Outcome Message} (gives m) (gives n) = one-read bytes (gives m) (gives n) (text-read bytes m one) (text-read bytes n other) in
     cc
-
--- bytes are read in one way
-pub same_reading : (bytes : List ℕ) (r s : Reading) → Reads bytes r → Reads bytes s → r ≡ s
-same_reading bytes r s one other =
-    -- the message is the same, and so are its parts, which are the only ones
-    let message = same_text bytes r.message s.message (tells-text bytes r.message one.tells) (tells-text bytes s.message other.tells) in
-    let parts : s.parts ≡ r.parts = one.parts.only s.parts (subst (λ m. HasParts m.fields s.parts) (sym message) other.parts.is) in
-    ap (λ m. record { message = m; parts = r.parts }) message ∙ ap (λ p. record { message = s.message; parts = p }) (sym parts)
 
 -- the parts of a message's fields, which are the only ones, keep what was read, whatever proves that they are
 pub kept-one : {m : Message} {p : Parts} {e : SaidVia} {f t i : List ℕ} {s : ℕ × List ℕ} → KeepsRead m p e f t i s → (one : ExactlyOne (HasParts m.fields)) → KeepsRead m (the one) e f t i s

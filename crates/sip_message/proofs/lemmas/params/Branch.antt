@@ -1,7 +1,7 @@
 -- The branch of parameters, which are read one after another.
 -- In the lemmas ps are parameters, qs those after the first, u their text, and a, b and c are branches, if there are any.
 -- `BranchFront` is the parameters at the front with their branch, and what is left; `BranchOf` is the branch that one parameter gives.
-use Rattle.std.proofs.Common.{◌≡◌, ◌↔◌, ℕ, ◌-◌, List, [], ◌∷◌, Option, Some, None, Bor, option_copied, refl, sym, ap, ◌∙◌, subst, inl, inr}
+use Rattle.std.proofs.Common.{◌≡◌, ◌↔◌, ℕ, ◌-◌, List, [], ◌∷◌, Option, Some, None, Bor, option_copied, refl, sym, ap, ◌∙◌, subst}
 use Rattle.std.specs.Option.{option_or}
 use Rattle.sip_message.specs.inner.ParamFronts.{Param, ParamFront, ParamsFront, AllParamsFront}
 use Rattle.sip_message.specs.inner.ViaFronts.{BranchOf, BranchFront, IsBranch}
@@ -19,29 +19,12 @@ one-branch_of (name, value) (Some a) None x y = absurd (y x.0)
 -- the branch is the value of the parameter
 one-branch_of (name, value) (Some a) (Some b) x y = sym x.2 ∙ y.2
 
--- the branch of a parameter and those after it is that of the parameter, or else that of the others
-pub branch-cons : (p : Param) (ps : List Param) (b : Option (List ℕ)) → IsBranch (p ∷ ps) b → (found : Option (List ℕ)) × BranchOf p found × (later : Option (List ℕ)) × IsBranch ps later × (b ≡ option_or found later)
--- v is the value of the parameter, whose name is `branch`; ps are the others
--- the first parameter is the branch that counts
-branch-cons (name, value) ps b (inl (same, v, token, value_is, b_is, later, more)) = (Some v, (same, token, value_is), later, more, b_is)
--- it is none, so the one that counts is that of the others
-branch-cons (name, value) ps b (inr (differs, more)) = (None, differs, b, more, refl)
-
--- the branch of a parameter, or else that of the others, is the branch of them together
-pub cons-branch : (p : Param) (ps : List Param) (found later : Option (List ℕ)) → BranchOf p found → IsBranch ps later → IsBranch (p ∷ ps) (option_or found later)
--- the first parameter is no branch
-cons-branch (name, value) ps None later differs more = inr (differs, more)
--- the first parameter is a branch
-cons-branch (name, value) ps (Some v) later (same, token, value_is) more = inl (same, v, token, value_is, refl, later, more)
-
 -- parameters have one branch
 pub one-is_branch : (ps : List Param) → AtMostOne (IsBranch ps)
 -- of no parameters none counts
 one-is_branch [] a b a_is b_is = a_is ∙ sym b_is
-one-is_branch (p ∷ ps) a b a_is b_is =
-    -- x and y are the branch of the first parameter and that of the others, by the two readings
-    let x = branch-cons p ps a a_is in
-    let y = branch-cons p ps b b_is in
+-- x and y are the branch of the first parameter and that of the others, by the two readings
+one-is_branch (p ∷ ps) a b x y =
     x.4 ∙ ap (λ o. option_or o x.2) (one-branch_of p x.0 y.0 x.1 y.1) ∙ ap (option_or y.0) (one-is_branch ps x.2 y.2 x.3 y.3) ∙ sym y.4
 
 -- the branch of parameters is read in one way
@@ -84,13 +67,13 @@ decides-more text rest more p first found read is so x = ((λ whole. to x ((so x
     to (b, left) (later, (ps, all, branch), b_is) =
         -- `others` are the parameters after the one that is read, and `cons` the branch of it and of these
         let others = behind-one rest more left p ps read all in
-        let cons = branch-cons p others.0 later (subst (λ qs. IsBranch qs later) others.1 branch) in
+        let cons : IsBranch (p ∷ others.0) later = subst (λ qs. IsBranch qs later) others.1 branch in
         (cons.2, (others.0, others.2, cons.3), b_is ∙ ap (option_or first) (cons.4 ∙ ap (λ o. option_or o cons.2) (one-branch_of p cons.0 found cons.1 is)) ∙ or-assoc first found cons.2)
 
     -- what is read of the rest is what is read of the text, with the parameter before it
     from : (y : Option (List ℕ) × List ℕ) → After (option_or first found) more y → After first rest y
     from (b, left) (later, (ps, all, branch), b_is) =
-        (option_or found later, (p ∷ ps, ((more, read.0, all.0), all.1), cons-branch p ps found later is branch), b_is ∙ sym (or-assoc first found later))
+        (option_or found later, (p ∷ ps, ((more, read.0, all.0), all.1), (found, is, later, branch, refl)), b_is ∙ sym (or-assoc first found later))
 
 -- where a parameter named branch has no token for value, the text has no parameters of a Via
 pub decides-not : (text rest more : List ℕ) (p : Param) (first : Option (List ℕ)) → ReadAs (ParamFront rest) (p, more) → NotRead (BranchOf p) → Decides text rest first → NotRead (BranchFront text)
@@ -98,7 +81,7 @@ decides-not text rest more p first read none so (b, left) is =
     -- `after` is the branch of the rest with its parameters, of which p is the first: p would have a branch, or another name
     let after = (so (b, left)).0 is in
     let others = behind-one rest more left p after.1.0 read after.1.1 in
-    let cons = branch-cons p others.0 after.0 (subst (λ qs. IsBranch qs after.0) others.1 after.1.2) in
+    let cons : IsBranch (p ∷ others.0) after.0 = subst (λ qs. IsBranch qs after.0) others.1 after.1.2 in
     none cons.0 cons.1
 
 -- where no further parameter is read, the branch of the text is the one that was found

@@ -14,10 +14,9 @@ use Rattle.sip_text.specs.Bytes.{semicolon}
 use Rattle.sip_message.specs.inner.Marks.{Mark}
 use Rattle.sip_message.specs.inner.ParamFronts.{Param, ParamText, ParamsText}
 use Rattle.sip_message.specs.inner.ViaFronts.{BranchOf, IsBranch}
-use Rattle.sip_message.proofs.lemmas.params.Branch.{branch-cons, cons-branch}
 
 -- ";" and a parameter that gives a branch, or none, say it
-param-said : (p : Param) (o : Option (List ℕ)) (x : List ℕ) → BranchOf p o → (Mark semicolon then ParamText p) x → (Mark semicolon then ParamSays o) x
+pub param-said : (p : Param) (o : Option (List ℕ)) (x : List ℕ) → BranchOf p o → (Mark semicolon then ParamText p) x → (Mark semicolon then ParamSays o) x
 -- a branch has a value
 param-said (name, None) (Some b) x (same, token, value_is) is = absurd (none-some b value_is)
 param-said (name, Some v) (Some b) x (same, token, value_is) (m, t, mark, (named, kind, (u, w, u_is, (e, d, equal, d_is, w_is), t_is)), whole) =
@@ -40,7 +39,7 @@ said-param None x (m, t, mark, (u, w, (named, other), inr (e, d, equal, kind, w_
     ((u, Some d), other, (m, t, mark, (named, kind, (u, w, refl, (e, d, equal, refl, w_is), t_is)), whole))
 
 -- the first of some options is the first one, or else the first of the others
-first-or : (o : Option (List ℕ)) (os : List (Option (List ℕ))) → option_or o (first_some os) ≡ first_some (o ∷ os)
+pub first-or : (o : Option (List ℕ)) (os : List (Option (List ℕ))) → option_or o (first_some os) ≡ first_some (o ∷ os)
 first-or None os = refl
 first-or (Some v) os = refl
 
@@ -48,11 +47,10 @@ first-or (Some v) os = refl
 pub params-said : (ps : List Param) (branch : Option (List ℕ)) (text : List ℕ) → ParamsText ps text → IsBranch ps branch → (os : List (Option (List ℕ))) × (branch ≡ first_some os) × EachSays (λ o. Mark semicolon then ParamSays o) os text
 -- of no parameters no branch counts
 params-said [] branch text none branch_is = ([], branch_is, none)
-params-said (p ∷ ps) branch text (u, y, one, more, whole) is =
-    -- `cons` is the branch of the first parameter, and that of the others
-    let cons = branch-cons p ps branch is in
-    let rest = params-said ps cons.2 y more cons.3 in
-    (cons.0 ∷ rest.0, cons.4 ∙ ap (option_or cons.0) rest.1 ∙ first-or cons.0 rest.0, (u, y, param-said p cons.0 u cons.1 one, rest.2, whole))
+-- the first parameter gives `found`, and the others give `later`
+params-said (p ∷ ps) branch text (u, y, one, more, whole) (found, gives, later, others, branch_is) =
+    let rest = params-said ps later y more others in
+    (found ∷ rest.0, branch_is ∙ ap (option_or found) rest.1 ∙ first-or found rest.0, (u, y, param-said p found u gives one, rest.2, whole))
 
 -- parameters that say branches have names and values, and the first branch that one of them says counts
 pub said-params : (os : List (Option (List ℕ))) (text : List ℕ) → EachSays (λ o. Mark semicolon then ParamSays o) os text → (ps : List Param) × ParamsText ps text × IsBranch ps (first_some os)
@@ -61,4 +59,4 @@ said-params [] text none = ([], none, refl)
 said-params (o ∷ os) text (u, y, one, more, whole) =
     let p = said-param o u one in
     let rest = said-params os y more in
-    (p.0 ∷ rest.0, (u, y, p.2, rest.1, whole), subst (IsBranch (p.0 ∷ rest.0)) (first-or o os) (cons-branch p.0 rest.0 o (first_some os) p.1 rest.2))
+    (p.0 ∷ rest.0, (u, y, p.2, rest.1, whole), (o, p.1, first_some os, rest.2, sym (first-or o os)))

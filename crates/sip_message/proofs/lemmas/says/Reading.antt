@@ -7,6 +7,7 @@ use Rattle.std.specs.Prelude.{codes, bytes_eq}
 use Rattle.std.specs.List.{join_with_byte}
 use Prim.Native.String.{String}
 use Rattle.sip_standard.specs.declared.fault.Fault.{Fault}
+use Rattle.sip_message.specs.inner.Parts.{HasParts}
 use Rattle.sip_message.specs.declared.name.Known.{Known}
 use Rattle.sip_message.specs.declared.name.Known.TheVariants as known_name
 use Rattle.sip_message.specs.Name.{name_of, is_name_of}
@@ -16,10 +17,9 @@ use Rattle.sip_message.specs.Field.{Field, values}
 use Rattle.sip_message.specs.Message.{Message}
 use Rattle.sip_message.specs.inner.MessageText.{MessageText}
 use Rattle.sip_message.specs.inner.Kept.{Keeps}
-use Rattle.sip_message.specs.Only.{IsOnly}
 use Rattle.sip_standard.specs.Outcome.{Outcome, gives, stops, passes, stopped}
 use Rattle.sip_message.specs.inner.Faults.{ReadOf}
-use Rattle.sip_message.specs.Reading.{Reading, Parts, HasParts}
+use Rattle.sip_message.specs.Reading.{Reading, Parts}
 use Rattle.sip_message.specs.Reads.{Reads}
 use Rattle.sip_standard.specs.Field.{full_name, SaidField, said_values}
 use Rattle.sip_standard.specs.Says.{Said, ViasTell, IsFirstOf, FieldsTell, BytesTell, Says}
@@ -29,7 +29,7 @@ use Rattle.sip_message.proofs.lemmas.asked.Parts.{found-values}
 use Rattle.sip_message.proofs.lemmas.asked.OneWay.{parts-one}
 use Rattle.sip_message.proofs.lemmas.message.Outcome.{no_value, given, fault_is}
 use Rattle.sip_message.proofs.lemmas.message.Faults.{read-text, text-read, one-read}
-use Rattle.sip_message.proofs.lemmas.message.Views.{same_reading}
+use Rattle.sip_message.proofs.lemmas.message.Views.{same_text}
 use Rattle.sip_message.proofs.lemmas.says.Alike.{Alike}
 use Rattle.sip_message.proofs.lemmas.says.Names.{named-via, named-from, named-to, named-call-id, named-cseq, named-route}
 use Rattle.sip_message.proofs.lemmas.says.Bytes.{AreFields, IsTold, all-found, same-read}
@@ -87,33 +87,50 @@ text-says bytes r text parts = let told = (same-read bytes).to (gives r.message)
     -- the reading of the message is no fault
     at (stops f) tells is_told = absurd is_told
 
--- where bytes are the text of a message, and its parts are the only ones, the bytes are read as it
-pub text-reads : (bytes : List ℕ) (r : Reading) → MessageText bytes r.message → IsOnly (HasParts r.message.fields) r.parts → Reads bytes r
-text-reads bytes r text parts = record { says = text-says bytes r text parts.is; tells = text-tells bytes r.message text; parts = parts }
+-- where bytes are the text of a message, and its fields have its parts, the bytes are read as it
+pub text-reads : (bytes : List ℕ) (r : Reading) → MessageText bytes r.message → HasParts r.message.fields r.parts → Reads bytes r
+text-reads bytes r text parts = record { says = text-says bytes r text parts; tells = text-tells bytes r.message text }
 
 -- what is kept of a message is read of some bytes
 -- m is the message and p its parts; v, f, t, i and c are the values of its first Via, From, To, Call-ID and CSeq
 pub keeps-reads : {m : Message} {p : Parts} {v f t i c : List ℕ} → Keeps m p v f t i c → (bytes : List ℕ) × Reads bytes (record { message = m; parts = p })
-keeps-reads {m = m} {p = p} k = (k.spelled.0, text-reads k.spelled.0 (record { message = m; parts = p }) k.spelled.1 k.parts)
+keeps-reads {m = m} {p = p} k = (k.spelled.0, text-reads k.spelled.0 (record { message = m; parts = p }) k.spelled.1 k.parts.is)
+
+-- bytes that say something are the text of a message, whose fields have the parts that are said
+says-parts : (bytes : List ℕ) (s : Said) → Says bytes (gives s) → (m : Message) × MessageText bytes m × HasParts m.fields (parts_of s) × (s ≡ said_of (record { message = m; parts = parts_of s }))
+-- bytes that stop at a fault give no value
+says-parts bytes s (stopped f tells is) = absurd (no_value is)
+says-parts bytes s (passes y tells (t, fields, is)) = let read = (same-read bytes).back (gives y) tells in at read.0 read.1 read.2
+  where
+    -- bytes that are read as a message are its text, and bytes that stop with a fault say nothing
+    at : (a : Outcome Message) → ReadOf bytes a → Alike IsTold a (gives y) → (m : Message) × MessageText bytes m × HasParts m.fields (parts_of s) × (s ≡ said_of (record { message = m; parts = parts_of s }))
+    -- a fault is not alike to a value
+    at (stops f) read is_told = absurd is_told
+    -- what was said are the parts of the message
+    at (gives m) read is_told =
+        let told = tell-parts m y.0 y.1 y.2 s is_told (subst (FieldsTell y.0 y.1) (sym (given is)) fields) in
+        (m, read-text bytes m read, told.0, told.1)
 
 -- bytes that say something have a reading that says it
 pub says-reads : (bytes : List ℕ) (s : Said) → Says bytes (gives s) → (r : Reading) × Reads bytes r × (s ≡ said_of r)
--- bytes that stop at a fault give no value
-says-reads bytes s (stopped f tells is) = absurd (no_value is)
-says-reads bytes s (passes y tells (t, fields, is)) = let read = (same-read bytes).back (gives y) tells in at read.0 read.1 read.2
-  where
-    -- bytes that are read as a message have the reading, and bytes that stop with a fault say nothing
-    at : (a : Outcome Message) → ReadOf bytes a → Alike IsTold a (gives y) → (r : Reading) × Reads bytes r × (s ≡ said_of r)
-    -- a fault is not alike to a value
-    at (stops f) read is_told = absurd is_told
-    at (gives m) read is_told =
-        -- what was said are the parts of the message
-        let text = read-text bytes m read in
-        let told = tell-parts m y.0 y.1 y.2 s is_told (subst (FieldsTell y.0 y.1) (sym (given is)) fields) in (
-          record { message = m; parts = parts_of s },
-          text-reads bytes (record { message = m; parts = parts_of s }) text (record { is = told.0; only = λ other others. parts-one m.fields other (parts_of s) others told.0 }),
-          told.1,
-        )
+says-reads bytes s says =
+    let (m, text, parts, same) = says-parts bytes s says in
+    (record { message = m; parts = parts_of s }, text-reads bytes (record { message = m; parts = parts_of s }) text parts, same)
+
+-- the fields of a message that was read have its parts
+pub reads-parts : (bytes : List ℕ) (r : Reading) → Reads bytes r → HasParts r.message.fields r.parts
+reads-parts bytes r reads =
+    -- the bytes are the text of one message
+    let (m, text, parts, same) = says-parts bytes (said_of r) reads.says in
+    subst (λ n. HasParts n.fields r.parts) (same_text bytes m r.message text (tells-text bytes r.message reads.tells)) parts
+
+-- bytes are read in one way
+pub same_reading : (bytes : List ℕ) (r s : Reading) → Reads bytes r → Reads bytes s → r ≡ s
+same_reading bytes r s one other =
+    -- the message is the same, and so are the parts that its fields have
+    let message = same_text bytes r.message s.message (tells-text bytes r.message one.tells) (tells-text bytes s.message other.tells) in
+    let parts = parts-one s.message.fields r.parts s.parts (subst (λ m. HasParts m.fields r.parts) message (reads-parts bytes r one)) (reads-parts bytes s other) in
+    ap (λ m. record { message = m; parts = r.parts }) message ∙ ap (λ p. record { message = s.message; parts = p }) parts
 
 -- the fault with which the reading of bytes stops is the one that they say
 pub fault-says : (bytes : List ℕ) (f : Fault) → ReadOf bytes (stops f) → Says bytes (stops f)

@@ -13,8 +13,8 @@ use Rattle.sip_message.proofs.lemmas.front.Cuts.{ReadAs, NotRead}
 use Rattle.sip_message.specs.declared.name.Known.{Known}
 use Rattle.sip_message.specs.declared.field.Field.{Field as Code}
 use Rattle.sip_message.specs.Name.{is_name_of}
-use Rattle.sip_message.specs.Only.{IsOnly}
-use Rattle.sip_message.specs.inner.Only.{ExactlyOne, the, One-prop}
+use Rattle.sip_message.specs.inner.Only.{ExactlyOne, the, IsOnly}
+use Rattle.sip_text.proofs.texts.OneLaws.{One-prop}
 use Rattle.std.specs.Prelude.{MatchOption, ⊤}
 use Rattle.std.specs.Borrow.{Bor}
 use Rattle.std.specs.Iterator.{YieldsFirstBy, MakesProgress, item_count}
@@ -189,7 +189,7 @@ read-only rest text vals more e behind es next read only = (first.others, first.
 pub One-next : (rest text : List ℕ) (vals more : List (List ℕ)) (e : SaidVia) (behind : List ℕ) → ((es : List SaidVia) → AreLeft rest vals es → NextText rest vals text more) → ReadAs (ViaFront text) (e, behind) → ExactlyOne (AreLeft rest vals) → ExactlyOne (AreLeft behind more)
 One-next rest text vals more e behind next read one =
     -- the proof that the list is the only one is hidden: it may be used here, since what is shown has one proof at most
-    ∥∥₁_elim one.1 (One-prop elements_code (AreLeft behind more)) (λ p. let read_it = read-only rest text vals more e behind one.0 (next one.0 p.is) read p in (read_it.0, ∣ read_it.2 ∣₁))
+    ∥∥₁_elim one.1 (One-prop elements_code (IsOnly (AreLeft behind more)) (λ x y p q. q.only x p.is)) (λ p. let read_it = read-only rest text vals more e behind one.0 (next one.0 p.is) read p in (read_it.0, ∣ read_it.2 ∣₁))
 
 -- where an element is read at the front of the next text, the elements that are left are it and those that are left after it
 pub One-first : (rest text : List ℕ) (vals more : List (List ℕ)) (e : SaidVia) (behind : List ℕ) → ((es : List SaidVia) → AreLeft rest vals es → NextText rest vals text more) → ReadAs (ViaFront text) (e, behind) → (one : ExactlyOne (AreLeft rest vals)) (then : ExactlyOne (AreLeft behind more)) → the one ≡ e ∷ the then

@@ -3,7 +3,7 @@ use Rattle.std.specs.Option.{option_copied}
 use Rattle.sip_log.specs.Reading.{beside_source}
 use Rattle.sip_verdict.specs.declared.finding.Finding.{Finding}
 use Rattle.sip_verdict.specs.inner.ForgettingLogs.{IsHorizonOf, IsStreamAt, RemembersRead}
-use Rattle.sip_verdict.specs.inner.SurveyingLogs.{AreTold}
+use Rattle.sip_verdict.specs.inner.SurveyingLogs.{HasWritten}
 use Rattle.sip_verdict.specs.Room.{most_surveyed}
 use Rattle.sip_verdict.proofs.remembering.write_on.Given as goal
 
@@ -21,7 +21,7 @@ invariant-loop-found g l =
       few : l.count ≤ most_surveyed;
       counts_are : l.count ≡ l.survey.number;
       aged : l.horizon.age ≡ l.fn.age;
-      told : (found : List Finding) × (lines : List ℕ) × AreTold found lines l.counts (g.W.Sink.written l.fn.writer) (g.W.Sink.written l.writer)
+      told : (found : List Finding) × (lines : List ℕ) × HasWritten found lines l.counts (g.W.Sink.written l.fn.writer) (g.W.Sink.written l.writer)
           × ((start : Option (List ℕ)) → RemembersRead l.fn.age part p l.fn.survey [] [] start (beside_source l.fn.progress (g.R.Source.left l.fn.reader) (g.R.Source.has_failed l.fn.reader))
           → (so : RemembersRead l.fn.age part p l.survey found lines start (beside_source l.progress (g.R.Source.left l.reader) (g.R.Source.has_failed l.reader))) × IsHorizonOf l.horizon so.es);
     }

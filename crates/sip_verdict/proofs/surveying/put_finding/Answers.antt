@@ -1,6 +1,6 @@
 use Rattle.std.proofs.Common.{◌≡◌, subst, rules}
 use Rattle.std.specs.Io.KnownBytes.{Appends}
-use Rattle.sip_verdict.specs.inner.SurveyingLogs.{line_with}
+use Rattle.sip_verdict.specs.SurveyText.{line_with}
 use Rattle.sip_verdict.proofs.surveys.written.Writing.{line_by}
 use Rattle.sip_verdict.proofs.surveying.put_finding.Goals as goal
 

@@ -3,7 +3,7 @@ use Rattle.sip_standard.specs.LogSays.{most_entries}
 use Rattle.std.specs.Option.{option_copied}
 use Rattle.sip_log.specs.Reading.{beside_source}
 use Rattle.sip_verdict.specs.declared.finding.Finding.{Finding}
-use Rattle.sip_verdict.specs.inner.SurveyingLogs.{AreTold, IsSurveyAt, SurveysRead}
+use Rattle.sip_verdict.specs.inner.SurveyingLogs.{HasWritten, IsSurveyAt, SurveysRead}
 use Rattle.sip_verdict.proofs.surveys.written.Writing.{ToldSoFar}
 use Rattle.sip_verdict.proofs.surveying.write_entries.Given as goal
 
@@ -17,7 +17,7 @@ invariant-loop-found g l =
       at : IsSurveyAt l.survey l.progress;
       counts_are : l.count ≡ l.survey.number;
       -- the findings and lines so far are those of the entries that were read
-      told : (found : List Finding) × (lines : List ℕ) × AreTold found lines l.counts (g.W.Sink.written l.fn.writer) (g.W.Sink.written l.writer)
+      told : (found : List Finding) × (lines : List ℕ) × HasWritten found lines l.counts (g.W.Sink.written l.fn.writer) (g.W.Sink.written l.writer)
           × ((start : Option (List ℕ)) → SurveysRead (option_copied l.fn.part) l.fn.survey [] start (beside_source l.fn.progress (g.R.Source.left l.fn.reader) (g.R.Source.has_failed l.fn.reader))
           → ToldSoFar (option_copied l.fn.part) l.survey found lines start (beside_source l.progress (g.R.Source.left l.reader) (g.R.Source.has_failed l.reader)));
     }

@@ -9,7 +9,7 @@ use Rattle.std.proofs.lemmas.List.Elements.{All-nil, All-cons, All-head, All-tai
 use Rattle.std.proofs.lemmas.Option.{slice_get_within, slice_get-get_or}
 use Rattle.sip_standard.proofs.Few.{AllPairs-head, AllPairs-tail}
 use Rattle.sip_standard.specs.Key.{KeyParts, same_key}
-use Rattle.sip_key.specs.inner.KeyLaws.{same_key-decides}
+use Rattle.sip_standard.proofs.SameKey.{same_key-decides}
 use Rattle.sip_standard.specs.Times.{Times}
 use Rattle.sip_standard.specs.KeyMachine.{machine_of_key}
 use Rattle.sip_standard.specs.Observation.{Observation}
@@ -25,8 +25,8 @@ use Rattle.sip_verdict.specs.declared.histories.Histories.{Histories}
 use Rattle.sip_verdict.specs.declared.histories.History.{History}
 use Rattle.sip_verdict.specs.declared.troubled.Troubled.{Troubled}
 use Rattle.sip_verdict.specs.Forgetting.{remembered, IsOver, ForgetsUpTo}
-use Rattle.sip_verdict.specs.Entries.{newest_moment}
-use Rattle.sip_verdict.specs.SurveyText.{is_of, IsFirstOf, IsLastOf}
+use Rattle.sip_verdict.specs.Entries.{concerns, newest_moment}
+use Rattle.sip_verdict.specs.SurveyText.{IsFirstEntryOf, IsLastEntryOf}
 use Rattle.sip_verdict.specs.Surveys.{IsHistoryOf, AreHistories}
 use Rattle.sip_verdict.specs.inner.Forgetting.{IsPast, AreFlags, AreQuietIfOver, TellsPast}
 use Rattle.sip_verdict.specs.inner.Surveying.{AreWatched, IsFollowed, TablesSurvey}
@@ -118,27 +118,27 @@ All-kept P flags xs all = All-places P (kept_of flags xs) (λ n x at. All-place 
 -- What follows is of one key that is kept: `kept` says which are.
 module _ (kept : KeyParts → Bool) (key : KeyParts) (is : kept key ≡ true) where
   -- an entry without the keys that are not kept is of a kept key exactly if the entry is
-  same_of : (e : Observation KeyParts) → is_of key (record { fault = e.fault; event = e.event; keys = filter kept e.keys }) ≡ is_of key e
+  same_of : (e : Observation KeyParts) → concerns key (record { fault = e.fault; event = e.event; keys = filter kept e.keys }) ≡ concerns key e
   same_of e = among_chosen kept key is e.keys
 
   -- where no entry concerns the key, none concerns it as it is remembered
-  none_of : (es : List (Observation KeyParts)) → All (λ o. is_of key o ≡ false) es → All (λ o. is_of key o ≡ false) (remembered kept es)
-  none_of [] all = All-nil (λ o. is_of key o ≡ false)
+  none_of : (es : List (Observation KeyParts)) → All (λ o. concerns key o ≡ false) es → All (λ o. concerns key o ≡ false) (remembered kept es)
+  none_of [] all = All-nil (λ o. concerns key o ≡ false)
   none_of (e ∷ es) all =
-      All-cons (λ o. is_of key o ≡ false) (record { fault = e.fault; event = e.event; keys = filter kept e.keys }) (remembered kept es)
-      (same_of e ∙ All-head (λ o. is_of key o ≡ false) e es all) (none_of es (All-tail (λ o. is_of key o ≡ false) e es all))
+      All-cons (λ o. concerns key o ≡ false) (record { fault = e.fault; event = e.event; keys = filter kept e.keys }) (remembered kept es)
+      (same_of e ∙ All-head (λ o. concerns key o ≡ false) e es all) (none_of es (All-tail (λ o. concerns key o ≡ false) e es all))
 
   -- an entry as it is remembered: with the kept keys alone
   abbrev one : Observation KeyParts → Observation KeyParts
   one e = record { fault = e.fault; event = e.event; keys = filter kept e.keys }
 
   -- where an entry is the first of the key, it is the first of the key as the entries are remembered
-  first_kept : (es : List (Observation KeyParts)) (n : ℕ) (branch : List ℕ) → IsFirstOf es key n branch → IsFirstOf (remembered kept es) key n branch
+  first_kept : (es : List (Observation KeyParts)) (n : ℕ) (branch : List ℕ) → IsFirstEntryOf es key n branch → IsFirstEntryOf (remembered kept es) key n branch
   first_kept es n branch (before, e, after, whole, at, none, counts, says) =
       (remembered kept before, one e, remembered kept after, ap (remembered kept) whole ∙ map-append one before (e ∷ after), same_of e ∙ at, none_of before none, counts ∙ ap (λ k. k + 1) (sym (length-map before one)), says)
 
   -- where an entry is the last of the key, it is the last of the key as the entries are remembered
-  last_kept : (es : List (Observation KeyParts)) (n : ℕ) → IsLastOf es key n → IsLastOf (remembered kept es) key n
+  last_kept : (es : List (Observation KeyParts)) (n : ℕ) → IsLastEntryOf es key n → IsLastEntryOf (remembered kept es) key n
   last_kept es n (before, e, after, whole, at, none, counts) =
       (remembered kept before, one e, remembered kept after, ap (remembered kept) whole ∙ map-append one before (e ∷ after), same_of e ∙ at, none_of after none, counts ∙ ap (λ k. k + 1) (sym (length-map before one)))
 
@@ -163,7 +163,7 @@ module _ (kept : KeyParts → Bool) (key : KeyParts) (is : kept key ≡ true) wh
       )
 
 -- no entry of a transaction comes after its last one
-last_not_after : (es : List (Observation KeyParts)) (key : KeyParts) (m n : ℕ) → IsLastOf es key m → IsLastOf es key n → n ≤ m
+last_not_after : (es : List (Observation KeyParts)) (key : KeyParts) (m n : ℕ) → IsLastEntryOf es key m → IsLastEntryOf es key n → n ≤ m
 -- e is the last entry with b before it and a after it, and f is the other one with c before it and d after it
 last_not_after es key m n (b, e, a, whole, is, none, counts) (c, f, d, other, at, last, number) = by (split_compare b a c d e f (sym whole ∙ other))
   where
@@ -174,11 +174,11 @@ last_not_after es key m n (b, e, a, whole, is, none, counts) (c, f, d, other, at
     by (inr (inl (zs, later))) =
         let tail : e ∷ a ≡ (e ∷ zs) ++ f ∷ d = append_cancel_left b (e ∷ a) ((e ∷ zs) ++ f ∷ d) (sym whole ∙ other ∙ ap (λ xs. xs ++ f ∷ d) later ∙ append_assoc b (e ∷ zs) (f ∷ d)) in
         let after : a ≡ zs ++ f ∷ d = cc in
-        absurd (false≢true (sym (All-middle (λ o. is_of key o ≡ false) zs d f (subst (All (λ o. is_of key o ≡ false)) after none)) ∙ at))
+        absurd (false≢true (sym (All-middle (λ o. concerns key o ≡ false) zs d f (subst (All (λ o. concerns key o ≡ false)) after none)) ∙ at))
     by (inr (inr (zs, earlier))) = omega (arith, counts, number, simp length-append at (ap length earlier))
 
 -- a key that an entry concerns stands at some place among the keys of the entries
-key_of : (p : Times) (es : List (Observation KeyParts)) (key : KeyParts) (last : ℕ) → IsLastOf es key last → (n : ℕ) × (slice_get (keys_in es) n ≡ Some key)
+key_of : (p : Times) (es : List (Observation KeyParts)) (key : KeyParts) (last : ℕ) → IsLastEntryOf es key last → (n : ℕ) × (slice_get (keys_in es) n ≡ Some key)
 key_of p es key last (before, e, after, whole, is, none, counts) = by (list_any (same_key key) (keys_in es)) refl
   where
     -- the key stands at some place of the keys, since an entry concerns it
@@ -187,7 +187,7 @@ key_of p es key last (before, e, after, whole, is, none, counts) = by (list_any 
     -- else no entry would concern the key, but e does
     by false lacks =
         let all = none_in key es (among-fold key [] (flat_map (λ o. o.keys) es) lacks).1 in
-        absurd (false≢true (sym (All-middle (λ o. is_of key o ≡ false) before after e (subst (All (λ o. is_of key o ≡ false)) whole all)) ∙ is))
+        absurd (false≢true (sym (All-middle (λ o. concerns key o ≡ false) before after e (subst (All (λ o. concerns key o ≡ false)) whole all)) ∙ is))
 
 -- as many entries are remembered as there were
 pub long_kept : (kept : KeyParts → Bool) (es : List (Observation KeyParts)) → length (remembered kept es) ≡ length es
@@ -323,7 +323,7 @@ module _ (flags : List Bool) (t : Tabled) (long : length flags ≡ length t.keys
     over_by key set false (leads, sound) low quiet = inr (quiet_over texts t.times (machine_of_key t.times.rules key) (events_for key es) (newest_moment es) set leads low quiet)
 
     -- a key that is not kept is over, and its last entry has a number up to `until`
-    forgotten : (key : KeyParts) → kept key ≡ false → IsOver t.times es key × ((last : ℕ) × IsLastOf es key last × (last ≤ until))
+    forgotten : (key : KeyParts) → kept key ≡ false → IsOver t.times es key × ((last : ℕ) × IsLastEntryOf es key last × (last ≤ until))
     forgotten key gone =
         let (n, at, flag) = kept_by_not flags t.keys key gone in
         let (set, d, h, here, is, of) = at_key n key at in
@@ -337,7 +337,7 @@ module _ (flags : List Bool) (t : Tabled) (long : length flags ≡ length t.keys
     -- What follows needs that the set of each transaction that is over is quiet: a transaction that is over, and has no later entry, is not kept.
     module _ (over_quiet : AreQuietIfOver es t) where
       -- a key that is over, and whose last entry has a number up to `until`, is not kept
-      remembers : (key : KeyParts) → IsOver t.times es key → (last : ℕ) → IsLastOf es key last → last ≤ until → kept key ≡ false
+      remembers : (key : KeyParts) → IsOver t.times es key → (last : ℕ) → IsLastEntryOf es key last → last ≤ until → kept key ≡ false
       remembers key over last is_last low =
           let (n, there) = key_of t.times es key last is_last in
           let at : slice_get t.keys n ≡ Some key = ap (λ ks. slice_get ks n) tracks.keys ∙ there in

@@ -4,7 +4,7 @@ use Rattle.std.proofs.lemmas.List.Elements.{All-weaker}
 use Rattle.sip_standard.specs.Times.{Times}
 use Rattle.sip_standard.specs.Figure.{Figure, Owing, quiet, Lasts, MayEnd}
 use Rattle.sip_machine.specs.FigureRules.{IsFigure}
-use Rattle.sip_machine.specs.inner.FigureLaws.{rules_lawful}
+use Rattle.sip_phases.proofs.states.FigureLaws.{rules_lawful}
 use Rattle.sip_standard.specs.KeyMachine.{MachineKind, transaction_of}
 use Rattle.sip_states.proofs.keyed.KeySetLaws.{coded_holds}
 use Rattle.sip_states.proofs.runs.StandsLemmas.{lasts-waits}

@@ -9,7 +9,7 @@ use Rattle.std.proofs.lemmas.List.{get_or-map, length-map, map-append}
 use Rattle.std.proofs.lemmas.List.Elements.{All-nil, All-cons}
 use Rattle.std.proofs.lemmas.List.Folds.{list_any-append}
 use Rattle.sip_standard.specs.Key.{KeyParts, same_key}
-use Rattle.sip_key.specs.inner.KeyLaws.{same_key-decides}
+use Rattle.sip_standard.proofs.SameKey.{same_key-decides}
 use Rattle.sip_standard.specs.Times.{Times}
 use Rattle.sip_standard.specs.declared.action.Action.{Action}
 use Rattle.sip_standard.specs.declared.action.Action.TheVariants.{Sent, Received, Failed, Mark, Restart}
@@ -21,10 +21,10 @@ use Rattle.sip_standard.specs.LogEntry.{Item}
 use Rattle.sip_standard.specs.Observation.{Observation}
 use Rattle.sip_standard.specs.Seen.{AreSeen}
 use Rattle.sip_standard.specs.VerdictOf.{keys_in, events_for, IsWideAt}
-use Rattle.sip_verdict.specs.Forgetting.{HasSameTroubleAfter, remembered}
-use Rattle.sip_verdict.specs.Entries.{newest_moment}
+use Rattle.sip_verdict.specs.Forgetting.{remembered}
+use Rattle.sip_verdict.specs.Entries.{concerns, newest_moment}
 use Rattle.sip_verdict.specs.inner.Keyed.{with_key}
-use Rattle.sip_verdict.specs.SurveyLaws.{IsCutOf, IsIdleAgain}
+use Rattle.sip_verdict.specs.SurveyLaws.{IsCutOf, HasSameTroubleAfter, IsIdleAgain}
 use Rattle.sip_verdict.specs.SurveyOf.{IsSound, Breaks, Widens}
 use Rattle.sip_verdict.specs.inner.Surveying.{IsOrdered}
 use Rattle.sip_verdict.proofs.keys.FewerEntries.{newest-before}
@@ -123,12 +123,12 @@ module _ (key : KeyParts) where
   or_last false b e = e
 
   -- after an entry that concerns the key, the key is once among the keys of all entries
-  own_with : (es : Entries) (e : Observation KeyParts) → list_any (same_key key) e.keys ≡ true → own (keys_in (es ++ e ∷ [])) ≡ key ∷ []
+  own_with : (es : Entries) (e : Observation KeyParts) → concerns key e ≡ true → own (keys_in (es ++ e ∷ [])) ≡ key ∷ []
   own_with es e some =
       -- all the keys that entries name, one after another, with those of e at the end, have the key among them (`any`)
       let all = flat_map (λ f. f.keys) es in
       let whole : flat_map (λ f. f.keys) (es ++ e ∷ []) ≡ all ++ e.keys = flat_map-append (λ f. f.keys) es (e ∷ []) ∙ ap (λ keys. all ++ keys) (append-nil e.keys) in
-      let any : list_any (same_key key) (all ++ e.keys) ≡ true = list_any-append (same_key key) all e.keys ∙ or_last (list_any (same_key key) all) (list_any (same_key key) e.keys) some in
+      let any : list_any (same_key key) (all ++ e.keys) ≡ true = list_any-append (same_key key) all e.keys ∙ or_last (list_any (same_key key) all) (concerns key e) some in
       ap (λ keys. own (fold with_key [] keys)) whole ∙ sym (filter_keys (same_key key) [] (all ++ e.keys)) ∙ becomes_one (all ++ e.keys) any
 
   -- the entry with no other key than the one
@@ -263,25 +263,25 @@ module _ (key : KeyParts) where
 
     -- the entry does not concern the key, or is a restart
     abbrev Passes : Observation KeyParts → Type 0
-    Passes e = (list_any (same_key key) e.keys ≡ false) ⊎ (e.event.action ≡ Restart)
+    Passes e = (concerns key e ≡ false) ⊎ (e.event.action ≡ Restart)
 
     -- the key's events of an entry that does not concern it, or is a restart, are all restarts
     all_restarts : (e : Observation KeyParts) → Passes e → All (λ d. d.action ≡ Restart) (events_for key (e ∷ []))
-    all_restarts e passes = go (list_any (same_key key) e.keys) refl passes
+    all_restarts e passes = go (concerns key e) refl passes
       where
         -- the events of the entry for the key are restarts, whether or not the entry concerns the key
         -- an entry that does not concern the key brings it no event, and one that does is a restart
-        go : (b : Bool) → list_any (same_key key) e.keys ≡ b → Passes e → All (λ d. d.action ≡ Restart) (map (λ f. f.event) (cond (list_any (same_key key) e.keys) (e ∷ []) []))
+        go : (b : Bool) → concerns key e ≡ b → Passes e → All (λ d. d.action ≡ Restart) (map (λ f. f.event) (cond (concerns key e) (e ∷ []) []))
         go false none any = subst (λ b. All (λ d. d.action ≡ Restart) (map (λ f. f.event) (cond b (e ∷ []) []))) (sym none) (All-nil (λ d. d.action ≡ Restart))
         go true some (inl none) = absurd (false≢true (sym none ∙ some))
         go true some (inr is) = subst (λ b. All (λ d. d.action ≡ Restart) (map (λ f. f.event) (cond b (e ∷ []) []))) (sym some) (All-cons (λ d. d.action ≡ Restart) e.event [] is (All-nil (λ d. d.action ≡ Restart)))
 
     -- over this one entry, which does not concern the key or is a restart, the transaction can stand in idle
     idle_here : (e : Observation KeyParts) → Passes e → Stands (transaction_of kind).figure p (events_for key (e ∷ [])) e.event.moment (quiet (transaction_of kind).figure.idle)
-    idle_here e passes = go (list_any (same_key key) e.keys) refl passes
+    idle_here e passes = go (concerns key e) refl passes
       where
         -- the transaction is idle after the events of the entry for the key, whether or not the entry concerns it
-        go : (b : Bool) → list_any (same_key key) e.keys ≡ b → Passes e → Stands (transaction_of kind).figure p (map (λ g. g.event) (cond (list_any (same_key key) e.keys) (e ∷ []) [])) e.event.moment (quiet (transaction_of kind).figure.idle)
+        go : (b : Bool) → concerns key e ≡ b → Passes e → Stands (transaction_of kind).figure p (map (λ g. g.event) (cond (concerns key e) (e ∷ []) [])) e.event.moment (quiet (transaction_of kind).figure.idle)
         go false none any =
             subst (λ b. Stands (transaction_of kind).figure p (map (λ g. g.event) (cond b (e ∷ []) [])) e.event.moment (quiet (transaction_of kind).figure.idle)) (sym none)
             (waits [] 0 e.event.moment (quiet (transaction_of kind).figure.idle) begins zero-le (idle_lasts kind p e.event.moment))
@@ -330,20 +330,20 @@ module _ (key : KeyParts) where
 
     -- an item that comes is seen alike after both logs and concerns the key; or in each it does not concern the key, or is a restart
     abbrev Comes : Observation KeyParts → Observation KeyParts → Type 0
-    Comes e f = ((e ≡ f) × (list_any (same_key key) e.keys ≡ true)) ⊎ (Passes e × Passes f)
+    Comes e f = ((e ≡ f) × (concerns key e ≡ true)) ⊎ (Passes e × Passes f)
 
     -- an observation that both logs have concerns the key in both, or in none
-    message : (e f : Observation KeyParts) → e ≡ f → (b : Bool) → list_any (same_key key) e.keys ≡ b → Comes e f
+    message : (e f : Observation KeyParts) → e ≡ f → (b : Bool) → concerns key e ≡ b → Comes e f
     message e f same true some = inl (same, some)
-    message e f same false none = inr (inl none, inl (ap (λ g. list_any (same_key key) g.keys) (sym same) ∙ none))
+    message e f same false none = inr (inl none, inl (ap (concerns key) (sym same) ∙ none))
 
     -- an item that comes is a message that is seen alike after both logs, or a mark, or a restart
     comes : (done left : Entries) (item : Item) (e f : Observation KeyParts) (a : Action) → SeenAs done item e a → SeenAs left item f a → Comes e f
-    comes done left item e f Sent sees saw = message e f (message_one way.Sent item e f sees saw) (list_any (same_key key) e.keys) refl
-    comes done left item e f Received sees saw = message e f (message_one way.Received item e f sees saw) (list_any (same_key key) e.keys) refl
-    comes done left item e f Failed sees saw = message e f (message_one way.Sent item e f sees saw) (list_any (same_key key) e.keys) refl
+    comes done left item e f Sent sees saw = message e f (message_one way.Sent item e f sees saw) (concerns key e) refl
+    comes done left item e f Received sees saw = message e f (message_one way.Received item e f sees saw) (concerns key e) refl
+    comes done left item e f Failed sees saw = message e f (message_one way.Sent item e f sees saw) (concerns key e) refl
     -- a mark concerns no key, and a restart is one in both logs
-    comes done left item e f Mark sees saw = inr (inl (ap (λ g. list_any (same_key key) g.keys) sees), inl (ap (λ g. list_any (same_key key) g.keys) saw))
+    comes done left item e f Mark sees saw = inr (inl (ap (concerns key) sees), inl (ap (concerns key) saw))
     comes done left item e f Restart sees saw = inr (inr (ap (λ g. g.event.action) sees), inr (ap (λ g. g.event.action) saw))
 
     -- where entries are in order, the old ones with the first of the later ones up to e are in order
@@ -353,7 +353,7 @@ module _ (key : KeyParts) where
         (subst IsOrdered (sym (append_assoc old (front ++ e ∷ []) rest ∙ ap (λ xs. old ++ xs) (append_assoc front (e ∷ []) rest))) order)
 
     -- once an entry concerns the key after both logs, the key has the trouble of a new one in both
-    found_both : (old left : Entries) (g : Observation KeyParts) (es fs : Entries) → list_any (same_key key) g.keys ≡ true → IsOrdered (old ++ g ∷ es) → IsOrdered (left ++ g ∷ fs) → Rests old → Rests left
+    found_both : (old left : Entries) (g : Observation KeyParts) (es fs : Entries) → concerns key g ≡ true → IsOrdered (old ++ g ∷ es) → IsOrdered (left ++ g ∷ fs) → Rests old → Rests left
         → AreAlike es fs → HasSameTroubleAfter p old left (g ∷ es) (g ∷ fs) key
     found_both old left g es fs some order order_left r r_left (cs, ones, others) front back e f rest more split other long =
         -- s is what the two logs have in common up to the entries e and f, from g on
@@ -416,7 +416,7 @@ module _ (key : KeyParts) where
         by : Comes g h → (Rests (old ++ g ∷ []) → Rests (left ++ h ∷ []) → HasSameTroubleAfter p (old ++ g ∷ []) (left ++ h ∷ []) es fs key) → Alike (old ++ front) e (left ++ back) f
         -- the next entries g and h are one entry, which concerns the key: from there on the same is found
         by (inl (same, some)) on =
-            let own_same : own (keys_in (old ++ g ∷ [])) ≡ own (keys_in (left ++ h ∷ [])) = own_with old g some ∙ sym (own_with left h (ap (λ x. list_any (same_key key) x.keys) (sym same) ∙ some)) in
+            let own_same : own (keys_in (old ++ g ∷ [])) ≡ own (keys_in (left ++ h ∷ [])) = own_with old g some ∙ sym (own_with left h (ap (concerns key) (sym same) ∙ some)) in
             found_both old left g es fs some order (subst (λ x. IsOrdered (left ++ x ∷ fs)) (sym same) order_left) r r_left (all_alike (old ++ g ∷ []) (left ++ h ∷ []) own_same items es fs seen seen_left)
             front back e f rest more split (ap (λ x. x ∷ fs) same ∙ other) long
         -- neither concerns the key, which goes on as before after both

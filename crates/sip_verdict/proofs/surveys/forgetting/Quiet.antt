@@ -8,8 +8,8 @@ use Rattle.sip_standard.specs.KeyMachine.{MachineKind, transaction_of}
 use Rattle.sip_machine.specs.Texts.{Texts}
 use Rattle.sip_states.specs.Held.{Held}
 use Rattle.sip_states.specs.Waits.{Wait}
-use Rattle.sip_states.specs.inner.KeySets.{StateOf, meaning_of}
-use Rattle.sip_states.specs.KeyRules.{PhaseOf}
+use Rattle.sip_states.specs.inner.KeySets.{CodeOwingOf, meaning_of}
+use Rattle.sip_states.specs.KeyRules.{OwingOf}
 use Rattle.sip_states.specs.AnySet.{moment_of, IsQuietSet}
 use Rattle.sip_states.specs.declared.any_set.AnySet.{AnySet}
 use Rattle.sip_states.proofs.keyed.ByMachine.{first_is_of, last_is_of, moment_is, quiet_in}
@@ -21,7 +21,7 @@ use Rattle.sip_verdict.specs.inner.TablesTracking.{LeadsOf}
 -- What follows is of the set of one transaction, which leads to its runs over the events and waits until the moment n.
 module _ (texts : Texts) (p : Times) (machine : MachineKind) (events : List MachineEvent) (n : ℕ) (set : AnySet) (leads : LeadsOf texts p machine events n set) (low : moment_of set ≤ n) where
   -- the states of the set that lead to the runs
-  abbrev held : Held Times (StateOf machine)
+  abbrev held : Held Times (CodeOwingOf machine)
   held = leads.0
 
   -- the moment of the states is not after the moment n
@@ -29,9 +29,9 @@ module _ (texts : Texts) (p : Times) (machine : MachineKind) (events : List Mach
   not_later = subst (λ m. m ≤ n) (ap moment_of leads.1 ∙ moment_is machine held) low
 
   -- What follows is of a set with one state x, which stays as it is: the runs stand in q alone, for which x stands.
-  module _ (x : StateOf machine) (q : Owing (transaction_of machine).Phase) (one : held.states ≡ x ∷ []) (still : IsStill p machine texts x) (is : (meaning_of machine).seen texts x ≡ q) where
+  module _ (x : CodeOwingOf machine) (q : Owing (transaction_of machine).Phase) (one : held.states ≡ x ∷ []) (still : IsStill p machine texts x) (is : (meaning_of machine).seen texts x ≡ q) where
     -- what the states of the set wait to at n is q, and nothing else
-    waits : (y : PhaseOf machine) → Wait ((meaning_of machine).rules p) (Contains (map ((meaning_of machine).seen texts) held.states)) held.moment n y ↔ (y ≡ q)
+    waits : (y : OwingOf machine) → Wait ((meaning_of machine).rules p) (Contains (map ((meaning_of machine).seen texts) held.states)) held.moment n y ↔ (y ≡ q)
     waits y =
         subst (λ xs. Wait ((meaning_of machine).rules p) (Contains (map ((meaning_of machine).seen texts) xs)) held.moment n y ↔ (y ≡ q)) (sym one)
         (subst (λ z. Wait ((meaning_of machine).rules p) (Contains (map ((meaning_of machine).seen texts) (x ∷ []))) held.moment n y ↔ (y ≡ z)) is (waits_still p machine texts x still held.moment n not_later y))

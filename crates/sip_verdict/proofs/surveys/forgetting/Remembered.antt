@@ -6,18 +6,18 @@ use Rattle.std.proofs.lemmas.Bool.{false≢true}
 use Rattle.std.proofs.lemmas.List.Elements.{All-nil, All-cons, All-head, All-tail}
 use Rattle.std.proofs.lemmas.List.Kept.{AllPairs-cons}
 use Rattle.sip_standard.specs.Key.{KeyParts, same_key}
-use Rattle.sip_key.specs.inner.KeyLaws.{same_key-decides}
+use Rattle.sip_standard.proofs.SameKey.{same_key-decides}
 use Rattle.sip_standard.specs.Times.{Times}
 use Rattle.sip_standard.specs.MachineEvent.{MachineEvent}
 use Rattle.sip_standard.specs.declared.action.Action.TheVariants.{Restart}
 use Rattle.sip_standard.specs.Figure.{Figure, Owing, quiet, Lasts, MayEnd, Restarts, Steps, Takes}
-use Rattle.sip_machine.specs.inner.DebtLaws.{All-front}
+use Rattle.sip_phases.proofs.debts.DebtLaws.{All-front}
 use Rattle.sip_standard.specs.Stands.{Stands, begins, waits, ends, takes}
 use Rattle.sip_standard.specs.KeyMachine.{MachineKind, machine_of_key, transaction_of}
 use Rattle.sip_standard.specs.Observation.{Observation}
 use Rattle.sip_standard.specs.VerdictOf.{events_for}
 use Rattle.sip_standard.proofs.Few.{AllPairs-head, AllPairs-tail}
-use Rattle.sip_verdict.specs.Entries.{newest_moment}
+use Rattle.sip_verdict.specs.Entries.{concerns, newest_moment}
 use Rattle.sip_verdict.specs.SurveyOf.{IsSound, Breaks, Widens}
 use Rattle.sip_verdict.specs.SurveyLaws.{IsCutOf, IsIdleAgain}
 use Rattle.sip_verdict.specs.Forgetting.{remembered}
@@ -156,16 +156,16 @@ module _ (kept : KeyParts → Bool) where
             ap (λ b. list_any (same_key key) (cond b (k ∷ filter kept keys) (filter kept keys))) e ∙ ap (λ b. b || list_any (same_key key) (filter kept keys)) same ∙ rest
 
     -- no entry that is left concerns a key that is not kept
-    none_concerns : (es : List (Observation KeyParts)) → All (λ e. list_any (same_key key) e.keys ≡ false) (remembered kept es)
-    none_concerns [] = All-nil (λ e. list_any (same_key key) e.keys ≡ false)
-    none_concerns (e ∷ es) = All-cons (λ f. list_any (same_key key) f.keys ≡ false) (one_of e) (remembered kept es) (none_left e.keys) (none_concerns es)
+    none_concerns : (es : List (Observation KeyParts)) → All (λ e. concerns key e ≡ false) (remembered kept es)
+    none_concerns [] = All-nil (λ e. concerns key e ≡ false)
+    none_concerns (e ∷ es) = All-cons (λ f. concerns key f ≡ false) (one_of e) (remembered kept es) (none_left e.keys) (none_concerns es)
 
     -- where no entry concerns the key, the key has no events
-    no_events : (es : List (Observation KeyParts)) → All (λ e. list_any (same_key key) e.keys ≡ false) es → events_for key es ≡ []
+    no_events : (es : List (Observation KeyParts)) → All (λ e. concerns key e ≡ false) es → events_for key es ≡ []
     no_events [] all = refl
     no_events (e ∷ es) all =
-        ap (λ b. map (λ f. f.event) (cond b (e ∷ filter (λ f. list_any (same_key key) f.keys) es) (filter (λ f. list_any (same_key key) f.keys) es))) (All-head (λ f. list_any (same_key key) f.keys ≡ false) e es all)
-        ∙ no_events es (All-tail (λ f. list_any (same_key key) f.keys ≡ false) e es all)
+        ap (λ b. map (λ f. f.event) (cond b (e ∷ filter (concerns key) es) (filter (concerns key) es))) (All-head (λ f. concerns key f ≡ false) e es all)
+        ∙ no_events es (All-tail (λ f. concerns key f ≡ false) e es all)
 
     -- a forgotten key is in no trouble over the remembered entries
     pub sound_forgotten : (p : Times) (es : List (Observation KeyParts)) → IsSound p (remembered kept es) key
@@ -173,7 +173,7 @@ module _ (kept : KeyParts → Bool) where
         let none = none_concerns es in (
           idle_runs p (remembered kept es) key (no_events (remembered kept es) none),
           λ front e rest is wide.
-              false≢true (sym (All-middle (λ f. list_any (same_key key) f.keys ≡ false) front rest e (subst (All (λ f. list_any (same_key key) f.keys ≡ false)) is none)) ∙ wide.0),
+              false≢true (sym (All-middle (λ f. concerns key f ≡ false) front rest e (subst (All (λ f. concerns key f ≡ false)) is none)) ∙ wide.0),
         )
 
     -- a forgotten key is idle again after the remembered entries

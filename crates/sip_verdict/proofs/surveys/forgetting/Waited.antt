@@ -13,12 +13,12 @@ use Rattle.sip_standard.specs.Observation.{Observation}
 use Rattle.sip_standard.specs.VerdictOf.{events_for}
 use Rattle.sip_machine.specs.Texts.{Texts, IsBook}
 use Rattle.sip_machine.specs.Rules.{StandFor, Knows}
-use Rattle.sip_machine.specs.inner.OwingLaws.{owing_apart}
+use Rattle.sip_phases.proofs.states.OwingLaws.{owing_apart}
 use Rattle.sip_states.specs.Held.{Held}
 use Rattle.sip_states.specs.Waits.{Wait}
 use Rattle.sip_states.specs.Meaning.{IsKnown, HasWaited}
-use Rattle.sip_states.specs.inner.KeySets.{coded_of, StateOf, set_of, meaning_of}
-use Rattle.sip_states.specs.KeyRules.{PhaseOf}
+use Rattle.sip_states.specs.inner.KeySets.{coded_of, CodeOwingOf, set_of, meaning_of}
+use Rattle.sip_states.specs.KeyRules.{OwingOf}
 use Rattle.sip_states.proofs.keyed.KeySetLaws.{coded_holds, to_machine}
 use Rattle.sip_states.specs.AnySet.{moment_of, IsKnownSet, IsQuietIn, IsQuietSet, SetWaits}
 use Rattle.sip_states.specs.Sweep.{ChangesSets}
@@ -73,7 +73,7 @@ module _ (texts : Texts) (book : IsBook texts) (p : Times) (machine : MachineKin
     (low : moment_of old ≤ moment) (waits : SetWaits moment old new) where
   -- the states of the set that has waited stand for just where the runs stand at the moment, and the set leads to these runs
   pub record Stood : Type 0 where
-    pub held : Held Times (StateOf machine)
+    pub held : Held Times (CodeOwingOf machine)
     pub is : new ≡ set_of machine held
     pub leads : LeadsBy (meaning_of machine) texts p (Stands (transaction_of machine).figure p events) from held
     pub stand : StandFor (meaning_of machine).names (meaning_of machine).in_range (meaning_of machine).seen texts (Stands (transaction_of machine).figure p events moment) held.states
@@ -106,13 +106,13 @@ module _ (texts : Texts) (book : IsBook texts) (p : Times) (machine : MachineKin
   waited_on leads = let s = stood leads in (s.held, s.is, s.leads)
 
   -- where a run stands in the state q and none stands in another, the set that has waited has the one state that stands for q
-  one_state : (y : StateOf machine) (q : Owing (transaction_of machine).Phase) → (meaning_of machine).seen texts y ≡ q → Knows (meaning_of machine).names texts y
+  one_state : (y : CodeOwingOf machine) (q : Owing (transaction_of machine).Phase) → (meaning_of machine).seen texts y ≡ q → Knows (meaning_of machine).names texts y
       → Stands (transaction_of machine).figure p events moment q × ((x : Owing (transaction_of machine).Phase) → Stands (transaction_of machine).figure p events moment x → x ≡ q)
       → (s : Stood) → s.held.states ≡ y ∷ []
   one_state y q is known (some, only) s =
       let f = (transaction_of machine).figure in
       -- a run stands at the moment in q alone
-      let both : (x : PhaseOf machine) → Stands f p events moment x ↔ (x ≡ (meaning_of machine).seen texts y) =
+      let both : (x : OwingOf machine) → Stands f p events moment x ↔ (x ≡ (meaning_of machine).seen texts y) =
       λ x. (λ stands. only x stands ∙ sym is, λ same. subst (λ z. Stands f p events moment z) (sym (same ∙ is)) some) in
       alone (meaning_of machine).names (meaning_of machine).in_range (meaning_of machine).seen texts
       (λ a b a_known b_known same. owing_apart (coded_of machine).names (coded_of machine).seen texts ((coded_holds machine).apart texts) a b book a_known b_known same)

@@ -9,7 +9,7 @@ use Rattle.std.proofs.lemmas.List.Sums.{fold-append}
 use Rattle.std.proofs.lemmas.Grind.{flat_map-append}
 use Rattle.sip_standard.specs.Key.{KeyParts, same_key}
 use Rattle.sip_standard.specs.Times.{Times}
-use Rattle.sip_machine.specs.inner.DebtLaws.{All-front}
+use Rattle.sip_phases.proofs.debts.DebtLaws.{All-front}
 use Rattle.sip_standard.specs.declared.format.Format.{Format}
 use Rattle.sip_standard.specs.LogEntry.{Item, InOrder}
 use Rattle.sip_standard.specs.LogSays.{LogEnd}
@@ -23,7 +23,7 @@ use Rattle.sip_standard.specs.Seen.{AreSeen}
 use Rattle.sip_verdict.specs.inner.Keyed.{with_key}
 use Rattle.sip_standard.specs.VerdictOf.{keys_in}
 use Rattle.sip_verdict.specs.SurveyOf.{Breaks, Widens, HoldsOf, IsFoundAt, IsSurveyAfter, IsSurveyOf}
-use Rattle.sip_verdict.specs.SurveyLaws.{IsOf}
+use Rattle.sip_verdict.specs.SurveyLaws.{IsFindingOf}
 use Rattle.sip_verdict.proofs.keys.Splitting.{split_compare}
 use Rattle.sip_verdict.proofs.surveys.parts.CutLogs.{seen_moment}
 use Rattle.sip_verdict.proofs.surveys.found.Named.{found_is}
@@ -90,7 +90,7 @@ abbrev IsTroubled : Times → List (Observation KeyParts) → Observation KeyPar
 IsTroubled p front e key = Breaks p front e key ⊎ Widens p front e key
 
 -- a finding of a transaction at the entry e says that the key with its number breaks there or is followed no further
-troubled : (p : Times) (front : List (Observation KeyParts)) (e : Observation KeyParts) (t : ℕ) (f : Finding) → IsOf t f → IsFoundAt p front e f → HoldsOf (IsTroubled p front e) (keys_in (front ++ e ∷ [])) t
+troubled : (p : Times) (front : List (Observation KeyParts)) (e : Observation KeyParts) (t : ℕ) (f : Finding) → IsFindingOf t f → IsFoundAt p front e f → HoldsOf (IsTroubled p front e) (keys_in (front ++ e ∷ [])) t
 troubled p front e t (Malformed n a) is found = absurd is
 -- the number in the finding is t, so that what is found of its key is of the key with the number t
 troubled p front e t (Breach n u) is (at, (before, key, rest, are, breaks, number)) = (before, key, rest, are, inl breaks, sym is ∙ number)
@@ -118,7 +118,7 @@ module _ (p : Times) (es : List (Observation KeyParts)) (order : AllPairs (λ a 
       breaks.1 (wide_runs p front e key (same_place (Widens p front e) (keys_in (front ++ e ∷ [])) before key rest v are wide (sym same ∙ number)).1)
 
   -- two findings of one transaction at one entry are the same
-  alike : (front : List (Observation KeyParts)) (e : Observation KeyParts) (f g : Finding) → IsOf t f → IsOf t g → IsFoundAt p front e f → IsFoundAt p front e g → f ≡ g
+  alike : (front : List (Observation KeyParts)) (e : Observation KeyParts) (f g : Finding) → IsFindingOf t f → IsFindingOf t g → IsFoundAt p front e f → IsFoundAt p front e g → f ≡ g
   -- a fault names no transaction
   alike front e (Malformed n a) g is so found other = absurd is
   alike front e (Breach n u) (Malformed k a) is so found other = absurd so
@@ -131,7 +131,7 @@ module _ (p : Times) (es : List (Observation KeyParts)) (order : AllPairs (λ a 
   alike front e (Undecided n u) (Breach k v) is so found other = absurd (not_both front e v u (so ∙ sym is) other.1 found.1)
 
   -- two findings of one transaction in a log in order are the same
-  pub one_of : (f g : Finding) → IsOf t f → IsOf t g
+  pub one_of : (f g : Finding) → IsFindingOf t f → IsFindingOf t g
       → ((front : List (Observation KeyParts)) × (e : Observation KeyParts) × (more : List (Observation KeyParts)) × (es ≡ front ++ e ∷ more) × IsFoundAt p front e f)
       → ((front : List (Observation KeyParts)) × (e : Observation KeyParts) × (more : List (Observation KeyParts)) × (es ≡ front ++ e ∷ more) × IsFoundAt p front e g) → f ≡ g
   one_of f g is so (front, e, more, split, found) (back, c, others, cut, other) = by (split_compare front more back others e c (sym split ∙ cut))
@@ -153,7 +153,7 @@ module _ (p : Times) (es : List (Observation KeyParts)) (order : AllPairs (λ a 
           absurd (not_later back c h.0 e more (split ∙ ap (λ xs. xs ++ e ∷ more) h.1) second (subst (λ xs. HoldsOf (IsTroubled p xs e) (keys_in (xs ++ e ∷ [])) t) h.1 first))
 
 -- two findings of one transaction in a survey are the same
-pub named_once : (input : List ℕ) (found : List Finding) (end : SurveyEnd) → IsSurveyOf input found end → (t : ℕ) (f g : Finding) → Contains found f → Contains found g → IsOf t f → IsOf t g → f ≡ g
+pub named_once : (input : List ℕ) (found : List Finding) (end : SurveyEnd) → IsSurveyOf input found end → (t : ℕ) (f g : Finding) → Contains found f → Contains found g → IsFindingOf t f → IsFindingOf t g → f ≡ g
 -- without a header nothing is found
 named_once input found end (inl lacks) t f g has also is so = absurd (Contains-none f (subst (λ fs. Contains fs f) lacks.1 has))
 -- else both findings are found at entries of the log, which are in order

@@ -9,7 +9,7 @@ use Rattle.sip_standard.specs.Figure.{quiet}
 use Rattle.sip_standard.specs.Stands.{Stands, begins, waits}
 use Rattle.sip_standard.specs.KeyMachine.{machine_of_key, transaction_of}
 use Rattle.sip_standard.specs.Observation.{Observation}
-use Rattle.sip_verdict.specs.Entries.{newest_moment}
+use Rattle.sip_verdict.specs.Entries.{concerns, newest_moment}
 use Rattle.sip_standard.specs.VerdictOf.{keys_in, events_for, RunsOver, IsWideAt}
 use Rattle.sip_verdict.specs.SurveyOf.{IsSound}
 use Rattle.sip_verdict.proofs.keys.Keys.{among-contains, among-fold, new_key, keys_in-push}
@@ -25,7 +25,7 @@ idle_runs p es key none =
     (quiet f.idle, subst (λ events. Stands f p events (newest_moment es) (quiet f.idle)) (sym none) (waits [] 0 (newest_moment es) (quiet f.idle) begins zero-le (idle_lasts kind p (newest_moment es))))
 
 -- a key that the last entry concerns is among the keys of all entries
-pub concerned-among : (key : KeyParts) (es : List (Observation KeyParts)) (e : Observation KeyParts) → list_any (same_key key) e.keys ≡ true → Contains (keys_in (es ++ e ∷ [])) key
+pub concerned-among : (key : KeyParts) (es : List (Observation KeyParts)) (e : Observation KeyParts) → concerns key e ≡ true → Contains (keys_in (es ++ e ∷ [])) key
 concerned-among key es e h = by (list_any (same_key key) (keys_in (es ++ e ∷ []))) refl
   where
     -- the key is among the keys, since the entry concerns it

@@ -22,13 +22,14 @@ use Rattle.sip_part.specs.Led.{led_branch}
 use Rattle.sip_part.proofs.Fields.{led_found}
 use Rattle.sip_states.specs.Tables.{Tabled, Touches}
 use Rattle.sip_states.proofs.lists.Places.{set_place, push_place}
+use Rattle.sip_verdict.specs.Entries.{concerns}
 use Rattle.sip_verdict.specs.declared.histories.Histories.{Histories}
 use Rattle.sip_verdict.specs.declared.histories.History.{History}
 use Rattle.sip_standard.specs.Observation.{Observation, ObservesMessage, has_fault, has_no_cookie, is_heard, silent_observation}
 use Rattle.sip_verdict.specs.inner.Keyed.{with_key}
 use Rattle.sip_standard.specs.VerdictOf.{keys_in, Sees}
 use Rattle.sip_message.proofs.lemmas.says.Reading.{said-one}
-use Rattle.sip_verdict.specs.SurveyText.{is_of, IsFirstOf, IsLastOf}
+use Rattle.sip_verdict.specs.SurveyText.{IsFirstEntryOf, IsLastEntryOf}
 use Rattle.sip_verdict.specs.Surveys.{IsHistoryOf, AreHistories}
 use Rattle.sip_verdict.specs.inner.Histories.{SpellsBranch, Notes, NotesEach}
 use Rattle.sip_verdict.specs.inner.TablesTracking.{TouchesEach, is_among}
@@ -67,32 +68,32 @@ history_at xs ys i (Some a) b item same is =
     ap (λ zs. slice_get zs i) (sym same) ∙ slice_get-get_or xs i a.now low ∙ ap Some (sym item.1) ∙ ap (λ x. Some x.now) alike
 
 -- the first entry of a transaction stays the first when one entry more comes
-first_more : (es : Entries) (e : Observation KeyParts) (key : KeyParts) (n : ℕ) (branch : List ℕ) → IsFirstOf es key n branch → IsFirstOf (es ++ e ∷ []) key n branch
+first_more : (es : Entries) (e : Observation KeyParts) (key : KeyParts) (n : ℕ) (branch : List ℕ) → IsFirstEntryOf es key n branch → IsFirstEntryOf (es ++ e ∷ []) key n branch
 first_more es e key n branch (before, o, after, whole, is, none, counts, says) =
     (before, o, after ++ e ∷ [], ap (λ xs. xs ++ e ∷ []) whole ∙ append_assoc before (o ∷ after) (e ∷ []), is, none, counts, says)
 
 -- an entry that does not concern the transaction leaves its last entry as it was
-last_more : (es : Entries) (e : Observation KeyParts) (key : KeyParts) (n : ℕ) → is_of key e ≡ false → IsLastOf es key n → IsLastOf (es ++ e ∷ []) key n
+last_more : (es : Entries) (e : Observation KeyParts) (key : KeyParts) (n : ℕ) → concerns key e ≡ false → IsLastEntryOf es key n → IsLastEntryOf (es ++ e ∷ []) key n
 last_more es e key n other (before, o, after, whole, is, none, counts) =
-    (before, o, after ++ e ∷ [], ap (λ xs. xs ++ e ∷ []) whole ∙ append_assoc before (o ∷ after) (e ∷ []), is, All-push (λ x. is_of key x ≡ false) after e none other, counts)
+    (before, o, after ++ e ∷ [], ap (λ xs. xs ++ e ∷ []) whole ∙ append_assoc before (o ∷ after) (e ∷ []), is, All-push (λ x. concerns key x ≡ false) after e none other, counts)
 
 -- an entry that concerns the transaction is its last entry, with the number after all others
-last_here : (es : Entries) (e : Observation KeyParts) (key : KeyParts) (n : ℕ) → is_of key e ≡ true → n ≡ length es + 1 → IsLastOf (es ++ e ∷ []) key n
-last_here es e key n is counts = (es, e, [], refl, is, All-nil (λ x. is_of key x ≡ false), counts)
+last_here : (es : Entries) (e : Observation KeyParts) (key : KeyParts) (n : ℕ) → concerns key e ≡ true → n ≡ length es + 1 → IsLastEntryOf (es ++ e ∷ []) key n
+last_here es e key n is counts = (es, e, [], refl, is, All-nil (λ x. concerns key x ≡ false), counts)
 
 -- the number of a transaction's last entry is at most the count of the entries
-last_low : (es : Entries) (key : KeyParts) (n : ℕ) → IsLastOf es key n → n ≤ length es
+last_low : (es : Entries) (key : KeyParts) (n : ℕ) → IsLastEntryOf es key n → n ≤ length es
 last_low es key n (before, o, after, whole, is, none, counts) = let long = ap length whole ∙ length-append before (o ∷ after) in omega (arith, long, counts)
 
 -- where a key is none of those that the entries name, no entry concerns it
-pub none_in : (key : KeyParts) (es : Entries) → list_any (same_key key) (flat_map (λ e. e.keys) es) ≡ false → All (λ o. is_of key o ≡ false) es
-none_in key [] none = All-nil (λ o. is_of key o ≡ false)
+pub none_in : (key : KeyParts) (es : Entries) → list_any (same_key key) (flat_map (λ e. e.keys) es) ≡ false → All (λ o. concerns key o ≡ false) es
+none_in key [] none = All-nil (λ o. concerns key o ≡ false)
 none_in key (e ∷ es) none =
     let (here, later) = or_false _ _ (sym (list_any-append (same_key key) e.keys (flat_map (λ f. f.keys) es)) ∙ none) in
-    All-cons (λ o. is_of key o ≡ false) e es here (none_in key es later)
+    All-cons (λ o. concerns key o ≡ false) e es here (none_in key es later)
 
 -- where a key is none of the keys of the log so far, no entry concerns it
-none_of : (key : KeyParts) (es : Entries) → ¬ Contains (keys_in es) key → All (λ o. is_of key o ≡ false) es
+none_of : (key : KeyParts) (es : Entries) → ¬ Contains (keys_in es) key → All (λ o. concerns key o ≡ false) es
 none_of key es none =
     none_in key es (among-fold key [] (flat_map (λ e. e.keys) es) (not_among key (keys_in es) none)).1
 
@@ -128,7 +129,7 @@ restart_histories es e b c number all counts kept newest h =
           let one = h.each n key k was (ap (λ hs. slice_get hs n) (sym kept) ∙ here) in
           -- the last entry of the key is the restart, which concerns all keys
           let low = last_low es key (max k.last b.restart) one.last in
-          let is : is_of key e ≡ true = contains-among key e.keys
+          let is : concerns key e ≡ true = contains-among key e.keys
           (subst (λ ks. Contains ks key) (sym all) (n, slice_get_within (keys_in es) n key was, get_or_from_slice_get (keys_in es) n key key was)) in
           record { first = first_more es e key k.first k.branch.items one.first; last = last_here es e key (max k.last c.restart) is (omega (arith, low, newest, counts)) };
     }
@@ -239,7 +240,7 @@ module _ (entry : ℕ) (text : List ℕ) where
 module _ (es : Entries) (e : Observation KeyParts) (b c : Histories) (number : ℕ) (text : List ℕ) (t w : Tabled) (ks : List KeyParts) (ns : List ℕ)
     (h : AreHistories es b) (t_keys : t.keys ≡ keys_in es) (sets : length t.sets ≡ length t.keys) (counts : number ≡ length es + 1) (touched : TouchesEach ks ns t w) (apart : AllPairs (λ x y. x ≢ y) w.keys)
     (notes : NotesEach number text ns b.each.items c.each.items) (same_restart : c.restart ≡ b.restart) (keys : e.keys ≡ ks)
-    (says : (key : KeyParts) → is_of key e ≡ true → (s : Said) × Says text (gives s) × ((branch : List ℕ) × (s.via.branch ≡ Some branch))) (told : e.event.text ≡ text) where
+    (says : (key : KeyParts) → concerns key e ≡ true → (s : Said) × Says text (gives s) × ((branch : List ℕ) × (s.via.branch ≡ Some branch))) (told : e.event.text ≡ text) where
   -- the keys of the new tables are those of the entries and e
   w_keys : w.keys ≡ keys_in (es ++ e ∷ [])
   w_keys = touched_keys ks ns t w touched ∙ ap (λ xs. fold with_key xs ks) t_keys ∙ ap (fold with_key (keys_in es)) (sym keys) ∙ sym (keys_in-push es e)
@@ -260,7 +261,7 @@ module _ (es : Entries) (e : Observation KeyParts) (b c : Histories) (number : �
       elim (more.each n key s at there) [ inl x ↦ inl (ap (λ xs. slice_get xs n) (sym t_keys) ∙ x.0) | inr x ↦ inr (x.0, λ has. x.2 (subst (λ xs. Contains xs key) (sym t_keys) has)) ]
 
   -- the entry is the first one of a key that is new and that the entry concerns
-  begun : (key : KeyParts) (branch : List ℕ) → ¬ Contains (keys_in es) key → is_of key e ≡ true → SpellsBranch text branch → (n : ℕ) → n ≡ number → IsFirstOf (es ++ e ∷ []) key n branch
+  begun : (key : KeyParts) (branch : List ℕ) → ¬ Contains (keys_in es) key → concerns key e ≡ true → SpellsBranch text branch → (n : ℕ) → n ≡ number → IsFirstEntryOf (es ++ e ∷ []) key n branch
   begun key branch none is spells n n_is =
       let (s, said, (there, has)) = says key is in
       let same : branch ≡ there = subst (λ o. IfSome o (λ x. branch ≡ x)) has (spells s said) in
@@ -274,7 +275,7 @@ module _ (es : Entries) (e : Observation KeyParts) (b c : Histories) (number : �
     each = λ n key k at here.
         -- the key stands at n in the new tables (`there`), and the entry concerns it exactly if its number was noted (`is`)
         let there : slice_get w.keys n ≡ Some key = ap (λ xs. slice_get xs n) w_keys ∙ at in
-        let is : is_of key e ≡ is_among ns (n + 1) = ap (list_any (same_key key)) keys ∙ same_numbers w.keys apart ns ks (have_numbers ks ns t w touched) n key there in
+        let is : concerns key e ≡ is_among ns (n + 1) = ap (list_any (same_key key)) keys ∙ same_numbers w.keys apart ns ks (have_numbers ks ns t w touched) n key there in
         by n key k (is_among ns (n + 1)) is (notes_at number text ks ns t w b.each.items c.each.items touched t_long notes n k here) (old_or_new n key there);
   }
     where
@@ -283,19 +284,19 @@ module _ (es : Entries) (e : Observation KeyParts) (b c : Histories) (number : �
       newest k last = (let low = h.restart in omega (arith, last, counts, same_restart))
 
       -- k is the history of the key, whether or not the entry concerns the transaction, and whether or not its key is new
-      by : (n : ℕ) (key : KeyParts) (k : History) (is : Bool) → is_of key e ≡ is → IsAt number text b.each.items n k is → (slice_get (keys_in es) n ≡ Some key) ⊎ ((length t.keys ≤ n) × ¬ Contains (keys_in es) key)
+      by : (n : ℕ) (key : KeyParts) (k : History) (is : Bool) → concerns key e ≡ is → IsAt number text b.each.items n k is → (slice_get (keys_in es) n ≡ Some key) ⊎ ((length t.keys ≤ n) × ¬ Contains (keys_in es) key)
           → IsHistoryOf (es ++ e ∷ []) c.restart key k
       -- the entry does not concern the transaction, so its history stays
       by n key k false other was (inl at) =
           let one = h.each n key k at was in
-          record { first = first_more es e key k.first k.branch.items one.first; last = subst (λ r. IsLastOf (es ++ e ∷ []) key (max k.last r)) (sym same_restart) (last_more es e key (max k.last b.restart) other one.last) }
+          record { first = first_more es e key k.first k.branch.items one.first; last = subst (λ r. IsLastEntryOf (es ++ e ∷ []) key (max k.last r)) (sym same_restart) (last_more es e key (max k.last b.restart) other one.last) }
       -- a key that is new has no history yet
       by n key k false other was (inr (beyond, none)) = (let within = slice_get_within b.each.items n k was in absurd (omega (arith, t_long)))
       -- the entry is its last one now
       by n key k true is (last, inl (o, was, branch, first)) (inl at) =
           let one = h.each n key o at was in
           record {
-            first = subst (λ x. IsFirstOf (es ++ e ∷ []) key x k.branch.items) (sym first) (subst (IsFirstOf (es ++ e ∷ []) key o.first) (sym branch) (first_more es e key o.first o.branch.items one.first));
+            first = subst (λ x. IsFirstEntryOf (es ++ e ∷ []) key x k.branch.items) (sym first) (subst (IsFirstEntryOf (es ++ e ∷ []) key o.first) (sym branch) (first_more es e key o.first o.branch.items one.first));
             last = last_here es e key (max k.last c.restart) is (newest k last);
           }
       -- a key that is new had no history
@@ -320,7 +321,7 @@ some_keys key keys is none = false≢true (sym (ap (list_any (same_key key)) non
 
 -- an entry whose message concerns a key has a message with a branch
 -- a message with a fault, or whose branch has no cookie, concerns no key
-heard_says : (direction : Direction) (i : Item) (e : Observation KeyParts) → ObservesMessage direction i e → (key : KeyParts) → is_of key e ≡ true
+heard_says : (direction : Direction) (i : Item) (e : Observation KeyParts) → ObservesMessage direction i e → (key : KeyParts) → concerns key e ≡ true
     → (s : Said) × Says i.text (gives s) × ((branch : List ℕ) × (s.via.branch ≡ Some branch))
 heard_says direction i e (has_fault fault says is) key of = absurd (some_keys key e.keys of (ap (λ o. o.keys) is))
 heard_says direction i e (has_no_cookie s says lacks is) key of = absurd (some_keys key e.keys of (ap (λ o. o.keys) is))
@@ -328,7 +329,7 @@ heard_says direction i e (is_heard s keys says fine concerns is) key of =
     (s, says, branch_of s direction keys concerns (some_keys key keys (sym (ap (λ o. list_any (same_key key) o.keys) is) ∙ of)))
 
 -- an entry with a message that concerns a key has a message with a branch
-pub message_says : (es : Entries) (i : Item) (e : Observation KeyParts) → has_message i.action ≡ true → Sees es i e → (key : KeyParts) → is_of key e ≡ true
+pub message_says : (es : Entries) (i : Item) (e : Observation KeyParts) → has_message i.action ≡ true → Sees es i e → (key : KeyParts) → concerns key e ≡ true
     → (s : Said) × Says i.text (gives s) × ((branch : List ℕ) × (s.via.branch ≡ Some branch))
 message_says es i e says seen key of =
     let (direction, goes) = went i.action says in

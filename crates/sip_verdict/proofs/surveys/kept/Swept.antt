@@ -8,7 +8,7 @@ use Rattle.sip_standard.specs.Times.{Times}
 use Rattle.sip_machine.specs.Texts.{Texts, IsBook, Keeps}
 use Rattle.sip_machine.specs.Retained.{only}
 use Rattle.sip_standard.specs.MachineEvent.{MachineEvent}
-use Rattle.sip_standard.specs.KeyMachine.{machine_of_key, transaction_of}
+use Rattle.sip_standard.specs.KeyMachine.{machine_of_key}
 use Rattle.sip_states.specs.AnySet.{moment_of}
 use Rattle.sip_states.specs.Sweep.{numbers_of, AdvancesAll}
 use Rattle.sip_states.specs.Tables.{Tabled}
@@ -16,7 +16,6 @@ use Rattle.sip_states.specs.declared.any_set.AnySet.{AnySet}
 use Rattle.sip_standard.specs.Observation.{Observation}
 use Rattle.sip_standard.specs.VerdictOf.{keys_in, events_for}
 use Rattle.sip_verdict.specs.Entries.{newest_moment}
-use Rattle.sip_standard.specs.Stands.{Stands}
 use Rattle.sip_verdict.specs.Named.{AreMany}
 use Rattle.sip_verdict.specs.Surveys.{IsStillNamed}
 use Rattle.sip_verdict.specs.inner.TablesTracking.{LeadsOf, MayPass}
@@ -89,26 +88,25 @@ module _ (texts : Texts) (book : IsBook texts) (t u : Tabled) (moment : ℕ) (ad
 
   -- a message that a transaction in no trouble names is under a number that some set names
   -- (the first case cannot be: where no entry concerns a key, its transaction names no message)
-  from_sound : (h : (text : List ℕ) × IsStillNamed p es text) (b : Bool) → list_any (same_key h.1.key) (keys_in es) ≡ b → IsNumberOf texts (flat_map numbers_of u.sets) h.0
-  from_sound (text, h) false none =
-      absurd (no_events_silent p moment (machine_of_key p.rules h.key) (events_for h.key es) text (new_key h.key es none)
-      (h.state, subst (λ n. Stands (transaction_of (machine_of_key p.rules h.key)).figure p (events_for h.key es) n h.state) newest h.stands, h.names))
+  from_sound : (h : (text : List ℕ) × IsStillNamed p es text) (b : Bool) → list_any (same_key h.1.0) (keys_in es) ≡ b → IsNumberOf texts (flat_map numbers_of u.sets) h.0
+  from_sound (text, (key, is_sound, named)) false none =
+      absurd (no_events_silent p moment (machine_of_key p.rules key) (events_for key es) text (new_key key es none)
+      (subst (λ n. StandsNaming p (machine_of_key p.rules key) (events_for key es) n text) newest named))
   -- the key stands at the place n of the tables, with the sets `old` and `new` before and after the waiting; d is whether it is deaf
-  from_sound (text, h) true some =
-      let (n, inside, is) = subst (λ ks. Contains ks h.key) (sym tracks.keys) (among-contains h.key (keys_in es) some) in
-      let at : slice_get t.keys n ≡ Some h.key = slice_get-get_or t.keys n h.key inside ∙ ap Some is in
-      let (old, new, d, was, there, follows_it) = at_key n h.key at in
+  from_sound (text, (key, is_sound, named)) true some =
+      let (n, inside, is) = subst (λ ks. Contains ks key) (sym tracks.keys) (among-contains key (keys_in es) some) in
+      let at : slice_get t.keys n ≡ Some key = slice_get-get_or t.keys n key inside ∙ ap Some is in
+      let (old, new, d, was, there, follows_it) = at_key n key at in
       by n old new was there d follows_it
     where
       -- the sets name the message if the transaction of this set does
-      by : (n : ℕ) (old new : AnySet) → slice_get t.sets n ≡ Some old → slice_get u.sets n ≡ Some new → (d : Bool) → IsFollowed texts p es h.key old d → IsNumberOf texts (flat_map numbers_of u.sets) text
+      by : (n : ℕ) (old new : AnySet) → slice_get t.sets n ≡ Some old → slice_get u.sets n ≡ Some new → (d : Bool) → IsFollowed texts p es key old d → IsNumberOf texts (flat_map numbers_of u.sets) text
       -- a deaf transaction is in trouble, and this one is in none
-      by n old new was there true (leads_it, unsound) = absurd (unsound h.sound)
+      by n old new was there true (leads_it, unsound) = absurd (unsound is_sound)
       -- the set of one in no trouble names all that a state names in which a run over its events stands
       by n old new was there false (leads_it, sound) =
           into n new there text
-          ((names n old new was there h.key (events_for h.key es) leads_it text).0
-          (h.state, subst (λ m. Stands (transaction_of (machine_of_key p.rules h.key)).figure p (events_for h.key es) m h.state) newest h.stands, h.names))
+          ((names n old new was there key (events_for key es) leads_it text).0 (subst (λ m. StandsNaming p (machine_of_key p.rules key) (events_for key es) m text) newest named))
 
   -- a message under a number that some set names is named by a transaction in no trouble
   from_number : (text : List ℕ) → IsNumberOf texts (flat_map numbers_of u.sets) text → IsStillNamed p es text
@@ -127,16 +125,10 @@ module _ (texts : Texts) (book : IsBook texts) (t u : Tabled) (moment : ℕ) (ad
           absurd (no_events_silent p moment (machine_of_key p.rules key) [] text refl ((names n old new was there key [] leads_it text).1 named))
       -- a transaction in no trouble has a run whose state names the message
       by n key new there named old was false (leads_it, sound) =
-          let (y, run, has_it) = (names n old new was there key (events_for key es) leads_it text).1 named in
-          record {
-            key = key;
-            sound = sound;
-            state = y;
-            stands = subst (λ m. Stands (transaction_of (machine_of_key p.rules key)).figure p (events_for key es) m y) (sym newest) run;
-            names = has_it;
-          }
+          let run = (names n old new was there key (events_for key es) leads_it text).1 named in
+          (key, sound, subst (λ m. StandsNaming p (machine_of_key p.rules key) (events_for key es) m text) (sym newest) run)
 
   -- as many messages are kept as are still named
   pub swept_many : AreMany (IsStillNamed p es) (length (only numbers texts))
   swept_many =
-      many_texts texts book (IsStillNamed p es) (flat_map numbers_of u.sets) (λ text. (λ h. from_sound (text, h) (list_any (same_key h.key) (keys_in es)) refl, from_number text)) numbers up same kept
+      many_texts texts book (IsStillNamed p es) (flat_map numbers_of u.sets) (λ text. (λ h. from_sound (text, h) (list_any (same_key h.0) (keys_in es)) refl, from_number text)) numbers up same kept

@@ -12,7 +12,7 @@ use Rattle.sip_standard.specs.declared.role.Direction.TheVariants as way
 use Rattle.sip_standard.specs.Observation.{Observation, direction_of, silent_observation, ObservesMessage}
 use Rattle.sip_standard.specs.Seen.{AreSeen}
 use Rattle.sip_standard.specs.VerdictOf.{keys_in, Sees}
-use Rattle.sip_verdict.specs.SurveyLaws.{IsCutOf, StaysOrIsMark, IsCutLog, Keeps}
+use Rattle.sip_verdict.specs.SurveyLaws.{IsCutOf, StaysOrIsMark, IsCutLog, KeepsChosen}
 use Rattle.sip_verdict.proofs.surveys.parts.Cutting.{keys_cut, zip_push, same_runs, same_trouble}
 use Rattle.sip_verdict.proofs.sweeps.FollowedLemmas.{heard_moment}
 
@@ -94,7 +94,7 @@ module _ (chosen : KeyParts → Bool) where
       (one.0 ∷ more.0, (one.1, more.1), (one.2, more.2))
 
   -- a log that is cut keeps each of the chosen transactions, with its runs and its trouble
-  pub cut_keeps : (p : Times) (items : List Item) (es : List (Observation KeyParts)) (cuts : List Item) → AreSeen [] items es → IsCutLog chosen items es cuts → Keeps p chosen es cuts
+  pub cut_keeps : (p : Times) (items : List Item) (es : List (Observation KeyParts)) (cuts : List Item) → AreSeen [] items es → IsCutLog chosen items es cuts → KeepsChosen p chosen es cuts
   cut_keeps p items es cuts seen cut =
       let all = log_cut [] [] tt items es cuts seen cut in
       record {

@@ -15,8 +15,7 @@ use Rattle.sip_states.specs.declared.any_set.AnySet.{AnySet}
 use Rattle.sip_verdict.specs.declared.passing.Hearing.{Hearing}
 use Rattle.sip_verdict.specs.declared.troubled.Troubled.{Troubled}
 use Rattle.sip_standard.specs.Observation.{Observation}
-use Rattle.sip_verdict.specs.Entries.{newest_moment}
-use Rattle.sip_verdict.specs.inner.Keyed.{concerns}
+use Rattle.sip_verdict.specs.Entries.{concerns, newest_moment}
 use Rattle.sip_verdict.specs.inner.Concerned.{each, is_all}
 use Rattle.sip_verdict.specs.inner.Tracking.{Keeping, IsReady, GoesOn}
 use Rattle.sip_verdict.specs.inner.TablesTracking.{key_keeping, is_among, AreTold, MayPass, MayHear, AreHearers}

@@ -33,7 +33,7 @@ use Rattle.sip_verdict.specs.SurveyParts.{IsTaken}
 use Rattle.sip_verdict.specs.SurveyText.{SumsUp, IsTextOf, end_text}
 use Rattle.sip_verdict.specs.Surveys.{Surveying, SurveysFor}
 use Rattle.sip_verdict.specs.inner.ForgettingLogs.{IsHorizonOf, IsWrittenForgetting, RemembersRead}
-use Rattle.sip_verdict.specs.inner.SurveyingLogs.{AreLinesBy, AreTold}
+use Rattle.sip_verdict.specs.inner.SurveyingLogs.{AreLinesBy, HasWritten}
 use Rattle.sip_verdict.proofs.keys.Keys.{newest_moment-push}
 use Rattle.sip_verdict.proofs.surveys.written.Gathering.{header_lacks}
 use Rattle.sip_verdict.proofs.surveys.written.Horizons.{horizon_push}
@@ -97,7 +97,7 @@ module _ (age : ℕ) (part : Option PartOf) (p : Times) (start : Option (List �
 
   -- What follows is of the end of the survey: `counts` are what its lines count, `summary` is what it tells last, and `before`, `mid` and `after` are what
   -- the sink has before its lines, after them, and after the last line.
-  module _ (counts : Counts) (summary : Summary) (before mid after : Option (List ℕ)) (told : AreTold found lines counts before mid)
+  module _ (counts : Counts) (summary : Summary) (before mid after : Option (List ℕ)) (told : HasWritten found lines counts before mid)
       (findings : summary.findings ≡ counts.findings) (undecided : summary.undecided ≡ counts.undecided) where
     -- where the lines tell the findings of the whole input, and the last line is written, the survey of the input is written and summed up
     all_written : (end : SurveyEnd) → summary.end ≡ end → Appends mid after (end_text end counts.findings)

@@ -23,10 +23,10 @@ use Rattle.sip_standard.specs.Observation.{Observation}
 use Rattle.sip_standard.specs.ListingOf.{trouble_of}
 use Rattle.sip_standard.specs.VerdictOf.{keys_in, IsVerdictOf, Sees}
 use Rattle.sip_verdict.specs.SurveyOf.{AreFoundAt, IsSurveyAfter, HoldsOf, IsFoundAt, verdict_of}
-use Rattle.sip_verdict.specs.SurveyText.{SumsUp, end_text, is_undecided, AreWordsOf, IsFirstOf, IsLastOf, IsTextOf, entry_of, transaction_words}
+use Rattle.sip_verdict.specs.SurveyText.{SumsUp, end_text, is_undecided, AreWordsOf, IsFirstEntryOf, IsLastEntryOf, IsTextOf, entry_of, line_with, told_words, transaction_words}
 use Rattle.sip_verdict.specs.Surveys.{Surveying, SurveysFor}
 use Rattle.sip_verdict.specs.SurveyParts.{IsTaken}
-use Rattle.sip_verdict.specs.inner.SurveyingLogs.{AreCounted, AreTold, IsSurveyIn, IsWritten, SurveysRead, AreLinesBy, IsLineBy, IsToldIn, Tells, TellsOf, line_with, words_of}
+use Rattle.sip_verdict.specs.inner.SurveyingLogs.{AreCounted, HasWritten, IsSurveyIn, IsWritten, SurveysRead, AreLinesBy, IsLineBy, IsToldIn, Tells, TellsOf}
 use Rattle.sip_verdict.specs.inner.Walking.{HasRead}
 use Rattle.sip_verdict.proofs.surveys.written.Gathering.{found_on, entries_in, gathered_of, header_lacks, told_without}
 use Rattle.std.specs.Option.{ok_or}
@@ -38,12 +38,12 @@ use Rattle.sip_log.specs.Reading as log
 use Rattle.sip_verdict.specs.declared.survey_end.SurveyEnd.TheVariants as ended
 
 -- before the first entry nothing is counted and nothing is written
-pub told_none : (counts : Counts) (w : Option (List ℕ)) → counts.findings ≡ 0 → counts.undecided ≡ 0 → AreTold [] [] counts w w
+pub told_none : (counts : Counts) (w : Option (List ℕ)) → counts.findings ≡ 0 → counts.undecided ≡ 0 → HasWritten [] [] counts w w
 told_none counts w none nothing = record { findings = none; undecided = nothing; written = Appends-nil w }
 
 -- where findings are told, and those of one entry more are counted and written, all of them are told
-pub told_more : (found here : List Finding) (lines text : List ℕ) (a b : Counts) (before mid after : Option (List ℕ)) → AreTold found lines a before mid → AreCounted here a b → Appends mid after text
-    → AreTold (found ++ here) (lines ++ text) b before after
+pub told_more : (found here : List Finding) (lines text : List ℕ) (a b : Counts) (before mid after : Option (List ℕ)) → HasWritten found lines a before mid → AreCounted here a b → Appends mid after text
+    → HasWritten (found ++ here) (lines ++ text) b before after
 told_more found here lines text a b before mid after told counted written =
     -- the counts of all findings, and of the undecided among them, are those so far and those of this entry together
     let long = length-append found here in
@@ -86,7 +86,7 @@ line_with-told : (s : Surveying) (f : Finding) (number : ℕ) (told : Option Tra
     → (P : KeyParts → Type 0) → HoldsOf P (keys_in es) number
     → (words : List ℕ) × HoldsOf (AreWordsOf es words) (keys_in es) number × (line ≡ rendered (verdict_of f) ++ words ++ line_feed ∷ [])
 line_with-told s f number told line tells is es stands P (before, key, rest, whole, holds, counts) =
-    by told (subst (λ o. IfSome o (λ k. IsSomeAnd told (λ t. (t.key.now ≡ k) × IsFirstOf es k t.first t.branch.now × IsLastOf es k t.last))) at (tells es stands (omega (arith, counts)))) is
+    by told (subst (λ o. IfSome o (λ k. IsSomeAnd told (λ t. (t.key.now ≡ k) × IsFirstEntryOf es k t.first t.branch.now × IsLastEntryOf es k t.last))) at (tells es stands (omega (arith, counts)))) is
   where
     -- the key stands at the place of its number
     at : slice_get (keys_in es) (number - 1) ≡ Some key
@@ -94,11 +94,11 @@ line_with-told s f number told line tells is es stands P (before, key, rest, who
 
     -- the line has the words of the transaction, which the survey has
     -- the survey knows the transaction, so that it tells something of it
-    by : (o : Option Transaction) → IsSomeAnd o (λ t. (t.key.now ≡ key) × IsFirstOf es key t.first t.branch.now × IsLastOf es key t.last) → line ≡ line_with f o
+    by : (o : Option Transaction) → IsSomeAnd o (λ t. (t.key.now ≡ key) × IsFirstEntryOf es key t.first t.branch.now × IsLastEntryOf es key t.last) → line ≡ line_with f o
         → (words : List ℕ) × HoldsOf (AreWordsOf es words) (keys_in es) number × (line ≡ rendered (verdict_of f) ++ words ++ line_feed ∷ [])
     by None none same = absurd none
     by (Some t) (key_is, first, last) same = (
-      words_of t,
+      told_words t,
       (before, key, rest, whole, (t.branch.now, t.first, t.last, first, last, ap (λ k. transaction_words k t.branch.now t.first t.last) key_is), counts),
       same,
     )
@@ -197,7 +197,7 @@ module _ (part : Option PartOf) (start : Option (List ℕ)) (now : log.ReaderSta
 
   -- What follows is of the end of the survey: `counts` are what its lines count, `summary` is what it tells last, and `before`, `mid` and `after` are what
   -- the sink has before its lines, after them, and after the last line.
-  module _ (counts : Counts) (summary : Summary) (before mid after : Option (List ℕ)) (told : AreTold found lines counts before mid)
+  module _ (counts : Counts) (summary : Summary) (before mid after : Option (List ℕ)) (told : HasWritten found lines counts before mid)
       (findings : summary.findings ≡ counts.findings) (undecided : summary.undecided ≡ counts.undecided) where
     -- where the log ends after the items that were read, and the last line is written, the survey is written and summed up
     ends : (close : LogEnd) (end : SurveyEnd) → summary.end ≡ end → Appends mid after (end_text end counts.findings) → IsSurveyAfter s.tables.times read.es [] close [] end

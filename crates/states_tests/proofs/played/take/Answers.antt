@@ -1,5 +1,5 @@
 use Rattle.sip_machine.specs.Owing.{owing_seen, owing_names, OwingInRange}
-use Rattle.sip_machine.specs.inner.InviteServer.{invite_server_names, invite_server_seen, InviteServerInRange}
+use Rattle.sip_phases.specs.inner.InviteServer.{invite_server_names, invite_server_seen, InviteServerInRange}
 use Rattle.states_tests.proofs.Known.{known-after, moment-after}
 use Rattle.states_tests.proofs.played.take.Goals as goal
 

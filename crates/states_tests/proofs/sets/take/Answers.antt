@@ -1,5 +1,5 @@
 use Rattle.sip_machine.specs.Owing.{owing_seen, owing_names, OwingInRange}
-use Rattle.sip_machine.specs.inner.PlainClient.{plain_client_names, plain_client_seen, PlainClientInRange}
+use Rattle.sip_phases.specs.inner.PlainClient.{plain_client_names, plain_client_seen, PlainClientInRange}
 use Rattle.states_tests.proofs.Known.{known-after}
 use Rattle.states_tests.proofs.sets.take.Goals as goal
 

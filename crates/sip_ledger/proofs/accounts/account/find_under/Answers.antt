@@ -20,10 +20,10 @@ returns-in_default-clause-first c =
     none-under c.args.gains.now c.args.strikes.now c.args.account c.args.index.now c.args.key c.args.moment c.loop-step.from c.loop-step.first c.loop-step.invariant.0 c.in_default.ensures.none
 
 -- where no message from this one on is left, what was found is the first of all
-pub returns-in_default-message_from-clause-first : goal.returns-in_default-message_from-clause-first
-returns-in_default-message_from-clause-first c =
+pub returns-in_default-next_message-clause-first : goal.returns-in_default-next_message-clause-first
+returns-in_default-next_message-clause-first c =
     none-left c.args.gains.now c.args.strikes.now c.args.account c.args.index.now c.args.key c.args.moment c.loop-step.from c.loop-step.first c.loop-step.invariant.0
-    c.in-Some.message c.in-Some.ensures.found c.in_default-message_from.ensures.none
+    c.in-Some.message c.in-Some.ensures.found c.in_default-next_message.ensures.none
 
 -- the place that was found is kept
 pub is_newest-requires-clause-kept : goal.is_newest-requires-clause-kept
@@ -35,10 +35,9 @@ pub returns-then-is_newest-clause-first : goal.returns-then-is_newest-clause-fir
 returns-then-is_newest-clause-first c =
     let g = c.args.gains.now in
     let s = c.args.strikes.now in
-    let found = c.in-Some-message_from.ensures.found in
     -- with the place that was found for this message the first of all up to it is known
-    let more = one-found g s c.args.account c.args.index.now c.args.key c.args.moment c.loop-step.from c.in-Some.message c.in-Some-message_from.left found.0 c.loop-step.first c.find-place.result c.loop-step.invariant.0
-    c.in-Some.ensures.found found.1 c.if-left-message.true c.find-place.ensures.found c.find-place.ensures.none in
+    let more = one-found g s c.args.account c.args.index.now c.args.key c.args.moment c.loop-step.from c.in-Some.message c.loop-step.first c.find-place.result c.loop-step.invariant.0
+    c.in-Some.ensures.found c.find-place.ensures.found c.find-place.ensures.none in
     rw c.sooner-first.ensures (newest-first g s c.args.account c.args.index.now c.args.key c.args.moment c.in-Some.message c.requires.gained c.loop-step.first c.find-place.result c.find-place.ensures.found
     (rw c.if-is_newest.true at c.is_newest.ensures) more)
 
@@ -47,10 +46,9 @@ pub returns-then-gains-message-clause-first : goal.returns-then-gains-message-cl
 returns-then-gains-message-clause-first c =
     let g = c.args.gains.now in
     let s = c.args.strikes.now in
-    let found = c.in-Some-message_from.ensures.found in
     -- with the place that was found for this message the first of all up to it is known
-    let more = one-found g s c.args.account c.args.index.now c.args.key c.args.moment c.loop-step.from c.in-Some.message c.in-Some-message_from.left found.0 c.loop-step.first c.find-place.result c.loop-step.invariant.0
-    c.in-Some.ensures.found found.1 c.if-left-message.true c.find-place.ensures.found c.find-place.ensures.none in
+    let more = one-found g s c.args.account c.args.index.now c.args.key c.args.moment c.loop-step.from c.in-Some.message c.loop-step.first c.find-place.result c.loop-step.invariant.0
+    c.in-Some.ensures.found c.find-place.ensures.found c.find-place.ensures.none in
     rw c.sooner-first.ensures (highest-first g s c.args.account c.args.index.now c.args.key c.args.moment c.in-Some.message c.requires.gained (sooner c.loop-step.first c.find-place.result) c.if-gains-message.true more)
 
 -- what was found so far is the first debt of the messages under the key that are below the next one
@@ -64,21 +62,20 @@ loop-step-preserved c =
     let message = c.in-Some.message in
     let next = c.in-Some.ensures.found in
     let count = c.loop-step.invariant.1 in
-    let found = c.in-Some-message_from.ensures.found.1 in
+    let low = c.in-Some-next_message.ensures.low in
     -- no message under the key was passed over on the way to the next one that is owed
     let after = left-next g s c.args.account pairs key c.args.moment c.loop-step.from c.loop-step.first c.loop-step.invariant.0 message next
-    c.in-Some-message_from.left c.in-Some-message_from.ensures.found.0 found in
+    c.in-Some-next_message.left low c.in-Some-next_message.ensures.before in
     elim c.if-left-message.branch [
       | then-left-message+else-is_newest+else-gains-message w ↦
-          let more = one-found g s c.args.account pairs key c.args.moment c.loop-step.from message c.in-Some-message_from.left c.in-Some-message_from.ensures.found.0 c.loop-step.first w.find-place.result
-          c.loop-step.invariant.0 next found w.if-left-message.true w.find-place.ensures.found w.find-place.ensures.none in
+          let more = one-found g s c.args.account pairs key c.args.moment c.loop-step.from message c.loop-step.first w.find-place.result
+          c.loop-step.invariant.0 next w.find-place.ensures.found w.find-place.ensures.none in
           let fewer = count_passed key c.loop-step.from (message + 1) message next.after (omega arith) pairs next.is in
           rw (w.first-is, w.sooner-first.ensures, w.from-is) (more, omega (arith, count, fewer))
       -- the next message that is owed is a greater one, from which the search goes on
       | else-left-message w ↦
-          let order = found.after.keys in
           let other = w.if-left-message.false in
-          let fewer = count_passed key c.loop-step.from c.in-Some-message_from.left message next.after (omega (arith, order, other)) pairs next.is in
+          let fewer = count_passed key c.loop-step.from c.in-Some-next_message.left message next.after (omega (arith, low, other)) pairs next.is in
           rw (w.first-is, w.from-is) (after, omega (arith, count, fewer))
     ]
 

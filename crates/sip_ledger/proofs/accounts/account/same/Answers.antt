@@ -1,4 +1,4 @@
-use Rattle.sip_ledger.proofs.Lemmas.{arith, at-apart, at-more, at-start, end-other, end-same, false≢true, kept-from, refl, rest-same, rules, sym, ◌∙◌, ◌≡◌, ◌≢◌}
+use Rattle.sip_ledger.proofs.Lemmas.{arith, at-apart, at-more, at-start, end-other, end-same, false≢true, kept-from, refl, rules, sym, ◌∙◌, ◌≡◌, ◌≢◌}
 use Rattle.sip_ledger.proofs.accounts.account.same.Goals.{then-loop-at-test+else-beside-other, else-loop-at-test}
 use Rattle.sip_ledger.proofs.accounts.account.same.Goals as goal
 
@@ -21,11 +21,7 @@ loop-at-preserved c =
     let one = c.next-at.ensures in
     let other = c.next-beside.ensures in
     at-more c.requires.one c.requires.other c.debt_for.result c.loop-at.invariant c.loop-at-test.true c.if-beside-other.true c.debt_for.ensures (same ∙ c.debt_for-in-loop-at.ensures)
-    (record { within = one.within; before = one.before; is = one.is }) (record { within = other.within; before = other.before; is = other.is })
-
--- accounts that share the rest of their places owe the same
-pub returns-then-shares_rest : goal.returns-then-shares_rest
-returns-then-shares_rest c = (λ _. rest-same c.requires.one c.requires.other c.loop-at.invariant c.if-at-beside.true c.if-shares_rest.ensures, λ _. refl)
+    c.shared-count.ensures (record { within = one.within; before = one.before; is = one.is }) (record { within = other.within; before = other.before; is = other.is })
 
 -- the next debts of the two differ, so the two do not owe the same
 pub returns-then-ne : goal.returns-then-ne

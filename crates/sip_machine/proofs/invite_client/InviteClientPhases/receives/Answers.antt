@@ -1,12 +1,12 @@
 use Rattle.std.specs.Prelude.{true}
 use Rattle.std.proofs.Common.{inr, arith}
 use Rattle.sip_standard.specs.declared.kind.Kind.TheVariants.{Response}
-use Rattle.sip_machine.specs.declared.invite_client.InviteClientPhase.TheVariants as code
+use Rattle.sip_phases.specs.declared.invite_client.InviteClientPhase.TheVariants as code
 use Rattle.sip_machine.specs.Texts.{text_of}
 use Rattle.sip_machine.specs.NumberedEvent.{event_in}
-use Rattle.sip_machine.specs.inner.Waiting.{waiting_seen}
+use Rattle.sip_phases.specs.inner.Waiting.{waiting_seen}
 use Rattle.sip_standard.specs.InviteClient.{Calling, Proceeding, Completed, Receives}
-use Rattle.sip_machine.specs.inner.InviteClient.{invite_client_seen, invite_client_names, InviteClientInRange}
+use Rattle.sip_phases.specs.inner.InviteClient.{invite_client_seen, invite_client_names, InviteClientInRange}
 use Rattle.sip_machine.proofs.steps.RepliesLemmas.{Gains-one}
 use Rattle.sip_machine.proofs.invite_client.InviteClientPhases.receives.Goals as goal
 use Rattle.sip_machine.proofs.invite_client.InviteClientPhases.receives.Goals.{in-Calling, in-Proceeding, in-Completed}

@@ -1,6 +1,6 @@
 use Rattle.sip_machine.specs.NumberedEvent.{event_in}
 use Rattle.sip_standard.specs.InviteServer as server
-use Rattle.sip_machine.specs.inner.InviteServer.{invite_server_seen}
+use Rattle.sip_phases.specs.inner.InviteServer.{invite_server_seen}
 use Rattle.sip_machine.proofs.rules.Rows3261.{within-one}
 use Rattle.sip_machine.proofs.invite_server_3261.InviteServer3261Phases.receives.Goals as goal
 

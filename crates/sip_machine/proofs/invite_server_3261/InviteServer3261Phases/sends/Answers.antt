@@ -3,7 +3,7 @@ use Rattle.sip_machine.specs.NumberedEvent.{event_in}
 use Rattle.sip_standard.specs.Kind.{IsSuccess}
 use Rattle.sip_machine.specs.inner.Turns.{turn_seen, turn_names, TurnInRange}
 use Rattle.sip_standard.specs.InviteServer3261.{Sends}
-use Rattle.sip_machine.specs.inner.InviteServer3261.{invite_server_3261_seen, invite_server_3261_names, InviteServer3261InRange}
+use Rattle.sip_phases.specs.inner.InviteServer3261.{invite_server_3261_seen, invite_server_3261_names, InviteServer3261InRange}
 use Rattle.sip_machine.specs.inner.Single.{AnswersOne}
 use Rattle.sip_machine.proofs.rules.Rows3261.{sent-within}
 use Rattle.sip_machine.proofs.invite_server_3261.InviteServer3261Phases.sends.Goals as goal

@@ -1,5 +1,5 @@
 use Rattle.std.proofs.Common.{[], sym, subst, refl}
-use Rattle.sip_message.specs.Only.{IsOnly}
+use Rattle.sip_message.specs.inner.Only.{IsOnly}
 use Rattle.sip_message.specs.inner.ElementFronts.{AreLeft}
 use Rattle.sip_message.specs.inner.Codes.{elements_code}
 use Rattle.sip_message.proofs.lemmas.via.Elements.{One-is, One-of, nothing-left, left-of_nothing}

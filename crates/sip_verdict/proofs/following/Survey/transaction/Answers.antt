@@ -1,5 +1,5 @@
 use Rattle.std.proofs.Common.{◌≡◌, ◌-◌, ◌∙◌, Some, slice_get, sym, ap, subst, refl, rules}
-use Rattle.sip_verdict.specs.SurveyText.{IsFirstOf, IsLastOf}
+use Rattle.sip_verdict.specs.SurveyText.{IsFirstEntryOf, IsLastEntryOf}
 use Rattle.sip_verdict.specs.Surveys.{AreHistories}
 use Rattle.sip_verdict.proofs.surveys.kept.Histories.{IfSome-at, history_at}
 use Rattle.sip_verdict.proofs.following.Survey.transaction.Goals as goal
@@ -22,4 +22,4 @@ returns g c = λ es surveys low.
     let one = told.each n key h there here in
     -- of the key under the number the words are right: its first entry, with its branch, and its last one
     IfSome-at _ _ key there
-    (refl, subst (IsFirstOf es key h.first) (sym c.as_slice.ensures.value) one.first, subst (IsLastOf es key) (sym c.max.ensures) one.last)
+    (refl, subst (IsFirstEntryOf es key h.first) (sym c.as_slice.ensures.value) one.first, subst (IsLastEntryOf es key) (sym c.max.ensures) one.last)

@@ -1,7 +1,7 @@
 use Rattle.std.proofs.Common.{◌≡◌, ◌≢◌, ◌∙◌, List, ◌<◌, ◌-◌, ◌+◌, ◌++◌, ℕ, zero, suc, [], ◌∷◌, sym, ap, subst, arith, length, string_bytes}
 use Rattle.std.proofs.lemmas.List.{length-append}
 use Rattle.sip_verdict.specs.inner.Concerned.{up_to}
-use Rattle.sip_verdict.specs.inner.Numbering.{AppendsEach, IsTextOf}
+use Rattle.sip_verdict.specs.inner.Numbering.{AppendsEach, IsListingText}
 use Rattle.sip_verdict.proofs.listings.NumberingLemmas.{appends_more, text_of_some}
 use Rattle.sip_verdict.proofs.standing.Standing.text_of_all.Goals.{else-loop-number-test, then-loop-number-test+in_ok-push_one+else-number-count}
 use Rattle.sip_verdict.proofs.standing.Standing.text_of_all.Goals as goal
@@ -37,7 +37,7 @@ returns g c =
     let fresh = c.new-text.ensures.bytes in
     let counted = c.len-count.ensures in
     -- `is_text`: once the texts of all transactions were appended to nothing, they are the whole text
-    let is_text : (text : List ℕ) → AppendsEach t (up_to (length t.keys)) (string_bytes c.new-text.result) text → IsTextOf t (up_to (length t.keys)) text =
+    let is_text : (text : List ℕ) → AppendsEach t (up_to (length t.keys)) (string_bytes c.new-text.result) text → IsListingText t (up_to (length t.keys)) text =
     λ text each. text_of_some t (up_to (length t.keys)) text (up_to-some (length t.keys) (omega arith)) (subst (λ old. AppendsEach t (up_to (length t.keys)) old text) fresh each) in
     -- the loop ended before the last number was passed, or right after the last text
     elim c.loop-number-test.branch [

@@ -1,0 +1,3 @@
+pub mod debts
+pub mod states
+pub mod phases

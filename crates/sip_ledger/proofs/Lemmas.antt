@@ -3,7 +3,7 @@ pub use Rattle.sip_ledger.proofs.Words.{Account, All, All-get_or, ap, AppendsOwe
 unfoldable pub use Rattle.sip_ledger.proofs.Words.{account_debts, accounts_debts, debts_print, entries_of, holds, is_struck, owes_at, worth_of}
 pub use Rattle.sip_ledger.proofs.account.AccountLemmas.{debts_length, empty-account, empty-debts, kept-from, kept-passed, must-alike, owed-within}
 pub use Rattle.sip_ledger.proofs.account.FindLemmas.{below, below-parts, first-account, first-payable, found-kept, highest-first, left-next, newest-first, none-account, none-left, none-pays_late, none-pays_struck, none-pays_to, none-under, NonePays, one-found, owes-inside}
-pub use Rattle.sip_ledger.proofs.account.ToldLemmas.{alike-struck, AreAt, at-apart, at-more, at-start, end-other, end-same, IsLeastTo, IsToldTo, leading, least-first, least-first_due, least-found, least-last, least-passed, told-all, told-more, told-none, told-start}
+pub use Rattle.sip_ledger.proofs.account.ToldLemmas.{alike-debts, alike-struck, AreAt, at-apart, at-more, at-start, end-other, end-same, IsLeastTo, IsToldTo, leading, least-first, least-first_due, least-found, least-last, least-passed, told-all, told-more, told-none, told-start}
 pub use Rattle.sip_ledger.proofs.account.WithoutLemmas.{before-start, first-gain, more-gain, new-gain, without-first, without-last, without-middle}
 pub use Rattle.sip_ledger.proofs.debts.OwedLemmas.{widened-run}
 pub use Rattle.sip_ledger.proofs.gains.LeftLemmas.{entries_long, flags-dropped, flags-let_go, flags-more, flags-same, gains-dropped, gains-let_go, gains-more, gains-same, gone-left, gone-unleft, left-kept, none-entries, none-gained, owed-left, rising-push}

@@ -1,8 +1,8 @@
 -- What an account owes, place by place: its debts, whether another account owes the same, and the least deadline of what it must send.
 use Rattle.sip_ledger.proofs.Words.{max, ◌≡◌, ◌≢◌, ℕ, ◌+◌, ◌<◌, ◌≤◌, ◌==◌, ◌&&◌, Bool, true, false, List, [], ◌∷◌, ◌++◌, length, take, drop, map, slice_get, refl, sym, ap, ap₂, ◌∙◌, arith, append-nil, nat_tests, IsTrue, Option, Some, None, ◌↔◌, nat_le, option_to_list, OnTrue, and_left, and_right, cases_eq, cases_lt, eq-eqb, eqb-true, le-leb, false_from_ne_true, true≢false, append_cancel_left, get_or-drop, get_or_default, length-append, length-drop, length-take-le, map-append, All-map, Debt, Entry, Account, Gains, Strike, debt_deadlines, earliest, debt_of, debts_from, IsGap, AreGains, IsAccount, SharesNext, account_debts, entries_of, entry_at, is_left, is_struck, must_at, owes_at, strikes_of, holds}
 use Rattle.sip_ledger.proofs.gains.LeftLemmas.{entries_long, gone-same, left-kept, owed-left, rising_kept}
-use Rattle.sip_ledger.proofs.debts.ListedLemmas.{back, back-none, back-set, earliest-first, earliest-push, front, front-gap, front-next, front-on, listed-All, listed-must, listed-none, no_entry, parts}
-use Rattle.sip_ledger.proofs.account.AccountLemmas.{must-below, must-from, past-end}
+use Rattle.sip_ledger.proofs.debts.ListedLemmas.{back, back-none, back-set, earliest-first, earliest-push, front, front-gap, front-next, front-on, listed-All, listed-must, listed-none, listed-same, no_entry, parts}
+use Rattle.sip_ledger.proofs.account.AccountLemmas.{must-below, must-from, past-end, soft-must}
 use Rattle.sip_ledger.proofs.account.WithoutLemmas.{before-start}
 
 -- `next` is the first place from `from` on at which the account owes something, or its end
@@ -128,6 +128,20 @@ alike-struck gains strikes one other k in_one in_other too too_other = grind (ar
 -- whether what stands at a place is owed and must be sent: o tells which places are owed, and m which must be sent
 abbrev pub due : (ℕ → Bool) → (ℕ → Bool) → ℕ → Bool
 due o m k = o k && m k
+
+-- an account with the places and the strikes of another one owes what it does at each place
+alike-owes : (gains : Gains) (strikes : List Strike) (one other : Account) (k : ℕ) → one.start ≡ other.start → one.end ≡ other.end → strikes_of strikes one ≡ strikes_of strikes other →
+    owes_at gains strikes one k ≡ owes_at gains strikes other k
+unfolding owes_at
+alike-owes gains strikes one other k start end own = rw (start, end, own) refl
+
+-- accounts with the same places and the same strikes owe the same
+pub alike-debts : (gains : Gains) (strikes : List Strike) (one other : Account) → one.start ≡ other.start → one.end ≡ other.end → one.soft ≡ other.soft →
+    strikes_of strikes one ≡ strikes_of strikes other → account_debts gains strikes one ≡ account_debts gains strikes other
+unfolding account_debts
+alike-debts gains strikes one other start end soft own =
+    listed-same (owes_at gains strikes one) (must_at gains one) (owes_at gains strikes other) (must_at gains other) 0 (entries_of gains)
+    (λ k low high. (alike-owes gains strikes one other k start end own, soft-must gains other one k soft))
 
 -- the debts of a list are as they are where only what is owed is looked at for what must be sent
 owed-due : (o m : ℕ → Bool) (i : ℕ) (xs : List Entry) → debts_from o m i xs ≡ debts_from o (due o m) i xs

@@ -4,7 +4,7 @@ ghost use Rattle.sip_ledger.specs.inner.Words.{[], ℕ, Bool, true, false, Some,
 
 use crate::accounts::gains::Gains;
 use crate::accounts::seek::Seek;
-use crate::accounts::strikes::{Strike, Strikes, first_alone, put, struck_to};
+use crate::accounts::strikes::{Strike, Strikes, are_same, first_alone, put, struck_to};
 use crate::debt::Debt;
 use crate::index::Index;
 use std::alloc::{AllocError, Global};
@@ -630,7 +630,15 @@ pub(crate) fn same(gains: &Gains, strikes: &[Strike], one: Account, other: Accou
     if one.print != other.print {
         return false;
     }
-    // Both are walked side by side, from debt to debt, but for what they share.
+    // Most accounts that owe the same have the same places and the same strikes.
+    if one.start == other.start
+        && one.end == other.end
+        && one.soft == other.soft
+        && are_same(own(strikes, one), own(strikes, other))
+    {
+        return true;
+    }
+    // Others are walked side by side, from debt to debt, but for what they share.
     let mut at = one.start;
     let mut beside = other.start;
     while at < one.end && beside < other.end {

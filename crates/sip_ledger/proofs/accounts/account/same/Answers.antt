@@ -1,6 +1,12 @@
-use Rattle.sip_ledger.proofs.Lemmas.{arith, at-apart, at-more, at-start, end-other, end-same, false≢true, kept-from, refl, rules, sym, ◌∙◌, ◌≡◌, ◌≢◌}
+use Rattle.sip_ledger.proofs.Lemmas.{alike-debts, arith, at-apart, at-more, at-start, end-other, end-same, false≢true, kept-from, refl, rules, sym, ◌∙◌, ◌≡◌, ◌≢◌}
 use Rattle.sip_ledger.proofs.accounts.account.same.Goals.{then-loop-at-test+else-beside-other, else-loop-at-test}
 use Rattle.sip_ledger.proofs.accounts.account.same.Goals as goal
+
+-- accounts with the same places and the same strikes owe the same
+pub returns-then-are_same : goal.returns-then-are_same
+returns-then-are_same c =
+    let own = sym c.own.ensures ∙ c.if-are_same.ensures ∙ c.own-then-one-other-4.ensures in
+    (λ _. alike-debts c.args.gains.now c.args.strikes.now c.args.one c.args.other c.if-one-other-2.true c.if-one-other-3.true c.if-one-other-4.true own, λ _. refl)
 
 -- both owe the same before their first places
 pub loop-at-init : goal.loop-at-init

@@ -214,7 +214,8 @@ impl Book {
             return;
         }
         let _ = put_to(*self.kept.allocator(), &mut self.tos, number, message);
-        if self.tos.begins_with_all(message.call_id()) {
+        let branch = message.top_via().branch.unwrap_or_default();
+        if self.tos.begins_with_all(branch) {
             self.keep_all_tos();
         }
     }

@@ -4,7 +4,7 @@ ghost use Rattle.std.specs.List.{HoldsAt};
 ghost use Rattle.sip_machine.specs.declared.tos.To.{To};
 ghost use Rattle.sip_machine.specs.inner.Tos.{AreUnder, IsChanged, count_between};
 
-use crate::hashed::{Hashed, hash};
+use crate::hashed::Hashed;
 use sip_ledger::Index;
 use std::alloc::{AllocError, Global};
 use std::marker::Model;
@@ -22,15 +22,15 @@ pub(crate) struct Tos {
     list: Vec<To>,
     /// Where the Tos of all messages are to stand here: the numbers of the messages, under the hashes of their Tos.
     hashes: Option<Index>,
-    /// How many Tos of each call came since some went, counted anew after each `MANY`. Calls of one slot are counted together.
-    calls: [u8; SLOTS],
+    /// How many Tos of each branch came since some went, counted anew after each `MANY`. Branches of one slot are counted together.
+    branches: [u8; SLOTS],
 }
 
-/// How many calls are told apart where Tos are counted. The counts take as many bytes.
+/// How many branches are told apart where Tos are counted. The counts take as many bytes.
 const SLOTS: usize = 1024;
 
-/// Where this many Tos of one call come, those of all messages are to stand here: then no message without one lies between these, and the response of an ACK
-/// is found without a look at each message that is owed. Where fewer are left, no hashes are kept. This is the most that a count of a call, which is a byte, can hold.
+/// Where this many Tos of one branch come, those of all messages are to stand here: then no message without one lies between these, and the response of an ACK
+/// is found without a look at each message that is owed. Where fewer are left, no hashes are kept. This is the most that a count of a branch, which is a byte, can hold.
 const MANY: u8 = u8::MAX;
 
 impl Model for Tos {
@@ -54,7 +54,7 @@ impl Tos {
         Tos {
             list: Vec::new(alloc),
             hashes: None,
-            calls: [0; SLOTS],
+            branches: [0; SLOTS],
         }
     }
 
@@ -63,16 +63,16 @@ impl Tos {
         self.hashes.is_some()
     }
 
-    /// Counts a To of the call. It tells whether the Tos of all messages are to be put here now.
-    pub(crate) fn begins_with_all(&mut self, call: &[u8]) -> bool
+    /// Counts a To of the branch. It tells whether the Tos of all messages are to be put here now.
+    pub(crate) fn begins_with_all(&mut self, branch: &[u8]) -> bool
         ensures { self.new ≡ self.old }
     {
         if self.takes_all() {
             return false;
         }
-        let slot = hash(call) as usize % SLOTS;
-        let count = self.calls[slot].saturating_add(1) % MANY;
-        self.calls[slot] = count;
+        let slot = slot_for(branch);
+        let count = self.branches[slot].saturating_add(1) % MANY;
+        self.branches[slot] = count;
         count == 0
     }
 
@@ -134,7 +134,7 @@ impl Tos {
         ensures { All (λ to. Contains self.old to × Contains numbers.now to.number) self.new }
     {
         self.list.retain(|to| is_among(numbers, to.number));
-        self.calls = [0; SLOTS];
+        self.branches = [0; SLOTS];
         if self.hashes.is_none() {
             return;
         }
@@ -160,6 +160,17 @@ impl Tos {
         let to = self.list.partition_point(|to| to.number <= high);
         to.saturating_sub(from)
     }
+}
+
+/// The slot of a branch. A letter counts alike in either case, as it does where branches are compared.
+fn slot_for(branch: &[u8]) -> usize
+    ensures { result < 1024 }
+{
+    let mut sum: usize = 0;
+    for byte in branch {
+        sum = sum.wrapping_mul(31).wrapping_add(usize::from(byte | 32));
+    }
+    sum % SLOTS
 }
 
 /// The place of the To of the message with this number: `here`, or where a search finds it.

@@ -9,7 +9,6 @@ use Rattle.sip_ledger.specs.declared.debt.Debt.{Debt}
 use Rattle.sip_ledger.specs.Debts.{IsFirstPaid, PaysSome, is_payable, paid_by}
 use Rattle.sip_ledger.specs.Indexes.{holds}
 use Rattle.sip_ledger.proofs.lists.IndexLemmas.{none-held}
-use Rattle.sip_standard.specs.Debts.{IsWithoutFirst}
 use Rattle.sip_ledger.specs.Accounts.{AppendsOwed}
 use Rattle.sip_machine.specs.Texts.{Texts, text_of}
 use Rattle.sip_machine.specs.inner.Acks.{HasTo}

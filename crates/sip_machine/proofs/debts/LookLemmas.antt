@@ -77,12 +77,12 @@ module _ (texts : Texts) (to : List ℕ) where
       }
 
 -- where of the messages that are owed those with the To stand under 0, what is found under 0 is found with the To
-pub first-named : (texts : Texts) (to : List ℕ) (t : ℕ) (debts : List Debt) (names : List ℕ) (pairs : List (ℕ × ℕ)) (message : Option ℕ) → AppendsOwed (debts ∷ []) [] names →
+pub first-named : (texts : Texts) (to : List ℕ) (t : ℕ) (debts : List Debt) (old names : List ℕ) (pairs : List (ℕ × ℕ)) (message : Option ℕ) → old ≡ [] → AppendsOwed (debts ∷ []) old names →
     All (λ n. (holds pairs 0 n ≡ true) ↔ IsToOf (text_of texts n) to) names → IsFirstPaid (PaysSome (holds pairs 0) t) t debts message → FindsFirst (HasTo texts to t) t debts message
-first-named texts to t debts names pairs message owed stand first =
+first-named texts to t debts old names pairs message none owed stand first =
     let Stands : ℕ → Type 0 = λ n. (holds pairs 0 n ≡ true) ↔ IsToOf (text_of texts n) to in
     FindsFirst-same (PaysSome (holds pairs 0) t) (HasTo texts to t) t debts message (λ k d within.
-    let here = All-names Stands debts (all-owed Stands debts names owed stand) k d within in
+    let here = All-names Stands debts (all-owed Stands debts old names none owed stand) k d within in
     (λ pays. (here.0 pays.0, pays.1), λ has. (here.1 has.0, has.1))) (found message first)
   where
     -- what is found first and paid is found first

@@ -285,7 +285,7 @@ LOGS = [
     (acks_but_the_first, 4000, (1,)),
     (acks_past_two, 4000, (1,)),
     (acks_of_two_in_turn, 2000, (1,)),
-    (acks_of_other_calls, 1000, (1,)),
+    (acks_of_other_calls, 4000, (1,)),
     (acks_of_long_tos, 4000, (1,)),
     # Debts that are equal, paid by all states at once, or past.
     (equal_debts, 25000, (1, 1024)),

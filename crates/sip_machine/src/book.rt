@@ -201,7 +201,7 @@ impl Book {
     }
 
     /// Puts the To of a message beside it where an ACK is owed for the message, so that no ACK reads it anew. Where many messages
-    /// of one call are owed one, the To of each message is put beside it. Where there is no memory for the To, all is as before.
+    /// with one branch are owed one, the To of each message is put beside it. Where there is no memory for the To, all is as before.
     pub fn keep_to(&mut self, number: u64, message: &Message<'_>)
         requires kept { Keeps self.old number }
         requires read { Reads (text_of self.old number) message.now }

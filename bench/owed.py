@@ -194,6 +194,15 @@ def acks_of_other_calls(count, _):
         yield "S", 0, text("ACK sip:b SIP/2.0", "ACK", 1, f"t{number}")
 
 
+def acks_between(count, _):
+    """Refusals that differ in their To, and after each of them another one twice, of which one gets its ACK: the ACK is kept among what is owed."""
+    yield "S", 0, text(INVITE)
+    for number in range(count):
+        yield "R", 0, reply(486, f"t{number}")
+        yield from 2 * [("R", 0, reply(486, "a"))]
+        yield "S", 0, text("ACK sip:b SIP/2.0", "ACK", 1, "a")
+
+
 def acks_of_long_tos(count, _):
     """Refusals whose Tos are long and differ in their ends alone; their ACKs, newest first."""
     yield from refused(count, lambda it: 300 * "t" + str(it), reversed)
@@ -286,6 +295,7 @@ LOGS = [
     (acks_past_two, 4000, (1,)),
     (acks_of_two_in_turn, 2000, (1,)),
     (acks_of_other_calls, 4000, (1,)),
+    (acks_between, 2000, (1,)),
     (acks_of_long_tos, 4000, (1,)),
     # Debts that are equal, paid by all states at once, or past.
     (equal_debts, 25000, (1, 1024)),

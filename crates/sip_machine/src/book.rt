@@ -307,13 +307,16 @@ impl Book {
 }
 
 /// Whether the To of the message is to stand beside it: where it refuses an INVITE, since a response that does is owed an ACK; and where
-/// those of all messages are to, but for an ACK, which no state names.
+/// those of all messages are to.
 fn stands_beside(message: &Message<'_>, takes_all: bool) -> bool {
+    if takes_all {
+        return true;
+    }
     match message.start() {
         StartLine::Status { code, .. } => {
-            takes_all || (is_unsuccessful(code) && message.cseq().method == b"INVITE".as_slice())
+            is_unsuccessful(code) && message.cseq().method == b"INVITE".as_slice()
         }
-        StartLine::Request { method, .. } => takes_all && method != b"ACK".as_slice(),
+        StartLine::Request { .. } => false,
     }
 }
 

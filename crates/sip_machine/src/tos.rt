@@ -22,16 +22,11 @@ pub(crate) struct Tos {
     list: Vec<To>,
     /// Where the Tos of all messages are to stand here: the numbers of the messages, under the hashes of their Tos.
     hashes: Option<Index>,
-    /// How many Tos of each branch came since some went, counted anew after each `MANY`. Branches of one slot are counted together.
-    branches: [u8; SLOTS],
 }
 
-/// How many branches are told apart where Tos are counted. The counts take as many bytes.
-const SLOTS: usize = 1024;
-
-/// Where this many Tos of one branch come, those of all messages are to stand here: then no message without one lies between these, and the response of an ACK
-/// is found without a look at each message that is owed. Where fewer are left, no hashes are kept. This is the most that a count of a branch, which is a byte, can hold.
-const MANY: u8 = u8::MAX;
+/// Where a search for a To looks at more messages than these, one by one, the Tos of all messages are to stand here: then no message without one lies
+/// between these, and the response of an ACK is found without a look at each message that is owed. Where fewer are left, no hashes are kept.
+pub(crate) const MANY: usize = 255;
 
 impl Model for Tos {
     ghost use Rattle.std.specs.Prelude.{◌<◌, List, AllPairs};
@@ -54,26 +49,12 @@ impl Tos {
         Tos {
             list: Vec::new(alloc),
             hashes: None,
-            branches: [0; SLOTS],
         }
     }
 
     /// Whether the Tos of all messages are to stand here.
     pub(crate) fn takes_all(&self) -> bool {
         self.hashes.is_some()
-    }
-
-    /// Counts a To of the branch. It tells whether the Tos of all messages are to be put here now.
-    pub(crate) fn begins_with_all(&mut self, branch: &[u8]) -> bool
-        ensures { self.new ≡ self.old }
-    {
-        if self.takes_all() {
-            return false;
-        }
-        let slot = slot_for(branch);
-        let count = self.branches[slot].saturating_add(1) % MANY;
-        self.branches[slot] = count;
-        count == 0
     }
 
     /// Puts these Tos, which are those of all messages, in the place of those that are here.
@@ -134,7 +115,6 @@ impl Tos {
         ensures { All (λ to. Contains self.old to × Contains numbers.now to.number) self.new }
     {
         self.list.retain(|to| is_among(numbers, to.number));
-        self.branches = [0; SLOTS];
         if self.hashes.is_none() {
             return;
         }
@@ -160,17 +140,6 @@ impl Tos {
         let to = self.list.partition_point(|to| to.number <= high);
         to.saturating_sub(from)
     }
-}
-
-/// The slot of a branch. A letter counts alike in either case, as it does where branches are compared.
-fn slot_for(branch: &[u8]) -> usize
-    ensures { result < 1024 }
-{
-    let mut sum: usize = 0;
-    for byte in branch {
-        sum = sum.wrapping_mul(31).wrapping_add(usize::from(byte | 32));
-    }
-    sum % SLOTS
 }
 
 /// The place of the To of the message with this number: `here`, or where a search finds it.
@@ -218,7 +187,7 @@ fn drop_note(hashes: &mut Option<Index>, hash: u64, number: u64)
 fn hashes_of(alloc: Global, list: &[To]) -> Option<Index>
     ensures { AreUnder result list.now }
 {
-    if list.len() < usize::from(MANY) {
+    if list.len() < MANY {
         return None;
     }
     let mut hashes = Some(Index::new(alloc));

@@ -159,6 +159,7 @@ fn first_named(
 {
     let mut messages = Vec::new(alloc);
     accounts.names_once(row, &mut messages)?;
+    book.count_messages(messages.len());
     let index = with_to(alloc, book, to, &messages)?;
     let Some(found) = accounts.first_payable(row, &index, 0, moment, usize::MAX) else {
         // No memory has room for as many messages as a number can count.

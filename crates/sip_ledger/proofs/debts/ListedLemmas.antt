@@ -1,5 +1,5 @@
 -- The debts of a list of entries: `o` tells which places are owed, and `m` which of them must be sent.
-use Rattle.sip_ledger.proofs.Words.{common_steps, nat_tests, ◌≡◌, ℕ, zero, suc, ◌+◌, ◌-◌, ◌<◌, ◌≤◌, Bool, true, false, ◌&&◌, ◌||◌, cond, List, [], ◌∷◌, ◌++◌, length, take, drop, get_or, map, filter, refl, sym, ap, ◌∙◌, subst, arith, ap₂, All, nat_le, Some, option_to_list, min, fold, append-nil, append_cancel_right, drop_more, length-drop, length-take-le, take-append-drop, take-take, take_more, get_or_default, All-nil, All-cons, All-head, All-tail, Debt, Entry, counts_at, softened_debt, debt_deadlines, earliest, debt_of, debts_from, IsGap}
+use Rattle.sip_ledger.proofs.Words.{common_steps, nat_tests, ◌≡◌, ℕ, zero, suc, ◌+◌, ◌-◌, ◌<◌, ◌≤◌, Bool, true, false, ◌&&◌, ◌||◌, cond, List, [], ◌∷◌, ◌++◌, length, take, drop, get_or, map, filter, refl, sym, ap, ◌∙◌, subst, arith, ap₂, All, nat_le, append-nil, append_cancel_right, drop_more, length-drop, length-take-le, take-append-drop, take-take, take_more, get_or_default, All-nil, All-cons, Debt, Entry, counts_at, softened_debt, debt_of, debts_from, IsGap}
 
 -- what stands where there is no entry
 abbrev pub no_entry : Entry
@@ -138,29 +138,3 @@ front-on o m o' m' entries at n within same agree =
     let xs = take (at + n) entries in
     let rest : back o m xs at ≡ back o' m' xs at = grind (arith, listed-same, length-take-le, length-drop) in
     grind (arith, parts o m xs at, parts o' m' xs at, rest, take-take, length-take-le)
-
--- where what must be sent is owed, the deadlines of the debts that must be sent are those of the places that must be sent
-pub listed-must : (o m : ℕ → Bool) (i : ℕ) (xs : List Entry) → ((k : ℕ) → m k ≡ true → o k ≡ true) →
-    debt_deadlines (debts_from o m i xs) ≡ map (λ d. d.deadline) (debts_from m m i xs)
-listed-must o m i [] among = refl
-listed-must o m i (x ∷ xs) among = grind (arith, nat_tests, listed-must o m (i + 1) xs among)
-
--- the least of some moments and a further one is the lesser of their least and of that one
-fold-push : (a m : ℕ) (ms : List ℕ) → fold min a (ms ++ m ∷ []) ≡ min (fold min a ms) m
-fold-push a m [] = refl
-fold-push a m (x ∷ xs) = fold-push (min a x) m xs
-
--- the earliest moment is the same whether one comes last or first
-pub earliest-push : (ms : List ℕ) (m : ℕ) → earliest (ms ++ m ∷ []) ≡ earliest (m ∷ option_to_list (earliest ms))
-earliest-push [] m = refl
-earliest-push (x ∷ xs) m = let turned : min (fold min x xs) m ≡ min m (fold min x xs) = omega arith in ap Some (fold-push x m xs ∙ turned)
-
--- the least of moments of which none is below the first is the first
-fold-first : (x : ℕ) (xs : List ℕ) → All (λ y. x ≤ y) xs → fold min x xs ≡ x
-fold-first x [] above = refl
-fold-first x (y ∷ ys) above =
-    let here : min x y ≡ x = omega (arith, All-head (λ z. x ≤ z) y ys above) in grind (arith, here, fold-first x ys (All-tail (λ z. x ≤ z) y ys above))
-
--- a moment that none of the others is before is the earliest
-pub earliest-first : (x : ℕ) (xs : List ℕ) → All (λ y. x ≤ y) xs → Some x ≡ earliest (x ∷ xs)
-earliest-first x xs above = ap Some (sym (fold-first x xs above))

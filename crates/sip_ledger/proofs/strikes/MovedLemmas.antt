@@ -1,6 +1,6 @@
 -- Which gains the strikes of an account strike, once strikes are longer, written anew or looked for, and gains are let go: m is a message, and k a place.
 -- sm is the message of a strike, and mp that of the gain at a place.
-use Rattle.sip_ledger.proofs.Words.{◌≡◌, ◌≢◌, ℕ, zero, suc, ◌+◌, ◌-◌, ◌<◌, ◌≤◌, ◌==◌, ◌&&◌, ◌||◌, Bool, true, false, List, [], ◌∷◌, ◌++◌, length, take, drop, get_or, set, filter, refl, sym, ap, ap₂, ◌∙◌, subst, arith, nat_le, nat_lt, list_any, or-false, or_assoc, true≢false, nat_tests, list_any-append, list_any_at, take-append_seam, drop-append_seam, drop-append-le, drop-set-add, get_or_default, get_or-drop, length-drop, take-append-le, take-set-le, take_more, Account, Strike, Gains, IsWritten, Lengthens, Reaches, StrikeToo, entries_of, entry_at, is_left, is_struck, strikes_of, is_out, All, cases_eq, cases_lt, All-push, All-weaker, AreGains, AreKept, IsClearedTo, IsDropped, IsLetGo, StartFrom, owes_at, common_steps, map, max, min, false_from_ne_true, or_parts, append_assoc, map-append, All-get_or, All-nil, AreAppended, AreMoved, AreStruckToo, IsAccount, IsMoved, StrikesNoneFrom, account_debts, accounts_debts, holds}
+use Rattle.sip_ledger.proofs.Words.{◌≡◌, ◌≢◌, ℕ, zero, suc, ◌+◌, ◌-◌, ◌<◌, ◌≤◌, ◌==◌, ◌&&◌, ◌||◌, Bool, true, false, List, [], ◌∷◌, ◌++◌, length, take, drop, get_or, set, filter, refl, sym, ap, ap₂, ◌∙◌, subst, arith, nat_le, nat_lt, list_any, or-false, or_assoc, true≢false, nat_tests, list_any-append, list_any_at, take-append_seam, drop-append_seam, drop-append-le, drop-set-add, get_or_default, get_or-drop, length-drop, take-append-le, take-set-le, take_more, Account, Strike, Gains, IsWritten, Lengthens, Reaches, StrikeToo, entries_of, entry_at, is_left, is_struck, strikes_of, is_out, All, cases_eq, cases_lt, All-push, All-weaker, AreGains, AreKept, IsClearedTo, IsDropped, IsLetGo, StartFrom, owes_at, common_steps, map, max, false_from_ne_true, or_parts, append_assoc, map-append, All-get_or, All-nil, AreAppended, AreMoved, AreStruckToo, IsAccount, IsMoved, StrikesNoneFrom, account_debts, accounts_debts, holds}
 use Rattle.sip_ledger.proofs.gains.LeftLemmas.{held_left, gone-same}
 use Rattle.sip_ledger.proofs.account.AccountLemmas.{OwesAlike, dropped-alike, let_go-alike, over-all, past-end, kept-all, soft-must}
 use Rattle.sip_ledger.proofs.account.WithoutLemmas.{before-start}

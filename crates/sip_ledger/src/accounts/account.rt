@@ -181,6 +181,7 @@ pub(crate) fn find(
 /// and the gains give those that are still owed. Both are asked in turn, so that each step goes to a greater message, and passes one that
 /// stands under the key. The search ends where nothing greater is left or was gained, or where what is found stands before all greater ones.
 /// Where it takes more than `most` steps, the answer is None.
+#[tactic(auto, using(crate::proofs::account::FindLemmas::found_under_key))]
 pub(crate) fn find_under(
     gains: &Gains,
     strikes: &[Strike],
@@ -589,6 +590,7 @@ pub(crate) fn debt_for(gains: &Gains, account: Account, place: usize) -> Debt
 }
 
 /// At how many places from these on it is known that both accounts owe the same: none, where they are not one place.
+#[tactic(auto, using(crate::proofs::account::ToldLemmas::shared_by_places))]
 fn shared(
     gains: &Gains,
     strikes: &[Strike],

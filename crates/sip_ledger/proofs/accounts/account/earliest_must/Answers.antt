@@ -1,4 +1,4 @@
-use Rattle.sip_ledger.proofs.Lemmas.{arith, kept-from, leading}
+use Rattle.sip_ledger.proofs.Lemmas.{ap, arith, before-start, Entry, kept-from, leading, Some, sym, true≢false, ◌∙◌}
 use Rattle.sip_ledger.proofs.accounts.account.earliest_must.Goals as goal
 
 -- the first debt of the account is kept
@@ -11,4 +11,7 @@ entry-requires-clause-kept c = kept-from c.args.account.start c.requires.gained 
 
 -- what must be sent first has the least deadline
 pub returns-then-must : goal.returns-then-must
-returns-then-must c = grind (arith, leading)
+returns-then-must c =
+    ap (λ (e : Entry). Some e.deadline) c.entry.ensures
+    ∙ leading c.args.gains.now c.args.strikes.now c.args.account c.args.account.start c.requires.gained c.requires.account c.if-gains.true (c.requires.account.begins c.if-account.true)
+    (sym c.must.ensures ∙ c.if-must.true) (λ k early owed must. true≢false (sym owed ∙ before-start c.args.gains.now c.args.strikes.now c.args.account k early))

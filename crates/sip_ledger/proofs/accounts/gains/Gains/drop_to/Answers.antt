@@ -1,4 +1,4 @@
-use Rattle.sip_ledger.proofs.Lemmas.{arith, flags-dropped, Gains, gains-dropped, length, refl, ◌+◌, ◌-◌, ◌∙◌, ◌≡◌}
+use Rattle.sip_ledger.proofs.Lemmas.{arith, Gains, gains-dropped, length, refl, ◌+◌, ◌-◌, ◌∙◌, ◌≡◌}
 use Rattle.sip_ledger.proofs.accounts.gains.Gains.drop_to.Goals as goal
 
 -- without the gains before the place, those from it on are as they were
@@ -12,6 +12,5 @@ returns c =
     let count = c.args.place - (g.end - c.len.result) in
     -- the gains and their flags are those from the place on
     let here : count + (g.end - length g.entries.items) ≡ c.args.place = omega (arith, len, long, from) in
-    let all = gains-dropped g new c.args.place count c.requires.gained here c.requires.within c.drop_first.ensures refl refl refl refl refl c.requires.none
-    (flags-dropped g new c.args.place count c.requires.gained.flags long here c.requires.within c.drop_first.ensures c.drop_first-2.ensures refl) in
+    let all = gains-dropped g new c.args.place count c.requires.gained here c.requires.within c.drop_first.ensures c.drop_first-2.ensures refl refl refl refl refl c.requires.none in
     record { gained = all.0; dropped = all.1 }

@@ -3,10 +3,10 @@ pub use Rattle.sip_ledger.proofs.Words.{Account, All, ap, AreAccounts, AreAppend
 unfoldable pub use Rattle.sip_ledger.proofs.Words.{account_debts, accounts_debts, debts_print, entries_of, holds, is_struck, owes_at, worth_of}
 pub use Rattle.sip_ledger.proofs.account.AccountLemmas.{debts_length, empty-account, empty-debts, kept-from, kept-passed, owed-within}
 pub use Rattle.sip_ledger.proofs.account.FindLemmas.{first-account, first-all, first-payable, first-stays, IsFirstTo, newest-first, none-account, none-pays_late, none-pays_struck, none-pays_to, NonePays, one-found, owed-next, owes-inside}
-pub use Rattle.sip_ledger.proofs.account.ToldLemmas.{alike-debts, AreAt, at-apart, at-more, at-start, end-other, end-same, IsLeastTo, IsToldTo, leading, least-first, least-first_due, least-found, least-last, least-passed, told-all, told-more, told-none, told-start}
+pub use Rattle.sip_ledger.proofs.account.ToldLemmas.{AreAt, at-apart, at-more, at-start, end-other, end-same, IsLeastTo, IsToldTo, leading, least-first, least-first_due, least-found, least-last, least-passed, told-all, told-more, told-none, told-start}
 pub use Rattle.sip_ledger.proofs.account.WithoutLemmas.{before-start, first-gain, more-gain, new-gain, without-first, without-last, without-middle}
 pub use Rattle.sip_ledger.proofs.debts.OwedLemmas.{widened-run}
-pub use Rattle.sip_ledger.proofs.gains.LeftLemmas.{entries_long, gains-dropped, gains-let_go, gains-more, gains-same, gone-left, gone-unleft, left-kept, none-entries, none-gained, owed-left, rising-push}
+pub use Rattle.sip_ledger.proofs.gains.LeftLemmas.{entries_long, gains-dropped, gains-let_go, gains-more, gains-same, left-kept, none-entries, none-gained, owed-left, rising-push}
 pub use Rattle.sip_ledger.proofs.lists.EachLemmas.{changing, changing-more, on_ok}
 pub use Rattle.sip_ledger.proofs.lists.FrontLemmas.{IsKeptTo, kept-all, kept-more, rise-above, rise-few}
 pub use Rattle.sip_ledger.proofs.lists.IndexLemmas.{at-pair, count_passed, none-held, range-first, range-none, span-held}

@@ -1,5 +1,5 @@
 -- Accounts stay accounts, and owe what they owed, while gains and strikes grow, are let go or are dropped.
-use Rattle.sip_ledger.proofs.Words.{common_steps, max, min, ◌≡◌, ℕ, ◌<◌, ◌≤◌, ◌&&◌, true, false, List, [], ◌∷◌, ◌++◌, length, take, drop, get_or, set, append-nil, refl, sym, ap, ◌∙◌, subst, arith, nat_tests, All, nat_le, cases_eq, cases_lt, le-leb, le-ltb, lt-leb, true≢false, false_from_ne_true, and-false, and-true, drop-map, get_or_append_left, get_or-map, get_or-take, length-map, length-take, length-take-le, map-set, take-map, take-take, All-cons, All-drop, All-get_or, All-head, All-nil, All-set, All-tail, All-take, All-weaker, Debt, Account, Gains, Strike, debts_print, AreAccounts, AreGains, AreSameGains, IsAccount, IsDropped, IsGain, IsUndropped, IsLetGo, KeepsAccounts, account_debts, accounts_debts, entries_of, entry_at, is_gone, is_left, is_struck, must_at, owes_at, holds}
+use Rattle.sip_ledger.proofs.Words.{common_steps, max, min, ◌≡◌, ℕ, ◌<◌, ◌≤◌, ◌&&◌, true, false, List, [], ◌∷◌, ◌++◌, length, take, drop, get_or, set, append-nil, refl, sym, ap, ◌∙◌, subst, arith, nat_tests, All, nat_le, cases_eq, cases_lt, le-leb, le-ltb, lt-leb, true≢false, false_from_ne_true, and-false, and-true, drop-map, get_or_append_left, get_or-map, get_or-take, length-map, length-take, length-take-le, map-set, take-map, take-take, All-cons, All-drop, All-get_or, All-head, All-nil, All-set, All-tail, All-take, All-weaker, Debt, Account, Gains, Strike, debts_print, AreAccounts, AreGains, AreSameGains, IsAccount, IsDropped, IsGain, IsUndropped, IsLetGo, KeepsAccounts, account_debts, accounts_debts, entries_of, entry_at, is_left, is_struck, must_at, owes_at, holds}
 use Rattle.sip_ledger.proofs.debts.ListedLemmas.{back-none, front, listed-same, listed-none, parts, back}
 use Rattle.sip_ledger.proofs.gains.LeftLemmas.{entries_long, left-kept, listed-alike, owed-left, left-as}
 
@@ -81,7 +81,7 @@ kept-from k are is low high = kept-passed k are is (omega (arith, low, high)) lo
 -- where an entry is the same among old and new gains, and is left in both or in neither, an account owes it in both or in neither
 owes-over : (old new : Gains) (strikes : List Strike) (a : Account) (k : ℕ) → entry_at (entries_of new) k ≡ entry_at (entries_of old) k → is_left new k ≡ is_left old k →
     owes_at new strikes a k ≡ owes_at old strikes a k
-unfolding owes_at is_gone
+unfolding owes_at
 owes-over old new strikes a k entry left = grind (arith, nat_tests)
 
 -- an account owes over the new gains what it owes over the old ones

@@ -1,8 +1,8 @@
 -- The first debt of an account that a send at the moment t pays, of one message or of the messages that stand under a key: k and `at` are places of gains.
-use Rattle.sip_ledger.proofs.Words.{◌≡◌, ◌≢◌, ℕ, ◌<◌, ◌≤◌, ◌==◌, ◌&&◌, Bool, true, false, not, List, length, ◌+◌, refl, sym, ap, ◌∙◌, subst, arith, All, IfNone, IfSome, IsTrue, MatchOption, Option, None, Some, nat_le, cases_lt, lt-ltb, true≢false, nat_tests, Entry, Account, Gains, Strike, IsFirstPaid, PaysSome, is_payable, debts_from, AreGains, IsAccount, IsFirstPaying, IsFirstPayable, IsUndropped, IsWithout, PaysSomeAt, account_debts, entries_of, entry_at, must_at, owes_at, pays_at, sooner, IsNextUnder, holds, ap₂, and-false, and_right, cases_eq, eq-eqb, le-leb, lt-leb, ne_eqb, paid_by, is_gone, is_struck, strikes_of}
+use Rattle.sip_ledger.proofs.Words.{◌≡◌, ◌≢◌, ℕ, ◌<◌, ◌≤◌, ◌==◌, ◌&&◌, Bool, true, false, not, List, length, ◌+◌, refl, sym, ap, ◌∙◌, subst, arith, All, IfNone, IfSome, IsTrue, MatchOption, Option, None, Some, nat_le, cases_lt, lt-ltb, true≢false, nat_tests, Entry, Account, Gains, Strike, IsFirstPaid, PaysSome, is_payable, debts_from, AreGains, IsAccount, IsFirstPaying, IsFirstPayable, IsUndropped, IsWithout, PaysSomeAt, account_debts, entries_of, entry_at, must_at, owes_at, pays_at, sooner, IsNextUnder, holds, ap₂, and-false, and_right, cases_eq, eq-eqb, le-leb, lt-leb, ne_eqb, paid_by, is_left, is_struck, strikes_of}
 use Rattle.sip_ledger.proofs.debts.ListedLemmas.{listed-each}
 use Rattle.sip_ledger.proofs.debts.OwedLemmas.{removed, paid-is}
-use Rattle.sip_ledger.proofs.gains.LeftLemmas.{held_left, left-kept, owed-left, gone-left, gone-struck, gone-unleft}
+use Rattle.sip_ledger.proofs.gains.LeftLemmas.{held_left, left-kept, owed-left}
 use Rattle.sip_ledger.proofs.account.AccountLemmas.{owed-within, past-end, soft-must}
 use Rattle.sip_ledger.proofs.account.WithoutLemmas.{before-start}
 use Rattle.sip_ledger.proofs.lists.IndexLemmas.{count_all}
@@ -29,7 +29,7 @@ none-pays_to gains strikes a message t from at before others k early owed =
 pub none-pays_struck : (gains : Gains) (strikes : List Strike) (a : Account) (message t at to : ℕ) → NonePays (entries_of gains) (owes_at gains strikes a) message t at →
     ((k : ℕ) → at ≤ k → k < to → is_struck (strikes_of strikes a) message k ≡ true) → NonePays (entries_of gains) (owes_at gains strikes a) message t to
 unfolding owes_at
-none-pays_struck gains strikes a message t at to before struck k early owed = grind (arith, nat_tests, cases_lt, cases_eq, true≢false, unnamed-unpaid, gone-struck, and_right, and-false)
+none-pays_struck gains strikes a message t at to before struck k early owed = grind (arith, nat_tests, cases_lt, cases_eq, true≢false, unnamed-unpaid, and_right, and-false)
 
 -- NonePays goes on over a gain that is past
 pub none-pays_late : (entries : List Entry) (owes : ℕ → Bool) (message t at : ℕ) → NonePays entries owes message t at → (entry_at entries at).deadline < t →
@@ -41,7 +41,7 @@ pub first-payable : (gains : Gains) (strikes : List Strike) (a : Account) (messa
     (entry_at (entries_of gains) at).message ≡ message → holds gains.messages message at ≡ true → is_struck (strikes_of strikes a) message at ≡ false → t ≤ (entry_at (entries_of gains) at).deadline →
     IsFirstPayable (entries_of gains) (owes_at gains strikes a) message t at
 unfolding owes_at
-first-payable gains strikes a message t at before low high is held free early = grind (arith, nat_tests, gone-left, held_left, named-pays, le-leb, lt-ltb)
+first-payable gains strikes a message t at before low high is held free early = grind (arith, nat_tests, held_left, named-pays, le-leb, lt-ltb)
 
 -- where the first debt that a send pays is taken out of an account, the account owes the debts that the payment leaves
 pub paid-account : (gains : Gains) (old new : List Strike) (a b : Account) (message t place : ℕ) → IsAccount gains old a →
@@ -62,12 +62,12 @@ unpaid-account gains strikes a message t none =
     listed-each (λ debt. ¬ (IsTrue (is_payable message t debt))) (owes_at gains strikes a) (must_at gains a) (entries_of gains) (λ k below owed pays. true≢false (sym pays ∙ none k owed))
 
 -- from its start on and before its end an account owes what is not gone
-pub owes-inside : (gains : Gains) (strikes : List Strike) (a : Account) (k : ℕ) → a.start ≤ k → k < a.end → owes_at gains strikes a k ≡ not (is_gone gains (strikes_of strikes a) k)
+pub owes-inside : (gains : Gains) (strikes : List Strike) (a : Account) (k : ℕ) → a.start ≤ k → k < a.end → owes_at gains strikes a k ≡ (is_left gains k && not (is_struck (strikes_of strikes a) (entry_at (entries_of gains) k).message k))
 unfolding owes_at
-owes-inside gains strikes a k low high = ap₂ (λ x y. x && (y && not (is_gone gains (strikes_of strikes a) k))) (le-leb a.start k low) (lt-ltb k a.end high)
+owes-inside gains strikes a k low high = grind (arith, le-leb, lt-ltb)
 
 -- lemmas for the prover under one name: whether an account owes what was gained at a place
-pub ruleset owed_at_place = (gone-left, gone-struck, gone-unleft, past-end, before-start, owes-inside)
+pub ruleset owed_at_place = (past-end, before-start, owes-inside)
 
 -- a gain that a send pays is of its message, and not past
 pays-parts : (message t : ℕ) (entry : Entry) → (entry.message == message && nat_le t entry.deadline) ≡ true → (entry.message ≡ message) × (t ≤ entry.deadline)

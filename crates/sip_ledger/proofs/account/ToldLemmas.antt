@@ -1,16 +1,10 @@
 -- What an account owes, place by place: its debts, whether another account owes the same, and the least deadline of what it must send.
-use Rattle.sip_ledger.proofs.Words.{All, All-head, All-tail, fold, IfSome, list_any, MatchOption, max, min, ◌≡◌, ◌≢◌, ℕ, ◌+◌, ◌<◌, ◌≤◌, ◌==◌, ◌&&◌, ◌||◌, Bool, true, false, List, [], ◌∷◌, ◌++◌, length, slice_get, refl, sym, ap, ◌∙◌, arith, append-nil, nat_tests, IsTrue, Option, Some, None, ◌↔◌, option_to_list, cases_eq, cases_lt, eq-eqb, eqb-true, false_from_ne_true, true≢false, append_cancel_left, length-append, length-take-le, Debt, Account, Gains, Strike, debt_deadlines, earliest, debt_of, AreGains, IsAccount, SharesNext, account_debts, entries_of, entry_at, is_left, is_struck, must_at, owes_at, strikes_of, holds}
+use Rattle.sip_ledger.proofs.Words.{All, All-head, All-tail, fold, IfSome, list_any, MatchOption, max, min, ◌≡◌, ◌≢◌, ℕ, ◌+◌, ◌<◌, ◌≤◌, ◌==◌, ◌&&◌, ◌||◌, Bool, true, false, List, [], ◌∷◌, ◌++◌, length, slice_get, refl, sym, ap, ◌∙◌, arith, append-nil, nat_tests, IsTrue, Option, Some, None, ◌↔◌, option_to_list, cases_eq, cases_lt, eq-eqb, eqb-true, false_from_ne_true, true≢false, append_cancel_left, length-append, length-take-le, Debt, Account, Gains, Strike, debt_deadlines, earliest, debt_of, AreGains, IsAccount, IsAfter, SharesNext, account_debts, entries_of, entry_at, is_left, is_struck, must_at, owes_at, strikes_of, holds}
 use Rattle.sip_ledger.proofs.debts.OwedLemmas.{listed-any}
-use Rattle.sip_ledger.proofs.gains.LeftLemmas.{gone-same, left-kept, owed-left, rising_kept}
+use Rattle.sip_ledger.proofs.gains.LeftLemmas.{left-kept, owed-left, rising_kept}
 use Rattle.sip_ledger.proofs.debts.ListedLemmas.{back, back-none, back-set, front, front-gap, front-next, front-on, listed-each, listed-none, listed-same, no_entry, parts}
 use Rattle.sip_ledger.proofs.account.AccountLemmas.{must-alike, must-below, must-from, owed-within, past-end, soft-must}
 use Rattle.sip_ledger.proofs.account.WithoutLemmas.{before-start}
-
--- `next` is the first place from `from` on at which the account owes something, or its end
-pub record IsAfter (gains : Gains) (strikes : List Strike) (a : Account) (from next : ℕ) : Type 0 where
-  pub within : (from ≤ next) × (next ≤ a.end)
-  pub before : (k : ℕ) → from ≤ k → k < next → owes_at gains strikes a k ≡ false
-  pub is : next < a.end → owes_at gains strikes a next ≡ true
 
 -- the debts are what an account owes before a place, at which it owes something or ends
 pub record IsToldTo (gains : Gains) (strikes : List Strike) (a : Account) (place : ℕ) (debts : List Debt) : Type 0 where
@@ -124,24 +118,16 @@ pub alike-struck : (gains : Gains) (strikes : List Strike) (one other : Account)
     (is_left gains k ≡ true → is_struck (strikes_of strikes other) (entry_at (entries_of gains) k).message k ≡ true → is_struck (strikes_of strikes one) (entry_at (entries_of gains) k).message k ≡ true) →
     owes_at gains strikes one k ≡ owes_at gains strikes other k
 unfolding owes_at
-alike-struck gains strikes one other k in_one in_other too too_other = grind (arith, nat_tests, gone-same, false_from_ne_true)
-
--- lemmas for the prover under one name: at which places two accounts owe the same
-pub ruleset shared_by_places = (alike-struck, must-alike)
-
--- an account with the places and the strikes of another one owes what it does at each place
-alike-owes : (gains : Gains) (strikes : List Strike) (one other : Account) (k : ℕ) → one.start ≡ other.start → one.end ≡ other.end → strikes_of strikes one ≡ strikes_of strikes other →
-    owes_at gains strikes one k ≡ owes_at gains strikes other k
-unfolding owes_at
-alike-owes gains strikes one other k start end own = rw (start, end, own) refl
+alike-struck gains strikes one other k in_one in_other too too_other = grind (arith, nat_tests, false_from_ne_true)
 
 -- accounts with the same places and the same strikes owe the same
 pub alike-debts : (gains : Gains) (strikes : List Strike) (one other : Account) → one.start ≡ other.start → one.end ≡ other.end → one.soft ≡ other.soft →
     strikes_of strikes one ≡ strikes_of strikes other → account_debts gains strikes one ≡ account_debts gains strikes other
-unfolding account_debts
-alike-debts gains strikes one other start end soft own =
-    listed-same (owes_at gains strikes one) (must_at gains one) (owes_at gains strikes other) (must_at gains other) 0 (entries_of gains)
-    (λ k low high. (alike-owes gains strikes one other k start end own, soft-must gains other one k soft))
+unfolding account_debts owes_at
+alike-debts gains strikes one other start end soft own = grind (arith, nat_tests, listed-same, soft-must)
+
+-- lemmas for the prover under one name: at which places two accounts owe the same, and whether they do so at all
+pub ruleset shared_by_places = (alike-struck, must-alike, alike-debts)
 
 -- whether one of the debts must be sent, and until this moment
 unfoldable pub has_due : ℕ → List Debt → Bool

@@ -1,5 +1,5 @@
 -- Which gains are left, whether their deadlines rise, what is known beside each by its flags, and what changes of that when gains come, are let go or are dropped.
-use Rattle.sip_ledger.proofs.Words.{nat_tests, ◌-◌, ◌<◌, ◌≤◌, List, [], ◌∷◌, ◌++◌, length, get_or, arith, cases_lt, cases_eq, get_or_append_left, get_or_push, length_push, Entry, AreRising, ◌≡◌, ℕ, Bool, ◌+◌, true, false, drop, set, ap, ◌∙◌, get_or-drop, get_or-set_other, get_or-set_same, length-append, length-drop, length-set, Debt, Gains, AreFlags, AreSameGains, IsDropped, IsGain, IsUndropped, IsLetGo, blank, entries_of, entry_at, is_left, no_flags, holds, suc, ◌^◌, ◌==◌, ◌&&◌, ◌||◌, cond, not, refl, sym, ap₂, replicate, eq-eqb, false_from_ne_true, ne_eqb, true≢false, and-false, append_assoc, get_or-append_right, get_or_default, get_or_past, length-replicate, Account, Strike, debts_from, AreGains, IsNoted, IsPlaceOf, is_gone, is_struck, owes_at}
+use Rattle.sip_ledger.proofs.Words.{nat_tests, ◌-◌, ◌<◌, ◌≤◌, List, [], ◌∷◌, ◌++◌, length, get_or, arith, cases_lt, cases_eq, get_or_append_left, get_or_push, length_push, Entry, AreRising, ◌≡◌, ℕ, Bool, ◌+◌, true, false, drop, set, ap, ◌∙◌, get_or-drop, get_or-set_other, get_or-set_same, length-append, length-drop, length-set, Debt, Gains, AreFlags, AreSameGains, IsDropped, IsGain, IsUndropped, IsLetGo, blank, entries_of, entry_at, is_left, no_flags, holds, suc, ◌^◌, ◌==◌, ◌&&◌, ◌||◌, cond, not, refl, sym, ap₂, replicate, eq-eqb, false_from_ne_true, ne_eqb, true≢false, and-false, append_assoc, get_or-append_right, get_or_default, get_or_past, length-replicate, Account, Strike, debts_from, AreGains, IsNoted, IsPlaceOf, is_struck, owes_at}
 use Rattle.sip_ledger.proofs.debts.ListedLemmas.{no_entry}
 
 -- there are as many entries as there were gains
@@ -51,31 +51,9 @@ pub rising_kept : (gains : Gains) (i k : ℕ) → AreGains gains → gains.rises
     (entry_at (entries_of gains) i).deadline ≤ (entry_at (entries_of gains) k).deadline
 rising_kept gains i k are rises kept order within = grind (arith, nat_tests, entry-kept)
 
--- a gain that is not left is gone
-pub gone-unleft : (gains : Gains) (own : List Strike) (k : ℕ) → is_left gains k ≡ false → is_gone gains own k ≡ true
-unfolding is_gone
-gone-unleft gains own k none = ap (λ b. not b || is_struck own (entry_at (entries_of gains) k).message k) none
-
--- a gain that is left is gone exactly if it is struck
-pub gone-left : (gains : Gains) (own : List Strike) (k : ℕ) → is_left gains k ≡ true → is_gone gains own k ≡ is_struck own (entry_at (entries_of gains) k).message k
-unfolding is_gone
-gone-left gains own k left = ap (λ b. not b || is_struck own (entry_at (entries_of gains) k).message k) left
-
--- where two lists of strikes strike the same of what is left, the same is gone by both
-pub gone-same : (gains : Gains) (own own' : List Strike) (k : ℕ) →
-    (is_left gains k ≡ true → is_struck own' (entry_at (entries_of gains) k).message k ≡ is_struck own (entry_at (entries_of gains) k).message k) →
-    is_gone gains own' k ≡ is_gone gains own k
-unfolding is_gone
-gone-same gains own own' k same = grind (arith, nat_tests)
-
--- a gain is gone where it is not left, or is left and struck
-pub gone-struck : (gains : Gains) (own : List Strike) (k : ℕ) → (is_left gains k ≡ true → is_struck own (entry_at (entries_of gains) k).message k ≡ true) → is_gone gains own k ≡ true
-unfolding is_gone
-gone-struck gains own k struck = grind (arith, nat_tests)
-
 -- a gain that is owed is left
 pub owed-left : (gains : Gains) (strikes : List Strike) (a : Account) (k : ℕ) → owes_at gains strikes a k ≡ true → is_left gains k ≡ true
-unfolding owes_at is_gone
+unfolding owes_at
 owed-left gains strikes a k is = grind (arith, nat_tests, true≢false)
 
 -- all gains with one more are the gains and this one after them

@@ -1,6 +1,6 @@
 //! What one row owes of what was gained.
 ghost use Rattle.std.specs.Prelude.{◌≡◌, ◌≢◌, ◌↔◌, ◌<◌, ◌≤◌, ◌*◌, ◌%◌, ◌^◌, ◌++◌, ◌∷◌, ◌+◌};
-ghost use Rattle.sip_ledger.specs.inner.Words.{[], ℕ, Bool, true, false, Some, IfOk, IfSome, IfNone, IsTrue, OnOk, OnErr, bit_xor, filter, length, option_to_list, take, OnTrue, counts_at, debt_deadlines, earliest, is_timely, paid_by, worth_of, debt_of, Account, AreGains, IsAccount, IsExpiredTo, IsFirstPaying, IsFirstPayable, IsGainAt, IsUndropped, IsNextGain, IsPlaceOf, IsSeek, IsStruck, IsWithout, KeepsAccounts, SharesNext, account_debts, entries_of, entry_at, is_gone, is_struck, must_at, owes_at, pays_at, softened_account, sooner, strikes_of, count_under, holds};
+ghost use Rattle.sip_ledger.specs.inner.Words.{[], ℕ, Bool, true, false, Some, IfOk, IfSome, IfNone, IsTrue, OnOk, OnErr, bit_xor, filter, length, option_to_list, take, OnTrue, counts_at, debt_deadlines, earliest, is_timely, paid_by, worth_of, debt_of, Account, AreGains, IsAccount, IsAfter, IsExpiredTo, IsFirstPaying, IsFirstPayable, IsGainAt, IsUndropped, IsNextGain, IsPlaceOf, IsSeek, IsStruck, IsWithout, KeepsAccounts, SharesNext, account_debts, entries_of, entry_at, is_struck, must_at, owes_at, pays_at, softened_account, sooner, strikes_of, count_under, holds};
 
 use crate::accounts::gains::Gains;
 use crate::accounts::seek::Seek;
@@ -74,9 +74,7 @@ fn next(gains: &Gains, strikes: &[Strike], account: Account, from: usize) -> usi
     requires gained { AreGains gains.now }
     requires account { IsAccount gains.now strikes.now account }
     requires from { from ≤ account.end }
-    ensures within { (from ≤ result) × (result ≤ account.end) }
-    ensures before { (k : ℕ) → from ≤ k → k < result → owes_at gains.now strikes.now account k ≡ false }
-    ensures is { result < account.end → owes_at gains.now strikes.now account result ≡ true }
+    ensures { IsAfter gains.now strikes.now account from result }
 {
     let mut place = from;
     while place < account.end && !owes(gains, strikes, account, place) {
@@ -623,6 +621,7 @@ fn shared(
 }
 
 /// Whether two accounts owe the same.
+#[tactic(auto, using(crate::proofs::account::ToldLemmas::shared_by_places))]
 pub(crate) fn same(gains: &Gains, strikes: &[Strike], one: Account, other: Account) -> bool
     requires gained { AreGains gains.now }
     requires one { IsAccount gains.now strikes.now one }

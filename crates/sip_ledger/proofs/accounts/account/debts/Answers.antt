@@ -12,8 +12,7 @@ debt_for-requires-clause-kept c = kept-from c.loop-place.place c.requires.gained
 -- after one place more, the list has the debts of the account up to it
 pub loop-place-preserved : goal.loop-place-preserved
 loop-place-preserved c =
-    let next = c.next-place.ensures in
-    told-more c.requires.account c.loop-place.invariant c.loop-place-test.true (record { within = next.within; before = next.before; is = next.is }) c.debt_for.ensures c.in_ok-push.ensures.items
+    told-more c.requires.account c.loop-place.invariant c.loop-place-test.true c.next-place.ensures c.debt_for.ensures c.in_ok-push.ensures.items
 
 -- all debts were told
 pub returns : goal.returns

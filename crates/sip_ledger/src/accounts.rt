@@ -313,6 +313,7 @@ impl Accounts {
     }
 
     /// What the row owes first, if it owes something.
+    #[tactic(auto, using(crate::proofs::rows::SeenLemmas::first_of_rows))]
     pub fn first_debt(&self, row: usize) -> Option<Debt>
         requires { row < length self.now }
         ensures { result ≡ slice_get (owed_in self.now row) 0 }

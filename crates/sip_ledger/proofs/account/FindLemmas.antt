@@ -1,9 +1,9 @@
 -- The first debt of an account that a send at the moment t pays, of one message or of the messages that stand under a key: k and `at` are places of gains.
-use Rattle.sip_ledger.proofs.Words.{◌≡◌, ◌≢◌, ℕ, ◌<◌, ◌≤◌, ◌==◌, ◌&&◌, Bool, true, false, not, List, length, ◌+◌, refl, sym, ap, ◌∙◌, subst, arith, All, IfNone, IfSome, IsTrue, MatchOption, Option, None, Some, nat_le, cases_lt, lt-ltb, true≢false, nat_tests, Entry, Account, Gains, Strike, IsFirstPaid, PaysSome, is_payable, debts_from, AreGains, IsAccount, IsFirstPaying, IsFirstPayable, IsUndropped, IsWithout, PaysSomeAt, account_debts, entries_of, entry_at, must_at, owes_at, pays_at, sooner, IsNextUnder, holds, ap₂, and-false, and_right, cases_eq, eq-eqb, le-leb, lt-leb, ne_eqb, paid_by, is_left, is_struck, strikes_of}
+use Rattle.sip_ledger.proofs.Words.{◌≡◌, ◌≢◌, ℕ, ◌<◌, ◌≤◌, ◌==◌, ◌&&◌, Bool, true, false, not, List, length, ◌+◌, refl, sym, ap, ◌∙◌, arith, All, All-weaker, IfNone, IfSome, IsTrue, MatchOption, Option, None, Some, nat_le, cases_lt, lt-ltb, true≢false, nat_tests, Entry, Account, Gains, Strike, IsFirstPaid, PaysSome, is_payable, AreGains, IsAccount, IsFirstPaying, IsFirstPayable, IsUndropped, IsWithout, PaysSomeAt, account_debts, entries_of, entry_at, must_at, owes_at, pays_at, sooner, IsNextUnder, holds, ap₂, and-false, and_right, cases_eq, eq-eqb, le-leb, lt-leb, ne_eqb, paid_by, is_left, is_struck, strikes_of}
 use Rattle.sip_ledger.proofs.debts.ListedLemmas.{listed-each}
-use Rattle.sip_ledger.proofs.debts.OwedLemmas.{removed, paid-is}
+use Rattle.sip_ledger.proofs.debts.OwedLemmas.{removed, paid-behind, paid-is}
 use Rattle.sip_ledger.proofs.gains.LeftLemmas.{held_left, left-kept, owed-left}
-use Rattle.sip_ledger.proofs.account.AccountLemmas.{owed-within, past-end, soft-must}
+use Rattle.sip_ledger.proofs.account.AccountLemmas.{kept-start, owed-within, past-end, soft-must}
 use Rattle.sip_ledger.proofs.account.WithoutLemmas.{before-start}
 use Rattle.sip_ledger.proofs.lists.IndexLemmas.{count_all}
 
@@ -15,33 +15,37 @@ unnamed-unpaid entries message t k other = ap (λ b. b && nat_le t (entry_at ent
 pub named-pays : (entries : List Entry) (message t k : ℕ) → (entry_at entries k).message ≡ message → t ≤ (entry_at entries k).deadline → pays_at entries message t k ≡ true
 named-pays entries message t k is early = ap₂ (λ a b. a && b) (eq-eqb (entry_at entries k).message message is) (le-leb t (entry_at entries k).deadline early)
 
--- no gain before the place `to` is owed and is paid by a send of the message at t
-abbrev pub NonePays : List Entry → (ℕ → Bool) → ℕ → ℕ → ℕ → Type 0
-NonePays entries owes message t to = (k : ℕ) → k < to → owes k ≡ true → pays_at entries message t k ≡ false
+-- the search for a debt of the message has come to the place `from`: nothing that the account owes before it is paid by a send of the message at t
+pub record IsSoughtTo (gains : Gains) (strikes : List Strike) (a : Account) (message t from : ℕ) : Type 0 where
+  pub low : a.start ≤ from
+  pub before : (k : ℕ) → k < from → owes_at gains strikes a k ≡ true → pays_at (entries_of gains) message t k ≡ false
 
--- NonePays goes on from one place to another where the message is left at no place between
-pub none-pays_to : (gains : Gains) (strikes : List Strike) (a : Account) (message t from at : ℕ) → NonePays (entries_of gains) (owes_at gains strikes a) message t from →
-    ((k : ℕ) → from ≤ k → k < at → holds gains.messages message k ≡ false) → NonePays (entries_of gains) (owes_at gains strikes a) message t at
-none-pays_to gains strikes a message t from at before others k early owed =
-    grind (arith, nat_tests, cases_lt, cases_eq, true≢false, held_left gains message k, owed-left gains strikes a k owed, unnamed-unpaid, before k, others k)
+-- What follows is of a search that has come to one place, and goes on from there.
+module _ {gains : Gains} {strikes : List Strike} {a : Account} {message t from : ℕ} (was : IsSoughtTo gains strikes a message t from) where
+  -- on to the next place at which the message is left
+  pub sought-at : (at : ℕ) → from ≤ at → ((k : ℕ) → from ≤ k → k < at → holds gains.messages message k ≡ false) → IsSoughtTo gains strikes a message t at
+  sought-at at order others = record {
+    low = omega (arith, was.low, order);
+    before = λ k early owed. grind (arith, nat_tests, cases_lt, cases_eq, true≢false, held_left gains message k, owed-left gains strikes a k owed, unnamed-unpaid, was.before k, others k);
+  }
 
--- NonePays goes on over places at which the message is struck
-pub none-pays_struck : (gains : Gains) (strikes : List Strike) (a : Account) (message t at to : ℕ) → NonePays (entries_of gains) (owes_at gains strikes a) message t at →
-    ((k : ℕ) → at ≤ k → k < to → is_struck (strikes_of strikes a) message k ≡ true) → NonePays (entries_of gains) (owes_at gains strikes a) message t to
-unfolding owes_at
-none-pays_struck gains strikes a message t at to before struck k early owed = grind (arith, nat_tests, cases_lt, cases_eq, true≢false, unnamed-unpaid, and_right, and-false)
+  -- over places at which the message is struck
+  pub sought-struck : (to : ℕ) → from < to → ((k : ℕ) → from ≤ k → k < to → is_struck (strikes_of strikes a) message k ≡ true) → IsSoughtTo gains strikes a message t to
+  unfolding owes_at
+  sought-struck to order struck = record {
+    low = omega (arith, was.low, order);
+    before = λ k early owed. grind (arith, nat_tests, cases_lt, cases_eq, true≢false, unnamed-unpaid, and_right, and-false, was.before k, struck k);
+  }
 
--- NonePays goes on over a gain that is past
-pub none-pays_late : (entries : List Entry) (owes : ℕ → Bool) (message t at : ℕ) → NonePays entries owes message t at → (entry_at entries at).deadline < t →
-    NonePays entries owes message t (at + 1)
-none-pays_late entries owes message t at before late k early owed = grind (arith, nat_tests, cases_eq, lt-leb, and-false)
+  -- over a gain that is past
+  pub sought-late : (entry_at (entries_of gains) from).deadline < t → IsSoughtTo gains strikes a message t (from + 1)
+  sought-late late = record { low = omega (arith, was.low); before = λ k early owed. grind (arith, nat_tests, cases_eq, lt-leb, and-false, was.before k) }
 
--- the first gain of the message that is left, not struck and not past is the first debt that a send pays
-pub first-payable : (gains : Gains) (strikes : List Strike) (a : Account) (message t at : ℕ) → NonePays (entries_of gains) (owes_at gains strikes a) message t at → a.start ≤ at → at < a.end →
-    (entry_at (entries_of gains) at).message ≡ message → holds gains.messages message at ≡ true → is_struck (strikes_of strikes a) message at ≡ false → t ≤ (entry_at (entries_of gains) at).deadline →
-    IsFirstPayable (entries_of gains) (owes_at gains strikes a) message t at
-unfolding owes_at
-first-payable gains strikes a message t at before low high is held free early = grind (arith, nat_tests, held_left, named-pays, le-leb, lt-ltb)
+  -- the first gain of the message that is left, not struck and not past is the first debt that a send pays
+  pub first-payable : from < a.end → (entry_at (entries_of gains) from).message ≡ message → holds gains.messages message from ≡ true → is_struck (strikes_of strikes a) message from ≡ false →
+      t ≤ (entry_at (entries_of gains) from).deadline → IsFirstPayable (entries_of gains) (owes_at gains strikes a) message t from
+  unfolding owes_at
+  first-payable high is held free early = grind (arith, nat_tests, held_left, named-pays, le-leb, lt-ltb, was.low, was.before)
 
 -- where the first debt that a send pays is taken out of an account, the account owes the debts that the payment leaves
 pub paid-account : (gains : Gains) (old new : List Strike) (a b : Account) (message t place : ℕ) → IsAccount gains old a →
@@ -67,7 +71,7 @@ unfolding owes_at
 owes-inside gains strikes a k low high = grind (arith, le-leb, lt-ltb)
 
 -- lemmas for the prover under one name: whether an account owes what was gained at a place
-pub ruleset owed_at_place = (past-end, before-start, owes-inside)
+pub ruleset owed_at_place = (past-end, before-start, owes-inside, kept-start)
 
 -- a gain that a send pays is of its message, and not past
 pays-parts : (message t : ℕ) (entry : Entry) → (entry.message == message && nat_le t entry.deadline) ≡ true → (entry.message ≡ message) × (t ≤ entry.deadline)
@@ -155,24 +159,11 @@ module _ (gains : Gains) (strikes : List Strike) (a : Account) (test : ℕ → B
       let inside : place < length entries = omega (arith, owed-within gains strikes a place found.0, is.end) in
       let without : IsWithout place owed less = grind (arith, nat_tests) in
       let one = removed (PaysSome test t) entries owed must less must place inside found.0 without (λ k. refl) found.1 found.2 in
-      let only = removed (λ debt. IsTrue (is_payable message t debt)) entries owed must less must place inside found.0 without (λ k. refl)
-      (named-pays entries message t place refl found.1.1)
-      -- a send of that message pays none of the debts before it
-      (λ k early here pays.
-      let parts = pays-parts message t (entry_at entries k) pays in
-      found.2 k early here (subst (λ m. test m ≡ true) (sym parts.0) found.1.0, parts.1)) in (
-        -- the debt at the place is the first that is paid
-        record {
-          before = one.before;
-          first = one.first;
-          after = one.after;
-          whole = one.whole;
-          holds = one.holds;
-          none_before = one.none_before;
-          rest = sym (paid-is message t (debts_from owed must 0 entries) (debts_from less must 0 entries) only) ∙ one.rest;
-        },
-        refl,
-      )
+      -- a send of that message pays none of the debts before it, and the debt at the place
+      let none = All-weaker (λ debt. ¬ (PaysSome test t debt)) (λ debt. ¬ (IsTrue (is_payable message t debt)))
+      (λ debt not pays. not (grind (arith, nat_tests, found.1.0), grind (arith, nat_tests))) one.before one.none_before in
+      let rest = ap (paid_by message t) one.whole ∙ paid-behind message t one.before one.first one.after none (named-pays entries message t place refl found.1.1) in
+      (record { before = one.before; first = one.first; after = one.after; whole = one.whole; holds = one.holds; none_before = one.none_before; rest = rest }, refl)
 
   -- where no message that passes the test pays a gain that is owed, none pays a debt
   pub none-account : IsFirstPaying (entries_of gains) owed test t None → All (λ debt. ¬ (PaysSome test t debt)) (account_debts gains strikes a)

@@ -1,9 +1,9 @@
 -- What an account owes, place by place: its debts, whether another account owes the same, and the least deadline of what it must send.
-use Rattle.sip_ledger.proofs.Words.{All, All-head, All-tail, fold, IfSome, list_any, MatchOption, max, min, ◌≡◌, ◌≢◌, ℕ, ◌+◌, ◌<◌, ◌≤◌, ◌==◌, ◌&&◌, ◌||◌, Bool, true, false, List, [], ◌∷◌, ◌++◌, length, slice_get, refl, sym, ap, ◌∙◌, arith, append-nil, nat_tests, IsTrue, Option, Some, None, ◌↔◌, option_to_list, cases_eq, cases_lt, eq-eqb, eqb-true, false_from_ne_true, true≢false, append_cancel_left, length-append, length-take-le, Debt, Account, Gains, Strike, debt_deadlines, earliest, debt_of, AreGains, IsAccount, IsAfter, SharesNext, account_debts, entries_of, entry_at, is_left, is_struck, must_at, owes_at, strikes_of, holds}
+use Rattle.sip_ledger.proofs.Words.{blank, All, All-head, All-tail, fold, IfSome, list_any, MatchOption, max, min, ◌≡◌, ◌≢◌, ℕ, ◌+◌, ◌<◌, ◌≤◌, ◌==◌, ◌&&◌, ◌||◌, Bool, true, false, List, [], ◌∷◌, ◌++◌, length, slice_get, refl, sym, ap, ◌∙◌, arith, append-nil, nat_tests, IsTrue, Option, Some, None, ◌↔◌, option_to_list, cases_eq, cases_lt, eq-eqb, eqb-true, false_from_ne_true, true≢false, append_cancel_left, length-append, length-take-le, Debt, Account, Gains, Strike, debt_deadlines, earliest, debt_of, AreGains, IsAccount, IsAfter, SharesNext, account_debts, entries_of, entry_at, is_left, is_struck, must_at, owes_at, strikes_of, holds}
 use Rattle.sip_ledger.proofs.debts.OwedLemmas.{listed-any}
 use Rattle.sip_ledger.proofs.gains.LeftLemmas.{left-kept, owed-left, rising_kept}
-use Rattle.sip_ledger.proofs.debts.ListedLemmas.{back, back-none, back-set, front, front-gap, front-next, front-on, listed-each, listed-none, listed-same, no_entry, parts}
-use Rattle.sip_ledger.proofs.account.AccountLemmas.{must-alike, must-below, must-from, owed-within, past-end, soft-must}
+use Rattle.sip_ledger.proofs.debts.ListedLemmas.{back, back-none, back-set, front, front-gap, front-next, front-on, listed-each, listed-none, listed-same, parts}
+use Rattle.sip_ledger.proofs.account.AccountLemmas.{kept-start, must-alike, must-below, must-from, owed-within, past-end, soft-must}
 use Rattle.sip_ledger.proofs.account.WithoutLemmas.{before-start}
 
 -- the debts are what an account owes before a place, at which it owes something or ends
@@ -27,7 +27,7 @@ module _ {gains : Gains} {strikes : List Strike} {a : Account} where
   -- before the place after this one it owes one debt more: that of this place
   told-push : {place : ℕ} {debt : Debt} {debts : List Debt} → IsAccount gains strikes a → IsToldTo gains strikes a place debts → place < a.end →
       debt ≡ debt_of (entry_at (entries_of gains) place) (must_at gains a place) → debts ++ debt ∷ [] ≡ front (owes_at gains strikes a) (must_at gains a) (entries_of gains) (place + 1)
-  told-push {place} is was inside debt_is = grind (arith, was.told, debt_is, front-next (owes_at gains strikes a) (must_at gains a) (entries_of gains) place place no_entry)
+  told-push {place} is was inside debt_is = grind (arith, was.told, debt_is, front-next (owes_at gains strikes a) (must_at gains a) (entries_of gains) place place blank)
 
   -- what it owes is what it owes before a place and from there on
   pub told-split : {place : ℕ} {debts : List Debt} → IsAccount gains strikes a → IsToldTo gains strikes a place debts →
@@ -39,7 +39,7 @@ module _ {gains : Gains} {strikes : List Strike} {a : Account} where
   pub told-here : {place : ℕ} {debts : List Debt} → IsAccount gains strikes a → IsToldTo gains strikes a place debts → place < a.end →
       account_debts gains strikes a
       ≡ debts ++ debt_of (entry_at (entries_of gains) place) (must_at gains a place) ∷ back (owes_at gains strikes a) (must_at gains a) (entries_of gains) (place + 1)
-  told-here {place} {debts} is was inside = grind (arith, told-split is was, back-set (owes_at gains strikes a) (must_at gains a) (entries_of gains) place no_entry)
+  told-here {place} {debts} is was inside = grind (arith, told-split is was, back-set (owes_at gains strikes a) (must_at gains a) (entries_of gains) place blank)
 
   -- before its end it owes all of its debts
   pub told-all : {place : ℕ} {debts : List Debt} → IsAccount gains strikes a → IsToldTo gains strikes a place debts → a.end ≤ place → debts ≡ account_debts gains strikes a
@@ -127,7 +127,7 @@ unfolding account_debts owes_at
 alike-debts gains strikes one other start end soft own = grind (arith, nat_tests, listed-same, soft-must)
 
 -- lemmas for the prover under one name: at which places two accounts owe the same, and whether they do so at all
-pub ruleset shared_by_places = (alike-struck, must-alike, alike-debts)
+pub ruleset shared_by_places = (alike-struck, must-alike, alike-debts, kept-start)
 
 -- whether one of the debts must be sent, and until this moment
 unfoldable pub has_due : ℕ → List Debt → Bool
@@ -217,3 +217,9 @@ module _ (gains : Gains) (strikes : List Strike) (a : Account) where
       Some moment ≡ earliest ((entry_at (entries_of gains) at).deadline ∷ option_to_list least) → gains.rises ≡ true → Some moment ≡ earliest (debt_deadlines (account_debts gains strikes a))
   least-first_due from at moment least gained is was order gap held owed here rises =
       grind (arith, nat_tests, cases_lt, true≢false, must-parts, must-from, leading)
+
+-- lemmas for the prover under one name: what an account owes, from debt to debt
+pub ruleset told_by_place = (kept-start, told-none, told-all)
+
+-- lemmas for the prover under one name: the least deadline of what an account must send first
+pub ruleset led_by_start = (before-start, kept-start, leading)

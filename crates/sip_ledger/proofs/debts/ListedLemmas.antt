@@ -1,9 +1,5 @@
 -- The debts of a list of entries: `o` tells which places are owed, and `m` which of them must be sent.
-use Rattle.sip_ledger.proofs.Words.{common_steps, nat_tests, ◌≡◌, ℕ, zero, suc, ◌+◌, ◌-◌, ◌<◌, ◌≤◌, Bool, true, false, ◌&&◌, ◌||◌, cond, List, [], ◌∷◌, ◌++◌, length, take, drop, get_or, map, filter, refl, sym, ap, ◌∙◌, subst, arith, ap₂, All, nat_le, append-nil, append_cancel_right, drop_more, length-drop, length-take-le, take-append-drop, take-take, take_more, get_or_default, All-nil, All-cons, Debt, Entry, counts_at, softened_debt, debt_of, debts_from, IsGap}
-
--- what stands where there is no entry
-abbrev pub no_entry : Entry
-no_entry = record { message = 0; deadline = 0 }
+use Rattle.sip_ledger.proofs.Words.{blank, common_steps, nat_tests, ◌≡◌, ℕ, zero, suc, ◌+◌, ◌-◌, ◌<◌, ◌≤◌, Bool, true, false, ◌&&◌, ◌||◌, cond, List, [], ◌∷◌, ◌++◌, length, take, drop, get_or, map, filter, refl, sym, ap, ◌∙◌, subst, arith, ap₂, All, nat_le, append-nil, append_cancel_right, drop_more, length-drop, length-take-le, take-append-drop, take-take, take_more, get_or_default, All-nil, All-cons, Debt, Entry, counts_at, softened_debt, debt_of, debts_from, IsGap}
 
 -- where P holds of all of a list, and of a first debt if the test lets it stand, it holds of all that stands
 cond-All : (P : Debt → Type 0) (b : Bool) (d : Debt) (xs : List Debt) → (b ≡ true → P d) → All P xs → All P (cond b (d ∷ xs) xs)
@@ -37,11 +33,11 @@ listed-All P o m i (x ∷ xs) each =
     (listed-All P o m (i + 1) xs (λ j e below is. grind (arith, each (suc j) e)))
 
 -- where P holds of the debt of each place that is owed, it holds of all debts that these places have
-pub listed-each : (P : Debt → Type 0) (o m : ℕ → Bool) (entries : List Entry) → ((k : ℕ) → k < length entries → o k ≡ true → P (debt_of (get_or entries k no_entry) (m k))) →
+pub listed-each : (P : Debt → Type 0) (o m : ℕ → Bool) (entries : List Entry) → ((k : ℕ) → k < length entries → o k ≡ true → P (debt_of (get_or entries k blank) (m k))) →
     All P (debts_from o m 0 entries)
 listed-each P o m entries each = listed-All P o m 0 entries (λ j e below set.
     let here : 0 + j ≡ j = omega arith in
-    subst P (ap₂ debt_of (get_or_default entries j no_entry e below) (ap m (sym here))) (each j below (ap o (sym here) ∙ set)))
+    subst P (ap₂ debt_of (get_or_default entries j blank e below) (ap m (sym here))) (each j below (ap o (sym here) ∙ set)))
 
 -- the debts of the places before k
 abbrev pub front : (ℕ → Bool) → (ℕ → Bool) → List Entry → ℕ → List Debt
@@ -71,8 +67,8 @@ back-set o m entries k e within is = grind (arith, nat_tests, common_steps, back
 -- where k is not owed, the debts from k on are those from k + 1 on
 pub back-unset : (o m : ℕ → Bool) (entries : List Entry) (k : ℕ) → k < length entries → o k ≡ false → back o m entries k ≡ back o m entries (k + 1)
 back-unset o m entries k within is =
-    back-at o m entries k no_entry within
-    ∙ ap (λ b. cond b (debt_of (get_or entries k no_entry) (m k) ∷ back o m entries (k + 1)) (back o m entries (k + 1))) is
+    back-at o m entries k blank within
+    ∙ ap (λ b. cond b (debt_of (get_or entries k blank) (m k) ∷ back o m entries (k + 1)) (back o m entries (k + 1))) is
 
 -- where no place from k on is owed, there are no debts from k on
 pub back-none : (o m : ℕ → Bool) (entries : List Entry) (k : ℕ) → ((j : ℕ) → k ≤ j → o j ≡ false) → back o m entries k ≡ []

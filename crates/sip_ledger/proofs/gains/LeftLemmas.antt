@@ -1,6 +1,5 @@
 -- Which gains are left, whether their deadlines rise, what is known beside each by its flags, and what changes of that when gains come, are let go or are dropped.
-use Rattle.sip_ledger.proofs.Words.{nat_tests, ◌-◌, ◌<◌, ◌≤◌, List, [], ◌∷◌, ◌++◌, length, get_or, arith, cases_lt, cases_eq, get_or_append_left, get_or_push, length_push, Entry, AreRising, ◌≡◌, ℕ, Bool, ◌+◌, true, false, drop, set, ap, ◌∙◌, get_or-drop, get_or-set_other, get_or-set_same, length-append, length-drop, length-set, Debt, Gains, AreFlags, AreSameGains, IsDropped, IsGain, IsUndropped, IsLetGo, blank, entries_of, entry_at, is_left, no_flags, holds, suc, ◌^◌, ◌==◌, ◌&&◌, ◌||◌, cond, not, refl, sym, ap₂, replicate, eq-eqb, false_from_ne_true, ne_eqb, true≢false, and-false, append_assoc, get_or-append_right, get_or_default, get_or_past, length-replicate, Account, Strike, debts_from, AreGains, IsNoted, IsPlaceOf, is_struck, owes_at}
-use Rattle.sip_ledger.proofs.debts.ListedLemmas.{no_entry}
+use Rattle.sip_ledger.proofs.Words.{nat_tests, ◌-◌, ◌<◌, ◌≤◌, List, [], ◌∷◌, ◌++◌, length, get_or, arith, cases_lt, cases_eq, get_or_append_left, get_or_push, length_push, Entry, AreRising, ◌≡◌, ℕ, Bool, ◌+◌, true, false, drop, set, ap, ◌∙◌, get_or-drop, get_or-set_other, get_or-set_same, length-append, length-drop, length-set, Debt, Gains, AreFlags, AreSameGains, IsDropped, IsGain, IsUndropped, IsLetGo, blank, entries_of, entry_at, is_left, no_flags, holds, suc, ◌^◌, ◌==◌, ◌&&◌, cond, refl, sym, ap₂, replicate, eq-eqb, false_from_ne_true, ne_eqb, true≢false, and-false, append_assoc, get_or-append_right, get_or_default, get_or_past, length-replicate, Account, Strike, debts_from, AreGains, IsNoted, IsPlaceOf, owes_at}
 
 -- there are as many entries as there were gains
 pub entries_long : (gains : Gains) → length gains.entries.items ≤ gains.end → length (entries_of gains) ≡ gains.end
@@ -117,7 +116,7 @@ gains-dropped old new place count are here within entries flags end messages mus
 -- two lists of entries have the same debts where the same places are owed and have the same entries there: o and o' tell which places of each are owed,
 -- and m and m' which must be sent
 pub listed-alike : (o m o' m' : ℕ → Bool) (i : ℕ) (xs ys : List Entry) → length xs ≡ length ys → ((j : ℕ) → j < length xs → o (i + j) ≡ o' (i + j)) →
-    ((j : ℕ) → j < length xs → o (i + j) ≡ true → (get_or xs j no_entry ≡ get_or ys j no_entry) × (m (i + j) ≡ m' (i + j))) →
+    ((j : ℕ) → j < length xs → o (i + j) ≡ true → (get_or xs j blank ≡ get_or ys j blank) × (m (i + j) ≡ m' (i + j))) →
     debts_from o m i xs ≡ debts_from o' m' i ys
 listed-alike o m o' m' i [] [] long same alike = refl
 listed-alike o m o' m' i [] (y ∷ ys) long same alike = absurd (omega (arith, long))

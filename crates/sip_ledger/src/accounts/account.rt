@@ -415,6 +415,7 @@ fn takes(gains: &Gains, strikes: &[Strike], account: Account, debt: Debt, place:
 }
 
 /// The account with what was gained at the places from its end up to this one struck.
+#[tactic(auto, using(crate::proofs::account::AccountLemmas::kept_by_place))]
 fn pass_to(gains: &Gains, strikes: &mut Strikes, account: Account, place: usize) -> Made
     requires gained { AreGains gains.now }
     requires account { IsAccount gains.now strikes.old.items account }
@@ -509,6 +510,7 @@ pub(crate) fn gained_and_expired(
 }
 
 /// The least deadline of what the account must send. The first debt is looked at before the index is asked.
+#[tactic(auto, using(crate::proofs::account::ToldLemmas::led_by_start))]
 #[inline(always)]
 pub(crate) fn earliest_must(gains: &Gains, strikes: &[Strike], account: Account) -> Option<u64>
     requires gained { AreGains gains.now }
@@ -654,6 +656,7 @@ pub(crate) fn same(gains: &Gains, strikes: &[Strike], one: Account, other: Accou
 }
 
 /// What the account owes.
+#[tactic(auto, using(crate::proofs::account::ToldLemmas::told_by_place))]
 pub(crate) fn debts(
     alloc: Global,
     gains: &Gains,

@@ -1,5 +1,5 @@
 -- `c.loop-step.invariant`: .0 says that `first` is the first place that a message below `from` under the key pays, .1 that each step passed a number there.
-use Rattle.sip_ledger.proofs.Lemmas.{arith, cases_lt, count_passed, entries_of, entry_at, first-all, first-stays, left-kept, newest-first, one-found, owed-left, owed-next, sooner, true≢false, ◌+◌}
+use Rattle.sip_ledger.proofs.Lemmas.{arith, cases_lt, nat_tests, count_passed, entries_of, entry_at, first-all, first-stays, left-kept, newest-first, one-found, owed-left, owed-next, true≢false, ◌+◌}
 use Rattle.sip_ledger.proofs.accounts.account.find_under.Goals.{then-left-message+else-is_newest+else-gains-message, else-left-message}
 use Rattle.sip_ledger.proofs.accounts.account.find_under.Goals as goal
 
@@ -12,12 +12,7 @@ returns-then-is_newest-clause-first c =
 
 -- where no gain that is kept has a greater message, what was found is the first of all
 pub returns-then-gains-message-clause-first : goal.returns-then-gains-message-clause-first
-returns-then-gains-message-clause-first c =
-    -- with the place that was found for this message the first of all up to it is known
-    let more = one-found c.loop-step.first c.find-place.result c.loop-step.invariant.0 c.in-Some.ensures.found c.find-place.ensures.found c.find-place.ensures.none in
-    rw c.sooner-first.ensures (first-all (sooner c.loop-step.first c.find-place.result) more (λ k early owed under low.
-    let high = c.requires.gained.highest k (left-kept c.args.gains.now k c.requires.gained (owed-left c.args.gains.now c.args.strikes.now c.args.account k owed)) in
-    absurd (omega (arith, low, high, c.if-gains-message.true))))
+returns-then-gains-message-clause-first c = grind (arith, nat_tests, first-all, left-kept, one-found, owed-left)
 
 -- what was found so far is the first debt of the messages under the key that are below the next one
 pub loop-step-preserved : goal.loop-step-preserved

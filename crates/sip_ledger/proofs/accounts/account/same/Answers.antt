@@ -1,18 +1,10 @@
-use Rattle.sip_ledger.proofs.Lemmas.{arith, at-apart, at-more, at-start, end-other, end-same, false≢true, kept-from, rules, sym, ◌∙◌, ◌≡◌, ◌≢◌}
+use Rattle.sip_ledger.proofs.Lemmas.{arith, at-apart, at-more, at-start, end-other, end-same, false≢true, rules, sym, ◌∙◌, ◌≡◌, ◌≢◌}
 use Rattle.sip_ledger.proofs.accounts.account.same.Goals.{then-loop-at-test+else-beside-other, else-loop-at-test}
 use Rattle.sip_ledger.proofs.accounts.account.same.Goals as goal
 
 -- both owe the same before their first places
 pub loop-at-init : goal.loop-at-init
 loop-at-init c = at-start c.requires.one c.requires.other
-
--- each place of the one account is kept
-pub debt_for-requires-clause-kept : goal.debt_for-requires-clause-kept
-debt_for-requires-clause-kept c = kept-from c.loop-at.at c.requires.gained c.requires.one c.loop-at.invariant.told.low c.loop-at-test.true
-
--- each place of the other account is kept
-pub debt_for-requires-in-loop-at-clause-kept : goal.debt_for-requires-in-loop-at-clause-kept
-debt_for-requires-in-loop-at-clause-kept c = kept-from c.loop-at.beside c.requires.gained c.requires.other c.loop-at.invariant.told_beside.low c.if-beside-other.true
 
 -- both owe one debt more that is the same
 pub loop-at-preserved : goal.loop-at-preserved

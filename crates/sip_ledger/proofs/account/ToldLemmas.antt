@@ -184,39 +184,39 @@ module _ (gains : Gains) (strikes : List Strike) (a : Account) where
   pub least-first : (from : ℕ) → a.soft ≤ from → from ≤ max a.start a.soft → IsLeastTo gains strikes a from None
   least-first from soft low = grind (arith, nat_tests, cases_lt, true≢false, before-start, must-parts)
 
-  -- IsLeastTo goes on over places at which nothing has to be sent, and over one that the account does not owe
-  pub least-passed : (from at : ℕ) (least : Option ℕ) → IsLeastTo gains strikes a from least → from ≤ at → ((k : ℕ) → from ≤ k → k < at → holds gains.musts 0 k ≡ false) →
-      owes_at gains strikes a at ≡ false → IsLeastTo gains strikes a (at + 1) least
-  least-passed from at least was order gap unowed = grind (arith, nat_tests, cases_lt, cases_eq, true≢false, must-parts)
-
-  -- IsLeastTo goes on over a place that is owed and must be sent, with its deadline among the others
-  pub least-found : (from at moment : ℕ) (least : Option ℕ) → IsAccount gains strikes a → IsLeastTo gains strikes a from least → from ≤ at →
-      ((k : ℕ) → from ≤ k → k < at → holds gains.musts 0 k ≡ false) → holds gains.musts 0 at ≡ true → owes_at gains strikes a at ≡ true →
-      Some moment ≡ earliest ((entry_at (entries_of gains) at).deadline ∷ option_to_list least) → gains.rises ≡ false → IsLeastTo gains strikes a (at + 1) (Some moment)
-  least-found from at moment least account was order gap held owed is falls =
-      let there = due-there at account owed (sym (must-from gains a at (omega (arith, was.soft, order))) ∙ held) in grind (arith, nat_tests, cases_lt, cases_eq, true≢false, must-parts, there)
-
-  -- where nothing is due from a place on, the least deadline so far is that of all
-  pub least-last : (from at : ℕ) (least : Option ℕ) → IsLeastTo gains strikes a from least → ((k : ℕ) → from ≤ k → k < at → holds gains.musts 0 k ≡ false) → a.end ≤ at →
-      least ≡ earliest (debt_deadlines (account_debts gains strikes a))
-  unfolding account_debts
-  least-last from at None was gap past =
-      least-none (account_debts gains strikes a) (listed-each (λ d. d.must ≡ false) (owes_at gains strikes a) (must_at gains a) (entries_of gains) (λ k below owed.
-      false_from_ne_true (must_at gains a k) (λ must. grind (arith, nat_tests, cases_lt, true≢false, owed-within, must-parts gains a k must, was.low k))))
-  least-last from at (Some m) was gap past = least-of m was.is (λ k owed must. grind (arith, nat_tests, cases_lt, true≢false, owed-within, must-parts gains a k must, was.low k))
-
   -- where deadlines rise, and nothing before a place is owed and must be sent, what is owed there and must be sent has the least deadline
   pub leading : (at : ℕ) → AreGains gains → IsAccount gains strikes a → gains.rises ≡ true → owes_at gains strikes a at ≡ true → must_at gains a at ≡ true →
       ((k : ℕ) → k < at → owes_at gains strikes a k ≡ true → ¬ (must_at gains a k ≡ true)) → Some (entry_at (entries_of gains) at).deadline ≡ earliest (debt_deadlines (account_debts gains strikes a))
   leading at are is rises owed must none =
       least-of (entry_at (entries_of gains) at).deadline (due-there at is owed must) (λ k owed_k must_k. grind (arith, nat_tests, cases_lt, left-kept, owed-left, none k, rising_kept gains at k are rises))
 
+  -- where nothing that must be sent was gained from `from` up to the account's end, the least deadline so far is that of all
+  pub least-last : {from : ℕ} (at : ℕ) (least : Option ℕ) → IsLeastTo gains strikes a from least → ((k : ℕ) → from ≤ k → k < at → holds gains.musts 0 k ≡ false) → a.end ≤ at →
+      least ≡ earliest (debt_deadlines (account_debts gains strikes a))
+  unfolding account_debts
+  least-last at None was gap past =
+      least-none (account_debts gains strikes a) (listed-each (λ d. d.must ≡ false) (owes_at gains strikes a) (must_at gains a) (entries_of gains) (λ k below owed.
+      false_from_ne_true (must_at gains a k) (λ must. grind (arith, nat_tests, cases_lt, true≢false, owed-within, must-parts gains a k must, was.low k))))
+  least-last at (Some m) was gap past = least-of m was.is (λ k owed must. grind (arith, nat_tests, cases_lt, true≢false, owed-within, must-parts gains a k must, was.low k))
+
+-- What follows is of an account of which the least deadline is known before the place `from`, and from there up to `at` nothing was gained that must be sent.
+module _ {gains : Gains} {strikes : List Strike} {a : Account} {from at : ℕ} {least : Option ℕ} (was : IsLeastTo gains strikes a from least) (order : from ≤ at)
+    (gap : (k : ℕ) → from ≤ k → k < at → holds gains.musts 0 k ≡ false) where
+  -- IsLeastTo goes on over a place that the account does not owe
+  pub least-passed : owes_at gains strikes a at ≡ false → IsLeastTo gains strikes a (at + 1) least
+  least-passed unowed = grind (arith, nat_tests, cases_lt, cases_eq, true≢false, must-parts, was, gap)
+
+  -- IsLeastTo goes on over a place that is owed and must be sent, with its deadline among the others
+  pub least-found : {moment : ℕ} → IsAccount gains strikes a → holds gains.musts 0 at ≡ true → owes_at gains strikes a at ≡ true →
+      Some moment ≡ earliest ((entry_at (entries_of gains) at).deadline ∷ option_to_list least) → gains.rises ≡ false → IsLeastTo gains strikes a (at + 1) (Some moment)
+  least-found account held owed is falls =
+      let there = due-there gains strikes a at account owed (sym (must-from gains a at (omega (arith, was.soft, order))) ∙ held) in
+      grind (arith, nat_tests, cases_lt, cases_eq, true≢false, must-parts, there, was, gap)
+
   -- where deadlines rise, the first one that is found is the least of all
-  pub least-first_due : (from at moment : ℕ) (least : Option ℕ) → AreGains gains → IsAccount gains strikes a → IsLeastTo gains strikes a from least → from ≤ at →
-      ((k : ℕ) → from ≤ k → k < at → holds gains.musts 0 k ≡ false) → holds gains.musts 0 at ≡ true → owes_at gains strikes a at ≡ true →
+  pub least-first_due : {moment : ℕ} → AreGains gains → IsAccount gains strikes a → holds gains.musts 0 at ≡ true → owes_at gains strikes a at ≡ true →
       Some moment ≡ earliest ((entry_at (entries_of gains) at).deadline ∷ option_to_list least) → gains.rises ≡ true → Some moment ≡ earliest (debt_deadlines (account_debts gains strikes a))
-  least-first_due from at moment least gained is was order gap held owed here rises =
-      grind (arith, nat_tests, cases_lt, true≢false, must-parts, must-from, leading)
+  least-first_due gained is held owed here rises = grind (arith, nat_tests, cases_lt, true≢false, must-parts, must-from, leading, was, gap)
 
 -- lemmas for the prover under one name: what an account owes, from debt to debt
 pub ruleset told_by_place = (kept-start, told-none, told-all)

@@ -108,11 +108,10 @@ listed-counting t o m o' i (x ∷ xs) each =
     let rest : debts_from o' m (i + 1) xs ≡ filter (counts_at t) (debts_from o m (i + 1) xs) = listed-counting t o m o' (i + 1) xs (λ j e below. grind (arith, each (suc j) e)) in
     grind (arith, nat_tests, here, rest)
 
--- where no place must be sent any more, the debts are the softened ones
-pub listed-softened : (o m m' : ℕ → Bool) (i : ℕ) (xs : List Entry) → ((k : ℕ) → m' k ≡ false) →
-    debts_from o m' i xs ≡ map softened_debt (debts_from o m i xs)
+-- where nothing that is owed must be sent any more, the debts are the softened ones
+pub listed-softened : (o m m' : ℕ → Bool) (i : ℕ) (xs : List Entry) → ((k : ℕ) → o k ≡ true → m' k ≡ false) → debts_from o m' i xs ≡ map softened_debt (debts_from o m i xs)
 listed-softened o m m' i [] none = refl
-listed-softened o m m' i (x ∷ xs) none = grind (arith, nat_tests, listed-softened o m m' (i + 1) xs none)
+listed-softened o m m' i (x ∷ xs) none = grind (arith, nat_tests, none i, listed-softened o m m' (i + 1) xs none)
 
 -- where no place from `from` up to `at` is owed, the debts before `at` are those before `from`
 pub front-gap : (o m : ℕ → Bool) (entries : List Entry) (from at : ℕ) → from ≤ at → at ≤ length entries → IsGap o from at →

@@ -1,5 +1,6 @@
 -- Which gains are left, whether their deadlines rise, what is known beside each by its flags, and what changes of that when gains come, are let go or are dropped.
-use Rattle.sip_ledger.proofs.Words.{nat_tests, ◌-◌, ◌<◌, ◌≤◌, List, [], ◌∷◌, ◌++◌, length, get_or, arith, cases_lt, cases_eq, get_or_append_left, get_or_push, length_push, Entry, AreRising, ◌≡◌, ℕ, Bool, ◌+◌, true, false, drop, set, ap, ◌∙◌, get_or-drop, get_or-set_other, get_or-set_same, length-append, length-drop, length-set, Debt, Gains, AreFlags, AreSameGains, IsDropped, IsGain, IsUndropped, IsLetGo, blank, entries_of, entry_at, is_left, no_flags, holds, suc, ◌^◌, ◌==◌, ◌&&◌, cond, refl, sym, ap₂, replicate, eq-eqb, false_from_ne_true, ne_eqb, true≢false, and-false, append_assoc, get_or-append_right, get_or_default, get_or_past, length-replicate, Account, Strike, debts_from, AreGains, IsNoted, IsPlaceOf, owes_at}
+use Rattle.sip_ledger.proofs.Words.{nat_tests, ◌-◌, ◌<◌, ◌≤◌, List, [], ◌∷◌, ◌++◌, length, get_or, arith, cases_lt, cases_eq, get_or_append_left, get_or_push, length_push, Entry, AreRising, ◌≡◌, ℕ, Bool, ◌+◌, true, false, drop, set, ap, ◌∙◌, get_or-drop, get_or-set_other, get_or-set_same, length-append, length-drop, length-set, Debt, Gains, AreFlags, AreSameGains, IsDropped, IsGain, IsUndropped, IsLetGo, blank, entries_of, entry_at, is_left, no_flags, holds, suc, ◌^◌, ◌==◌, ◌&&◌, cond, sym, ap₂, replicate, eq-eqb, false_from_ne_true, ne_eqb, true≢false, and-false, append_assoc, get_or-append_right, get_or_default, get_or_past, length-replicate, Account, Strike, debts_from, AreGains, IsNoted, IsPlaceOf, owes_at}
+use Rattle.sip_ledger.proofs.debts.ListedLemmas.{listed-none}
 
 -- there are as many entries as there were gains
 pub entries_long : (gains : Gains) → length gains.entries.items ≤ gains.end → length (entries_of gains) ≡ gains.end
@@ -113,16 +114,15 @@ gains-dropped old new place count are here within entries flags end messages mus
     let right : AreFlags new = grind (arith, nat_tests, length-drop, get_or-drop, left-as, dropped) in
     (grind (arith, nat_tests, length-drop, cases_lt, entry-kept, get_or-drop, entries_long, true≢false, get_or_past, right), dropped)
 
--- two lists of entries have the same debts where the same places are owed and have the same entries there: o and o' tell which places of each are owed,
--- and m and m' which must be sent
-pub listed-alike : (o m o' m' : ℕ → Bool) (i : ℕ) (xs ys : List Entry) → length xs ≡ length ys → ((j : ℕ) → j < length xs → o (i + j) ≡ o' (i + j)) →
-    ((j : ℕ) → j < length xs → o (i + j) ≡ true → (get_or xs j blank ≡ get_or ys j blank) × (m (i + j) ≡ m' (i + j))) →
-    debts_from o m i xs ≡ debts_from o' m' i ys
-listed-alike o m o' m' i [] [] long same alike = refl
-listed-alike o m o' m' i [] (y ∷ ys) long same alike = absurd (omega (arith, long))
-listed-alike o m o' m' i (x ∷ xs) [] long same alike = absurd (omega (arith, long))
-listed-alike o m o' m' i (x ∷ xs) (y ∷ ys) long same alike =
-    let rest : debts_from o m (i + 1) xs ≡ debts_from o' m' (i + 1) ys = listed-alike o m o' m' (i + 1) xs ys (omega (arith, long)) (λ j below. grind (arith, same (suc j))) (λ j below is. grind (arith, alike (suc j))) in
+-- two lists of entries, of which the first may be longer, have the same debts where the same places are owed and have the same entries there: o and o' tell
+-- which places of each are owed, and m and m' which must be sent
+pub listed-alike : (o m o' m' : ℕ → Bool) (i : ℕ) (xs ys : List Entry) → length ys ≤ length xs → ((j : ℕ) → length ys ≤ j → o (i + j) ≡ false) → ((j : ℕ) → j < length ys → o (i + j) ≡ o' (i + j)) →
+    ((j : ℕ) → j < length ys → o (i + j) ≡ true → (get_or xs j blank ≡ get_or ys j blank) × (m (i + j) ≡ m' (i + j))) → debts_from o m i xs ≡ debts_from o' m' i ys
+listed-alike o m o' m' i xs [] long none same alike = listed-none o m i xs (λ k low high. let here : i + (k - i) ≡ k = omega (arith, low) in grind (arith, here, none (k - i)))
+listed-alike o m o' m' i [] (y ∷ ys) long none same alike = absurd (omega (arith, long))
+listed-alike o m o' m' i (x ∷ xs) (y ∷ ys) long none same alike =
+    let rest : debts_from o m (i + 1) xs ≡ debts_from o' m' (i + 1) ys =
+    listed-alike o m o' m' (i + 1) xs ys (omega (arith, long)) (λ j past. grind (arith, none (suc j))) (λ j below. grind (arith, same (suc j))) (λ j below is. grind (arith, alike (suc j))) in
     grind (arith, same 0, alike 0)
 
 -- where deadlines never fall, and that of a further entry is not before the last, those with it never fall

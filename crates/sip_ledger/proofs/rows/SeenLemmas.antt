@@ -1,7 +1,7 @@
 -- Accounts as contracts see them: a list of what each row owes, and the messages that rows owe.
 use Rattle.sip_ledger.proofs.Words.{◌≡◌, ℕ, ◌+◌, ◌<◌, ◌≤◌, ◌==◌, true, false, List, [], ◌∷◌, ◌++◌, length, get_or, map, refl, sym, ap, ◌∙◌, arith, nat_tests, All, Contains, list_any, and-true, cases_eq, cases_lt, eqb-true, false_from_ne_true, le-leb, true≢false, append_assoc, get_or_append_left, get_or_default, get_or_push, length_push, All-get_or, All-map, Contains-append_left, Contains-push, Contains-push_cases, list_any_at, list_any_none, All-cons, All-nil, Debt, Account, Gains, Strike, AppendsOwed, owes_message, some_owes, is_payable, Rise, account_debts, accounts_debts, entries_of, entry_at, must_at, owes_at, holds, common_steps, ◌≢◌, take, set, IsTrue, Option, Some, None, IfSome, IfNone, Result, Ok, Err, IsErr, OnErr, ◌↔◌, is_err, is_some, eq-eqb, drop_min, All-weaker, sum_by-cons, debts_print, owed_in, softened_account, softened_debt, debt_deadlines, earliest, IsNextGain, AreAccounts, AreGains, IsAccount, IsFirstPayable, KeepsAccounts, pays_at, map-append, map-set, All-push, All-set}
-use Rattle.sip_ledger.proofs.debts.ListedLemmas.{front-same, listed-each, listed-front, listed-softened}
-use Rattle.sip_ledger.proofs.account.AccountLemmas.{kept-start, debts_length, row-debts, empty-debts, kept-all, must-below, owed-within, past-end, row-account, truncated, without-first_rows}
+use Rattle.sip_ledger.proofs.debts.ListedLemmas.{listed-each, listed-softened}
+use Rattle.sip_ledger.proofs.account.AccountLemmas.{kept-start, debts_length, row-debts, empty-debts, kept-all, must-below, owed-within, row-account, truncated, without-first_rows}
 use Rattle.sip_ledger.proofs.gains.LeftLemmas.{entries_long, held_left, owed-left}
 use Rattle.sip_ledger.proofs.debts.OwedLemmas.{listed-any, some-debt}
 use Rattle.sip_ledger.proofs.account.FindLemmas.{unpaid-account}
@@ -72,19 +72,12 @@ module _ {gains : Gains} {strikes : List Strike} {rows : List Account} {seen : L
   pushed-to a debts are view is owes = grind (arith, nat_tests, common_steps, All-push, map-append)
 
 -- the debts of a softened account are the softened ones
-soft-debts : (gains : Gains) (strikes : List Strike) (a : Account) (place : ℕ) → place ≤ length (entries_of gains) → a.end ≤ place →
+soft-debts : (gains : Gains) (strikes : List Strike) (a : Account) (place : ℕ) → a.end ≤ place →
     account_debts gains strikes (softened_account place a) ≡ map softened_debt (account_debts gains strikes a)
 unfolding account_debts owes_at
-soft-debts gains strikes a place within end =
-    let b = softened_account place a in
-    let e = entries_of gains in
-    let o = owes_at gains strikes a in
-    -- nothing is owed from the place on
-    let last : (k : ℕ) → place ≤ k → o k ≡ false = λ k past. past-end gains strikes a k (omega (arith, end, past)) in
-    listed-front (owes_at gains strikes b) (must_at gains b) e place within last
-    ∙ front-same (owes_at gains strikes b) (must_at gains b) o (λ _. false) e place within (λ k below. (refl, sym (must-below gains b k below)))
-    ∙ sym (listed-front o (λ _. false) e place within last)
-    ∙ listed-softened o (must_at gains a) (λ _. false) 0 e (λ _. refl)
+soft-debts gains strikes a place end =
+    listed-softened (owes_at gains strikes a) (must_at gains a) (must_at gains (softened_account place a)) 0 (entries_of gains)
+    (λ k owed. sym (must-below gains (softened_account place a) k (omega (arith, owed-within gains strikes a k owed, end))))
 
 -- a softened account is an account, and has the softened debts
 pub softened-account : (gains : Gains) (strikes : List Strike) (a : Account) (place : ℕ) → place ≤ length (entries_of gains) → a.end ≤ place → IsAccount gains strikes a →

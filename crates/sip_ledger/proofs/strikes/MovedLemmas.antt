@@ -27,42 +27,26 @@ any-set p q [] at s within same = grind arith
 any-set p q (x ∷ xs) zero s within same = grind arith
 any-set p q (x ∷ xs) (suc at) s within same = grind (arith, any-set p q xs at s)
 
--- where no strike passes, none passes after one that does not pass took the place of another
-none-set : (p : Strike → Bool) (xs : List Strike) (at : ℕ) (s : Strike) → p s ≡ false → list_any p xs ≡ false → list_any p (set xs at s) ≡ false
-none-set p [] at s not none = refl
-none-set p (x ∷ xs) zero s not none = grind arith
-none-set p (x ∷ xs) (suc at) s not none = grind (arith, none-set p xs at s)
-
--- a strike that is made longer up to a place strikes the gain there too, and nothing else that is left
-longer-out : (m mp sm from to place k : ℕ) → sm ≡ mp → from ≤ place → to ≤ place → (to ≤ k → k < place → m ≢ mp) → (k ≡ place → m ≡ mp) →
-    (sm == m && (nat_le from k && nat_lt k (place + 1))) ≡ ((sm == m && (nat_le from k && nat_lt k to)) || k == place)
-longer-out m mp sm from to place k is low high between here = grind (arith, nat_tests)
-
 -- a strike strikes nothing at its end or after it
 pub struck-by_end : (m k sm from to : ℕ) → to ≤ k → (sm == m && (nat_le from k && nat_lt k to)) ≡ false
 struck-by_end m k sm from to past = grind (arith, nat_tests)
 
--- where a strike is made longer by the place that it reaches, it strikes the gain there too, and no other that is left
-pub lengthened : (gains : Gains) (place k : ℕ) (old : List Strike) (at : ℕ) (s : Strike) → at < length old → Reaches gains place (get_or old at s) → is_left gains k ≡ true →
-    is_struck (set old at (record { message = (get_or old at s).message; from = (get_or old at s).from; to = place + 1 })) (entry_at (entries_of gains) k).message k
-    ≡ (is_struck old (entry_at (entries_of gains) k).message k || k == place)
+-- where a strike is made longer up to a place, its message is struck from its old end up to there too
+lengthened : (place m k : ℕ) (old : List Strike) (at : ℕ) (s : Strike) → at < length old → (get_or old at s).to ≤ place →
+    is_struck (set old at (record { message = (get_or old at s).message; from = (get_or old at s).from; to = place + 1 })) m k
+    ≡ (is_struck old m k || is_out m k (record { message = (get_or old at s).message; from = max (get_or old at s).from (get_or old at s).to; to = place + 1 }))
 unfolding is_struck
-lengthened gains place k old at s within reaches left =
-    let m = (entry_at (entries_of gains) k).message in
-    let mp = (entry_at (entries_of gains) place).message in
+lengthened place m k old at s within low =
     let was = get_or old at s in
-    -- the strike that is one longer covers what it did, and the place that it reached
     let longer : Strike = record { message = was.message; from = was.from; to = place + 1 } in
-    any-set (is_out m k) (k == place) old at longer within
-    (longer-out m mp was.message was.from was.to place k reaches.message reaches.from reaches.to (λ above below same. true≢false (sym (held_left gains mp k same ∙ left) ∙ reaches.between k above below))
-    (λ is. ap (λ n. (entry_at (entries_of gains) n).message) is)
-    ∙ ap (λ w. is_out m k w || k == place) (get_or_default old at s longer within))
+    any-set (is_out m k) (is_out m k (record { message = was.message; from = max was.from was.to; to = place + 1 })) old at longer within
+    (grind (arith, nat_tests, get_or_default old at s longer within))
 
--- where a strike is made longer up to a place, nothing more is struck after the place
-pub lengthened-bound : (gains : Gains) (place m k : ℕ) (old : List Strike) (at : ℕ) (s : Strike) → place < k → is_struck old m k ≡ false →
-    is_struck (set old at (record { message = (get_or old at s).message; from = (get_or old at s).from; to = place + 1 })) m k ≡ false
-unfolding is_struck
-lengthened-bound gains place m k old at s past none = grind (arith, none-set, struck-by_end)
+-- from the end of a strike up to the place that it reaches, only the gain at that place is left of its message
+longer-there : (gains : Gains) (place k : ℕ) (s : Strike) → Reaches gains place s → is_left gains k ≡ true →
+    is_out (entry_at (entries_of gains) k).message k (record { message = s.message; from = max s.from s.to; to = place + 1 }) ≡ (k == place)
+longer-there gains place k s reaches left =
+    let mp = (entry_at (entries_of gains) place).message in grind (arith, nat_tests, true≢false, held_left gains mp k, reaches.between k, cases_eq)
 
 -- strikes with one more strike what they struck and what the new one strikes
 pub struck-push : (xs : List Strike) (s : Strike) (m k : ℕ) → is_struck (xs ++ s ∷ []) m k ≡ (is_struck xs m k || is_out m k s)
@@ -99,11 +83,12 @@ longer-too gains place first old new l =
     let low : i < length own = omega (arith, length-drop first old) in
     let whole : new ≡ set old (first + i) longer = grind (arith, l.longer s) in
     let rest : drop first new ≡ set own i longer = ap (drop first) whole ∙ drop-set-add first old i longer in
+    let reaches = subst (Reaches gains place) same (l.reaches s) in
     -- the strikes before `first` are as they were
     record {
       before = ap (take first) whole ∙ take-set-le first old (first + i) longer (omega arith);
-      struck = λ k left. ap (λ x. is_struck x (entry_at (entries_of gains) k).message k) rest ∙ lengthened gains place k own i s low (subst (Reaches gains place) same (l.reaches s)) left;
-      bound = λ m k past none. ap (λ x. is_struck x m k) rest ∙ lengthened-bound gains place m k own i s past none;
+      struck = λ k left. rw rest (lengthened place (entry_at (entries_of gains) k).message k own i s low reaches.to ∙ ap (λ b. is_struck own (entry_at (entries_of gains) k).message k || b) (longer-there gains place k was reaches left));
+      bound = λ m k past none. rw rest (lengthened place m k own i s low reaches.to ∙ grind (arith, nat_tests, none, struck-by_end m k was.message (max was.from was.to) (place + 1)));
     }
 
 -- where a new strike of the place is put after the others, the strikes strike the gain at the place too

@@ -9,13 +9,13 @@ loop-place-init c = least-first c.args.gains.now c.args.strikes.now c.args.accou
 -- where the place is past the account's end, the least so far is the least of all
 pub returns-then-account-place : goal.returns-then-account-place
 returns-then-account-place c =
-    least-last c.args.gains.now c.args.strikes.now c.args.account c.loop-place.from c.in-Some.place c.loop-place.least c.loop-place.invariant c.in-Some.ensures.before c.if-account-place.true
+    least-last c.args.gains.now c.args.strikes.now c.args.account c.in-Some.place c.loop-place.least c.loop-place.invariant c.in-Some.ensures.before c.if-account-place.true
 
 -- the first gain that must be sent has the least deadline, where deadlines rise
 pub returns-then-gains : goal.returns-then-gains
 returns-then-gains c =
-    least-first_due c.args.gains.now c.args.strikes.now c.args.account c.loop-place.from c.in-Some.place c.earlier.result c.loop-place.least c.requires.gained c.requires.account c.loop-place.invariant c.in-Some.ensures.within.0
-    c.in-Some.ensures.before c.in-Some.ensures.is (sym c.owes.ensures ∙ c.if-owes.true) (rw c.entry.ensures at c.earlier.ensures) c.if-gains.true
+    let found = c.in-Some.ensures in
+    least-first_due c.loop-place.invariant found.within.0 found.before c.requires.gained c.requires.account found.is (sym c.owes.ensures ∙ c.if-owes.true) (rw c.entry.ensures at c.earlier.ensures) c.if-gains.true
 
 -- what the account owes is kept
 pub entry-requires-clause-kept : goal.entry-requires-clause-kept
@@ -27,15 +27,10 @@ loop-place-preserved c =
     let found = c.in-Some.ensures in
     elim c.if-owes.branch [
       -- a place that is owed and must be sent is counted in, and any other place is passed over
-      | then-owes+else-gains w ↦
-          rw w.least-is (least-found c.args.gains.now c.args.strikes.now c.args.account c.loop-place.from c.in-Some.place w.earlier.result c.loop-place.least c.requires.account c.loop-place.invariant found.within.0
-          found.before found.is (sym c.owes.ensures ∙ w.if-owes.true) (rw w.entry.ensures at w.earlier.ensures) w.if-gains.false)
-      | else-owes w ↦
-          rw w.least-is (least-passed c.args.gains.now c.args.strikes.now c.args.account c.loop-place.from c.in-Some.place c.loop-place.least c.loop-place.invariant found.within.0 found.before
-          (sym c.owes.ensures ∙ w.if-owes.false))
+      | then-owes+else-gains w ↦ rw w.least-is (least-found c.loop-place.invariant found.within.0 found.before c.requires.account found.is (sym c.owes.ensures ∙ w.if-owes.true) (rw w.entry.ensures at w.earlier.ensures) w.if-gains.false)
+      | else-owes w ↦ rw w.least-is (least-passed c.loop-place.invariant found.within.0 found.before (sym c.owes.ensures ∙ w.if-owes.false))
     ]
 
 -- from the place on no gain must be sent, so the least so far is the least of all
 pub returns : goal.returns
-returns c =
-    least-last c.args.gains.now c.args.strikes.now c.args.account c.loop-place.from c.args.account.end c.loop-place.least c.loop-place.invariant (λ k low high. c.in_default.ensures.none k low) (omega arith)
+returns c = least-last c.args.gains.now c.args.strikes.now c.args.account c.args.account.end c.loop-place.least c.loop-place.invariant (λ k low high. c.in_default.ensures.none k low) (omega arith)

@@ -6,7 +6,7 @@ pub use Rattle.sip_ledger.proofs.account.FindLemmas.{first-account, first-all, f
 pub use Rattle.sip_ledger.proofs.account.ToldLemmas.{AreAt, at-apart, at-more, at-start, end-other, end-same, IsLeastTo, IsToldTo, least-first, least-first_due, least-found, least-last, least-passed, told-more}
 pub use Rattle.sip_ledger.proofs.account.WithoutLemmas.{before-start, first-gain, more-gain, new-gain, without-first, without-last, without-middle}
 pub use Rattle.sip_ledger.proofs.debts.OwedLemmas.{widened-run}
-pub use Rattle.sip_ledger.proofs.gains.LeftLemmas.{entries_long, gains-dropped, gains-let_go, gains-more, gains-same, left-kept, none-entries, none-gained, owed-left, rising-push}
+pub use Rattle.sip_ledger.proofs.gains.LeftLemmas.{entries_long, gains-dropped, gains-let_go, gains-more, gains-same, left-kept, none-gained, owed-left, rising-push}
 pub use Rattle.sip_ledger.proofs.lists.EachLemmas.{changing, changing-more, on_ok}
 pub use Rattle.sip_ledger.proofs.lists.FrontLemmas.{IsKeptTo, kept-all, kept-more, rise-above, rise-few}
 pub use Rattle.sip_ledger.proofs.lists.IndexLemmas.{at-pair, count_passed, none-held, range-first, range-none, span-held}

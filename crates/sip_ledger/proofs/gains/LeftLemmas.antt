@@ -42,9 +42,9 @@ unfolding holds
 none-gained gains entries flags end messages musts = grind (arith, nat_tests, true≢false)
 
 -- where nothing was gained there are no entries
-pub none-entries : (gains : Gains) → gains.entries.items ≡ [] → gains.end ≡ 0 → entries_of gains ≡ []
+pub none_entries : (gains : Gains) → gains.entries.items ≡ [] → gains.end ≡ 0 → entries_of gains ≡ []
 unfolding entries_of
-none-entries gains entries end = ap₂ (λ (n : ℕ) (l : List Entry). replicate (n - length l) blank ++ l) end entries
+none_entries gains entries end = ap₂ (λ (n : ℕ) (l : List Entry). replicate (n - length l) blank ++ l) end entries
 
 -- deadlines rise over what is kept
 pub rising_kept : (gains : Gains) (i k : ℕ) → AreGains gains → gains.rises ≡ true → IsUndropped gains i → i ≤ k → k < gains.end →

@@ -141,20 +141,15 @@ unfolding accounts_debts
 named-nowhere gains strikes rows message none =
     list_any_none (owes_message message) (map (account_debts gains strikes) rows) (All-map (λ owes. owes_message message owes ≡ false) (account_debts gains strikes) rows none)
 
--- an account owes nothing of a message of which nothing is left
-unleft-account : (gains : Gains) (strikes : List Strike) (a : Account) (message : ℕ) → ((k : ℕ) → holds gains.messages message k ≡ false) →
-    owes_message message (account_debts gains strikes a) ≡ false
-unfolding account_debts
-unleft-account gains strikes a message none =
-    list_any_none (λ (d : Debt). d.message == message) (account_debts gains strikes a)
-    (listed-each (λ (debt : Debt). (debt.message == message) ≡ false) (owes_at gains strikes a) (must_at gains a) (entries_of gains) (λ k below owed.
-    false_from_ne_true ((entry_at (entries_of gains) k).message == message) (λ is.
-    true≢false (sym (held_left gains message k (eqb-true (entry_at (entries_of gains) k).message message is) ∙ owed-left gains strikes a k owed) ∙ none k))))
-
 -- a message of which nothing is left is owed by none of the accounts
 pub unleft-unnamed : (gains : Gains) (strikes : List Strike) (rows : List Account) (message : ℕ) → ((k : ℕ) → holds gains.messages message k ≡ false) →
     some_owes message (accounts_debts gains strikes rows) ≡ false
-unleft-unnamed gains strikes rows message none = named-nowhere gains strikes rows message (λ k d below. unleft-account gains strikes (get_or rows k d) message none)
+unfolding account_debts
+unleft-unnamed gains strikes rows message none = named-nowhere gains strikes rows message (λ k d below.
+    let a = get_or rows k d in
+    list_any_none (λ (debt : Debt). debt.message == message) (account_debts gains strikes a)
+    (listed-each (λ (debt : Debt). (debt.message == message) ≡ false) (owes_at gains strikes a) (must_at gains a) (entries_of gains)
+    (λ j inside owed. grind (arith, nat_tests, true≢false, held_left gains message j, owed-left gains strikes a j owed, none j))))
 
 -- the messages below one that rows owe are told
 pub record AreNamedTo (rows : List (List Debt)) (low : ℕ) (old new : List ℕ) : Type 0 where

@@ -41,6 +41,7 @@ pub(crate) struct Gains {
 
 impl Gains {
     /// Nothing was gained.
+    #[tactic(auto, using(crate::proofs::gains::LeftLemmas::none_entries))]
     pub(crate) fn new(alloc: Global) -> Self
         ensures gained { AreGains result }
         ensures none { entries_of result ≡ [] }

@@ -131,16 +131,9 @@ unfolding owes_at is_struck
 first-gain gains old new a b debt place is next none same print =
     -- the new account has no strikes and owes this place alone, and the old one owed nothing
     let own : strikes_of new b ≡ [] = grind arith in
-    let left : is_left gains place ≡ true = sym (held_left gains debt.message place next.gain.message) ∙ next.gain.left in
-    let here : owes_at gains new b place ≡ true = grind (arith, nat_tests) in
+    let here : owes_at gains new b place ≡ true = grind (arith, nat_tests, held_left) in
     let others : (k : ℕ) → k ≢ place → owes_at gains new b k ≡ owes_at gains old a k = grind (arith, before-start, past-end) in
     gained-account gains old new a b debt place is next here others (grind arith) (grind arith) (grind arith) (grind arith) (grind arith) (grind arith) (grind arith) print
-
--- at other places an account that gains at a place owes what it owed, where the gains between its end and the place are struck
-passed-others : (gains : Gains) (old new : List Strike) (a p b : Account) (place k : ℕ) → IsStruck gains a.end place old new a p → a.end ≤ length (entries_of gains) → a.end ≤ place →
-    place < length (entries_of gains) → b.start ≡ a.start → b.end ≡ place + 1 → strikes_of new b ≡ strikes_of new p → k ≢ place → owes_at gains new b k ≡ owes_at gains old a k
-unfolding owes_at
-passed-others gains old new a p b place k passed within low inside start end own other = grind (arith, nat_tests, cases_lt, before-start, lt-leb, or-false, le-leb, lt-ltb, or-true, and_right, and-false, past-end)
 
 -- an account that owes something gains at a place, where the gains between its end and the place are struck
 pub more-gain : (gains : Gains) (old new : List Strike) (a p b : Account) (debt : Debt) (place : ℕ) → IsAccount gains old a → IsNextGain gains old a debt place → a.start ≢ a.end →
@@ -157,7 +150,8 @@ more-gain gains old new a p b debt place is next some passed same print =
     let left : is_left gains place ≡ true = sym (held_left gains debt.message place next.gain.message) ∙ next.gain.left in
     let free : is_struck (strikes_of new b) (entry_at (entries_of gains) place).message place ≡ false = grind (arith, nat_tests) in
     let here : owes_at gains new b place ≡ true = grind (arith, nat_tests) in
-    let others = λ (k : ℕ) (other : k ≢ place). passed-others gains old new a p b place k passed is.end next.end next.gain.within start end own other in
+    let others : (k : ℕ) → k ≢ place → owes_at gains new b k ≡ owes_at gains old a k =
+    λ k other. grind (arith, nat_tests, cases_lt, before-start, lt-leb, or-false, le-leb, lt-ltb, or-true, and_right, and-false, past-end) in
     gained-account gains old new a b debt place is next here others (grind arith) (grind arith) end (grind arith) (grind arith) (grind arith)
     (λ _. let other : a.start ≢ place = omega (arith, order, next.end, some) in
     ap (owes_at gains new b) start ∙ others a.start other ∙ is.begins (omega (arith, order, some)))

@@ -25,24 +25,6 @@ pub before-start : (gains : Gains) (strikes : List Strike) (a : Account) (k : �
 unfolding owes_at
 before-start gains strikes a k early = grind (arith, lt-leb)
 
--- where the account begins later, and owed nothing between, it is without its first gain
-pub later-start : (gains : Gains) (strikes : List Strike) (a b : Account) (place : ℕ) → a.start ≡ place → place < b.start → b.end ≡ a.end → b.first ≡ a.first → b.last ≡ a.last →
-    ((k : ℕ) → place < k → k < b.start → owes_at gains strikes a k ≡ false) → IsWithout place (owes_at gains strikes a) (owes_at gains strikes b)
-unfolding owes_at
-later-start gains strikes a b place start later end first last none = grind (arith, nat_tests, before-start, cases_lt, le-leb)
-
--- where the account ends one place earlier, it is without its last gain
-pub earlier-end : (gains : Gains) (strikes : List Strike) (a b : Account) (place : ℕ) → place + 1 ≡ a.end → b.end ≡ place → b.start ≡ a.start → b.first ≡ a.first → b.last ≡ a.last →
-    IsWithout place (owes_at gains strikes a) (owes_at gains strikes b)
-unfolding owes_at
-earlier-end gains strikes a b place end now start first last = grind (arith, nat_tests, past-end, cases_lt, lt-ltb)
-
--- where the gain at the place is struck, the account is without it
-pub struck-without : (gains : Gains) (old new : List Strike) (a b c : Account) (place : ℕ) → IsStruck gains place (place + 1) old new a b →
-    a.start ≤ place → c.start ≡ b.start → c.end ≡ b.end → c.first ≡ b.first → c.last ≡ b.last → IsWithout place (owes_at gains old a) (owes_at gains new c)
-unfolding owes_at
-struck-without gains old new a b c place s low start end first last = grind (arith, nat_tests, eq-eqb, or-true, and_right, and-false, cases_lt, before-start, ne_eqb, or-false)
-
 -- what an account owes stands at its start or after it
 pub owed-from : (gains : Gains) (strikes : List Strike) (a : Account) (k : ℕ) → owes_at gains strikes a k ≡ true → a.start ≤ k
 owed-from gains strikes a k is = grind (arith, nat_tests, cases_lt, true≢false, before-start)
@@ -75,25 +57,28 @@ module _ (gains : Gains) (old : List Strike) (a : Account) (place w print : ℕ)
 
   -- an account without its first debt begins with the next one
   pub without-first : (next : ℕ) → place ≡ a.start → IsAfter gains old a (place + 1) next → Loses old (record a { start = next; print = print })
+  unfolding owes_at
   without-first next here after =
       let b : Account = record a { start = next; print = print } in
-      let without = later-start gains old a b place (sym here) (omega (arith, after.within)) refl refl refl (λ k above below. after.before k (omega (arith, above)) below) in
+      let without : IsWithout place (owes_at gains old a) (owes_at gains old b) = grind (arith, nat_tests, before-start, cases_lt, le-leb, after.before) in
       (grind (arith, nat_tests, without-account old b, without, without.others next), without)
 
   -- an account without its last debt ends before it
   pub without-last : place ≢ a.start → place + 1 ≡ a.end → Loses old (record a { end = place; print = print })
+  unfolding owes_at
   without-last later last =
       let b : Account = record a { end = place; print = print } in
       let from = owed-from gains old a place owed in
-      let without = earlier-end gains old a b place last refl refl refl refl in
+      let without : IsWithout place (owes_at gains old a) (owes_at gains old b) = grind (arith, nat_tests, past-end, cases_lt, lt-ltb) in
       (grind (arith, nat_tests, without-account old b, without, without.others a.start), without)
 
   -- an account without a debt between others has one strike more
   pub without-middle : (new : List Strike) (b : Account) → place ≢ a.start → IsStruck gains place (place + 1) old new a b → Loses new (record b { print = print })
+  unfolding owes_at
   without-middle new b later struck =
       let c : Account = record b { print = print } in
       let from = owed-from gains old a place owed in
-      let without = struck-without gains old new a b c place struck from refl refl refl refl in
+      let without : IsWithout place (owes_at gains old a) (owes_at gains new c) = grind (arith, nat_tests, eq-eqb, or-true, and_right, and-false, cases_lt, before-start, ne_eqb, or-false) in
       (grind (arith, nat_tests, without-account new c, without, without.others a.start), without)
 
 -- the print of debts with one debt more is their print and the worth of that debt

@@ -25,10 +25,6 @@ pub before-start : (gains : Gains) (strikes : List Strike) (a : Account) (k : �
 unfolding owes_at
 before-start gains strikes a k early = grind (arith, lt-leb)
 
--- what an account owes stands at its start or after it
-pub owed-from : (gains : Gains) (strikes : List Strike) (a : Account) (k : ℕ) → owes_at gains strikes a k ≡ true → a.start ≤ k
-owed-from gains strikes a k is = grind (arith, nat_tests, cases_lt, true≢false, before-start)
-
 -- a worth is a number of 64 bits: it is a remainder by 2^64, which is not 0 (`lit< tt`)
 pub worth-fits : (m d : ℕ) → worth_of m d < 2 ^ 64
 unfolding worth_of
@@ -68,18 +64,16 @@ module _ (gains : Gains) (old : List Strike) (a : Account) (place w print : ℕ)
   unfolding owes_at
   without-last later last =
       let b : Account = record a { end = place; print = print } in
-      let from = owed-from gains old a place owed in
-      let without : IsWithout place (owes_at gains old a) (owes_at gains old b) = grind (arith, nat_tests, past-end, cases_lt, lt-ltb) in
-      (grind (arith, nat_tests, without-account old b, without, without.others a.start), without)
+      let without : IsWithout place (owes_at gains old a) (owes_at gains old b) = grind (arith, nat_tests, past-end, before-start, cases_lt, lt-ltb) in
+      (grind (arith, nat_tests, cases_lt, true≢false, before-start, without-account old b, without, without.others a.start), without)
 
   -- an account without a debt between others has one strike more
   pub without-middle : (new : List Strike) (b : Account) → place ≢ a.start → IsStruck gains place (place + 1) old new a b → Loses new (record b { print = print })
   unfolding owes_at
   without-middle new b later struck =
       let c : Account = record b { print = print } in
-      let from = owed-from gains old a place owed in
       let without : IsWithout place (owes_at gains old a) (owes_at gains new c) = grind (arith, nat_tests, eq-eqb, or-true, and_right, and-false, cases_lt, before-start, ne_eqb, or-false) in
-      (grind (arith, nat_tests, without-account new c, without, without.others a.start), without)
+      (grind (arith, nat_tests, cases_lt, true≢false, before-start, without-account new c, without, without.others a.start), without)
 
 -- the print of debts with one debt more is their print and the worth of that debt
 pub print-more : (debts : List Debt) (debt : Debt) → debts_print (debts ++ debt ∷ []) ≡ (debts_print debts + worth_of debt.message debt.deadline) % 2 ^ 64

@@ -1,5 +1,5 @@
 -- Which gains are left, whether their deadlines rise, what is known beside each by its flags, and what changes of that when gains come, are let go or are dropped.
-use Rattle.sip_ledger.proofs.Words.{nat_tests, ◌-◌, ◌<◌, ◌≤◌, List, [], ◌∷◌, ◌++◌, length, get_or, arith, cases_lt, cases_eq, get_or_append_left, get_or_push, length_push, Entry, AreRising, ◌≡◌, ℕ, Bool, ◌+◌, true, false, drop, set, ap, ◌∙◌, get_or-drop, get_or-set_other, get_or-set_same, length-append, length-drop, length-set, Debt, Gains, AreFlags, AreSameGains, IsDropped, IsGain, IsUndropped, IsLetGo, blank, entries_of, entry_at, is_left, no_flags, holds, suc, ◌^◌, ◌==◌, ◌&&◌, cond, sym, ap₂, replicate, eq-eqb, false_from_ne_true, ne_eqb, true≢false, and-false, append_assoc, get_or-append_right, get_or_default, get_or_past, length-replicate, Account, Strike, debts_from, AreGains, IsNoted, IsPlaceOf, owes_at}
+use Rattle.sip_ledger.proofs.Words.{nat_tests, ◌-◌, ◌<◌, ◌≤◌, List, [], ◌∷◌, ◌++◌, length, get_or, arith, cases_lt, cases_eq, get_or_append_left, get_or_push, length_push, Entry, AreRising, ◌≡◌, ℕ, Bool, ◌+◌, true, false, drop, set, ap, ◌∙◌, get_or-drop, get_or-set_other, get_or-set_same, length-append, length-drop, length-set, Debt, Gains, AreFlags, AreSameGains, IsDropped, IsGain, IsUndropped, IsLetGo, blank, entries_of, entry_at, is_left, no_flags, holds, suc, ◌^◌, ◌==◌, ◌&&◌, cond, sym, ap₂, replicate, eq-eqb, false_from_ne_true, ne_eqb, true≢false, and-false, append_assoc, get_or-append_right, get_or_default, get_or_past, length-replicate, Account, Strike, debts_from, AreGains, IsNoted, owes_at}
 use Rattle.sip_ledger.proofs.debts.ListedLemmas.{listed-none}
 
 -- there are as many entries as there were gains
@@ -18,14 +18,10 @@ pub entry_index : (gains : Gains) (k i : ℕ) (e : Entry) → length gains.entri
     e ≡ get_or gains.entries.items i e → e ≡ entry_at (entries_of gains) k
 entry_index gains k i e long kept here is = grind (arith, get_or_default, entry-kept)
 
--- a gain that is left stands under its message
-pub left-place : (gains : Gains) (k : ℕ) → AreGains gains → is_left gains k ≡ true → IsPlaceOf gains (entry_at (entries_of gains) k).message k
-unfolding is_left
-left-place gains k are left = are.messages (entry_at (entries_of gains) k).message k left
-
 -- a gain that is left is kept
 pub left-kept : (gains : Gains) (k : ℕ) → AreGains gains → is_left gains k ≡ true → IsUndropped gains k
-left-kept gains k are left = (left-place gains k are left).kept
+unfolding is_left
+left-kept gains k are left = (are.messages (entry_at (entries_of gains) k).message k left).kept
 
 -- a gain stands under its message exactly if it is left
 pub held_left : (gains : Gains) (m k : ℕ) → (entry_at (entries_of gains) k).message ≡ m → holds gains.messages m k ≡ is_left gains k

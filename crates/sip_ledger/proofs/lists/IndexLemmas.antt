@@ -1,13 +1,9 @@
 -- Indexes as pairs of a key and a number, the order of the pairs, and how many numbers stand under a key.
 use Rattle.sip_ledger.proofs.Words.{◌≡◌, ◌==◌, ◌&&◌, ◌<◌, ◌≤◌, ℕ, Bool, true, false, List, [], ◌∷◌, cond, refl, sym, ap, arith, true≢false, nat_le, count_by, is_at, list_any, nat_tests, sum_by-cons, count_under, holds, pair_cmp, length, is_eq, is_gt, BTreeSet, IsKeyRangeOf, IsLowerBound, IsUpperBound, Included, Unbounded, IsFrom, IsFirstFrom, NoneFrom}
 
--- two pairs compare as equal exactly if both their numbers are equal
-pub is_pair : (a b c d : ℕ) → is_eq (pair_cmp (a, b) (c, d)) ≡ (c == a && d == b)
-is_pair a b c d = grind (arith, nat_tests)
-
 -- what is chosen by whether two pairs compare as equal is chosen by their numbers
 pub at-pair : (a b c d : ℕ) (here old : Bool) → cond (is_eq (pair_cmp (a, b) (c, d))) here old ≡ cond (c == a && d == b) here old
-at-pair a b c d here old = ap (λ x. cond x here old) (is_pair a b c d)
+at-pair a b c d here old = let same : is_eq (pair_cmp (a, b) (c, d)) ≡ (c == a && d == b) = grind (arith, nat_tests) in ap (λ x. cond x here old) same
 
 -- a pair from there on does not compare as greater
 not_gt-from : (a b c d : ℕ) → IsFrom a b c d → is_gt (pair_cmp (a, b) (c, d)) ≡ false

@@ -57,17 +57,6 @@ struck-push xs s m k = list_any-append (is_out m k) xs (s ∷ []) ∙ ap (λ b. 
 pub struck-next : (xs : List Strike) (at m k : ℕ) (d : Strike) → at < length xs → is_struck (take (at + 1) xs) m k ≡ (is_struck (take at xs) m k || is_out m k (get_or xs at d))
 struck-next xs at m k d within = ap (λ l. is_struck l m k) (take_more xs at d within) ∙ struck-push (take at xs) (get_or xs at d) m k
 
--- where a strike of one place is put after the others, the gain there is struck too, and no other
-added : (gains : Gains) (place k : ℕ) (old : List Strike) →
-    is_struck (old ++ (record { message = (entry_at (entries_of gains) place).message; from = place; to = place + 1 }) ∷ []) (entry_at (entries_of gains) k).message k
-    ≡ (is_struck old (entry_at (entries_of gains) k).message k || k == place)
-added gains place k old = grind (arith, nat_tests, struck-push)
-
--- where a strike of one place is put after the others, nothing more is struck after the place
-added-bound : (m mp place k : ℕ) (old : List Strike) → place < k → is_struck old m k ≡ false →
-    is_struck (old ++ (record { message = mp; from = place; to = place + 1 }) ∷ []) m k ≡ false
-added-bound m mp place k old past none = grind (arith, nat_tests, struck-push, struck-by_end)
-
 -- where one of the strikes from `first` on is made longer, they strike the gain at the place too
 pub longer-too : (gains : Gains) (place first : ℕ) (old new : List Strike) → Lengthens gains place first old new → StrikeToo gains place first old new
 longer-too gains place first old new l =
@@ -94,11 +83,7 @@ longer-too gains place first old new l =
 -- where a new strike of the place is put after the others, the strikes strike the gain at the place too
 pub more-too : (gains : Gains) (place first : ℕ) (old new : List Strike) → first ≤ length old →
     new ≡ old ++ (record { message = (entry_at (entries_of gains) place).message; from = place; to = place + 1 }) ∷ [] → StrikeToo gains place first old new
-more-too gains place first old new within is = grind (arith, nat_tests, drop-append-le, take-append-le, added, added-bound)
-
--- a place lies up to `at` or is `at` exactly if it lies up to the one after `at`
-one-more : (from at k : ℕ) → from ≤ at → ((nat_le from k && nat_lt k at) || k == at) ≡ (nat_le from k && nat_lt k (at + 1))
-one-more from at k low = grind (arith, nat_tests)
+more-too gains place first old new within is = grind (arith, nat_tests, drop-append-le, take-append-le, struck-push, struck-by_end)
 
 -- IsWritten holds once the account's strikes are written
 pub written-none : (gains : Gains) (from : ℕ) (old new : List Strike) (a : Account) → new ≡ old ++ ending a.start (strikes_of old a) → IsWritten gains from from old new a
@@ -108,7 +93,7 @@ written-none gains from old new a is = grind (arith, nat_tests, drop-append_seam
 -- IsWritten goes on with the gain at the next place, where it is struck too
 pub written-more : (gains : Gains) (from at : ℕ) (old one new : List Strike) (a : Account) → IsWritten gains from at old one a → StrikeToo gains at (length old) one new → from ≤ at →
     at < length (entries_of gains) → IsWritten gains from (at + 1) old new a
-written-more gains from at old one new a w too low inside = grind (arith, nat_tests, or_assoc, one-more)
+written-more gains from at old one new a w too low inside = grind (arith, nat_tests, or_assoc, cases_eq, cases_lt)
 
 -- no strikes strike nothing
 pub none-struck : (m k : ℕ) → is_struck [] m k ≡ false

@@ -167,19 +167,16 @@ named-past rows low message old new are order between none =
     let all : (m : ℕ) → m < message + 1 → some_owes m rows ≡ true → Contains are.names m = λ m early is. grind (arith, nat_tests, cases_lt, cases_eq, true≢false, are.all m, between m) in
     record { names = are.names; whole = are.whole; rise = are.rise; below = λ m there. grind (arith, are.below m there); owed = are.owed; all = all }
 
--- numbers rise with one more that is above all of them
-rise-more : (names : List ℕ) (low message : ℕ) → Rise names → ((m : ℕ) → Contains names m → m < low) → low ≤ message → Rise (names ++ message ∷ [])
-rise-more names low message rise below order = λ i k early late.
-    let within = λ (i : ℕ) (low : i < length names). below (get_or names i 0) (i, low, get_or_default names i (get_or names i 0) 0 low) in
-    grind (arith, nat_tests, cases_lt, get_or_append_left, length_push, get_or_push, rise i k, within i)
-
 -- AreNamedTo goes on with the next message that is owed, once it is told
 pub named-more : (rows : List (List Debt)) (low message : ℕ) (old new now : List ℕ) → AreNamedTo rows low old new → low ≤ message →
     ((m : ℕ) → low ≤ m → m < message → some_owes m rows ≡ false) → some_owes message rows ≡ true → now ≡ new ++ message ∷ [] → AreNamedTo rows (message + 1) old now
 named-more rows low message old new now are order between some is = record {
   names = are.names ++ message ∷ [];
   whole = is ∙ ap (λ l. l ++ message ∷ []) are.whole ∙ append_assoc old are.names (message ∷ []);
-  rise = rise-more are.names low message are.rise are.below order;
+  -- the numbers rise with one more that is above all of them
+  rise = λ i k early late.
+      let within = λ (i : ℕ) (low : i < length are.names). are.below (get_or are.names i 0) (i, low, get_or_default are.names i (get_or are.names i 0) 0 low) in
+      grind (arith, nat_tests, cases_lt, get_or_append_left, length_push, get_or_push, are.rise i k, within i);
   below = λ m there. grind (arith, Contains-push_cases are.names message m there, are.below m);
   owed = λ m there. grind (arith, Contains-push_cases are.names message m there, are.owed m);
   -- what is owed below the message was told before, what is owed of it is told now, and between the two nothing is owed

@@ -4,25 +4,22 @@ use Rattle.sip_ledger.proofs.accounts.gains.Gains.push.Goals as goal
 -- where memory is refused for more entries, the gains are the same
 pub returns-in_err-reserve : goal.returns-in_err-reserve
 returns-in_err-reserve c =
-    let g = c.args.self.now in
-    let new : Gains = record { entries = c.reserve.new.self; flags = g.flags; end = g.end; messages = g.messages; musts = g.musts; rises = g.rises; highest = g.highest } in
-    let all = gains-same g new c.requires c.reserve.ensures.items refl refl (λ m k. refl) (λ k. refl) refl refl in
+    let all = gains-same c.args.self.now (record c.args.self.now { entries = c.reserve.new.self }) c.requires c.reserve.ensures.items refl refl (λ m k. refl) (λ k. refl) refl refl in
     record { gained = all.0; ok = first_of (search rules, grind (arith, common_steps)); err = on-error c.from_residual.result c.from_residual.ensures.0 all.1 }
 
 -- where memory is refused, the gains are the same
 pub returns-in_err-reserve-2 : goal.returns-in_err-reserve-2
 returns-in_err-reserve-2 c =
-    let g = c.args.self.now in
-    let new : Gains = record { entries = c.reserve.new.self; flags = c.reserve-2.new.self; end = g.end; messages = g.messages; musts = g.musts; rises = g.rises; highest = g.highest } in
-    let all = gains-same g new c.requires c.reserve.ensures.items c.reserve-2.ensures.items refl (λ m k. refl) (λ k. refl) refl refl in
+    let all = gains-same c.args.self.now (record c.args.self.now { entries = c.reserve.new.self; flags = c.reserve-2.new.self }) c.requires c.reserve.ensures.items c.reserve-2.ensures.items refl
+    (λ m k. refl) (λ k. refl) refl refl in
     record { gained = all.0; ok = first_of (search rules, grind (arith, common_steps)); err = on-error c.from_residual-in_err-reserve-2.result c.from_residual-in_err-reserve-2.ensures.0 all.1 }
 
 -- where memory is refused, the gains are the same
 pub returns-in_err-note : goal.returns-in_err-note
 returns-in_err-note c =
-    let g = c.args.self.now in
-    let new : Gains = record { entries = c.reserve.new.self; flags = c.reserve-2.new.self; end = g.end; messages = c.note.new.messages; musts = c.note.new.musts; rises = g.rises; highest = g.highest } in
-    let all = gains-same g new c.requires c.reserve.ensures.items c.reserve-2.ensures.items refl c.in_err-note.ensures.err.0 (λ k. ap (λ l. holds l 0 k) c.in_err-note.ensures.err.1) refl refl in
+    let noted = c.in_err-note.ensures.err in
+    let all = gains-same c.args.self.now (record c.args.self.now { entries = c.reserve.new.self; flags = c.reserve-2.new.self; messages = c.note.new.messages; musts = c.note.new.musts }) c.requires
+    c.reserve.ensures.items c.reserve-2.ensures.items refl noted.0 (λ k. ap (λ l. holds l 0 k) noted.1) refl refl in
     record { gained = all.0; ok = first_of (search rules, grind (arith, common_steps)); err = on-error c.from_residual-in_err-note.result c.from_residual-in_err-note.ensures.0 all.1 }
 
 -- with the new gain, its entry, its flags and its places in the indexes are right

@@ -269,7 +269,8 @@ impl Accounts {
     /// Puts the number of each message that the row owes after the others, from the least on, each once. On an error some of them are there.
     pub fn names_once(&self, row: usize, numbers: &mut Vec<u64>) -> Result<(), AllocError>
         requires { row < length self.now }
-        ensures { OnOk result (AppendsOwed (owed_in self.now row ∷ []) numbers.old.items numbers.new.items) }
+        ensures ok { OnOk result (AppendsOwed (owed_in self.now row ∷ []) numbers.old.items numbers.new.items) }
+        ensures err { OnErr result (take (length numbers.old.items) numbers.new.items ≡ numbers.old.items) }
     {
         name_all(&self.gains, &self.strikes, &[self.rows[row]], numbers)
     }
@@ -312,6 +313,7 @@ impl Accounts {
     }
 
     /// What the row owes first, if it owes something.
+    #[tactic(auto, using(crate::proofs::rows::SeenLemmas::first_of_rows))]
     pub fn first_debt(&self, row: usize) -> Option<Debt>
         requires { row < length self.now }
         ensures { result ≡ slice_get (owed_in self.now row) 0 }

@@ -1,17 +1,10 @@
 -- An answer stays an answer where the writer keeps its bytes.
-use Rattle.std.proofs.Common.{◌≡◌, ◌∙◌, ℕ, List, Option, None, Some, IfSome, subst}
-use Rattle.std.specs.Io.KnownBytes.{Appends, Keeps}
+use Rattle.std.proofs.Common.{◌≡◌, ℕ, List, Option, None, Some, IfSome, subst}
+use Rattle.std.proofs.KnownBytes.{Appends-kept}
+use Rattle.std.specs.Io.KnownBytes.{Keeps}
 use Rattle.sip_standard.specs.declared.asked.Asked.{Asked}
 use Rattle.sip_standard.specs.declared.asked.Asked.TheVariants.{Input, Check, Show, States}
 use Rattle.sip_standard.specs.Answers.{IsJudged, IsShown, IsListed, IsAnswer, IsAnswerTo}
-
--- bytes that were appended are appended still, where the writer keeps all its bytes
--- a is what was written before the bytes, b after them, and c later
-Appends-kept : (a b c : Option (List ℕ)) (bytes : List ℕ) → Appends a b bytes → Keeps b c → Appends a c bytes
-Appends-kept None b c bytes appended kept = tt
-Appends-kept (Some x) None c bytes appended kept = absurd appended
-Appends-kept (Some x) (Some y) None bytes appended kept = absurd kept
-Appends-kept (Some x) (Some y) (Some z) bytes appended kept = kept ∙ appended
 
 -- In the lemmas on answers `it` is the answer: a is what was written before it, b after it, and c later.
 

@@ -1,4 +1,4 @@
-//! Why the program ends before its last line.
+//! Why the program ends before its last line. This is not the `Failure` of `sip_standard`, since each says how its own program is used.
 ghost use Rattle.std.specs.Prelude.{◌≡◌, ◌≢◌};
 ghost use Rattle.std.specs.IoError.{error_kind};
 ghost use Rattle.std.specs.declared.io.ErrorKind.TheVariants.{OutOfMemory};

@@ -13,7 +13,7 @@ told_at_end line_of (Ok status) = []
 told_at_end line_of (Err failure) = line_of failure
 
 -- the program ends with the status of its run, and has told why there is no answer, unless the standard error has failed
--- `is_answer` says which status an answer has, and `is_cause` why there can be none. `before` and `after` are what the standard error has got, where it is known.
+-- `is_answer` says which status an answer has, and `is_cause` why there can be none; the standard error has got `before` and then `after`, where that is known
 pub record IsEnd {F : Type 0} (is_answer : ℕ → Type 0) (is_cause : F → Type 0) (status_without : F → ℕ) (line_of : F → List ℕ)
     (before after : Option (List ℕ)) (has_telling_failed : Bool) (status : ℕ) : Type 0 where
   pub ended : Result ℕ F
